@@ -1,0 +1,2 @@
+pub mod SetDef
+pub mod Seen

@@ -1,0 +1,54 @@
+-- A sporadic task set as mathematics sees it: plain numbers and lists, and a name as the list of its bytes.
+-- Tasks stand from the highest base priority to the lowest; positions count from 0, processors from 1.
+use Rattle.std.specs.Prelude.{ℕ, ◌+◌, ◌==◌, ◌&&◌, Bool, nat_lt, List, [], Option, None, slice_index_or}
+use Rattle.std.specs.Int.{div_ceil}
+
+-- An entry of a task: which resource it requests, how often a job may, and for how many ticks at most.
+pub record RequestDef : Type 0 where
+  pub resource : List ℕ
+  pub count : ℕ
+  pub length : ℕ
+
+-- A task: its processor, its period, deadline, cost and local limit in ticks, and its request entries.
+pub record TaskDef : Type 0 where
+  pub name : List ℕ
+  pub processor : ℕ
+  pub period : ℕ
+  pub deadline : ℕ
+  pub cost : ℕ
+  pub local : ℕ
+  pub requests : List RequestDef
+
+-- A resource: its name, and the processor at which its requests run where the protocol asks for one.
+pub record ResourceDef : Type 0 where
+  pub name : List ℕ
+  pub home : Option ℕ
+
+-- A task set.
+pub record SetDef : Type 0 where
+  pub processors : ℕ
+  pub resources : List ResourceDef
+  pub tasks : List TaskDef
+
+-- What a look-up past the end gives: a task of zeros, a resource without a name.
+abbrev pub no_task : TaskDef
+no_task = record { name = []; processor = 0; period = 0; deadline = 0; cost = 0; local = 0; requests = [] }
+
+abbrev pub no_resource : ResourceDef
+no_resource = record { name = []; home = None }
+
+-- Task number x of the set.
+abbrev pub task_at : SetDef → ℕ → TaskDef
+task_at set x = slice_index_or set.tasks x no_task
+
+-- Resource number q of the set.
+abbrev pub resource_at : SetDef → ℕ → ResourceDef
+resource_at set q = slice_index_or set.resources q no_resource
+
+-- Is task h of higher base priority than task i, and on i's processor?
+abbrev pub is_higher_local : SetDef → ℕ → ℕ → Bool
+is_higher_local set i h = nat_lt h i && ((task_at set h).processor == (task_at set i).processor)
+
+-- How many jobs of a task with this bound and period can run in a window of this length.
+abbrev pub jobs_within : ℕ → ℕ → ℕ → ℕ
+jobs_within window bound period = div_ceil (window + bound) period

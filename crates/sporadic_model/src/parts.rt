@@ -1,0 +1,45 @@
+/// What a task set is made of, before anything is known of it.
+#[derive(Debug, Drop)]
+pub struct Parts {
+    /// How many processors there are; they are numbered from 1.
+    pub processors: u64,
+    pub resources: Vec<ResourcePart>,
+    /// The tasks from the highest base priority to the lowest.
+    pub tasks: Vec<TaskPart>,
+}
+
+/// A resource that tasks share.
+#[derive(Debug, Drop)]
+pub struct ResourcePart {
+    pub name: String,
+    /// The processor that serves its requests, where a protocol asks for one.
+    pub home: Option<u64>,
+}
+
+/// A sporadic task. Its times are in ticks.
+#[derive(Debug, Drop)]
+pub struct TaskPart {
+    pub name: String,
+    /// The processor that its jobs run on, counted from 1.
+    pub processor: u64,
+    /// The least time between the releases of two jobs.
+    pub period: u64,
+    /// The greatest time from the release of a job to its end, at most the period.
+    pub deadline: u64,
+    /// The greatest number of ticks that one job executes, at most the deadline.
+    pub cost: u64,
+    /// The greatest number of ticks that one job executes outside its requests, at most the cost.
+    pub local: u64,
+    pub requests: Vec<RequestPart>,
+}
+
+/// A task's request entry for one resource.
+#[derive(Debug, Drop)]
+pub struct RequestPart {
+    /// The resource's name.
+    pub resource: String,
+    /// The greatest number of requests of one job.
+    pub count: u64,
+    /// The greatest number of ticks of one request, below the task's cost.
+    pub length: u64,
+}
