@@ -3,7 +3,20 @@
 #![tactic(auto)]
 
 mod ids;
+mod jobs;
+mod judging;
+mod limits;
+mod lookup;
+mod names;
 mod parts;
+mod refusal;
+mod task_set;
 
 pub use ids::{Protocol, ResourceId, TaskId};
+pub use jobs::jobs_in;
+pub use limits::{
+    MOST_COUNT, MOST_NAME, MOST_PROCESSORS, MOST_REQUESTS, MOST_RESOURCES, MOST_TASKS, MOST_TICKS,
+};
 pub use parts::{Parts, RequestPart, ResourcePart, TaskPart};
+pub use refusal::{ModelRefusal, Place, SizeOf};
+pub use task_set::TaskSet;
