@@ -1,0 +1,5 @@
+pub mod Accepted
+pub mod Duality
+mod Lists
+pub mod Points
+mod SevenRowsWorked

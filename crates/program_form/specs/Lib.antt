@@ -1,0 +1,10 @@
+pub mod Certificate
+pub mod Program
+pub mod RowBlock
+pub mod Refusals
+pub mod ProgramView
+pub mod Points
+pub mod Optimum
+pub mod Duals
+pub mod Limits
+pub mod SevenRows

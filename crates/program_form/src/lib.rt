@@ -1,0 +1,25 @@
+//! Blocking programs, blocks of their rows, duals and certificates, and what is true of a program alone.
+//!
+//! A program has columns, which are at least zero, and rows, each a sum of coefficient times column that a limit bounds.
+//! The definitions in `specs/` compare all its points and know no table: scaled points, the values that they reach, the
+//! optimum, feasible duals and their values. The functions of `laws` state how these hang together.
+#![tactic(auto)]
+
+mod certificate;
+mod laws;
+mod program;
+mod row_block;
+#[cfg(test)]
+mod tests;
+
+pub use certificate::{Certificate, Dual};
+pub use laws::{
+    a_dual_bounds_what_is_reached, a_program_has_a_dual, equal_values_are_best,
+    greater_limits_reach_no_less, less_is_reached_too, refusals_are_exact,
+    seven_rows_reach_fourteen_thirds, the_optimum_is_one, weak_duality, whole_part_is_greatest,
+};
+pub use program::{Program, ProgramRefusal};
+pub use row_block::RowBlock;
+
+/// The greatest number that a program may hold.
+pub const MOST_NUMBER: u64 = 9_223_372_036_854_775_807;
