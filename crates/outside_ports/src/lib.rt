@@ -1,0 +1,11 @@
+//! The outside of the program as two traits: a shelf from which named inputs are read, and a sink to which text is
+//! written. Each has an implementation over the system and one in memory whose faults are chosen by the caller.
+#![tactic(auto)]
+
+mod shelf;
+mod sink;
+mod whole;
+
+pub use shelf::{Shelf, ShelfFault};
+pub use sink::{Sink, SinkFault};
+pub use whole::{GREATEST_INPUT_BYTES, LoadFault, load, put_all};
