@@ -5,3 +5,5 @@ pub mod Answers
 pub mod MemoryShelf
 pub mod MemorySink
 pub mod Rests
+pub mod MemoryShelfView
+pub mod MemorySinkView

@@ -1,5 +1,5 @@
 -- A sink in memory: a room for bytes, and a list of the writes that fail.
-use Rattle.std.specs.Prelude.{◌≡◌, ℕ, ◌==◌, ◌||◌, nat_le, Bool, List, length, if◌then◌else◌}
+use Rattle.std.specs.Prelude.{◌≡◌, ℕ, ◌==◌, ◌||◌, ◌-◌, Bool, List, length, if◌then◌else◌}
 use Rattle.std.specs.List.{list_any}
 use Rattle.outside_ports.specs.Counts.{counted}
 
@@ -15,7 +15,7 @@ pub record MemorySink : Type 0 where
 
 -- Is the next write a fault? Its number is listed, or the room is full.
 abbrev pub faults_next : MemorySink → Bool
-faults_next sink = list_any (λ number. number == counted sink.calls) sink.failing || nat_le sink.room (length sink.bytes)
+faults_next sink = list_any (λ number. number == counted sink.calls) sink.failing || (sink.room - length sink.bytes == 0)
 
 -- What does every write do to the sink's counts? It is counted, and so is its fault; what was given to `new` stays.
 pub record CountsWrite (old new : MemorySink) : Type 0 where

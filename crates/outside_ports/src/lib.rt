@@ -2,10 +2,14 @@
 //! written. Each has an implementation over the system and one in memory whose faults are chosen by the caller.
 #![tactic(auto)]
 
+mod memory_shelf;
+mod memory_sink;
 mod shelf;
 mod sink;
 mod whole;
 
+pub use memory_shelf::MemShelf;
+pub use memory_sink::MemSink;
 pub use shelf::{Shelf, ShelfFault};
 pub use sink::{Sink, SinkFault};
 pub use whole::{GREATEST_INPUT_BYTES, LoadFault, load, put_all};
