@@ -1,8 +1,8 @@
 -- Where a file stands in a list of files, and what is left of it.
-use Rattle.std.proofs.Common.{◌≡◌, ℕ, ◌+◌, ◌<◌, ◌≤◌, List, [], ◌∷◌, true, length, get_or, drop, map, refl, sym, ap, ◌∙◌}
+use Rattle.std.proofs.Common.{◌≡◌, ℕ, ◌+◌, ◌<◌, ◌≤◌, List, [], true, length, get_or, drop, refl, sym, ap, ◌∙◌}
 use Rattle.std.proofs.Math.Seq.{drop-nil}
 use Rattle.std.proofs.lemmas.List.{drop_more, drop_all, drop-map, at_drop_more, at_drop_all}
-use Rattle.std.specs.Prelude.{Option, String, Vec, string_bytes, Some, None, if◌then◌else◌}
+use Rattle.std.specs.Prelude.{String, Vec, string_bytes, Some, None, if◌then◌else◌}
 use Rattle.std.specs.Str.{bytes_eq}
 use Rattle.std.specs.Global.{Global}
 use Rattle.outside_ports.specs.Names.{bytes_of}

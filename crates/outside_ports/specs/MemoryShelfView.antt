@@ -1,5 +1,5 @@
 -- How the fields of a `MemShelf` are read as a shelf in memory.
-use Rattle.std.specs.Prelude.{ℕ, ◌<◌, List, [], ◌∷◌, map, drop, String, Vec, string_bytes}
+use Rattle.std.specs.Prelude.{ℕ, List, [], ◌∷◌, map, drop, String, Vec, string_bytes}
 use Rattle.std.specs.Global.{Global}
 use Rattle.outside_ports.specs.Names.{Inputs}
 use Rattle.outside_ports.specs.MemoryShelf.{MemoryShelf}

@@ -1,5 +1,5 @@
 -- How the fields of a `MemSink` are read as a sink in memory.
-use Rattle.std.specs.Prelude.{ℕ, ◌<◌, ◌≤◌, vec_len, vec_capacity}
+use Rattle.std.specs.Prelude.{◌<◌, ◌≤◌, vec_len, vec_capacity}
 use Rattle.outside_ports.specs.MemorySink.{MemorySink}
 use Rattle.outside_ports.specs.declared.memory_sink.MemSink.TheInside.{Inside}
 

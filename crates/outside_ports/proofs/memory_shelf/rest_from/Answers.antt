@@ -1,6 +1,6 @@
 use Rattle.std.proofs.Common.{refl}
 use Rattle.std.proofs.lemmas.List.{take_rest, drop_min}
-use Rattle.outside_ports.proofs.Places.{rest_at-file, rest_at-past}
+use Rattle.outside_ports.proofs.Places.{rest_at-file}
 use Rattle.outside_ports.proofs.memory_shelf.rest_from.Goals as goal
 
 pub returns-then-place-files-clause-bytes : goal.returns-then-place-files-clause-bytes
