@@ -1,5 +1,5 @@
 -- The inputs of a shelf: names with their bytes. A shelf tells them or not.
-use Rattle.std.specs.Prelude.{◌≡◌, ℕ, ◌<◌, List, [], ◌∷◌, length, Option, Some, None, IsSomeAnd, if◌then◌else◌}
+use Rattle.std.specs.Prelude.{◌≡◌, ℕ, ◌<◌, List, [], ◌∷◌, length, Option, Some, None, IsSomeAnd, codes, refl, if◌then◌else◌}
 use Rattle.std.specs.Str.{bytes_eq}
 use Rattle.outside_ports.specs.Counts.{Rose}
 
@@ -11,6 +11,13 @@ Inputs = List (List ℕ × List ℕ)
 abbrev pub bytes_of : Inputs → List ℕ → Option (List ℕ)
 bytes_of [] name = None
 bytes_of (input ∷ inputs) name = if bytes_eq input.0 name then Some input.1 else bytes_of inputs name
+
+-- of two inputs of one name the first is found, and no input where no name is equal
+pub bytes_of-first : bytes_of ((codes "set", codes "one") ∷ (codes "set", codes "two") ∷ []) (codes "set") ≡ Some (codes "one")
+bytes_of-first = refl
+
+pub bytes_of-absent : bytes_of ((codes "set", codes "one") ∷ []) (codes "sets") ≡ None
+bytes_of-absent = refl
 
 -- Are these the bytes of the named input, where the names are told?
 abbrev pub IsNamed : Option Inputs → List ℕ → List ℕ → Type 0

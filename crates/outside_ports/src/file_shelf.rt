@@ -21,7 +21,7 @@ pub struct FileShelf<R: Files + Drop> {
 impl<R: Files + Clone + Drop> FileShelf<R> {
     /// A shelf on which nothing is started.
     pub fn new(runtime: &R) -> Result<FileShelf<R>, AllocError>
-        ensures { IfOk result (λ shelf. shelf.faults ≡ 0) }
+        ensures { IfOk result (λ shelf. ⟦<FileShelf<R> as Shelf>⟧.faults shelf ≡ 0) }
     {
         Ok(FileShelf {
             runtime: runtime.clone()?,

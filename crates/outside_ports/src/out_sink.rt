@@ -16,7 +16,7 @@ pub struct OutSink<R: Print + Drop> {
 impl<R: Print + Clone + Drop> OutSink<R> {
     /// The standard output of this runtime.
     pub fn new(runtime: &R) -> Result<OutSink<R>, AllocError>
-        ensures { IfOk result (λ sink. sink.faults ≡ 0) }
+        ensures { IfOk result (λ sink. ⟦<OutSink<R> as Sink>⟧.faults sink ≡ 0) }
     {
         Ok(OutSink {
             runtime: runtime.clone()?,
