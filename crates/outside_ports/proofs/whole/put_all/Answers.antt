@@ -1,0 +1,16 @@
+use Rattle.std.proofs.Common.{arith, ◌∙◌, ◌-◌, subst, length}
+use Rattle.outside_ports.proofs.Pieces.{Appends-next, length-rest, sub_sub}
+use Rattle.outside_ports.proofs.whole.put_all.Goals as goal
+
+pub loop-sent-preserved : goal.loop-sent-preserved
+loop-sent-preserved g c = record {
+  within = omega (arith, c.in-Ok.ensures.bound);
+  tells = c.in-Ok.ensures.tells ∙ c.loop-sent.invariant.tells;
+  later = omega arith;
+  calls = omega (arith, c.in-Ok.ensures.some, c.in-Ok.ensures.one_call);
+  takes = λ held.
+      let before = c.loop-sent.invariant.takes held in
+      let after = c.in-Ok.ensures.takes (length c.args.text.now - c.loop-sent.sent) (length-rest _ _) before.0 in
+      (subst (g.K.Sink.takes c.write.new.self) (sub_sub _ _ _) after.0, after.1 ∙ before.1);
+  appended = Appends-next _ _ _ _ _ _ c.loop-sent.invariant.appended c.in-Ok.ensures.appends;
+}

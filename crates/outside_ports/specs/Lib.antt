@@ -1,0 +1,9 @@
+pub mod Counts
+pub mod Names
+pub mod Prefix
+pub mod Answers
+pub mod MemoryShelf
+pub mod MemorySink
+pub mod Rests
+pub mod MemoryShelfView
+pub mod MemorySinkView

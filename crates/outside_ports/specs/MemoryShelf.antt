@@ -1,0 +1,40 @@
+-- A shelf in memory: inputs, and a list of the calls that fail.
+use Rattle.std.specs.Prelude.{◌≡◌, ℕ, ◌==◌, Bool, List, Option, Some, None, Result, Ok, Err, if◌then◌else◌}
+use Rattle.std.specs.List.{list_any}
+use Rattle.outside_ports.specs.Counts.{counted}
+use Rattle.outside_ports.specs.Names.{Inputs, bytes_of}
+use Rattle.outside_ports.specs.declared.shelf.ShelfFault.{ShelfFault}
+use Rattle.outside_ports.specs.declared.shelf.ShelfFault.TheVariants.{Absent, Failed}
+
+-- `piece` is the most bytes of one read, `calls` counts each `start` and `read`, `failing` lists the numbers of
+-- calls that fail, `given` counts the bytes given since the last `start`, and `rest` is what is left of the input
+pub record MemoryShelf : Type 0 where
+  pub inputs : Inputs
+  pub piece : ℕ
+  pub failing : List ℕ
+  pub calls : ℕ
+  pub faults : ℕ
+  pub given : ℕ
+  pub rest : List ℕ
+
+-- Is the number of the next call listed?
+abbrev pub fails_next : MemoryShelf → Bool
+fails_next shelf = list_any (λ number. number == counted shelf.calls) shelf.failing
+
+-- Is there an input?
+abbrev pub found : Option (List ℕ) → Result (Unit {0}) ShelfFault
+found None = Err Absent
+found (Some bytes) = Ok tt
+
+-- What does the next `start` answer? It fails where its number is listed, and else it looks for the name.
+abbrev pub start_answer : MemoryShelf → List ℕ → Result (Unit {0}) ShelfFault
+start_answer shelf name = if fails_next shelf then Err Failed else found (bytes_of shelf.inputs name)
+
+-- What does every call do to the shelf's counts? It is counted, and so is its fault exactly where its number is
+-- listed; what was given to `new` stays.
+pub record CountsCall (old new : MemoryShelf) : Type 0 where
+  pub inputs : new.inputs ≡ old.inputs
+  pub piece : new.piece ≡ old.piece
+  pub failing : new.failing ≡ old.failing
+  pub calls : new.calls ≡ counted old.calls
+  pub faults : new.faults ≡ (if fails_next old then counted old.faults else old.faults)

@@ -1,0 +1,30 @@
+-- How the fields of a `MemShelf` are read as a shelf in memory.
+use Rattle.std.specs.Prelude.{ℕ, List, [], ◌∷◌, map, drop, String, Vec, string_bytes}
+use Rattle.std.specs.Global.{Global}
+use Rattle.outside_ports.specs.Names.{Inputs}
+use Rattle.outside_ports.specs.MemoryShelf.{MemoryShelf}
+use Rattle.outside_ports.specs.declared.memory_shelf.MemShelf.TheInside.{Inside}
+
+-- the inputs that a list of files holds
+abbrev pub inputs_of : List (String Global × Vec ℕ Global) → Inputs
+inputs_of files = map (λ file. (string_bytes file.0, file.1.items)) files
+
+-- the bytes of the first input, none where there is no input
+abbrev pub first_bytes : Inputs → List ℕ
+first_bytes [] = []
+first_bytes (input ∷ inputs) = input.1
+
+-- the bytes from `at` on of the input at a place; none past the last place
+abbrev pub rest_at : Inputs → ℕ → ℕ → List ℕ
+rest_at inputs place at = drop at (first_bytes (drop place inputs))
+
+abbrev pub memory_shelf : Inside → MemoryShelf
+memory_shelf shelf = record {
+  inputs = inputs_of shelf.files.items;
+  piece = shelf.piece;
+  failing = shelf.failing.items;
+  calls = shelf.calls;
+  faults = shelf.faults;
+  given = shelf.given;
+  rest = rest_at (inputs_of shelf.files.items) shelf.place shelf.at;
+}

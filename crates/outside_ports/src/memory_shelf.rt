@@ -1,0 +1,176 @@
+ghost use Rattle.std.specs.Prelude.{◌≡◌, ℕ, ◌+◌, ◌-◌, ◌^◌, ◌<◌, ◌≤◌, ◌↔◌, ◌++◌, [], min, List, length, take, drop, Option, Some, None, unwrap_or, is_some, IsSome, IsTrue, Result, IfErr, IfOk, IsErr, IsErrOf, OnOk, OnErr, MatchResult, MatchOption, false};
+ghost use Rattle.std.specs.Io.{ReadsAtMost};
+ghost use Rattle.std.specs.Io.KnownBytes.{ReadConsumes, IsAtEnd};
+ghost use Rattle.outside_ports.specs.Counts.{Rose};
+ghost use Rattle.outside_ports.specs.Names.{Inputs, bytes_of, Opens, IsAbsent};
+ghost use Rattle.outside_ports.specs.MemoryShelf.{fails_next, start_answer, CountsCall};
+ghost use Rattle.outside_ports.specs.MemoryShelfView.{inputs_of, rest_at};
+
+use crate::shelf::{Shelf, ShelfFault};
+use std::marker::Model;
+
+/// A shelf in memory, whose faults the caller has chosen. It tells all that a shelf can tell, and its calls take no
+/// memory.
+#[derive(Drop)]
+pub struct MemShelf {
+    files: Vec<(String, Vec<u8>)>,
+    piece: usize,
+    failing: Vec<u64>,
+    calls: u64,
+    faults: u64,
+    given: u64,
+    // the started input, or the number of files where nothing is started
+    place: usize,
+    at: usize,
+}
+
+impl Model for MemShelf {
+    ghost use Rattle.std.specs.Prelude.{ℕ, ◌<◌};
+    ghost use Rattle.outside_ports.specs.MemoryShelf.{MemoryShelf};
+
+    ghost Value = { MemoryShelf };
+
+    ghost use Rattle.outside_ports.specs.MemoryShelfView.{memory_shelf};
+
+    ghost view = { memory_shelf };
+
+    ghost invariant = { λ shelf. 0 < shelf.piece };
+}
+
+impl MemShelf {
+    /// A shelf with these files, of which the first of equal names counts. A read gives at most `piece` bytes. The
+    /// calls of `start` and `read` are counted together from 1, and those whose numbers are in `failing` fail.
+    pub fn new(files: Vec<(String, Vec<u8>)>, piece: usize, failing: Vec<u64>) -> MemShelf
+        requires { 0 < piece }
+        ensures { result ≡ record { inputs = inputs_of files.items; piece = piece; failing = failing.items; calls = 0; faults = 0; given = 0; rest = [] } }
+    {
+        let place = files.len();
+        MemShelf {
+            files,
+            piece,
+            failing,
+            calls: 0,
+            faults: 0,
+            given: 0,
+            place,
+            at: 0,
+        }
+    }
+}
+
+impl Shelf for MemShelf {
+    ghost names = { λ s. Some s.inputs };
+
+    ghost rest = { λ s. Some s.rest };
+
+    ghost given = { λ s. s.given };
+
+    ghost faults = { λ s. s.faults };
+
+    ghost calls = { λ s. s.calls };
+
+    ghost steady = { λ s. s.failing ≡ [] };
+
+    ghost start_gives = { λ s name answer t. Unit {0} };
+
+    ghost tells_rest = { λ s told. told };
+
+    /// `Failed` comes exactly where the number of this call is in `failing`, `Absent` exactly where else no file has
+    /// the name, and `Memory` never.
+    fn start(&mut self, name: &str) -> Result<(), ShelfFault>
+        ensures counts { CountsCall self.old self.new }
+        ensures answer { result ≡ start_answer self.old name.now }
+        ensures same { Some self.new.inputs ≡ Some self.old.inputs }
+        ensures tells { is_some (Some self.new.rest) ≡ is_some (Some self.old.rest) }
+        ensures opens { OnOk result (Opens (Some self.old.inputs) name.now (Some self.new.rest)) }
+        ensures closes { OnErr result (IsAtEnd (Some self.new.rest)) }
+        ensures given { self.new.given ≡ 0 }
+        ensures later { self.old.faults ≤ self.new.faults }
+        ensures absent { IsErrOf result ShelfFault.Absent → IsAbsent (Some self.old.inputs) name.now self.old.faults self.new.faults }
+        ensures failed { IsErrOf result ShelfFault.Failed → Rose self.old.faults self.new.faults }
+        ensures gives { Unit {0} }
+        ensures one_call { self.new.calls ≤ self.old.calls + 1 }
+        ensures steady { self.old.failing ≡ [] → (self.new.failing ≡ []) × (self.new.faults ≡ self.old.faults) }
+    {
+        self.calls = self.calls.saturating_add(1);
+        self.given = 0;
+        self.place = self.files.len();
+        self.at = 0;
+        if self.failing.contains(&self.calls) {
+            self.faults = self.faults.saturating_add(1);
+            return Err(ShelfFault::Failed);
+        }
+        match place_of(&self.files, name) {
+            Some(place) => {
+                self.place = place;
+                Ok(())
+            }
+            None => Err(ShelfFault::Absent),
+        }
+    }
+
+    /// `Failed` comes exactly where the number of this call is in `failing`. Any other call gives the least of
+    /// `piece`, the buffer's length and the length of the rest.
+    fn read(&mut self, buffer: &mut [u8]) -> Result<usize, ShelfFault>
+        requires { 0 < length buffer.old }
+        ensures counts { CountsCall self.old self.new }
+        ensures listed { (IsErr result) ↔ (IsTrue (fails_next self.old)) }
+        ensures exact { IfOk result (λ n. n ≡ min (min self.old.piece (length buffer.old)) (length self.old.rest)) }
+        ensures same { Some self.new.inputs ≡ Some self.old.inputs }
+        ensures tells { is_some (Some self.new.rest) ≡ is_some (Some self.old.rest) }
+        ensures bound { ReadsAtMost result buffer.new }
+        ensures bytes { ReadConsumes (Some self.old.rest) (Some self.new.rest) result buffer.new }
+        ensures given { MatchResult result (λ n. self.new.given ≡ min (self.old.given + n) (2 ^ 64 - 1)) (λ _. self.new.given ≡ self.old.given) }
+        ensures later { self.old.faults ≤ self.new.faults }
+        ensures failed { OnErr result (Rose self.old.faults self.new.faults) }
+        ensures only { IfErr result (λ e. e ≡ ShelfFault.Failed) }
+        ensures one_call { self.new.calls ≤ self.old.calls + 1 }
+        ensures steady { self.old.failing ≡ [] → (self.new.failing ≡ []) × (self.new.faults ≡ self.old.faults) }
+    {
+        self.calls = self.calls.saturating_add(1);
+        if self.failing.contains(&self.calls) {
+            self.faults = self.faults.saturating_add(1);
+            return Err(ShelfFault::Failed);
+        }
+        let rest = rest_from(&self.files, self.place, self.at);
+        let count = give(rest, self.piece, buffer);
+        self.at += count;
+        self.given = self.given.saturating_add(count as u64);
+        Ok(count)
+    }
+}
+
+/// The place of the first file of this name.
+fn place_of(files: &[(String, Vec<u8>)], name: &str) -> Option<usize>
+    ensures { MatchOption result (bytes_of (inputs_of files.now) name.now ≡ None) (λ place. bytes_of (inputs_of files.now) name.now ≡ Some (rest_at (inputs_of files.now) place 0)) }
+{
+    for (place, file) in files.iter().enumerate() {
+        if file.0.as_str() == name {
+            return Some(place);
+        }
+    }
+    None
+}
+
+/// The bytes from `at` on of the file at a place, and none past the last file.
+fn rest_from(files: &[(String, Vec<u8>)], place: usize, at: usize) -> &[u8]
+    ensures bytes { result.now ≡ rest_at (inputs_of files.now) place at }
+    ensures fits { at + length result.now < 2 ^ 64 }
+{
+    if place < files.len() {
+        let bytes = files[place].1.as_slice();
+        &bytes[at.min(bytes.len())..]
+    } else {
+        &[]
+    }
+}
+
+/// Copies the front of the rest to the front of the buffer: the least of `piece` and the two lengths.
+fn give(rest: &[u8], piece: usize, buffer: &mut [u8]) -> usize
+    ensures count { result ≡ min (min piece (length buffer.old)) (length rest.now) }
+    ensures moved { rest.now ≡ take result buffer.new ++ drop result rest.now }
+{
+    let count = piece.min(buffer.len()).min(rest.len());
+    buffer[..count].copy_from_slice(&rest[..count]);
+    count
+}
