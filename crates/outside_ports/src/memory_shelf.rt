@@ -1,8 +1,8 @@
-ghost use Rattle.std.specs.Prelude.{◌≡◌, ℕ, ◌+◌, ◌-◌, ◌^◌, ◌<◌, ◌≤◌, ◌↔◌, ◌++◌, [], min, List, length, take, drop, Option, Some, None, unwrap_or, is_some, IsSome, IsTrue, Result, IfErr, IsOk, IfOk, IsErr, IsErrOf, OnOk, OnErr, MatchResult, MatchOption, false};
+ghost use Rattle.std.specs.Prelude.{◌≡◌, ℕ, ◌+◌, ◌-◌, ◌^◌, ◌<◌, ◌≤◌, ◌↔◌, ◌++◌, [], min, length, take, drop, Some, None, is_some, IsTrue, IfErr, IsOk, IfOk, IsErr, IsErrOf, OnOk, OnErr, MatchResult, MatchOption};
 ghost use Rattle.std.specs.Io.{ReadsAtMost};
 ghost use Rattle.std.specs.Io.KnownBytes.{ReadConsumes, IsAtEnd};
 ghost use Rattle.outside_ports.specs.Counts.{Rose};
-ghost use Rattle.outside_ports.specs.Names.{Inputs, bytes_of, Opens, IsAbsent};
+ghost use Rattle.outside_ports.specs.Names.{bytes_of, Opens, IsAbsent};
 ghost use Rattle.outside_ports.specs.MemoryShelf.{fails_next, start_answer, CountsCall};
 ghost use Rattle.outside_ports.specs.MemoryShelfView.{inputs_of, rest_at};
 
