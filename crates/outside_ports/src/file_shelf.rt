@@ -6,7 +6,7 @@ use std::io::{ErrorKind, Read};
 use std::rt::Files;
 use std::{fs, io};
 
-/// The files of the system, named by their paths. It tells no content.
+/// The files of the system, named by their paths. It tells no content and counts no calls.
 ///
 /// A call makes at most one opening or one read of the system. Each error of the system but want of memory raises the
 /// count of faults.

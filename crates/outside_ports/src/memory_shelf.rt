@@ -1,8 +1,8 @@
-ghost use Rattle.std.specs.Prelude.{◌≡◌, ℕ, ◌+◌, ◌-◌, ◌^◌, ◌<◌, ◌≤◌, ◌↔◌, ◌++◌, [], min, List, length, take, drop, Option, Some, None, unwrap_or, is_some, IsSome, IsTrue, Result, IfErr, IfOk, IsErr, IsErrOf, OnOk, OnErr, MatchResult, MatchOption, false};
+ghost use Rattle.std.specs.Prelude.{◌≡◌, ℕ, ◌+◌, ◌-◌, ◌^◌, ◌<◌, ◌≤◌, ◌↔◌, ◌++◌, [], min, length, take, drop, Some, None, is_some, IsTrue, IfErr, IsOk, IfOk, IsErr, IsErrOf, OnOk, OnErr, MatchResult, MatchOption};
 ghost use Rattle.std.specs.Io.{ReadsAtMost};
 ghost use Rattle.std.specs.Io.KnownBytes.{ReadConsumes, IsAtEnd};
 ghost use Rattle.outside_ports.specs.Counts.{Rose};
-ghost use Rattle.outside_ports.specs.Names.{Inputs, bytes_of, Opens, IsAbsent};
+ghost use Rattle.outside_ports.specs.Names.{bytes_of, Opens, IsAbsent};
 ghost use Rattle.outside_ports.specs.MemoryShelf.{fails_next, start_answer, CountsCall};
 ghost use Rattle.outside_ports.specs.MemoryShelfView.{inputs_of, rest_at};
 
@@ -90,7 +90,7 @@ impl Shelf for MemShelf {
         ensures failed { IsErrOf result ShelfFault.Failed → Rose self.old.faults self.new.faults }
         ensures gives { Unit {0} }
         ensures one_call { self.new.calls ≤ self.old.calls + 1 }
-        ensures steady { self.old.failing ≡ [] → (self.new.failing ≡ []) × (self.new.faults ≡ self.old.faults) }
+        ensures steady { self.old.failing ≡ [] → (self.new.failing ≡ []) × (self.new.faults ≡ self.old.faults) × (IsErrOf result ShelfFault.Failed → ⊥) }
     {
         self.calls = self.calls.saturating_add(1);
         self.given = 0;
@@ -125,7 +125,7 @@ impl Shelf for MemShelf {
         ensures failed { OnErr result (Rose self.old.faults self.new.faults) }
         ensures only { IfErr result (λ e. e ≡ ShelfFault.Failed) }
         ensures one_call { self.new.calls ≤ self.old.calls + 1 }
-        ensures steady { self.old.failing ≡ [] → (self.new.failing ≡ []) × (self.new.faults ≡ self.old.faults) }
+        ensures steady { self.old.failing ≡ [] → (self.new.failing ≡ []) × (self.new.faults ≡ self.old.faults) × IsOk result }
     {
         self.calls = self.calls.saturating_add(1);
         if self.failing.contains(&self.calls) {

@@ -3,7 +3,7 @@ ghost use Rattle.std.specs.Prelude.{◌≡◌, IfOk, None};
 use crate::sink::{Sink, SinkFault};
 use std::alloc::AllocError;
 
-/// The standard output. It tells no content.
+/// The standard output. It tells no content and counts no writes.
 ///
 /// A call makes at most one write of the system. An error of the system, or a write that took no byte, raises the
 /// count of faults.

@@ -1,4 +1,4 @@
-ghost use Rattle.std.specs.Prelude.{◌≡◌, ℕ, ◌+◌, ◌-◌, ◌^◌, ◌<◌, ◌≤◌, min, List, length, Option, is_some, IsSome, Result, IfErr, IsErrOf, OnOk, OnErr, MatchResult};
+ghost use Rattle.std.specs.Prelude.{◌≡◌, ℕ, ◌+◌, ◌-◌, ◌^◌, ◌<◌, ◌≤◌, min, List, length, Option, is_some, IsSome, Result, IsOk, IfErr, IsErrOf, OnOk, OnErr, MatchResult};
 ghost use Rattle.std.specs.Io.{ReadsAtMost};
 ghost use Rattle.std.specs.Io.KnownBytes.{ReadConsumes, IsAtEnd};
 ghost use Rattle.outside_ports.specs.Counts.{Rose};
@@ -25,8 +25,10 @@ pub enum ShelfFault {
 ///
 /// To a contract a shelf is its inputs with their bytes, where it tells them (`names`); the rest of the started
 /// input, where it tells it (`rest`); the number of bytes given since the last `start` (`given`); and a count of
-/// faults that never falls (`faults`). Which of these it tells never changes. It may count its calls (`calls`), and
-/// it may promise that no later call raises its count of faults (`steady`).
+/// faults that never falls (`faults`). Which of these it tells never changes, and the inputs stay as they are. Both
+/// numbers stay at 2^64 - 1.
+///
+/// A shelf may also count its calls (`calls`), and promise that no later call fails (`steady`).
 pub trait Shelf {
     ghost names: { Self → Option Inputs };
 
@@ -58,7 +60,7 @@ pub trait Shelf {
         ensures failed { IsErrOf result ShelfFault.Failed → Rose (faults self.old) (faults self.new) }
         ensures gives { start_gives self.old name.now result self.new }
         ensures one_call { calls self.new ≤ calls self.old + 1 }
-        ensures steady { steady self.old → steady self.new × (faults self.new ≡ faults self.old) };
+        ensures steady { steady self.old → steady self.new × (faults self.new ≡ faults self.old) × (IsErrOf result ShelfFault.Failed → ⊥) };
 
     /// Moves bytes from the front of the rest to the front of the buffer, and says how many. It says 0 where the
     /// rest is empty or nothing is started.
@@ -75,7 +77,7 @@ pub trait Shelf {
         ensures failed { OnErr result (Rose (faults self.old) (faults self.new)) }
         ensures only { IfErr result (λ e. e ≡ ShelfFault.Failed) }
         ensures one_call { calls self.new ≤ calls self.old + 1 }
-        ensures steady { steady self.old → steady self.new × (faults self.new ≡ faults self.old) };
+        ensures steady { steady self.old → steady self.new × (faults self.new ≡ faults self.old) × IsOk result };
 
     // a shelf that tells its names with their bytes tells the rest too
     ghost tells_rest: { (s : Self) → IsSome (names s) → IsSome (rest s) };

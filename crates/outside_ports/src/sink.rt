@@ -12,8 +12,9 @@ pub struct SinkFault;
 /// A place to which text is written, piece after piece.
 ///
 /// To a contract a sink is the bytes written, where it tells them (`written`), and a count of faults that never
-/// falls (`faults`). Whether it tells the bytes never changes. It may count its writes (`calls`), and it may promise
-/// to take a number of bytes with no fault (`takes`).
+/// falls and stays at 2^64 - 1 (`faults`). Whether it tells the bytes never changes.
+///
+/// A sink may also count its writes (`calls`), and promise to take so many more bytes with no fault (`takes`).
 pub trait Sink {
     ghost written: { Self → Option (List ℕ) };
 

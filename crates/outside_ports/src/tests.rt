@@ -103,3 +103,18 @@ fn writes_to_standard_output(rt: HostRuntime) -> Result<(), Fail> {
     assert_eq!(rt; put_all(&mut sink, b"another line\n"), Ok(()));
     Ok(())
 }
+
+#[test]
+fn reads_4096_bytes_at_a_time(rt: HostRuntime) -> Result<(), Fail> {
+    let cases: [(u64, bool); 3] = [(3, false), (4, false), (5, true)];
+    for (failing, loads) in cases {
+        let mut files = Vec::new(rt.alloc());
+        let bytes = Vec::from_slice(rt.alloc(), &[7; 4097])?;
+        files.push((String::from_str(rt.alloc(), "long")?, bytes))?;
+        let failing = Vec::from_slice(rt.alloc(), &[failing])?;
+        let mut shelf = MemShelf::new(files, 10_000, failing);
+        let loaded = load(rt.alloc(), &mut shelf, "long");
+        assert_eq!(rt; loaded.is_ok(), loads);
+    }
+    Ok(())
+}

@@ -1,4 +1,4 @@
-ghost use Rattle.std.specs.Prelude.{◌≡◌, ℕ, ◌+◌, ◌<◌, ◌≤◌, ◌↔◌, List, length, vec_len, Result, is_some, IfOk, IsOk, OnOk, OnErr, IsErrOf};
+ghost use Rattle.std.specs.Prelude.{◌≡◌, ◌+◌, ◌<◌, ◌≤◌, ◌↔◌, length, vec_len, Result, is_some, IfOk, IsOk, OnOk, OnErr, IsErrOf};
 ghost use Rattle.std.specs.Io.KnownBytes.{Appends, Consumes, IsAtEnd};
 ghost use Rattle.outside_ports.specs.Counts.{Rose};
 ghost use Rattle.outside_ports.specs.Names.{IsNamed, IsLonger, IsAbsent};
@@ -50,7 +50,7 @@ pub fn load<S: Shelf>(alloc: Global, shelf: &mut S, name: &str) -> Result<Vec<u8
     ensures tells { is_some (S.rest shelf.new) ≡ is_some (S.rest shelf.old) }
     ensures later { S.faults shelf.old ≤ S.faults shelf.new }
     ensures few_calls { S.calls shelf.new ≤ S.calls shelf.old + (GREATEST_INPUT_BYTES + 2) }
-    ensures steady { S.steady shelf.old → S.steady shelf.new × (S.faults shelf.new ≡ S.faults shelf.old) }
+    ensures steady { S.steady shelf.old → S.steady shelf.new × (S.faults shelf.new ≡ S.faults shelf.old) × (IsErrOf result LoadFault.Read → ⊥) }
 {
     match shelf.start(name) {
         Ok(()) => read_all(alloc, shelf),
@@ -74,7 +74,7 @@ fn read_all<S: Shelf>(alloc: Global, shelf: &mut S) -> Result<Vec<u8>, LoadFault
     ensures tells { is_some (S.rest shelf.new) ≡ is_some (S.rest shelf.old) }
     ensures later { S.faults shelf.old ≤ S.faults shelf.new }
     ensures few_calls { S.calls shelf.new ≤ S.calls shelf.old + (GREATEST_INPUT_BYTES + 1) }
-    ensures steady { S.steady shelf.old → S.steady shelf.new × (S.faults shelf.new ≡ S.faults shelf.old) }
+    ensures steady { S.steady shelf.old → S.steady shelf.new × (S.faults shelf.new ≡ S.faults shelf.old) × (IsErrOf result LoadFault.Read → ⊥) }
 {
     let mut bytes = Vec::new(alloc);
     let mut buffer = [0u8; 4096];
