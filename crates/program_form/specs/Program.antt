@@ -1,5 +1,5 @@
 -- Blocking programs as the three lists of numbers that they are, and which lists are accepted as one.
-use Rattle.std.specs.Prelude.{◌≡◌, ℕ, ◌<◌, ◌≤◌, ◌^◌, List, [], length, slice_index, slice_index_or}
+use Rattle.std.specs.Prelude.{◌≡◌, ℕ, ◌<◌, ◌≤◌, ◌^◌, ◌-◌, refl, List, [], length, slice_index, slice_index_or}
 use Rattle.program_form.specs.declared.TheConstants.{MOST_NUMBER}
 
 -- A linear program over columns that are at least zero: the sum of cost times column is to be as great as the rows allow,
@@ -51,6 +51,10 @@ pub record IsFirstUncovered (p : ProgramDef) (c : ℕ) : Type 0 where
   pub within : c < columns p
   pub none : (r : ℕ) → r < height p → entry p r c ≡ 0
   pub earlier : (d : ℕ) → d < c → IsCovered p d
+
+-- the most that is allowed is the greatest number of 63 bits
+pub most_number_is : MOST_NUMBER ≡ 2 ^ 63 - 1
+most_number_is = refl
 
 -- Is no number above the most that is allowed?
 pub record AreSmall (p : ProgramDef) : Type 0 where
