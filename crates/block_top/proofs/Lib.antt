@@ -1,0 +1,4 @@
+pub mod InputLaws
+pub mod OutcomeLaws
+pub mod ReplyLaws
+pub mod RunLaws

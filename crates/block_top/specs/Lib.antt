@@ -1,0 +1,9 @@
+pub mod Words
+pub mod FormSeen
+pub mod Texts
+pub mod Refusals
+pub mod Outcome
+pub mod Inputs
+pub mod Replies
+pub mod Reached
+pub mod Run

@@ -1,0 +1,65 @@
+-- The texts of refused inputs: a reason, and the place where there is one. Positions print counted from 1.
+use Rattle.std.specs.Prelude.{ℕ, ◌+◌, List, [], ◌++◌, codes, decimal}
+use Rattle.sporadic_model.specs.declared.refusal.Place.{Place}
+use Rattle.sporadic_model.specs.declared.refusal.Place.TheVariants as place
+use Rattle.sporadic_model.specs.declared.refusal.SizeOf.{SizeOf}
+use Rattle.sporadic_model.specs.declared.refusal.SizeOf.TheVariants as size
+use Rattle.sporadic_model.specs.declared.refusal.ModelRefusal.{ModelRefusal}
+use Rattle.sporadic_model.specs.declared.refusal.ModelRefusal.TheVariants as model
+use Rattle.taskset_json.specs.declared.refusal.SetRefusal.{SetRefusal}
+use Rattle.taskset_json.specs.declared.refusal.SetRefusal.TheVariants as refusal
+
+abbrev pub place_text : Place → List ℕ
+place_text place.Root = codes "root"
+place_text (place.Resource q) = codes "resource " ++ decimal (q + 1)
+place_text (place.Task x) = codes "task " ++ decimal (x + 1)
+place_text (place.Request x j) = codes "request " ++ (decimal (x + 1) ++ (codes " " ++ decimal (j + 1)))
+
+abbrev pub size_text : SizeOf → List ℕ
+size_text size.Processors = codes "processors"
+size_text size.Tasks = codes "tasks"
+size_text size.Resources = codes "resources"
+size_text size.Requests = codes "requests"
+
+-- The word of a refusal of the model, and what stands behind it.
+abbrev pub model_word : ModelRefusal → List ℕ
+model_word model.NoTask = codes "notask"
+model_word (model.Size what) = codes "size "
+model_word (model.Name at) = codes "name "
+model_word (model.TwiceName at) = codes "twicename "
+model_word (model.Processor x) = codes "processor "
+model_word (model.Period x) = codes "period "
+model_word (model.Deadline x) = codes "deadline "
+model_word (model.Cost x) = codes "cost "
+model_word (model.Local x) = codes "local "
+model_word (model.Resource at) = codes "resource "
+model_word (model.TwiceRequest at) = codes "twicerequest "
+model_word (model.Count at) = codes "count "
+model_word (model.Length at) = codes "length "
+model_word (model.Home q) = codes "home "
+model_word model.Memory = []
+
+abbrev pub model_place : ModelRefusal → List ℕ
+model_place model.NoTask = []
+model_place (model.Size what) = size_text what
+model_place (model.Name at) = place_text at
+model_place (model.TwiceName at) = place_text at
+model_place (model.Processor x) = place_text (place.Task x.0)
+model_place (model.Period x) = place_text (place.Task x.0)
+model_place (model.Deadline x) = place_text (place.Task x.0)
+model_place (model.Cost x) = place_text (place.Task x.0)
+model_place (model.Local x) = place_text (place.Task x.0)
+model_place (model.Resource at) = place_text at
+model_place (model.TwiceRequest at) = place_text at
+model_place (model.Count at) = place_text at
+model_place (model.Length at) = place_text at
+model_place (model.Home q) = place_text (place.Resource q.0)
+model_place model.Memory = []
+
+-- The reason why a task set's input is refused.
+abbrev pub reason_text : SetRefusal → List ℕ
+reason_text refusal.NotJson = codes "notjson"
+reason_text (refusal.Shape at) = codes "shape " ++ place_text at
+reason_text (refusal.Model r) = model_word r ++ model_place r
+reason_text (refusal.NoHome q) = codes "nohome " ++ place_text (place.Resource q.0)
+reason_text refusal.Memory = []

@@ -1,0 +1,33 @@
+-- The forms of words that the program answers.
+use Rattle.std.specs.Prelude.{ℕ, ◌&&◌, Bool, List, [], ◌∷◌, map, Option, Some, None, if◌then◌else◌, option_map, String, string_bytes, codes}
+use Rattle.std.specs.Global.{Global}
+use Rattle.std.specs.Str.{bytes_eq}
+use Rattle.sporadic_model.specs.declared.ids.Protocol.{Protocol}
+use Rattle.sporadic_model.specs.declared.ids.Protocol.TheVariants.{Mpcp, FmlpPlus, Dpcp}
+
+-- What the words ask for. Each form names the task set's input.
+pub data Form : Type 0 where
+  Analyse : List ℕ → Form
+  Report : Protocol → List ℕ → Form
+
+-- Which protocol does this word name?
+abbrev pub protocol_of : List ℕ → Option Protocol
+protocol_of word = if bytes_eq word (codes "mpcp") then Some Mpcp
+    else if bytes_eq word (codes "fmlp+") then Some FmlpPlus
+    else if bytes_eq word (codes "dpcp") then Some Dpcp
+    else None
+
+-- Which form do these three words have?
+abbrev pub form_of_three : List ℕ → List ℕ → List ℕ → Option Form
+form_of_three command protocol name = if bytes_eq command (codes "analyse") && bytes_eq protocol (codes "fmlp+") then Some (Analyse name)
+    else if bytes_eq command (codes "report") then option_map (λ p. Report p name) (protocol_of protocol)
+    else None
+
+-- Which form do the words have, if any?
+abbrev pub form_of : List (List ℕ) → Option Form
+form_of (command ∷ protocol ∷ name ∷ []) = form_of_three command protocol name
+form_of _ = None
+
+-- What a contract sees of words: their bytes.
+abbrev pub words_seen : List (String Global) → List (List ℕ)
+words_seen words = map string_bytes words

@@ -1,0 +1,126 @@
+ghost use Rattle.std.specs.Prelude.{◌≡◌, ◌++◌, IfOk, OnOk, map};
+ghost use Rattle.program_form.specs.Certificate.{dual_seen, certificate_seen};
+ghost use Rattle.block_top.specs.Texts.{after_commas, with_commas, dual_text, duals_after_commas, duals_text, bounds_member, duals_member, last_members, certificate_text, not_shown_text, wide_text};
+
+use std::alloc::{AllocError, Global};
+
+use program_form::{Certificate, Dual};
+use text_pieces::push_number;
+
+/// Adds each number with a comma before it.
+fn push_after_commas(text: &mut Vec<u8>, numbers: &[u64]) -> Result<(), AllocError>
+    ensures { OnOk result (text.new.items ≡ text.old.items ++ after_commas numbers.now) }
+{
+    for n in numbers {
+        text.extend_from_slice(b",")?;
+        push_number(text, *n)?;
+    }
+    Ok(())
+}
+
+/// Adds the numbers with a comma between each two.
+fn push_numbers(text: &mut Vec<u8>, numbers: &[u64]) -> Result<(), AllocError>
+    ensures { OnOk result (text.new.items ≡ text.old.items ++ with_commas numbers.now) }
+{
+    match numbers {
+        [] => Ok(()),
+        [first, rest @ ..] => {
+            push_number(text, *first)?;
+            push_after_commas(text, rest)
+        }
+    }
+}
+
+/// Adds a dual solution as JSON.
+fn push_dual(text: &mut Vec<u8>, dual: &Dual) -> Result<(), AllocError>
+    ensures { OnOk result (text.new.items ≡ text.old.items ++ dual_text (dual_seen dual.now)) }
+{
+    text.extend_from_slice(b"{\"den\":")?;
+    push_number(text, dual.den)?;
+    text.extend_from_slice(b",\"num\":[")?;
+    push_numbers(text, &dual.num)?;
+    text.extend_from_slice(b"]}")
+}
+
+/// Adds each dual with a comma before it.
+fn push_duals_after_commas(text: &mut Vec<u8>, duals: &[Dual]) -> Result<(), AllocError>
+    ensures { OnOk result (text.new.items ≡ text.old.items ++ duals_after_commas (map dual_seen duals.now)) }
+{
+    for dual in duals {
+        text.extend_from_slice(b",")?;
+        push_dual(text, dual)?;
+    }
+    Ok(())
+}
+
+/// Adds the duals with a comma between each two.
+fn push_duals(text: &mut Vec<u8>, duals: &[Dual]) -> Result<(), AllocError>
+    ensures { OnOk result (text.new.items ≡ text.old.items ++ duals_text (map dual_seen duals.now)) }
+{
+    match duals {
+        [] => Ok(()),
+        [first, rest @ ..] => {
+            push_dual(text, first)?;
+            push_duals_after_commas(text, rest)
+        }
+    }
+}
+
+/// Adds the member with the bounds.
+fn push_bounds_member(text: &mut Vec<u8>, bounds: &[u64]) -> Result<(), AllocError>
+    ensures { OnOk result (text.new.items ≡ text.old.items ++ bounds_member bounds.now) }
+{
+    text.extend_from_slice(b"{\"bounds\":[")?;
+    push_numbers(text, bounds)?;
+    text.extend_from_slice(b"],")
+}
+
+/// Adds the member with the duals.
+fn push_duals_member(text: &mut Vec<u8>, duals: &[Dual]) -> Result<(), AllocError>
+    ensures { OnOk result (text.new.items ≡ text.old.items ++ duals_member (map dual_seen duals.now)) }
+{
+    text.extend_from_slice(b"\"duals\":[")?;
+    push_duals(text, duals)?;
+    text.extend_from_slice(b"],")
+}
+
+/// Adds the members that are the same in each certificate for FMLP+.
+fn push_last_members(text: &mut Vec<u8>) -> Result<(), AllocError>
+    ensures { OnOk result (text.new.items ≡ text.old.items ++ last_members) }
+{
+    text.extend_from_slice(
+        b"\"protocol\":\"fmlp+\",\"verdict\":\"schedulable\",\"version\":1}\n",
+    )
+}
+
+/// The text of a certificate for FMLP+.
+pub fn certificate_line(alloc: Global, certificate: &Certificate) -> Result<Vec<u8>, AllocError>
+    ensures { IfOk result (λ text. text.items ≡ certificate_text (certificate_seen certificate.now)) }
+{
+    let mut text = Vec::new(alloc);
+    push_bounds_member(&mut text, &certificate.bounds)?;
+    push_duals_member(&mut text, &certificate.duals)?;
+    push_last_members(&mut text)?;
+    Ok(text)
+}
+
+/// The text for a task whose value passes its deadline.
+pub fn not_shown_line(
+    alloc: Global,
+    name: &str,
+    value: u64,
+    deadline: u64,
+) -> Result<Vec<u8>, AllocError>
+    ensures { IfOk result (λ text. text.items ≡ not_shown_text name.now value deadline) }
+{
+    let text = format!(in alloc; "not shown {name} {value} {deadline}\n")?;
+    Ok(text.into_bytes())
+}
+
+/// The text for a task whose program forms a fraction that is too wide.
+pub fn wide_line(alloc: Global, name: &str) -> Result<Vec<u8>, AllocError>
+    ensures { IfOk result (λ text. text.items ≡ wide_text name.now) }
+{
+    let text = format!(in alloc; "wide {name}\n")?;
+    Ok(text.into_bytes())
+}

@@ -1,0 +1,6 @@
+//! The tables of a task set.
+#![tactic(auto)]
+
+mod table;
+
+pub use table::set_table;

@@ -1,0 +1,116 @@
+ghost use Rattle.std.specs.Prelude.{◌≡◌, ◌+◌, ◌*◌, ◌/◌, ◌<◌, ◌≤◌, ◌++◌, length, IfOk, OnOk};
+ghost use Rattle.bounded_sums.specs.Sums.{collect_below};
+ghost use Rattle.sporadic_model.specs.SetDef.{task_at};
+ghost use Rattle.report.specs.Table.{header, ticks_columns, task_line, load_of, load_line, table_text};
+
+use sporadic_model::{TaskId, TaskSet};
+use std::alloc::{AllocError, Global};
+use text_pieces::{push_left, push_number, push_right, push_right_number};
+
+/// The places of a name, of a processor's number, and of a number of ticks.
+const NAME_WIDTH: usize = 32;
+
+const PROCESSOR_WIDTH: usize = 3;
+
+const TICKS_WIDTH: usize = 11;
+
+/// Adds the words above the columns.
+fn push_header(text: &mut Vec<u8>) -> Result<(), AllocError>
+    ensures { OnOk result (text.new.items ≡ text.old.items ++ header) }
+{
+    push_left(text, NAME_WIDTH, b"task")?;
+    push_right(text, PROCESSOR_WIDTH, b"cpu")?;
+    push_right(text, TICKS_WIDTH, b"period")?;
+    push_right(text, TICKS_WIDTH, b"deadline")?;
+    push_right(text, TICKS_WIDTH, b"cost")?;
+    push_right(text, TICKS_WIDTH, b"local")?;
+    text.extend_from_slice(b"\n")
+}
+
+/// Adds a task's period, deadline, cost and local limit.
+fn push_ticks(text: &mut Vec<u8>, set: &TaskSet, x: TaskId) -> Result<(), AllocError>
+    requires { x.0 < length set.now.tasks }
+    ensures { OnOk result (text.new.items ≡ text.old.items ++ ticks_columns (task_at set.now x.0)) }
+{
+    push_right_number(text, TICKS_WIDTH, set.period(x))?;
+    push_right_number(text, TICKS_WIDTH, set.deadline(x))?;
+    push_right_number(text, TICKS_WIDTH, set.cost(x))?;
+    push_right_number(text, TICKS_WIDTH, set.local(x))
+}
+
+/// Adds the line of a task.
+fn push_task(text: &mut Vec<u8>, set: &TaskSet, x: TaskId) -> Result<(), AllocError>
+    requires { x.0 < length set.now.tasks }
+    ensures { OnOk result (text.new.items ≡ text.old.items ++ task_line (task_at set.now x.0)) }
+{
+    push_left(text, NAME_WIDTH, set.task_name(x).as_bytes())?;
+    push_right_number(text, PROCESSOR_WIDTH, u64::from(set.processor(x)))?;
+    push_ticks(text, set, x)?;
+    text.extend_from_slice(b"\n")
+}
+
+/// The part of its processor's time that a task takes at most, in millionths, rounded down.
+fn part_of_time(set: &TaskSet, x: TaskId) -> u64
+    requires { x.0 < length set.now.tasks }
+    ensures value { result ≡ (task_at set.now x.0).cost * 1000000 / (task_at set.now x.0).period }
+    ensures most { result ≤ 1000000 }
+{
+    let _tasks = set.tasks();
+    set.cost(x) * 1_000_000 / set.period(x)
+}
+
+/// The load of processor `k` in millionths.
+fn load(set: &TaskSet, k: u32) -> u64
+    ensures { result ≡ load_of set.now k }
+{
+    let mut total = 0;
+    for x in 0..set.tasks() {
+        if set.processor(TaskId(x)) == k {
+            total += part_of_time(set, TaskId(x));
+        }
+    }
+    total
+}
+
+/// Adds the line of a processor's load.
+fn push_load(text: &mut Vec<u8>, set: &TaskSet, k: u32) -> Result<(), AllocError>
+    ensures { OnOk result (text.new.items ≡ text.old.items ++ load_line set.now k) }
+{
+    text.extend_from_slice(b"load ")?;
+    push_number(text, u64::from(k))?;
+    text.extend_from_slice(b" ")?;
+    push_number(text, load(set, k))?;
+    text.extend_from_slice(b"\n")
+}
+
+/// Adds the lines of all tasks.
+fn push_tasks(text: &mut Vec<u8>, set: &TaskSet) -> Result<(), AllocError>
+    ensures { OnOk result (text.new.items ≡ text.old.items ++ collect_below (length set.now.tasks) (λ x. task_line (task_at set.now x))) }
+{
+    for x in 0..set.tasks() {
+        push_task(text, set, TaskId(x))?;
+    }
+    Ok(())
+}
+
+/// Adds the lines of all processors.
+fn push_loads(text: &mut Vec<u8>, set: &TaskSet) -> Result<(), AllocError>
+    ensures { OnOk result (text.new.items ≡ text.old.items ++ collect_below set.now.processors (λ k. load_line set.now (k + 1))) }
+{
+    for k in 0..set.processors() {
+        push_load(text, set, k + 1)?;
+    }
+    Ok(())
+}
+
+/// The table of a set: a header, a line for each task in order, and a line with the load of each processor in
+/// millionths. Times are in ticks. An error is want of memory.
+pub fn set_table(alloc: Global, set: &TaskSet) -> Result<Vec<u8>, AllocError>
+    ensures { IfOk result (λ text. text.items ≡ table_text set.now) }
+{
+    let mut text = Vec::new(alloc);
+    push_header(&mut text)?;
+    push_tasks(&mut text, set)?;
+    push_loads(&mut text, set)?;
+    Ok(text)
+}

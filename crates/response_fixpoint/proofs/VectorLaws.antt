@@ -1,0 +1,45 @@
+-- Laws of vectors: sums over them, and when two are equal.
+use Rattle.std.proofs.Common.{◌≡◌, ◌≢◌, ℕ, zero, suc, ◌<◌, ◌≤◌, List, length, sym, ◌∙◌, arith, inl, inr}
+use Rattle.std.proofs.lemmas.Bool.{cases_lt}
+use Rattle.std.specs.Prelude.{slice_index}
+use Rattle.std.proofs.lemmas.Grind.{same_number_lists}
+use Rattle.bounded_sums.specs.Sums.{sum_below}
+use Rattle.response_fixpoint.specs.Vectors.{AtMost}
+
+-- The sum of the first n places of a vector.
+abbrev pub total : ℕ → List ℕ → ℕ
+total n r = sum_below n (slice_index r)
+
+-- Where a vector is at most another in n places, fewer places are so too.
+pub fewer : (n : ℕ) (r s : List ℕ) → AtMost (suc n) r s → AtMost n r s
+fewer n r s h = λ i below. h i (omega arith)
+
+pub total_rises : (n : ℕ) (r s : List ℕ) → AtMost n r s → total n r ≤ total n s
+total_rises zero r s h = omega arith
+total_rises (suc n) r s h =
+    let before = total_rises n r s (fewer n r s h) in
+    let here : slice_index r n ≤ slice_index s n = h n (omega arith) in
+    omega arith
+
+-- Where a vector is at most another and its sum is no less, the two agree in each place.
+pub same_total : (n : ℕ) (r s : List ℕ) → AtMost n r s → total n s ≤ total n r → (i : ℕ) → i < n → slice_index r i ≡ slice_index s i
+same_total zero r s h t i below = absurd (omega arith)
+same_total (suc n) r s h t i below =
+    let before = total_rises n r s (fewer n r s h) in
+    let here : slice_index r n ≤ slice_index s n = h n (omega arith) in
+    let rest : total n s ≤ total n r = omega arith in
+    elim (cases_lt i n) [
+      | inl earlier ↦ same_total n r s (fewer n r s h) rest i earlier
+      | inr later ↦
+          let last : i ≡ n = omega arith in
+          let same : slice_index r n ≡ slice_index s n = omega arith in
+          rw last same
+    ]
+
+-- A vector that is at most another one and differs from it has the lesser sum.
+pub total_grows : (n : ℕ) (r s : List ℕ) → length r ≡ n → length s ≡ n → AtMost n r s → r ≢ s → total n r < total n s
+total_grows n r s a b h differs =
+    elim (cases_lt (total n r) (total n s)) [
+      | inl less ↦ less
+      | inr more ↦ absurd (differs (same_number_lists r s (a ∙ sym b) (λ i below. same_total n r s h more i (omega arith))))
+    ]

@@ -1,0 +1,14 @@
+-- Texts in columns of a fixed width, filled with spaces.
+use Rattle.std.specs.Prelude.{ℕ, ◌-◌, List, ◌++◌, length, replicate}
+
+-- The code of a space.
+abbrev pub space : ℕ
+space = 32
+
+-- A text on the left of so many places. A longer text stands as it is.
+abbrev pub left : ℕ → List ℕ → List ℕ
+left width text = text ++ replicate (width - length text) space
+
+-- A text on the right of so many places. A longer text stands as it is.
+abbrev pub right : ℕ → List ℕ → List ℕ
+right width text = replicate (width - length text) space ++ text

@@ -1,0 +1,51 @@
+//! Pieces of the texts that the program answers: numbers in decimal digits, and columns of a fixed width.
+//! Each call adds its piece at the end of a text, and answers an error for want of memory alone.
+#![tactic(auto)]
+
+ghost use Rattle.std.specs.Prelude.{◌≡◌, ◌++◌, decimal, replicate, OnOk};
+ghost use Rattle.text_pieces.specs.Columns.{space, left, right};
+
+use itoa::Buffer;
+use std::alloc::AllocError;
+
+/// Adds a number in decimal digits.
+pub fn push_number(text: &mut Vec<u8>, n: u64) -> Result<(), AllocError>
+    ensures { OnOk result (text.new.items ≡ text.old.items ++ decimal n) }
+{
+    let mut buffer = Buffer::new();
+    text.extend_from_slice(buffer.format(n).as_bytes())
+}
+
+/// Adds so many spaces.
+fn push_spaces(text: &mut Vec<u8>, count: usize) -> Result<(), AllocError>
+    ensures { OnOk result (text.new.items ≡ text.old.items ++ replicate count space) }
+{
+    for _ in 0..count {
+        text.push(b' ')?;
+    }
+    Ok(())
+}
+
+/// Adds a piece on the left of so many places.
+pub fn push_left(text: &mut Vec<u8>, width: usize, piece: &[u8]) -> Result<(), AllocError>
+    ensures { OnOk result (text.new.items ≡ text.old.items ++ left width piece.now) }
+{
+    text.extend_from_slice(piece)?;
+    push_spaces(text, width.saturating_sub(piece.len()))
+}
+
+/// Adds a piece on the right of so many places.
+pub fn push_right(text: &mut Vec<u8>, width: usize, piece: &[u8]) -> Result<(), AllocError>
+    ensures { OnOk result (text.new.items ≡ text.old.items ++ right width piece.now) }
+{
+    push_spaces(text, width.saturating_sub(piece.len()))?;
+    text.extend_from_slice(piece)
+}
+
+/// Adds a number in decimal digits on the right of so many places.
+pub fn push_right_number(text: &mut Vec<u8>, width: usize, n: u64) -> Result<(), AllocError>
+    ensures { OnOk result (text.new.items ≡ text.old.items ++ right width (decimal n)) }
+{
+    let mut buffer = Buffer::new();
+    push_right(text, width, buffer.format(n).as_bytes())
+}
