@@ -1,5 +1,6 @@
 -- The task set that a value of the form writes. An absent deadline is the period, an absent local limit
--- the cost; absent requests and resources are none.
+-- the cost; absent requests and resources are none. A number that the form asks for is there, so the 0
+-- that would stand for it is not used.
 use Rattle.std.specs.Prelude.{ℕ, map, codes}
 use Rattle.serde_json.specs.Data.{Data}
 use Rattle.sporadic_model.specs.SetDef.{RequestDef, TaskDef, ResourceDef, SetDef}

@@ -6,7 +6,7 @@ ghost use Rattle.std.specs.Str.{bytes_eq};
 ghost use Rattle.std.specs.BTreeMap.{keys};
 ghost use Rattle.serde_json.specs.Find.{as_object};
 ghost use Rattle.taskset_json.specs.Members.{names_of};
-ghost use Rattle.taskset_json.specs.Form.{is_of_kind, gives, is_listed, is_object_of, set_form, resource_form, task_form, request_form};
+ghost use Rattle.taskset_json.specs.Form.{must, may, is_of_kind, gives, is_listed, is_object_of, set_form, resource_form, task_form, request_form};
 ghost use Rattle.taskset_json.specs.Seen.{member_seen};
 
 use serde_json::{Map, Value};
@@ -28,6 +28,28 @@ pub(crate) struct Member {
     name: &'static str,
     kind: Kind,
     required: bool,
+}
+
+/// A member that each object of the form has.
+fn must(name: &'static str, kind: Kind) -> Member
+    ensures { member_seen result ≡ must name.now kind }
+{
+    Member {
+        name,
+        kind,
+        required: true,
+    }
+}
+
+/// A member that may be absent.
+fn may(name: &'static str, kind: Kind) -> Member
+    ensures { member_seen result ≡ may name.now kind }
+{
+    Member {
+        name,
+        kind,
+        required: false,
+    }
 }
 
 fn is_of_kind(value: &Value, kind: Kind) -> bool
@@ -97,21 +119,9 @@ pub(crate) fn is_set(value: &Value) -> bool
     ensures { result ≡ is_object_of set_form (view value.now) }
 {
     let form = [
-        Member {
-            name: "processors",
-            kind: Kind::Whole,
-            required: true,
-        },
-        Member {
-            name: "tasks",
-            kind: Kind::List,
-            required: true,
-        },
-        Member {
-            name: "resources",
-            kind: Kind::List,
-            required: false,
-        },
+        must("processors", Kind::Whole),
+        must("tasks", Kind::List),
+        may("resources", Kind::List),
     ];
     is_object_of(value, &form)
 }
@@ -120,18 +130,7 @@ pub(crate) fn is_set(value: &Value) -> bool
 pub(crate) fn is_resource(value: &Value) -> bool
     ensures { result ≡ is_object_of resource_form (view value.now) }
 {
-    let form = [
-        Member {
-            name: "name",
-            kind: Kind::Text,
-            required: true,
-        },
-        Member {
-            name: "home",
-            kind: Kind::Whole,
-            required: false,
-        },
-    ];
+    let form = [must("name", Kind::Text), may("home", Kind::Whole)];
     is_object_of(value, &form)
 }
 
@@ -140,41 +139,13 @@ pub(crate) fn is_task(value: &Value) -> bool
     ensures { result ≡ is_object_of task_form (view value.now) }
 {
     let form = [
-        Member {
-            name: "name",
-            kind: Kind::Text,
-            required: true,
-        },
-        Member {
-            name: "processor",
-            kind: Kind::Whole,
-            required: true,
-        },
-        Member {
-            name: "period",
-            kind: Kind::Whole,
-            required: true,
-        },
-        Member {
-            name: "cost",
-            kind: Kind::Whole,
-            required: true,
-        },
-        Member {
-            name: "deadline",
-            kind: Kind::Whole,
-            required: false,
-        },
-        Member {
-            name: "local",
-            kind: Kind::Whole,
-            required: false,
-        },
-        Member {
-            name: "requests",
-            kind: Kind::List,
-            required: false,
-        },
+        must("name", Kind::Text),
+        must("processor", Kind::Whole),
+        must("period", Kind::Whole),
+        must("cost", Kind::Whole),
+        may("deadline", Kind::Whole),
+        may("local", Kind::Whole),
+        may("requests", Kind::List),
     ];
     is_object_of(value, &form)
 }
@@ -184,21 +155,9 @@ pub(crate) fn is_request(value: &Value) -> bool
     ensures { result ≡ is_object_of request_form (view value.now) }
 {
     let form = [
-        Member {
-            name: "resource",
-            kind: Kind::Text,
-            required: true,
-        },
-        Member {
-            name: "count",
-            kind: Kind::Whole,
-            required: true,
-        },
-        Member {
-            name: "length",
-            kind: Kind::Whole,
-            required: true,
-        },
+        must("resource", Kind::Text),
+        must("count", Kind::Whole),
+        must("length", Kind::Whole),
     ];
     is_object_of(value, &form)
 }
