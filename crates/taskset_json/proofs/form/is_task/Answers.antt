@@ -1,4 +1,4 @@
-use Rattle.std.proofs.Common.{List, [], ◌∙◌, ap, refl}
+use Rattle.std.proofs.Common.{[], ◌∙◌, ap, refl}
 use Rattle.serde_json.specs.View.{view}
 use Rattle.taskset_json.specs.Form.{is_object_of}
 use Rattle.taskset_json.proofs.Lists.{cons_same}
