@@ -31,8 +31,8 @@ fn set_of(alloc: Global, value: &Value) -> Result<TaskSet, SetRefusal>
     }
 }
 
-/// Reads a task set from at most [`MOST_BYTES`] bytes of JSON, or says what is wrong first: the bytes are no JSON text
-/// ([`SetRefusal::NotJson`]); an object does not have the members that it must have
+/// Reads a task set from at most [`MOST_BYTES`] bytes of JSON, or says what is wrong first: the bytes
+/// are no JSON text ([`SetRefusal::NotJson`]); an object does not have the members that it must have
 /// ([`SetRefusal::Shape`], with the first such place over the whole value); the set that the value
 /// writes is not accepted ([`SetRefusal::Model`], as `TaskSet::new` answers). Never answers
 /// [`SetRefusal::NoHome`].
