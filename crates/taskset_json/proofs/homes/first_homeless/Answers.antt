@@ -1,0 +1,26 @@
+use Rattle.std.proofs.Common.{◌≡◌, ℕ, ◌<◌, length, Bool, true, false, not, refl, ap, ◌∙◌, sym, arith}
+use Rattle.std.specs.Option.{is_none}
+use Rattle.sporadic_model.specs.SetDef.{resource_at, no_resource}
+use Rattle.taskset_json.proofs.Lists.{position_here, position_none}
+use Rattle.taskset_json.proofs.homes.first_homeless.Goals as goal
+
+is_there : (b : Bool) → not b ≡ false → b ≡ true
+is_there true e = refl
+is_there false e = sym e
+
+pub returns-then-is_none : goal.returns-then-is_none
+returns-then-is_none c =
+    let hit : is_none (resource_at c.args.set.now c.loop-q.q).home ≡ true = ap is_none (sym c.home.ensures.value) ∙ ap not c.if-is_none.ensures in
+    record {
+      first = sym (position_here (λ r. is_none r.home) c.args.set.now.resources c.loop-q.q no_resource (omega (arith, c.loop-q-test.true, c.resources-q-end.ensures.value)) c.loop-q.invariant hit);
+      none = tt;
+    }
+
+pub returns : goal.returns
+returns c =
+    let kept : (q : ℕ) → q < length c.args.set.now.resources → is_none (resource_at c.args.set.now q).home ≡ false =
+    λ q below. c.loop-q.invariant q (omega (arith, below, c.loop-q-test.false, c.resources-q-end.ensures.value)) in
+    record {
+      first = sym (position_none (λ r. is_none r.home) c.args.set.now.resources no_resource kept);
+      none = λ q below. is_there _ (kept q below);
+    }

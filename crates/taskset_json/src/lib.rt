@@ -1,0 +1,17 @@
+//! Task sets in JSON: reading one with the place of what is wrong in it, and the homes that a protocol
+//! asks for.
+#![tactic(auto)]
+
+mod form;
+mod homes;
+mod members;
+mod reading;
+mod refusal;
+mod shape;
+#[cfg(test)]
+mod tests;
+mod written;
+
+pub use homes::home_check;
+pub use reading::{MOST_BYTES, read};
+pub use refusal::SetRefusal;

@@ -1,0 +1,48 @@
+ghost use Rattle.std.specs.Prelude.{◌≡◌, ◌≤◌, ◌<◌, ◌^◌, length, IfOk};
+ghost use Rattle.serde_json.specs.View.{view};
+ghost use Rattle.taskset_json.specs.Size.{size};
+ghost use Rattle.taskset_json.specs.Answers.{Reads, JudgesValue};
+
+use crate::refusal::SetRefusal;
+use crate::shape::first_misshapen;
+use crate::written::parts_of;
+use serde_json::Value;
+use sporadic_model::{ModelRefusal, TaskSet};
+use std::alloc::{AllocError, Global};
+
+/// The most bytes that are read.
+pub const MOST_BYTES: usize = 67_108_864;
+
+fn set_of(alloc: Global, value: &Value) -> Result<TaskSet, SetRefusal>
+    requires { size (view value.now) < 2 ^ 32 }
+    ensures { JudgesValue result (view value.now) }
+{
+    if let Some(place) = first_misshapen(value) {
+        return Err(SetRefusal::Shape(place));
+    }
+    let parts = match parts_of(alloc, value) {
+        Ok(parts) => parts,
+        Err(AllocError) => return Err(SetRefusal::Memory),
+    };
+    match TaskSet::new(alloc, parts) {
+        Ok(set) => Ok(set),
+        Err(ModelRefusal::Memory) => Err(SetRefusal::Memory),
+        Err(refusal) => Err(SetRefusal::Model(refusal)),
+    }
+}
+
+/// Reads a task set from at most [`MOST_BYTES`] bytes of JSON, or says what is wrong first: the bytes
+/// are no JSON text ([`SetRefusal::NotJson`]); an object does not have the members that it must have
+/// ([`SetRefusal::Shape`], with the first such place over the whole value); the set that the value
+/// writes is not accepted ([`SetRefusal::Model`], as `TaskSet::new` answers). Never answers
+/// [`SetRefusal::NoHome`].
+pub fn read(alloc: Global, bytes: &[u8]) -> Result<TaskSet, SetRefusal>
+    requires { length bytes.now ≤ MOST_BYTES }
+    ensures { Reads result bytes.now }
+{
+    match Value::from_slice(alloc, bytes) {
+        Ok(value) => set_of(alloc, &value),
+        Err(error) if error.is_memory() => Err(SetRefusal::Memory),
+        Err(_) => Err(SetRefusal::NotJson),
+    }
+}
