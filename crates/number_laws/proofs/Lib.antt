@@ -1,0 +1,4 @@
+pub mod Ring
+pub mod Order
+pub mod Divisors
+pub mod Comparison
