@@ -4,3 +4,4 @@ pub mod Products
 pub mod GivesLemmas
 pub mod OrderLemmas
 pub mod Forms
+pub mod ScalingLemmas

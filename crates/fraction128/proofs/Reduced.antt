@@ -69,3 +69,7 @@ no_form n d top bottom above l wide f form is =
 
     crossed : (fn fd n d top bottom : ℕ) → 0 < d → fn * d ≡ n * fd → top * d ≡ n * bottom → top * fd ≡ fn * bottom
     crossed fn fd n d top bottom pd p q = same_factor _ _ d pd (omega (arith, ap (λ m. m * bottom) p, ap (λ m. m * fd) q))
+
+pub reduced_by_one : (a b g : ℕ) → 0 < b → g ≡ 1 → IsGcd a b g → IsLowest a b a b
+reduced_by_one a b g pb one h =
+    record { same = refl; positive = pb; lowest = coprime_of_gcd a b (subst (λ (n : ℕ). IsGcd a b n) one h) }

@@ -5,3 +5,6 @@ pub mod LowestTerms
 pub mod Order
 pub mod Text
 pub mod OrderLaws
+pub mod Scaling
+pub mod Scales
+pub mod Laws

@@ -10,8 +10,12 @@ use std::fmt;
 use std::marker::Model;
 
 mod divisor;
+mod laws;
+mod scaling;
 
 use divisor::{reduce, with_sign_of};
+pub use laws::{least_decides, one_answer};
+pub use scaling::{Scaled, ScalingError, common_denominator, scale};
 
 /// The exact value has no form: its lowest terms pass 2^63 - 1.
 #[derive(Clone, Copy, Debug, PartialEq, Eq)]
@@ -241,3 +245,6 @@ fn dens(a: Frac, b: Frac) -> i128
 {
     a.den as i128 * b.den as i128
 }
+
+#[cfg(test)]
+mod tests;

@@ -1,8 +1,8 @@
 -- The order of ℤ and its products.
-use Rattle.std.proofs.Common.{◌≡◌, ◌*◌, ◌<◌, ℤ, pos, negsuc, ◌-ℤ◌, ◌*ℤ◌, ◌≤ℤ◌, ◌<ℤ◌, sym, subst, arith}
+use Rattle.std.proofs.Common.{◌≡◌, ◌*◌, ◌<◌, ℤ, pos, negsuc, ◌-ℤ◌, ◌*ℤ◌, neg_ℤ, ◌≤ℤ◌, ◌<ℤ◌, ap, ◌∙◌, sym, subst, arith}
 use Rattle.std.proofs.lemmas.Int.{ints, by_lt_z}
 use Rattle.std.proofs.Math.Nat.{mul-lt-mul_of_pos_left}
-use Rattle.number_laws.proofs.Ring.{mul-sub_right}
+use Rattle.number_laws.proofs.Ring.{as_diff, diffs, same_diff, mul-sub_right}
 
 pub times_nonneg : (a b : ℤ) → pos 0 ≤ℤ a → pos 0 ≤ℤ b → pos 0 ≤ℤ (a *ℤ b)
 times_nonneg (pos a) (pos b) h k = omega (arith, ints)
@@ -63,3 +63,26 @@ cancel a b c h e =
 
     both_ways : (x y : ℤ) → x ≤ℤ y → y ≤ℤ x → x ≡ y
     both_ways x y p q = omega (arith, ints)
+
+-- a common factor that isn't 0 is taken off
+pub cancel_apart : (a b c : ℤ) → (c ≡ pos 0 → ⊥) → a *ℤ c ≡ b *ℤ c → a ≡ b
+cancel_apart a b c apart e =
+    by_lt_z c (pos 0)
+    (λ below. cancel a b (neg_ℤ c) (other_sign c below) (turned a c ∙ (ap neg_ℤ e ∙ sym (turned b c))))
+    (λ above. cancel a b c (strict c apart above) e)
+  where
+    other_sign : (z : ℤ) → z <ℤ pos 0 → pos 0 <ℤ neg_ℤ z
+    other_sign z p = omega (arith, ints)
+
+    strict : (z : ℤ) → (z ≡ pos 0 → ⊥) → pos 0 ≤ℤ z → pos 0 <ℤ z
+    strict z p q = omega (arith, ints)
+
+    turned : (x z : ℤ) → x *ℤ neg_ℤ z ≡ neg_ℤ (x *ℤ z)
+    turned x z = rw (as_diff x, as_diff z) (simp diffs (same_diff _ _ _ _ (omega arith)))
+
+-- a product of two numbers that aren't 0 isn't 0
+pub times_apart : (a b : ℤ) → (a ≡ pos 0 → ⊥) → (b ≡ pos 0 → ⊥) → a *ℤ b ≡ pos 0 → ⊥
+times_apart a b p q e = p (cancel_apart a (pos 0) b q (e ∙ sym (none b)))
+  where
+    none : (z : ℤ) → pos 0 *ℤ z ≡ pos 0
+    none z = omega (arith, ints)

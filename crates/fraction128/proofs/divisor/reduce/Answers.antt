@@ -1,4 +1,4 @@
-use Rattle.fraction128.proofs.Reduced.{gcd_positive, reduced}
+use Rattle.fraction128.proofs.Reduced.{gcd_positive, reduced, reduced_by_one}
 use Rattle.fraction128.proofs.divisor.reduce.Goals as goal
 
 pub nonzero_div-result : goal.nonzero_div-result
@@ -9,3 +9,6 @@ nonzero_div-result-2 c = gcd_positive _ _ _ c.requires c.gcd-common.ensures
 
 pub returns : goal.returns
 returns c = reduced _ _ _ c.requires c.gcd-common.ensures
+
+pub returns-then-common-eq1 : goal.returns-then-common-eq1
+returns-then-common-eq1 c = reduced_by_one _ _ _ c.requires c.if-common-eq1.true c.gcd-common.ensures
