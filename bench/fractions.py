@@ -147,9 +147,19 @@ const MOST: i128 = i64::MAX as i128;
 #[derive(Clone, Copy)]
 struct Plain { num: i128, den: i128 }
 
-fn gcd_small(mut x: u64, mut y: u64) -> u64 {
-    while y > 0 { let rest = x % y; x = y; y = rest; }
-    x
+fn odd_part(n: u64) -> u64 { n >> n.trailing_zeros() }
+
+fn gcd_small(a: u64, b: u64) -> u64 {
+    if a == 0 { return b; }
+    if b == 0 { return a; }
+    let (mut x, mut y) = (odd_part(a), odd_part(b));
+    while x != y {
+        let less = x.min(y);
+        let gap = x.max(y) - less;
+        x = less;
+        y = odd_part(gap);
+    }
+    x << a.trailing_zeros().min(b.trailing_zeros())
 }
 
 fn gcd(mut x: u128, mut y: u128) -> u128 {

@@ -5,3 +5,4 @@ pub mod GivesLemmas
 pub mod OrderLemmas
 pub mod Forms
 pub mod ScalingLemmas
+pub mod OddParts

@@ -1,6 +1,6 @@
-ghost use Rattle.std.specs.Prelude.{◌≡◌, ℕ, ◌*◌, ◌<◌, ◌^◌};
-ghost use Rattle.std.specs.Int.{IsGcd};
-ghost use Rattle.fraction128.specs.LowestTerms.{IsLowest, signed};
+ghost use Rattle.std.specs.Prelude.{◌≡◌, ℕ, ◌*◌, ◌%◌, ◌<◌, ◌^◌};
+ghost use Rattle.std.specs.Int.{IsGcd, trailing_zeros, w64};
+ghost use Rattle.fraction128.specs.LowestTerms.{IsLowest, IsOddPart, signed};
 
 // The greatest number that 64 bits hold.
 const MOST_SMALL: u128 = u64::MAX as u128;
@@ -22,16 +22,41 @@ pub(crate) fn gcd(a: u128, b: u128) -> u128
     gcd_small(y as u64, (x % y) as u64) as u128
 }
 
-// The same over 64 bits.
+// The same over 64 bits, with shifts in place of divisions: factors of 2 are taken off first, and both share the fewer of them.
 fn gcd_small(a: u64, b: u64) -> u64
+    ensures { IsGcd a b result }
+{
+    if a == 0 {
+        return b;
+    }
+    if b == 0 {
+        return a;
+    }
+    let common = gcd_odd(odd_part(a), odd_part(b));
+    common << a.trailing_zeros().min(b.trailing_zeros())
+}
+
+// A number without its factors of 2.
+fn odd_part(n: u64) -> u64
+    requires { 0 < n }
+    ensures { IsOddPart n result (trailing_zeros w64 n) }
+{
+    n >> n.trailing_zeros()
+}
+
+// The greatest common divisor of two odd numbers: what they differ by is even, so its factors of 2 are in neither.
+fn gcd_odd(a: u64, b: u64) -> u64
+    requires a_odd { a % 2 ≡ 1 }
+    requires b_odd { b % 2 ≡ 1 }
     ensures { IsGcd a b result }
 {
     let mut x = a;
     let mut y = b;
-    while y > 0 {
-        let rest = x % y;
-        x = y;
-        y = rest;
+    while x != y {
+        let less = x.min(y);
+        let gap = x.max(y) - less;
+        x = less;
+        y = odd_part(gap);
     }
     x
 }

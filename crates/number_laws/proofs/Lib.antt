@@ -2,3 +2,4 @@ pub mod Ring
 pub mod Order
 pub mod Divisors
 pub mod Comparison
+pub mod Halves
