@@ -269,7 +269,7 @@ def build_rattle(folder):
     crate = folder / "crates" / "fraction_bench"
     (crate / "src").mkdir(parents=True)
     (crate / "src" / "main.rt").write_text(RATTLE.replace("@COUNT@", str(COUNT)))
-    (folder / "crates.txt").write_text("number_laws:\nfraction128: number_laws\nfraction_bench: fraction128\n")
+    (folder / "crates.txt").write_text("number_laws:\nfraction128: number_laws thiserror\nfraction_bench: fraction128\n")
     run(["rt", "run"], crate)
     return crate / "out" / "fraction_bench"
 

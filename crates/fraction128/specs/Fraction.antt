@@ -1,7 +1,7 @@
 -- What a contract sees of a `Frac`: an exact rational value as a pair of whole numbers, and what it means for one such pair to be
 -- equal to, at most, the sum or the product of others. All of it is said by cross products, with no division.
 -- One spelling of the products throughout: the value that is asked for stands first, times the denominators of what it is made of.
-use Rattle.std.specs.Prelude.{◌≡◌, ◌<◌, ◌^◌, ℤ, pos, ◌+ℤ◌, ◌-ℤ◌, ◌*ℤ◌, neg_ℤ, ◌≤ℤ◌, ◌<ℤ◌, unsigned_abs}
+use Rattle.std.specs.Prelude.{◌≡◌, ◌<◌, ◌^◌, ℤ, pos, ◌+ℤ◌, ◌-ℤ◌, ◌*ℤ◌, ◌≤ℤ◌, ◌<ℤ◌, unsigned_abs}
 use Rattle.number_laws.specs.Divisors.{IsCoprime}
 
 -- num / den
@@ -43,10 +43,6 @@ pub record IsProduct (a b c : Fraction) : Type 0 where
 -- Is c the value of a / b, for a b that isn't 0?
 pub record IsQuotient (a b c : Fraction) : Type 0 where
   pub same : c.num *ℤ (a.den *ℤ b.num) ≡ (a.num *ℤ b.den) *ℤ c.den
-
--- Is c the value of -a?
-pub record IsNegation (a c : Fraction) : Type 0 where
-  pub same : c.num *ℤ a.den ≡ neg_ℤ a.num *ℤ c.den
 
 -- Is a at most b?
 pub record IsAtMost (a b : Fraction) : Type 0 where

@@ -8,3 +8,4 @@ pub mod OrderLaws
 pub mod Scaling
 pub mod Scales
 pub mod Laws
+pub mod Examples

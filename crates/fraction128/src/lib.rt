@@ -8,6 +8,7 @@ ghost use Rattle.fraction128.specs.Fraction.{IsForm};
 use std::cmp::Ordering;
 use std::fmt;
 use std::marker::Model;
+use thiserror::Error;
 
 mod divisor;
 mod laws;
@@ -18,7 +19,8 @@ pub use laws::{least_decides, one_answer};
 pub use scaling::{Scaled, ScalingError, common_denominator, scale};
 
 /// The exact value has no form: its lowest terms pass 2^63 - 1.
-#[derive(Clone, Copy, Debug, PartialEq, Eq)]
+#[derive(Clone, Copy, Debug, PartialEq, Eq, Error)]
+#[error("the exact value passes 2^63 - 1 in lowest terms")]
 pub struct Wide;
 
 /// An exact fraction in lowest terms: a numerator below 2^63 in size and a denominator from 1 to 2^63 - 1.

@@ -7,6 +7,7 @@ ghost use Rattle.fraction128.specs.Scales.{Scales};
 use crate::divisor::gcd;
 use crate::{Frac, Wide};
 use std::alloc::Global;
+use thiserror::Error;
 
 /// Fractions over their least common denominator: each is its number over `den`. All are at most 2^63 - 1.
 #[derive(Debug, Drop)]
@@ -16,11 +17,13 @@ pub struct Scaled {
 }
 
 /// Why fractions were not scaled.
-#[derive(Clone, Copy, Debug, PartialEq, Eq)]
+#[derive(Clone, Copy, Debug, PartialEq, Eq, Error)]
 pub enum ScalingError {
     /// There is no memory for the numbers.
+    #[error("there is no memory for the scaled numbers")]
     Memory,
     /// The least common denominator, or a number over it, passes 2^63 - 1.
+    #[error("the least common denominator or a number over it passes 2^63 - 1")]
     Wide,
 }
 

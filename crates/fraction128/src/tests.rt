@@ -196,7 +196,7 @@ fn floor_rounds_down(rt: HostRuntime) {
 }
 
 #[test]
-fn text_is_num_over_den(rt: HostRuntime) -> Result<(), Fail> {
+fn texts(rt: HostRuntime) -> Result<(), Fail> {
     let alloc = rt.alloc();
     let lowest = make(&rt, -MOST, 1);
     let text = format!(in alloc; "{lowest}")?;
@@ -204,6 +204,11 @@ fn text_is_num_over_den(rt: HostRuntime) -> Result<(), Fail> {
     let part = make(&rt, 6, 8);
     let text = format!(in alloc; "{part}")?;
     assert_eq!(rt; text.as_str(), "3/4");
+    let text = format!(in alloc; "{}", Wide)?;
+    assert_eq!(rt;
+        text.as_str(),
+        "the exact value passes 2^63 - 1 in lowest terms"
+    );
     Ok(())
 }
 
