@@ -1,5 +1,5 @@
 -- What the code's comparisons of cross products say of two values.
-use Rattle.std.proofs.Common.{◌≡◌, ℕ, ◌<◌, max, ℤ, pos, negsuc, ◌*ℤ◌, ◌≤ℤ◌, ◌<ℤ◌, IsTrue, ap, ap₂, ◌∙◌, sym, subst, arith, ◌↔◌}
+use Rattle.std.proofs.Common.{◌⊎◌, inl, inr, ◌≡◌, ℕ, ◌<◌, max, ℤ, pos, negsuc, ◌*ℤ◌, ◌≤ℤ◌, ◌<ℤ◌, IsTrue, ap, ap₂, ◌∙◌, sym, subst, arith, ◌↔◌}
 use lib.Signed.{le_z}
 use borrow.Author.Differences.{true_is_le, le_out}
 use Rattle.std.specs.declared.cmp.Ordering.{Ordering}
@@ -7,6 +7,7 @@ use Rattle.std.specs.declared.cmp.Ordering.TheVariants.{Less, Equal, Greater}
 use Rattle.std.specs.Ordering.{MatchOrdering, int_cmp, ordering_then}
 use Rattle.std.proofs.lemmas.Int.{ints}
 use Rattle.std.proofs.lemmas.Cmp.{int_ranked, by_ranked, tied_itself}
+use Rattle.number_laws.proofs.Comparison.{chained_le, le_either, same_of_both}
 use Rattle.fraction128.specs.Fraction.{Fraction, IsForm, IsAtMost, IsBelow}
 use Rattle.fraction128.specs.Order.{weight_of, cross_cmp, parts_cmp, value_cmp}
 use Rattle.fraction128.specs.OrderLaws.{parts_are_total}
@@ -47,3 +48,15 @@ at_most_is a b x y p q =
 
     true_of : (u v : ℤ) → u ≤ℤ v → IsTrue (le_z u v)
     true_of u v h = sym (true_is_le u v (le_out u v h))
+
+-- at most is a total order of the fractions that have a form
+pub at_most_trans : (a b c : Fraction) → IsForm a → IsForm b → IsForm c → IsAtMost a b → IsAtMost b c → IsAtMost a c
+at_most_trans a b c fa fb fc h k =
+    record { le = chained_le a.num b.num c.num a.den b.den c.den fa.positive fb.positive fc.positive h.le k.le }
+
+pub at_most_either : (a b : Fraction) → IsAtMost a b ⊎ IsAtMost b a
+at_most_either a b =
+    elim (le_either (a.num *ℤ b.den) (b.num *ℤ a.den)) [ inl h ↦ inl (record { le = h }) | inr h ↦ inr (record { le = h }) ]
+
+pub at_most_both : (a b : Fraction) → IsForm a → IsForm b → IsAtMost a b → IsAtMost b a → a ≡ b
+at_most_both a b fa fb h k = same_form a b fa fb (same_of_both _ _ h.le k.le)

@@ -22,7 +22,7 @@ pub(crate) fn gcd(a: u128, b: u128) -> u128
     gcd_small(y as u64, (x % y) as u64) as u128
 }
 
-// The same over 64 bits, with shifts in place of divisions: factors of 2 are taken off first, and both share the fewer of them.
+// The same over 64 bits, by shifts in place of divisions: factors of 2 are taken off, and the fewer of them put back.
 fn gcd_small(a: u64, b: u64) -> u64
     ensures { IsGcd a b result }
 {

@@ -1,7 +1,8 @@
 //! Laws of the values, as the contracts of calls that do nothing.
 
-ghost use Rattle.std.specs.Prelude.{◌≡◌, ◌≢◌, ℕ, List, All, pos};
-ghost use Rattle.fraction128.specs.Fraction.{Fraction, IsForm, IsSame, IsSum, IsDifference, IsProduct, IsQuotient};
+ghost use Rattle.std.specs.Prelude.{◌≡◌, ◌≢◌, ◌⊎◌, ℕ, List, All, pos};
+ghost use Rattle.fraction128.specs.Fraction.{Fraction, IsForm, IsSame, IsAtMost};
+ghost use Rattle.fraction128.specs.Fraction.{IsSum, IsDifference, IsProduct, IsQuotient};
 ghost use Rattle.fraction128.specs.Laws.{HasOneForm};
 ghost use Rattle.fraction128.specs.Scaling.{IsLeastCommon, IsWideOver, Serves};
 
@@ -14,9 +15,19 @@ pub fn one_answer()
     ensures quotient { (a b : Fraction) → IsForm a → b.num ≢ pos 0 → HasOneForm (IsQuotient a b) }
 {}
 
+/// Fractions stand in one order by value.
+pub fn order_is_total()
+    ensures transitive { (a b c : Fraction) → IsForm a → IsForm b → IsForm c
+        → IsAtMost a b → IsAtMost b c → IsAtMost a c }
+    ensures total { (a b : Fraction) → IsAtMost a b ⊎ IsAtMost b a }
+    ensures antisymmetric { (a b : Fraction) → IsForm a → IsForm b
+        → IsAtMost a b → IsAtMost b a → a ≡ b }
+{}
+
 /// There is one least common denominator, and where it or a number over it is too wide no other serves.
 pub fn least_decides()
     ensures exists { (fs : List Fraction) → All IsForm fs → (l : ℕ) × IsLeastCommon fs l }
     ensures one { (fs : List Fraction) (l m : ℕ) → IsLeastCommon fs l → IsLeastCommon fs m → l ≡ m }
-    ensures none_serves { (fs : List Fraction) (l m : ℕ) → All IsForm fs → IsLeastCommon fs l → IsWideOver l fs → ¬ (Serves m fs) }
+    ensures none_serves { (fs : List Fraction) (l m : ℕ) → All IsForm fs
+        → IsLeastCommon fs l → IsWideOver l fs → ¬ (Serves m fs) }
 {}

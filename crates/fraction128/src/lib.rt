@@ -1,4 +1,6 @@
-//! Exact fractions of two 64-bit parts: each operation gives the exact value in lowest terms, or says that it is too wide.
+//! Exact fractions of two 64-bit parts. Each operation gives the exact value in lowest terms, or `Wide` exactly where those
+//! lowest terms don't fit. It forms the unreduced value in 128 bits, which always hold it, and divides once by the greatest
+//! common divisor. Nothing here takes memory but `scale`.
 #![tactic(auto)]
 
 ghost use Rattle.std.specs.Prelude.{◌≡◌, ◌≢◌, ℕ, ◌<◌, ◌^◌, pos, ◌*ℤ◌, ◌≤ℤ◌, ◌<ℤ◌, neg_ℤ, unsigned_abs, IsTrue, ◌↔◌};
@@ -15,7 +17,7 @@ mod laws;
 mod scaling;
 
 use divisor::{reduce, with_sign_of};
-pub use laws::{least_decides, one_answer};
+pub use laws::{least_decides, one_answer, order_is_total};
 pub use scaling::{Scaled, ScalingError, common_denominator, scale};
 
 /// The exact value has no form: its lowest terms pass 2^63 - 1.
@@ -45,14 +47,15 @@ impl Model for Frac {
 }
 
 // The greatest size of a part.
-const MOST: u128 = i64::MAX as u128;
+pub(crate) const MOST: u128 = i64::MAX as u128;
 
 impl Frac {
-    ghost use Rattle.fraction128.specs.Fraction.{over, whole, IsSame, IsSum, IsDifference, IsProduct, IsQuotient, IsAtMost, IsBelow, IsFloor};
+    ghost use Rattle.fraction128.specs.Fraction.{over, whole, IsSame, IsSum, IsDifference, IsProduct, IsQuotient};
+    ghost use Rattle.fraction128.specs.Fraction.{IsAtMost, IsBelow, IsFloor};
     ghost use Rattle.fraction128.specs.Gives.{Gives};
     ghost use Rattle.fraction128.specs.Order.{value_cmp};
 
-    /// num / den.
+    /// num / den; Wide where its lowest terms don't fit.
     pub fn ratio(num: i128, den: i128) -> Result<Frac, Wide>
         requires { pos 1 ≤ℤ den }
         ensures { Gives result (IsSame (over num den)) }
@@ -72,7 +75,7 @@ impl Frac {
         Frac { num, den }
     }
 
-    /// The whole number n.
+    /// The whole number n, below 2^63.
     pub fn whole(n: u64) -> Frac
         requires { n < 2 ^ 63 }
         ensures { result ≡ whole (pos n) }
@@ -96,28 +99,28 @@ impl Frac {
         self.den
     }
 
-    /// The sum.
+    /// The sum; Wide where its lowest terms don't fit.
     pub fn add(self, other: Frac) -> Result<Frac, Wide>
         ensures { Gives result (IsSum self other) }
     {
         Frac::ratio(cross(self, other) + cross(other, self), dens(self, other))
     }
 
-    /// The difference.
+    /// The difference; Wide where its lowest terms don't fit.
     pub fn sub(self, other: Frac) -> Result<Frac, Wide>
         ensures { Gives result (IsDifference self other) }
     {
         Frac::ratio(cross(self, other) - cross(other, self), dens(self, other))
     }
 
-    /// The product.
+    /// The product; Wide where its lowest terms don't fit.
     pub fn mul(self, other: Frac) -> Result<Frac, Wide>
         ensures { Gives result (IsProduct self other) }
     {
         Frac::ratio(nums(self, other), dens(self, other))
     }
 
-    /// The quotient.
+    /// The quotient by a fraction that isn't 0; Wide where its lowest terms don't fit.
     pub fn div(self, other: Frac) -> Result<Frac, Wide>
         requires { other.num ≢ pos 0 }
         ensures { Gives result (IsQuotient self other) }
@@ -131,7 +134,7 @@ impl Frac {
         }
     }
 
-    /// The same size with the other sign.
+    /// The same size with the other sign. It always has a form.
     pub fn neg(self) -> Frac
         ensures { result ≡ over (neg_ℤ self.num) self.den }
     {

@@ -5,7 +5,7 @@ ghost use Rattle.fraction128.specs.Scaling.{GivesCommon, GivesScaled};
 ghost use Rattle.fraction128.specs.Scales.{Scales};
 
 use crate::divisor::gcd;
-use crate::{Frac, Wide};
+use crate::{Frac, MOST, Wide};
 use std::alloc::Global;
 use thiserror::Error;
 
@@ -46,7 +46,7 @@ fn with_denominator(common: Result<u64, Wide>, value: Frac) -> Result<u64, Wide>
     match common {
         Ok(so_far) => {
             let multiple = so_far as u128 / gcd(so_far as u128, den) * den;
-            if multiple > i64::MAX as u128 {
+            if multiple > MOST {
                 Err(Wide)
             } else {
                 Ok(multiple as u64)
@@ -64,7 +64,7 @@ fn number_over(den: u64, value: Frac) -> Result<u64, Wide>
     ensures { GivesScaled result den value }
 {
     let number = den as u128 / value.den() as u128 * value.num() as u128;
-    if number > i64::MAX as u128 {
+    if number > MOST {
         Err(Wide)
     } else {
         Ok(number as u64)

@@ -1,12 +1,12 @@
 -- Comparisons over ℤ, and the total order of values that stand over positive weights, by cross products.
-use Rattle.std.proofs.Common.{◌≡◌, ℤ, pos, ◌*ℤ◌, ◌<ℤ◌, ap, ap₂, ◌∙◌, sym, refl, arith}
+use Rattle.std.proofs.Common.{◌≡◌, ◌⊎◌, inl, inr, ◌≤ℤ◌, ℤ, pos, ◌*ℤ◌, ◌<ℤ◌, ap, ap₂, ◌∙◌, sym, refl, arith}
 use Rattle.std.specs.declared.cmp.Ordering.TheVariants.{Less, Equal, Greater}
 use Rattle.std.specs.Ordering.{int_cmp}
 use Rattle.std.specs.Cmp.{IsTotalOrder}
-use Rattle.std.proofs.lemmas.Int.{ints}
+use Rattle.std.proofs.lemmas.Int.{ints, by_lt_z}
 use Rattle.std.proofs.lemmas.Cmp.{int_ranked, by_ranked, int_cmp_total, tied_itself}
 use Rattle.number_laws.proofs.Ring.{mul-swap_last}
-use Rattle.number_laws.proofs.Order.{times_lt, cancel_lt}
+use Rattle.number_laws.proofs.Order.{times_le, times_lt, cancel_le, cancel_lt}
 
 pub below_of_less : (x y : ℤ) → int_cmp x y ≡ Less → x <ℤ y
 below_of_less x y h = int_ranked x y Less (sym h)
@@ -69,3 +69,25 @@ cross_total num weight positive = record {
       let right : (num c *ℤ weight a) *ℤ weight b ≡ (num c *ℤ weight b) *ℤ weight a = mul-swap_last (num c) (weight a) (weight b) in
       scaled_cmp _ _ (weight b) (positive b) ∙ (ap₂ int_cmp left right ∙ sym (scaled_cmp _ _ (weight a) (positive a)));
 }
+
+-- of x / u ≤ y / v and y / v ≤ z / w follows x / u ≤ z / w
+pub chained_le : (x y z u v w : ℤ) → pos 0 <ℤ u → pos 0 <ℤ v → pos 0 <ℤ w → (x *ℤ v) ≤ℤ (y *ℤ u) → (y *ℤ w) ≤ℤ (z *ℤ v) → (x *ℤ w) ≤ℤ (z *ℤ u)
+chained_le x y z u v w pu pv pw h k =
+    let first : ((x *ℤ v) *ℤ w) ≤ℤ ((y *ℤ u) *ℤ w) = times_le (x *ℤ v) (y *ℤ u) w (not_below w pw) h in
+    let second : ((y *ℤ w) *ℤ u) ≤ℤ ((z *ℤ v) *ℤ u) = times_le (y *ℤ w) (z *ℤ v) u (not_below u pu) k in
+    cancel_le (x *ℤ w) (z *ℤ u) v pv (joined _ _ _ _ _ _ (mul-swap_last x v w) (mul-swap_last y u w) (mul-swap_last z v u) first second)
+  where
+    not_below : (a : ℤ) → pos 0 <ℤ a → pos 0 ≤ℤ a
+    not_below a p = omega (arith, ints)
+
+    joined : (a b c d e f : ℤ) → a ≡ b → c ≡ d → e ≡ f → a ≤ℤ c → d ≤ℤ e → b ≤ℤ f
+    joined a b c d e f p q r s t = omega (arith, ints)
+
+pub le_either : (x y : ℤ) → (x ≤ℤ y) ⊎ (y ≤ℤ x)
+le_either x y = by_lt_z x y (λ lt. inl (weaker x y lt)) (λ le. inr le)
+  where
+    weaker : (a b : ℤ) → a <ℤ b → a ≤ℤ b
+    weaker a b p = omega (arith, ints)
+
+pub same_of_both : (x y : ℤ) → x ≤ℤ y → y ≤ℤ x → x ≡ y
+same_of_both x y p q = omega (arith, ints)
