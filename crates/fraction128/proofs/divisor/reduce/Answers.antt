@@ -1,0 +1,14 @@
+use Rattle.fraction128.proofs.Reduced.{gcd_positive, reduced, reduced_by_one}
+use Rattle.fraction128.proofs.divisor.reduce.Goals as goal
+
+pub nonzero_div-result : goal.nonzero_div-result
+nonzero_div-result c = gcd_positive _ _ _ c.requires c.gcd-common.ensures
+
+pub nonzero_div-result-2 : goal.nonzero_div-result-2
+nonzero_div-result-2 c = gcd_positive _ _ _ c.requires c.gcd-common.ensures
+
+pub returns : goal.returns
+returns c = reduced _ _ _ c.requires c.gcd-common.ensures
+
+pub returns-then-common-eq1 : goal.returns-then-common-eq1
+returns-then-common-eq1 c = reduced_by_one _ _ _ c.requires c.if-common-eq1.true c.gcd-common.ensures

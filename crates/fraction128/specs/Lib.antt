@@ -1,0 +1,11 @@
+pub mod Fraction
+pub mod FracView
+pub mod Gives
+pub mod LowestTerms
+pub mod Order
+pub mod Text
+pub mod OrderLaws
+pub mod Scaling
+pub mod Scales
+pub mod Laws
+pub mod Examples

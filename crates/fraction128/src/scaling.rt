@@ -1,0 +1,95 @@
+ghost use Rattle.std.specs.Prelude.{◌≡◌, ℕ, ◌<◌, ◌≤◌, ◌^◌, pos, ◌≤ℤ◌, unsigned_abs, [], ◌∷◌, ◌++◌, List, All, length};
+ghost use Rattle.std.specs.Int.{◌∣◌};
+ghost use Rattle.fraction128.specs.Fraction.{Fraction};
+ghost use Rattle.fraction128.specs.Scaling.{GivesCommon, GivesScaled};
+ghost use Rattle.fraction128.specs.Scales.{Scales};
+
+use crate::divisor::gcd;
+use crate::{Frac, MOST, Wide};
+use std::alloc::Global;
+use thiserror::Error;
+
+/// Fractions over their least common denominator: each is its number over `den`. All are at most 2^63 - 1.
+#[derive(Debug, Drop)]
+pub struct Scaled {
+    pub den: u64,
+    pub num: Vec<u64>,
+}
+
+/// Why fractions were not scaled.
+#[derive(Clone, Copy, Debug, PartialEq, Eq, Error)]
+pub enum ScalingError {
+    /// There is no memory for the numbers.
+    #[error("there is no memory for the scaled numbers")]
+    Memory,
+    /// The least common denominator, or a number over it, passes 2^63 - 1.
+    #[error("the least common denominator or a number over it passes 2^63 - 1")]
+    Wide,
+}
+
+/// The least common denominator; Wide where it passes 2^63 - 1.
+pub fn common_denominator(values: &[Frac]) -> Result<u64, Wide>
+    ensures { GivesCommon result values.now }
+{
+    let mut common = Ok(1);
+    for value in values {
+        common = with_denominator(common, *value);
+    }
+    common
+}
+
+// The least common denominator of some values and one more. It never falls, so once it is Wide it stays so.
+fn with_denominator(common: Result<u64, Wide>, value: Frac) -> Result<u64, Wide>
+    ensures { (fs : List Fraction) → GivesCommon common fs → GivesCommon result (fs ++ value ∷ []) }
+{
+    let den = value.den() as u128;
+    match common {
+        Ok(so_far) => {
+            let multiple = so_far as u128 / gcd(so_far as u128, den) * den;
+            if multiple > MOST {
+                Err(Wide)
+            } else {
+                Ok(multiple as u64)
+            }
+        }
+        Err(Wide) => Err(Wide),
+    }
+}
+
+// The number that a value is over a multiple of its denominator.
+fn number_over(den: u64, value: Frac) -> Result<u64, Wide>
+    requires small { den < 2 ^ 63 }
+    requires multiple { unsigned_abs value.den ∣ den }
+    requires not_below { pos 0 ≤ℤ value.num }
+    ensures { GivesScaled result den value }
+{
+    let number = den as u128 / value.den() as u128 * value.num() as u128;
+    if number > MOST {
+        Err(Wide)
+    } else {
+        Ok(number as u64)
+    }
+}
+
+/// The values over their least common denominator; Wide where that, or a number over it, passes 2^63 - 1.
+pub fn scale(alloc: Global, values: &[Frac]) -> Result<Scaled, ScalingError>
+    requires { All (λ f. pos 0 ≤ℤ f.num) values.now }
+    ensures { Scales result values.now }
+{
+    let den = match common_denominator(values) {
+        Ok(den) => den,
+        Err(Wide) => return Err(ScalingError::Wide),
+    };
+    let mut num = Vec::new(alloc);
+    for value in values {
+        let number = match number_over(den, *value) {
+            Ok(number) => number,
+            Err(Wide) => return Err(ScalingError::Wide),
+        };
+        match num.push(number) {
+            Ok(()) => {}
+            Err(_) => return Err(ScalingError::Memory),
+        }
+    }
+    Ok(Scaled { den, num })
+}

@@ -1,0 +1,5 @@
+pub mod Ring
+pub mod Order
+pub mod Divisors
+pub mod Comparison
+pub mod Halves
