@@ -135,9 +135,9 @@ no_earlier set x y p q less =
 
 one_requester : (set : SetDef) (x y : ℕ) → IsFirstRequester set x → IsFirstRequester set y → x ≡ y
 one_requester set x y p q = elim (cases_lt x y) [
-    inl less ↦ absurd (no_earlier set x y p q less)
+  | inl less ↦ absurd (no_earlier set x y p q less)
   | inr more ↦ elim (cases_lt y x) [ inl less ↦ absurd (no_earlier set y x q p less) | inr least ↦ omega arith ]
-  ]
+]
 
 requests_not_nothing : (set : SetDef) (x : ℕ) → IsFirstRequester set x → RequestsNothing set → ⊥
 requests_not_nothing set x p nothing =

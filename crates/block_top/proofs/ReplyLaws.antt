@@ -165,12 +165,12 @@ some_form o form is none = let both : Some form ≡ None = sym is ∙ none in cc
 
 status_of_plain : (words : List (List ℕ)) (form : Form) (a : Answer) → form_of words ≡ Some form → IsPlain a → HasStatus words a
 status_of_plain words form a is plain = record {
-    refused = λ e. absurd (plain.words e);
-    no_form = λ none. absurd (some_form (form_of words) form is none);
-    no_fault = plain.fault;
-    never_wide = plain.wide;
-    most = plain.most
-  }
+  refused = λ e. absurd (plain.words e);
+  no_form = λ none. absurd (some_form (form_of words) form is none);
+  no_fault = plain.fault;
+  never_wide = plain.wide;
+  most = plain.most;
+}
 
 told_of_named : (names : Option Inputs) (words : List (List ℕ)) (form : Form) (done : SetDef → Answer → Type 0) (name : List ℕ) (a : Answer) → form_of words ≡ Some form
     → ((inputs : Inputs) → IsOutcomeOfInput done (bytes_of inputs name) a → IsOutcomeOfForm inputs form a) → IsOutcomeOfNamed done names name a → IsOutcomeIfTold names words a
@@ -208,8 +208,11 @@ pub none_replied : (names : Option Inputs) (words : List (List ℕ)) (before now
 none_replied names words before now (Ok x) none is =
     let two : (reply_seen x).status ≡ 2 = ap (λ a. a.status) is in
     let has : HasStatus words (reply_seen x) = record {
-      refused = λ _. none; no_form = λ _. two;
-      no_fault = λ e. absurd (omega (arith, two, e)); never_wide = λ e. absurd (omega (arith, two, e)); most = omega (arith, two)
+      refused = λ _. none;
+      no_form = λ _. two;
+      no_fault = λ e. absurd (omega (arith, two, e));
+      never_wide = λ e. absurd (omega (arith, two, e));
+      most = omega (arith, two);
     } in
     inr (has, told_of_none names words (reply_seen x) none is)
 none_replied names words before now (Err e) none is = tt

@@ -38,7 +38,7 @@ input_done done inputs name set a read out =
     let there : IsOutcomeOfInput done (Some read.bytes) a = subst (λ (o : Option (List ℕ)). IsOutcomeOfInput done o a) read.named out in
     let short : nat_lt GREATEST_INPUT_BYTES (length read.bytes) ≡ false = le-ltb GREATEST_INPUT_BYTES (length read.bytes) read.short in
     let moved : (r : Result SetDef SetRefusal) × Reads r read.bytes × IsOutcomeOfReading done r a =
-        subst (λ (b : Bool). MatchBool b (a ≡ refused_set (codes "toolong")) ((r : Result SetDef SetRefusal) × Reads r read.bytes × IsOutcomeOfReading done r a)) short there in
+    subst (λ (b : Bool). MatchBool b (a ≡ refused_set (codes "toolong")) ((r : Result SetDef SetRefusal) × Reads r read.bytes × IsOutcomeOfReading done r a)) short there in
     reading_done done set moved.0 read.bytes a read.reads moved.1 moved.2
 
 form_done : (inputs : Inputs) (words : List (List ℕ)) (form : Form) (a : Answer) → form_of words ≡ Some form → IsOutcome inputs words a → IsOutcomeOfForm inputs form a
@@ -111,10 +111,10 @@ exactly_of call set Allowance a ends is gives no_wide no_allowance = absurd (no_
 
 headline_of : (call : Call) (set : SetDef) (a : Answer) → Ended set a → Gives call a → IsHeadline call set
 headline_of call set a e gives = record {
-    exactly = λ shelf sink ran no_wide no_allowance. exactly_of call set e.ending a e.ends e.is gives no_wide no_allowance;
-    least = least_of call set e.ending a e.ends e.is gives;
-    none = none_of call set e.ending a e.ends e.is gives
-  }
+  exactly = λ shelf sink ran no_wide no_allowance. exactly_of call set e.ending a e.ends e.is gives no_wide no_allowance;
+  least = least_of call set e.ending a e.ends e.is gives;
+  none = none_of call set e.ending a e.ends e.is gives;
+}
 
 -- A call whose outcome went out whole.
 outcome_run : (call : Call) (a : Answer) → HasStatus call.words a → IsOutcomeIfTold call.names call.words a → Gives call a → IsRun call
@@ -130,9 +130,10 @@ outcome_run call a has out gives =
       never_wide = λ e. has.never_wide (sym gives.0 ∙ e);
       complete = λ inputs form set premise. inl (
         (let of_form = form_done inputs call.words form a premise.form_is (told call.names inputs call.words a premise.told out) in
-         elim (suits_status inputs form set a premise.read premise.suits of_form) [ inl zero ↦ inl (gives.0 ∙ zero) | inr one ↦ inr (gives.0 ∙ one) ]),
-        whole);
-      headline = λ set analyses. headline_of call set a (ended call set a analyses out) gives
+            elim (suits_status inputs form set a premise.read premise.suits of_form) [ inl zero ↦ inl (gives.0 ∙ zero) | inr one ↦ inr (gives.0 ∙ one) ]),
+        whole,
+      );
+      headline = λ set analyses. headline_of call set a (ended call set a analyses out) gives;
     }
 
 -- A call whose status is not the outcome's: a read fault, a write fault, or want of memory.
@@ -140,24 +141,24 @@ other_run : (call : Call) → (FailsToRead call ⊎ (FailsToWrite call ⊎ RanOu
     → (Rose call.shelf_before call.shelf_now ⊎ (Rose call.sink_before call.sink_now ⊎ RanOut call))
     → IsRun call
 other_run call answers status cause = record {
-    answers = inr answers;
-    refused_words = λ two. absurd (apart 2 (λ e. absurd (omega (arith, e))) (λ e. absurd (omega (arith, e))) two);
-    no_form = λ none. elim status [ inl four ↦ inr (inl four) | inr ran ↦ inr (inr ran.0) ];
-    exactly = λ inputs b is outcome. inr status;
-    never_wide = λ five. apart 5 (λ e. absurd (omega (arith, e))) (λ e. absurd (omega (arith, e))) five;
-    complete = λ inputs form set premise. elim cause [
-        inl shelf ↦ absurd (premise.shelf shelf)
-      | inr other ↦ elim other [ inl sink ↦ absurd (premise.sink sink) | inr ran ↦ inr ran ]
-      ];
-    headline = λ set analyses. record {
-      exactly = λ no_shelf no_sink no_want no_wide no_allowance. elim cause [
-          inl shelf ↦ absurd (no_shelf shelf)
-        | inr other ↦ elim other [ inl sink ↦ absurd (no_sink sink) | inr ran ↦ absurd (no_want ran) ]
-        ];
-      least = λ zero. absurd (apart 0 (λ e. absurd (omega (arith, e))) (λ e. absurd (omega (arith, e))) zero);
-      none = λ one. absurd (apart 1 (λ e. absurd (omega (arith, e))) (λ e. absurd (omega (arith, e))) one)
-    }
-  } where
+  answers = inr answers;
+  refused_words = λ two. absurd (apart 2 (λ e. absurd (omega (arith, e))) (λ e. absurd (omega (arith, e))) two);
+  no_form = λ none. elim status [ inl four ↦ inr (inl four) | inr ran ↦ inr (inr ran.0) ];
+  exactly = λ inputs b is outcome. inr status;
+  never_wide = λ five. apart 5 (λ e. absurd (omega (arith, e))) (λ e. absurd (omega (arith, e))) five;
+  complete = λ inputs form set premise. elim cause [
+    | inl shelf ↦ absurd (premise.shelf shelf)
+    | inr other ↦ elim other [ inl sink ↦ absurd (premise.sink sink) | inr ran ↦ inr ran ]
+  ];
+  headline = λ set analyses. record {
+    exactly = λ no_shelf no_sink no_want no_wide no_allowance. elim cause [
+      | inl shelf ↦ absurd (no_shelf shelf)
+      | inr other ↦ elim other [ inl sink ↦ absurd (no_sink sink) | inr ran ↦ absurd (no_want ran) ]
+    ];
+    least = λ zero. absurd (apart 0 (λ e. absurd (omega (arith, e))) (λ e. absurd (omega (arith, e))) zero);
+    none = λ one. absurd (apart 1 (λ e. absurd (omega (arith, e))) (λ e. absurd (omega (arith, e))) one);
+  };
+} where
   apart : (n : ℕ) → (n ≡ 4 → ⊥) → (n ≡ 7 → ⊥) → call.status ≡ n → ⊥
   apart n four seven is = elim status [ inl f ↦ four (sym is ∙ f) | inr ran ↦ seven (sym is ∙ ran.0) ]
 

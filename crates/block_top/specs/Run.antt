@@ -107,8 +107,8 @@ pub record Analyses (call : Call) (set : SetDef) : Type 0 where
 -- optimal, and a set is said to be not shown only where nothing fits.
 pub record IsHeadline (call : Call) (set : SetDef) : Type 0 where
   pub exactly : (Rose call.shelf_before call.shelf_now → ⊥) → (Rose call.sink_before call.sink_now → ⊥) → (RanOut call → ⊥)
-    → ((i : ℕ) → EndsIn (rounds_of set) DEFAULT_ALLOWANCE (Wide i) → ⊥) → (EndsIn (rounds_of set) DEFAULT_ALLOWANCE Allowance → ⊥)
-    → WritesSchedulable call set ↔ ((s : List ℕ) × AreFitting set s)
+      → ((i : ℕ) → EndsIn (rounds_of set) DEFAULT_ALLOWANCE (Wide i) → ⊥) → (EndsIn (rounds_of set) DEFAULT_ALLOWANCE Allowance → ⊥)
+      → WritesSchedulable call set ↔ ((s : List ℕ) × AreFitting set s)
   pub least : call.status ≡ 0 → WritesSchedulable call set
   pub none : call.status ≡ 1 → (s : List ℕ) → AreFitting set s → ⊥
 
@@ -121,7 +121,7 @@ pub record IsRun (call : Call) : Type 0 where
   pub no_form : form_of call.words ≡ None → (call.status ≡ 2) ⊎ ((call.status ≡ 4) ⊎ (call.status ≡ 7))
   -- Each outcome comes exactly where it is the outcome, except where a fault comes or memory ran out.
   pub exactly : (inputs : Inputs) (answer : Answer) → call.names ≡ Some inputs → IsOutcome inputs call.words answer
-    → Gives call answer ⊎ ((call.status ≡ 4) ⊎ RanOut call)
+      → Gives call answer ⊎ ((call.status ≡ 4) ⊎ RanOut call)
   -- No program without columns is too wide.
   pub never_wide : call.status ≢ 5
   pub complete : IsComplete call

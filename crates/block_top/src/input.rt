@@ -2,10 +2,9 @@ ghost use Rattle.std.specs.Prelude.{◌≡◌, ℕ, ◌≤◌};
 ghost use Rattle.outside_ports.specs.Counts.{Rose};
 ghost use Rattle.block_top.specs.Inputs.{SaysIfTold, IsReadFault, IsFaultOf};
 
-use std::alloc::Global;
-
 use outside_ports::{LoadFault, Shelf, load};
 use sporadic_model::TaskSet;
+use std::alloc::Global;
 use taskset_json::{SetRefusal, read};
 
 /// Why there is no task set.

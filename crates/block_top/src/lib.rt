@@ -10,3 +10,6 @@ mod words;
 
 pub use reply::DEFAULT_ALLOWANCE;
 pub use top::{Status, run};
+
+#[cfg(test)]
+mod tests;

@@ -1,9 +1,8 @@
 ghost use Rattle.std.specs.Prelude.{◌≡◌, ◌++◌, string_bytes, IfOk};
 ghost use Rattle.block_top.specs.Refusals.{place_text, size_text, model_word, model_place, reason_text};
 
-use std::alloc::{AllocError, Global};
-
 use sporadic_model::{ModelRefusal, Place, SizeOf};
+use std::alloc::{AllocError, Global};
 use taskset_json::SetRefusal;
 
 /// The text of a place. Positions print counted from 1.

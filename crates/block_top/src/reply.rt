@@ -6,20 +6,18 @@ ghost use Rattle.block_top.specs.Outcome.{refused_set, refused_words, requests_l
 ghost use Rattle.block_top.specs.Replies.{reply_seen, RepliesTo, RepliesToFault, IsReplyOnSet, IsReplyToWork, IsReply};
 ghost use Rattle.block_top.specs.Reached.{NamesTask};
 
-use std::alloc::{AllocError, Global};
-use std::thread::Threads;
-
+use crate::input::{InputFault, read_set};
+use crate::refusals::reason;
+use crate::texts::{certificate_line, not_shown_line, wide_line};
+use crate::words::{Work, command_of};
 use outside_ports::Shelf;
 use program_form::Certificate;
 use report::set_table;
 use response_fixpoint::{Stop, Verdict, analyse, first_requester};
 use sporadic_model::{Protocol, TaskId, TaskSet};
+use std::alloc::{AllocError, Global};
+use std::thread::Threads;
 use taskset_json::home_check;
-
-use crate::input::{InputFault, read_set};
-use crate::refusals::reason;
-use crate::texts::{certificate_line, not_shown_line, wide_line};
-use crate::words::{Work, command_of};
 
 /// The units that the programs of an analysis may take in all.
 pub const DEFAULT_ALLOWANCE: u64 = 1_000_000;

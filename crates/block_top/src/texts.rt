@@ -2,9 +2,8 @@ ghost use Rattle.std.specs.Prelude.{◌≡◌, ◌++◌, IfOk, OnOk, map};
 ghost use Rattle.program_form.specs.Certificate.{dual_seen, certificate_seen};
 ghost use Rattle.block_top.specs.Texts.{after_commas, with_commas, dual_text, duals_after_commas, duals_text, bounds_member, duals_member, last_members, certificate_text, not_shown_text, wide_text};
 
-use std::alloc::{AllocError, Global};
-
 use program_form::{Certificate, Dual};
+use std::alloc::{AllocError, Global};
 use text_pieces::push_number;
 
 /// Adds each number with a comma before it.
@@ -88,9 +87,7 @@ fn push_duals_member(text: &mut Vec<u8>, duals: &[Dual]) -> Result<(), AllocErro
 fn push_last_members(text: &mut Vec<u8>) -> Result<(), AllocError>
     ensures { OnOk result (text.new.items ≡ text.old.items ++ last_members) }
 {
-    text.extend_from_slice(
-        b"\"protocol\":\"fmlp+\",\"verdict\":\"schedulable\",\"version\":1}\n",
-    )
+    text.extend_from_slice(b"\"protocol\":\"fmlp+\",\"verdict\":\"schedulable\",\"version\":1}\n")
 }
 
 /// The text of a certificate for FMLP+.

@@ -2,12 +2,10 @@ ghost use Rattle.std.specs.Prelude.{ℕ};
 ghost use Rattle.block_top.specs.Words.{words_seen};
 ghost use Rattle.block_top.specs.Run.{IsRun};
 
+use crate::reply::reply_to;
+use outside_ports::{Shelf, Sink, SinkFault, put_all};
 use std::alloc::{AllocError, Global};
 use std::thread::Threads;
-
-use outside_ports::{Shelf, Sink, SinkFault, put_all};
-
-use crate::reply::reply_to;
 
 /// How a run of the program ended: the number of its exit status.
 ///
@@ -29,11 +27,16 @@ pub fn run<R: Threads + Sync, S: Shelf, K: Sink>(
     sink: &mut K,
 ) -> Status
     ensures { IsRun (record {
-        words = words_seen words.now;
-        names = S.names shelf.old; shelf_before = S.faults shelf.old; shelf_now = S.faults shelf.new;
-        written_before = K.written sink.old; written_now = K.written sink.new;
-        sink_before = K.faults sink.old; sink_now = K.faults sink.new;
-        status = result.0 }) }
+      words = words_seen words.now;
+      names = S.names shelf.old;
+      shelf_before = S.faults shelf.old;
+      shelf_now = S.faults shelf.new;
+      written_before = K.written sink.old;
+      written_now = K.written sink.new;
+      sink_before = K.faults sink.old;
+      sink_now = K.faults sink.new;
+      status = result.0;
+    }) }
 {
     let reply = match reply_to(rt, alloc, words, shelf) {
         Ok(reply) => reply,

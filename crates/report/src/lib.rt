@@ -4,3 +4,6 @@
 mod table;
 
 pub use table::set_table;
+
+#[cfg(test)]
+mod tests;

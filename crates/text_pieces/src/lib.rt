@@ -49,3 +49,21 @@ pub fn push_right_number(text: &mut Vec<u8>, width: usize, n: u64) -> Result<(),
     let mut buffer = Buffer::new();
     push_right(text, width, buffer.format(n).as_bytes())
 }
+
+#[cfg(test)]
+mod tests {
+    use super::*;
+    use std::test::Fail;
+
+    #[test]
+    fn pieces_stand_in_their_columns(rt: HostRuntime) -> Result<(), Fail> {
+        let mut text = Vec::new(rt.alloc());
+        push_left(&mut text, 4, b"ab")?;
+        push_right(&mut text, 4, b"cd")?;
+        push_right_number(&mut text, 3, 7)?;
+        push_right(&mut text, 1, b"wide")?;
+        push_number(&mut text, 1200)?;
+        assert_eq!(rt; text.as_slice(), b"ab    cd  7wide1200".as_slice());
+        Ok(())
+    }
+}

@@ -1,0 +1,320 @@
+use crate::{Status, run};
+use outside_ports::{MemShelf, MemSink};
+use std::alloc::{AllocError, Global};
+use std::test::Fail;
+use std::thread::Threads;
+
+const ONE_TASK: &str =
+    r#"{"processors":1,"tasks":[{"name":"t1","processor":1,"period":1,"cost":1}]}"#;
+
+const ONE_TASK_CERTIFICATE: &str =
+    "{\"bounds\":[1],\"duals\":[{\"den\":1,\"num\":[]}],\"protocol\":\"fmlp+\",\"verdict\":\"schedulable\",\"version\":1}\n";
+
+const SET_A: &str =
+    r#"{"processors":2,"resources":[{"name":"q","home":2}],"tasks":[{"name":"t1","processor":1,"period":10,"cost":3,"requests":[{"resource":"q","count":1,"length":1}]},{"name":"t2","processor":2,"period":10,"cost":4,"requests":[{"resource":"q","count":1,"length":2}]}]}
+"#;
+
+const TABLE_A: &str = "\
+task                            cpu     period   deadline       cost      local
+t1                                1         10         10          3          3
+t2                                2         10         10          4          4
+load 1 300000
+load 2 400000
+";
+
+/// What a run gave: its status, and the bytes that the sink took.
+#[derive(Debug, PartialEq, Drop)]
+struct Given {
+    status: u8,
+    written: Vec<u8>,
+}
+
+/// What the shelf and the sink of a run do.
+#[derive(Drop)]
+struct Outside<'a> {
+    file: &'a [u8],
+    failing_reads: &'a [u64],
+    room: usize,
+    piece: usize,
+    failing_writes: &'a [u64],
+}
+
+/// Runs the words over a shelf with one file, named `set`.
+fn ran_over<R: Threads + Sync>(
+    rt: &R,
+    alloc: Global,
+    words: &[&str],
+    outside: &Outside,
+) -> Result<Given, AllocError> {
+    let mut given = Vec::new(alloc);
+    for word in words {
+        given.push(String::from_str(alloc, word)?)?;
+    }
+    let mut files = Vec::new(alloc);
+    files.push((
+        String::from_str(alloc, "set")?,
+        Vec::from_slice(alloc, outside.file)?,
+    ))?;
+    let mut shelf = MemShelf::new(files, 1000, Vec::from_slice(alloc, outside.failing_reads)?);
+    let failing = Vec::from_slice(alloc, outside.failing_writes)?;
+    let mut sink = MemSink::new(alloc, outside.room, outside.piece.max(1), failing)?;
+    let Status(status) = run(rt, alloc, &given, &mut shelf, &mut sink);
+    Ok(Given {
+        status,
+        written: Vec::from_slice(alloc, sink.written())?,
+    })
+}
+
+/// Runs the words over a shelf and a sink that don't fail.
+fn ran<R: Threads + Sync>(
+    rt: &R,
+    alloc: Global,
+    words: &[&str],
+    file: &[u8],
+) -> Result<Given, AllocError> {
+    let outside = Outside {
+        file,
+        failing_reads: &[],
+        room: 1_000_000,
+        piece: 4096,
+        failing_writes: &[],
+    };
+    ran_over(rt, alloc, words, &outside)
+}
+
+fn answer(alloc: Global, status: u8, text: &str) -> Result<Given, AllocError> {
+    Ok(Given {
+        status,
+        written: Vec::from_slice(alloc, text.as_bytes())?,
+    })
+}
+
+#[test]
+fn analyses_sets_without_requests(rt: HostRuntime) -> Result<(), Fail> {
+    let alloc = rt.alloc();
+    let three =
+        r#"{"processors":1,"tasks":[{"name":"a","processor":1,"period":4,"cost":1},{"name":"b","processor":1,"period":6,"cost":2},{"name":"c","processor":1,"period":20,"cost":3}]}"#;
+    let full =
+        r#"{"processors":1,"tasks":[{"name":"t1","processor":1,"period":2,"cost":1},{"name":"t2","processor":1,"period":2,"cost":2}]}"#;
+    let three_certificate =
+        "{\"bounds\":[1,3,10],\"duals\":[{\"den\":1,\"num\":[]},{\"den\":1,\"num\":[]},{\"den\":1,\"num\":[]}],\"protocol\":\"fmlp+\",\"verdict\":\"schedulable\",\"version\":1}\n";
+    for (set, status, text) in [
+        (ONE_TASK, 0, ONE_TASK_CERTIFICATE),
+        (three, 0, three_certificate),
+        (full, 1, "not shown t2 3 2\n"),
+        (SET_A, 3, "refused set requestslater task 1\n"),
+    ] {
+        let given = ran(&rt, alloc, &["analyse", "fmlp+", "set"], set.as_bytes())?;
+        assert_eq!(rt; given, answer(alloc, status, text)?);
+    }
+    Ok(())
+}
+
+#[test]
+fn refuses_words_without_a_form(rt: HostRuntime) -> Result<(), Fail> {
+    let alloc = rt.alloc();
+    let want = answer(alloc, 2, "refused words\n")?;
+    assert_eq!(rt; ran(&rt, alloc, &[], b"")?, want);
+    for words in [
+        ["analyse", "edf", "set"],
+        ["analyse", "mpcp", "set"],
+        ["check", "fmlp+", "set"],
+        ["study", "1", "0"],
+        ["report", "FMLP+", "set"],
+    ] {
+        assert_eq!(rt; ran(&rt, alloc, &words, SET_A.as_bytes())?, want);
+    }
+    for words in [
+        ["analyse", "fmlp+", "set", "0"],
+        ["analyse", "fmlp+", "set", "08"],
+        ["report", "fmlp+", "set", "cert"],
+    ] {
+        assert_eq!(rt; ran(&rt, alloc, &words, SET_A.as_bytes())?, want);
+    }
+    Ok(())
+}
+
+#[test]
+fn reports_under_each_protocol(rt: HostRuntime) -> Result<(), Fail> {
+    let alloc = rt.alloc();
+    for protocol in ["mpcp", "fmlp+", "dpcp"] {
+        let given = ran(&rt, alloc, &["report", protocol, "set"], SET_A.as_bytes())?;
+        assert_eq!(rt; given, answer(alloc, 0, TABLE_A)?);
+    }
+    let homeless =
+        r#"{"processors":1,"resources":[{"name":"q"}],"tasks":[{"name":"t1","processor":1,"period":1,"cost":1}]}"#;
+    let given = ran(&rt, alloc, &["report", "dpcp", "set"], homeless.as_bytes())?;
+    assert_eq!(rt; given, answer(alloc, 3, "refused set nohome resource 1\n")?);
+    assert_eq!(rt;
+        ran(&rt, alloc, &["report", "mpcp", "set"], homeless.as_bytes())?.status,
+        0
+    );
+    Ok(())
+}
+
+#[test]
+fn names_the_refusal_and_its_place(rt: HostRuntime) -> Result<(), Fail> {
+    let alloc = rt.alloc();
+    for (old, new, text) in [
+        (
+            "\"period\":10,\"cost\":3",
+            "\"period\":0,\"cost\":3",
+            "refused set period task 1\n",
+        ),
+        (
+            "\"period\":10,\"cost\":3",
+            "\"period\":10,\"deadline\":11,\"cost\":3",
+            "refused set deadline task 1\n",
+        ),
+        (
+            "\"count\":1,\"length\":1",
+            "\"count\":1,\"length\":3",
+            "refused set length request 1 1\n",
+        ),
+        (
+            "\"count\":1,\"length\":1",
+            "\"count\":1001,\"length\":1",
+            "refused set count request 1 1\n",
+        ),
+        (
+            "\"name\":\"t2\"",
+            "\"name\":\"t1\"",
+            "refused set twicename task 2\n",
+        ),
+        (
+            "\"name\":\"t2\"",
+            "\"name\":\"t 2\"",
+            "refused set name task 2\n",
+        ),
+        (
+            "\"name\":\"t1\"",
+            "\"name\":\"t1\",\"prio\":1",
+            "refused set shape task 1\n",
+        ),
+        (
+            "\"name\":\"q\",",
+            "\"name\":\"q\",\"at\":1,",
+            "refused set shape resource 1\n",
+        ),
+        (
+            "{\"processors\":2",
+            "{\"processors\":65",
+            "refused set size processors\n",
+        ),
+        (
+            "{\"processors\":2",
+            "{\"processors\":1",
+            "refused set processor task 2\n",
+        ),
+        (
+            "{\"processors\":2",
+            "{\"processors\":2.0",
+            "refused set shape root\n",
+        ),
+        ("\"home\":2", "\"home\":3", "refused set home resource 1\n"),
+        ("\"cost\":4", "\"cost\":11", "refused set cost task 2\n"),
+        (
+            "\"cost\":4",
+            "\"cost\":4,\"local\":5",
+            "refused set local task 2\n",
+        ),
+        (
+            "\"cost\":4,\"requests\":[{\"resource\":\"q\"",
+            "\"cost\":4,\"requests\":[{\"resource\":\"r\"",
+            "refused set resource request 2 1\n",
+        ),
+        (
+            "[{\"resource\":\"q\",\"count\":1,\"length\":1}",
+            "[{\"resource\":\"q\",\"count\":1,\"length\":1},{\"resource\":\"q\",\"count\":1,\"length\":1}",
+            "refused set twicerequest request 1 2\n",
+        ),
+    ] {
+        let changed = SET_A.replacen(alloc, old, new, 1)?;
+        let given = ran(&rt, alloc, &["report", "fmlp+", "set"], changed.as_bytes())?;
+        assert_eq!(rt; given, answer(alloc, 3, text)?);
+    }
+    Ok(())
+}
+
+#[test]
+fn refuses_bytes_that_are_no_json(rt: HostRuntime) -> Result<(), Fail> {
+    let alloc = rt.alloc();
+    let want = answer(alloc, 3, "refused set notjson\n")?;
+    let cut: &[u8] = &ONE_TASK.as_bytes()[..20];
+    for bytes in [cut, b"", b"\xff\xfe"] {
+        assert_eq!(rt; ran(&rt, alloc, &["analyse", "fmlp+", "set"], bytes)?, want);
+    }
+    let absent = ran(&rt, alloc, &["analyse", "fmlp+", "other"], b"")?;
+    assert_eq!(rt; absent, answer(alloc, 3, "refused set absent\n")?);
+    Ok(())
+}
+
+#[test]
+fn a_failing_read_is_a_fault_of_the_set(rt: HostRuntime) -> Result<(), Fail> {
+    let alloc = rt.alloc();
+    let want = answer(alloc, 4, "fault read set\n")?;
+    for call in 1..4 {
+        let outside = Outside {
+            file: ONE_TASK.as_bytes(),
+            failing_reads: &[call],
+            room: 1_000_000,
+            piece: 4096,
+            failing_writes: &[],
+        };
+        assert_eq!(rt;
+            ran_over(&rt, alloc, &["analyse", "fmlp+", "set"], &outside)?,
+            want
+        );
+    }
+    Ok(())
+}
+
+#[test]
+fn a_failing_write_leaves_a_proper_prefix(rt: HostRuntime) -> Result<(), Fail> {
+    let alloc = rt.alloc();
+    let size = ONE_TASK_CERTIFICATE.len();
+    let without_last = answer(
+        alloc,
+        4,
+        "{\"bounds\":[1],\"duals\":[{\"den\":1,\"num\":[]}],\"protocol\":\"fmlp+\",\"verdict\":\"schedulable\",\"version\":1}",
+    )?;
+    for (room, piece, failing, want) in [
+        (1_000_000, 3, [2], answer(alloc, 4, "{\"b")?),
+        (size - 1, 200, [0], without_last),
+        (size, 200, [0], answer(alloc, 0, ONE_TASK_CERTIFICATE)?),
+    ] {
+        let outside = Outside {
+            file: ONE_TASK.as_bytes(),
+            failing_reads: &[],
+            room,
+            piece,
+            failing_writes: &failing,
+        };
+        assert_eq!(rt;
+            ran_over(&rt, alloc, &["analyse", "fmlp+", "set"], &outside)?,
+            want
+        );
+    }
+    Ok(())
+}
+
+// On processor 1, t1 (period 31622, cost 31621) leaves so little room that the bound of t2 (cost 31622) grows by 31621
+// in each round, up to 31622 * 31622 ticks: 31,622 rounds. With 62 tasks on processors of their own a round takes 64
+// units, so the rounds want over 2,000,000 units, and the allowance is 1,000,000.
+#[test]
+fn rounds_that_want_too_many_units_end_with_the_allowance(rt: HostRuntime) -> Result<(), Fail> {
+    let alloc = rt.alloc();
+    let mut set = String::from_str(alloc, "{\"processors\":64,\"tasks\":[")?;
+    set.push_str("{\"name\":\"t1\",\"processor\":1,\"period\":31622,\"cost\":31621},")?;
+    set.push_str("{\"name\":\"t2\",\"processor\":1,\"period\":1000000000,\"cost\":31622}")?;
+    for k in 3..65 {
+        let task = format!(in alloc;
+            ",{{\"name\":\"t{k}\",\"processor\":{k},\"period\":9,\"cost\":1}}"
+        )?;
+        set.push_str(task.as_str())?;
+    }
+    set.push_str("]}")?;
+    let given = ran(&rt, alloc, &["analyse", "fmlp+", "set"], set.as_bytes())?;
+    assert_eq!(rt; given, answer(alloc, 6, "allowance\n")?);
+    Ok(())
+}

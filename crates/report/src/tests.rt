@@ -1,0 +1,55 @@
+use crate::set_table;
+use sporadic_model::{Parts, RequestPart, ResourcePart, TaskPart, TaskSet};
+use std::alloc::{AllocError, Global};
+use std::test::Fail;
+
+/// A task on a processor with period and deadline 10 that requests q once.
+fn task(alloc: Global, name: &str, processor: u64, cost: u64) -> Result<TaskPart, AllocError> {
+    let request = RequestPart {
+        resource: String::from_str(alloc, "q")?,
+        count: 1,
+        length: 1,
+    };
+    let mut requests = Vec::new(alloc);
+    requests.push(request)?;
+    Ok(TaskPart {
+        name: String::from_str(alloc, name)?,
+        processor,
+        period: 10,
+        deadline: 10,
+        cost,
+        local: cost,
+        requests,
+    })
+}
+
+fn two_tasks(alloc: Global) -> Result<Parts, AllocError> {
+    let mut resources = Vec::new(alloc);
+    resources.push(ResourcePart {
+        name: String::from_str(alloc, "q")?,
+        home: Some(2),
+    })?;
+    let mut tasks = Vec::new(alloc);
+    tasks.push(task(alloc, "t1", 1, 3)?)?;
+    tasks.push(task(alloc, "t2", 2, 4)?)?;
+    Ok(Parts {
+        processors: 2,
+        resources,
+        tasks,
+    })
+}
+
+#[test]
+fn the_table_has_its_columns_and_loads(rt: HostRuntime) -> Result<(), Fail> {
+    let alloc = rt.alloc();
+    let set = TaskSet::new(alloc, two_tasks(alloc)?)?;
+    let want = "\
+task                            cpu     period   deadline       cost      local
+t1                                1         10         10          3          3
+t2                                2         10         10          4          4
+load 1 300000
+load 2 400000
+";
+    assert_eq!(rt; set_table(alloc, &set)?.as_slice(), want.as_bytes());
+    Ok(())
+}
