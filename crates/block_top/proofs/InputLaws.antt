@@ -1,6 +1,6 @@
 -- What an input's fault says of its bytes.
-use Rattle.std.proofs.Common.{◌≡◌, ℕ, ◌<◌, ◌≤◌, List, length, sym, subst, Ok, Err, None, Some}
-use Rattle.std.specs.Prelude.{Option, Result}
+use Rattle.std.proofs.Common.{ℕ, ◌≤◌, List, length, sym, subst, Err, None, Some}
+use Rattle.std.specs.Prelude.{Option}
 use Rattle.outside_ports.specs.Names.{Inputs, IsNamed}
 use Rattle.outside_ports.specs.declared.whole.TheConstants.{GREATEST_INPUT_BYTES}
 use Rattle.taskset_json.specs.Answers.{Reads}
@@ -8,7 +8,6 @@ use Rattle.taskset_json.specs.declared.refusal.SetRefusal.{SetRefusal}
 use Rattle.taskset_json.specs.declared.refusal.SetRefusal.TheVariants as refusal
 use Rattle.block_top.specs.Inputs.{HasRead, SaysOfInput, SaysIfTold, IsFaultOf}
 use Rattle.block_top.specs.declared.input.InputFault.{InputFault}
-use Rattle.block_top.specs.declared.input.InputFault.TheVariants as fault
 
 -- A refusal of reading as a fault of the input says the same of the bytes.
 fault_says : (inputs : Inputs) (name : List ℕ) (r : SetRefusal) (at : InputFault) → HasRead inputs name (Err r) → IsFaultOf at r → SaysOfInput inputs name (Err at)

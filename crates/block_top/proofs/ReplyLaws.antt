@@ -1,5 +1,5 @@
 -- What is replied is the outcome, or a read fault.
-use Rattle.std.proofs.Common.{◌≡◌, ◌≢◌, ℕ, ◌+◌, ◌<◌, ◌≤◌, Bool, true, false, List, length, refl, sym, ◌∙◌, ap, subst, arith, inl, inr, ◌⊎◌, Ok, Err, Some, None, IfOk, map, ◌++◌}
+use Rattle.std.proofs.Common.{◌≡◌, ◌≢◌, ℕ, ◌+◌, ◌≤◌, Bool, true, false, List, length, refl, sym, ◌∙◌, ap, subst, arith, inl, inr, ◌⊎◌, Ok, Err, Some, None, IfOk, map, ◌++◌}
 use Rattle.std.proofs.lemmas.Bool.{le-ltb, lt-ltb}
 use Rattle.std.specs.Prelude.{Option, Result, MatchOption, nat_lt, codes, decimal}
 use Rattle.std.specs.Bool.{MatchBool}
@@ -10,11 +10,11 @@ use Rattle.outside_ports.specs.declared.whole.TheConstants.{GREATEST_INPUT_BYTES
 use Rattle.program_form.specs.Certificate.{dual_seen}
 use Rattle.sporadic_model.specs.SetDef.{SetDef}
 use Rattle.sporadic_model.specs.declared.ids.Protocol.{Protocol}
-use Rattle.taskset_json.specs.Answers.{Reads, JudgesHomes, first_homeless}
+use Rattle.taskset_json.specs.Answers.{Reads, first_homeless}
 use Rattle.taskset_json.specs.declared.refusal.SetRefusal.{SetRefusal}
 use Rattle.taskset_json.specs.declared.refusal.SetRefusal.TheVariants as refusal
 use Rattle.response_fixpoint.specs.Rounds.{Ending, Schedulable, NotShown, Wide, Allowance, EndsIn}
-use Rattle.response_fixpoint.specs.Response.{RequestsNothing, IsFirstRequester, rounds_of}
+use Rattle.response_fixpoint.specs.Response.{RequestsNothing, rounds_of}
 use Rattle.response_fixpoint.specs.Answers.{Answers}
 use Rattle.response_fixpoint.specs.declared.verdict.Verdict.{Verdict}
 use Rattle.response_fixpoint.specs.declared.verdict.Verdict.TheVariants as verdict
@@ -25,7 +25,7 @@ use Rattle.report.specs.Table.{table_text}
 use Rattle.block_top.specs.Words.{Form, Analyse, Report, form_of}
 use Rattle.block_top.specs.FormSeen.{form_with}
 use Rattle.block_top.specs.Refusals.{reason_text}
-use Rattle.block_top.specs.Outcome.{Answer, refused_words, refused_set, requests_later, ending_answer, IsAnalysis, IsTable, IsOutcomeOfReading, IsOutcomeOfInput, IsOutcomeOfForm, IsOutcome}
+use Rattle.block_top.specs.Outcome.{Answer, refused_words, refused_set, requests_later, ending_answer, IsAnalysis, IsTable, IsOutcomeOfReading, IsOutcomeOfInput, IsOutcomeOfForm}
 use Rattle.block_top.specs.Inputs.{HasRead, HasTooMany, SaysOfInput, SaysIfTold, IsReadFault}
 use Rattle.block_top.specs.Replies.{reply_seen, read_fault, RepliesTo, RepliesToFault, IsMade, IsOutcomeOfNamed, IsReplyOnSet, IsReplyToWork, IsOutcomeIfTold, HasStatus, IsReply}
 use Rattle.block_top.specs.declared.words.Work.{Work}

@@ -1,21 +1,19 @@
 -- What is true of a call, from what was replied and what was written.
-use Rattle.std.proofs.Common.{◌≡◌, ◌≢◌, ℕ, ◌<◌, ◌≤◌, ◌↔◌, List, length, refl, sym, ◌∙◌, ap, subst, arith, inl, inr, ◌⊎◌, Ok, Err, Some, None}
+use Rattle.std.proofs.Common.{◌≡◌, ◌≢◌, ℕ, ◌↔◌, List, length, sym, ◌∙◌, ap, subst, arith, inl, inr, ◌⊎◌, Ok, Some, None}
 use Rattle.std.proofs.lemmas.Bool.{le-ltb}
 use Rattle.std.specs.Prelude.{Option, Result, MatchOption, nat_lt, Bool, false, codes}
 use Rattle.std.specs.Bool.{MatchBool}
-use Rattle.std.specs.Io.KnownBytes.{Appends}
 use Rattle.outside_ports.specs.Counts.{Rose}
 use Rattle.outside_ports.specs.Names.{Inputs, bytes_of}
 use Rattle.outside_ports.specs.Prefix.{AppendsPart}
 use Rattle.outside_ports.specs.declared.whole.TheConstants.{GREATEST_INPUT_BYTES}
 use Rattle.program_form.specs.Certificate.{DualDef}
 use Rattle.sporadic_model.specs.SetDef.{SetDef}
-use Rattle.sporadic_model.specs.declared.ids.Protocol.{Protocol}
 use Rattle.taskset_json.specs.Answers.{Reads, first_homeless}
 use Rattle.taskset_json.specs.declared.refusal.SetRefusal.{SetRefusal}
 use Rattle.taskset_json.specs.declared.refusal.SetRefusal.TheVariants as refusal
 use Rattle.response_fixpoint.specs.Rounds.{Ending, Schedulable, NotShown, Wide, Allowance, EndsIn}
-use Rattle.response_fixpoint.specs.Response.{RequestsNothing, AreFitting, rounds_of}
+use Rattle.response_fixpoint.specs.Response.{AreFitting, rounds_of}
 use Rattle.response_fixpoint.proofs.AnswerLaws.{schedulable_right, not_shown_right}
 use Rattle.report.specs.Table.{table_text}
 use Rattle.block_top.specs.Words.{Form, Analyse, Report, form_of}
@@ -23,7 +21,8 @@ use Rattle.block_top.specs.Refusals.{reason_text}
 use Rattle.block_top.specs.Outcome.{Answer, refused_words, refused_set, ending_answer, IsAnalysis, IsTable, IsOutcomeOfReading, IsOutcomeOfInput, IsOutcomeOfForm, IsOutcome}
 use Rattle.block_top.specs.Inputs.{HasRead}
 use Rattle.block_top.specs.Replies.{read_fault, IsOutcomeIfTold, HasStatus, IsReply}
-use Rattle.block_top.specs.Run.{Call, Gives, RanOut, FailsToRead, FailsToWrite, GivesOutcome, Suits, name_in, IsCompletePremise, IsComplete, WritesSchedulable, Analyses, IsHeadline, IsRun}
+use Rattle.block_top.specs.Headline.{Call, RanOut, WritesSchedulable, Analyses, IsHeadline}
+use Rattle.block_top.specs.Run.{Gives, FailsToRead, FailsToWrite, GivesOutcome, Suits, name_in, IsRun}
 use Rattle.block_top.specs.declared.reply.TheConstants.{DEFAULT_ALLOWANCE}
 use Rattle.block_top.proofs.OutcomeLaws.{one_outcome, one_reading, outcome_tells, analysis_ends}
 

@@ -6,4 +6,5 @@ pub mod Outcome
 pub mod Inputs
 pub mod Replies
 pub mod Reached
+pub mod Headline
 pub mod Run

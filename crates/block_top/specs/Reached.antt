@@ -1,5 +1,5 @@
 -- Which tasks an analysis may name.
-use Rattle.std.specs.Prelude.{ℕ, ◌<◌, length, Result, Ok, Err}
+use Rattle.std.specs.Prelude.{◌<◌, length, Result, Ok, Err}
 use Rattle.sporadic_model.specs.SetDef.{SetDef}
 use Rattle.response_fixpoint.specs.declared.verdict.Verdict.{Verdict}
 use Rattle.response_fixpoint.specs.declared.verdict.Verdict.TheVariants as verdict

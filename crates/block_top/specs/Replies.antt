@@ -1,5 +1,5 @@
 -- What is replied to words, before anything goes out.
-use Rattle.std.specs.Prelude.{◌≡◌, ◌≢◌, ℕ, ◌≤◌, ◌↔◌, ◌⊎◌, List, Option, None, Some, Result, Ok, Err, codes, map}
+use Rattle.std.specs.Prelude.{◌≡◌, ◌≢◌, ℕ, ◌≤◌, ◌⊎◌, List, Option, None, Some, Result, Ok, Err, codes, map}
 use Rattle.outside_ports.specs.Counts.{Rose}
 use Rattle.outside_ports.specs.Names.{Inputs, bytes_of}
 use Rattle.program_form.specs.Certificate.{dual_seen}
@@ -9,10 +9,10 @@ use Rattle.response_fixpoint.specs.declared.verdict.Verdict.{Verdict}
 use Rattle.response_fixpoint.specs.declared.verdict.Verdict.TheVariants as verdict
 use Rattle.response_fixpoint.specs.declared.verdict.Stop.{Stop}
 use Rattle.response_fixpoint.specs.declared.verdict.Stop.TheVariants as stop
-use Rattle.block_top.specs.Words.{Form, form_of}
+use Rattle.block_top.specs.Words.{form_of}
 use Rattle.block_top.specs.Texts.{read_fault_text}
 use Rattle.block_top.specs.Refusals.{reason_text}
-use Rattle.block_top.specs.Outcome.{Answer, refused_set, refused_words, ending_answer, IsAnalysis, IsTable, IsOutcome, IsOutcomeOfInput}
+use Rattle.block_top.specs.Outcome.{Answer, refused_set, ending_answer, IsAnalysis, IsTable, IsOutcome, IsOutcomeOfInput}
 use Rattle.block_top.specs.declared.words.Work.{Work}
 use Rattle.block_top.specs.declared.words.Work.TheVariants as work
 use Rattle.block_top.specs.declared.input.InputFault.{InputFault}

@@ -1,41 +1,23 @@
--- What one call of the program does, and the headline.
-use Rattle.std.specs.Prelude.{◌≡◌, ◌≢◌, ℕ, ◌↔◌, ◌⊎◌, List, length, Option, None, Some, IsSome, Ok}
+-- What one call of the program does.
+use Rattle.std.specs.Prelude.{◌≡◌, ◌≢◌, ℕ, ◌⊎◌, List, None, Some, IsSome, Ok}
 use Rattle.std.specs.Io.KnownBytes.{Appends}
 use Rattle.outside_ports.specs.Counts.{Rose}
 use Rattle.outside_ports.specs.Names.{Inputs}
 use Rattle.outside_ports.specs.Prefix.{AppendsPart}
-use Rattle.program_form.specs.Certificate.{CertificateDef}
 use Rattle.sporadic_model.specs.SetDef.{SetDef}
 use Rattle.taskset_json.specs.Answers.{first_homeless}
 use Rattle.response_fixpoint.specs.Rounds.{Wide, Allowance, EndsIn}
-use Rattle.response_fixpoint.specs.Response.{RequestsNothing, AreFitting, AreLeastFitting, AreOptimalDuals, rounds_of}
+use Rattle.response_fixpoint.specs.Response.{RequestsNothing, rounds_of}
 use Rattle.block_top.specs.Words.{Form, Analyse, Report, form_of}
-use Rattle.block_top.specs.Texts.{certificate_text}
 use Rattle.block_top.specs.Outcome.{Answer, IsOutcome}
 use Rattle.block_top.specs.Inputs.{HasRead}
 use Rattle.block_top.specs.Replies.{read_fault, IsOutcomeIfTold}
+use Rattle.block_top.specs.Headline.{Call, RanOut, Analyses, IsHeadline}
 use Rattle.block_top.specs.declared.reply.TheConstants.{DEFAULT_ALLOWANCE}
-
--- A call: its words, the shelf's inputs where they are told, the shelf's count of faults before and after, what is
--- written where it is told and the sink's count of faults before and after, and the status.
-pub record Call : Type 0 where
-  pub words : List (List ℕ)
-  pub names : Option Inputs
-  pub shelf_before : ℕ
-  pub shelf_now : ℕ
-  pub written_before : Option (List ℕ)
-  pub written_now : Option (List ℕ)
-  pub sink_before : ℕ
-  pub sink_now : ℕ
-  pub status : ℕ
 
 -- Has the whole text gone out, with this status?
 abbrev pub Gives : Call → Answer → Type 0
 Gives call answer = (call.status ≡ answer.status) × Appends call.written_before call.written_now answer.text
-
--- Memory ran out, and nothing was written.
-abbrev pub RanOut : Call → Type 0
-RanOut call = (call.status ≡ 7) × (call.written_now ≡ call.written_before)
 
 -- The set's input could not be read, for which the shelf's count of faults rose; the text that says so went out.
 abbrev pub FailsToRead : Call → Type 0
@@ -84,33 +66,6 @@ pub record IsCompletePremise (call : Call) (inputs : Inputs) (form : Form) (set 
 abbrev pub IsComplete : Call → Type 0
 IsComplete call = (inputs : Inputs) (form : Form) (set : SetDef) → IsCompletePremise call inputs form set
     → (((call.status ≡ 0) ⊎ (call.status ≡ 1)) × GivesOutcome call) ⊎ RanOut call
-
--- Does the call write "schedulable", with the least bounds within all deadlines that satisfy the recurrence and
--- optimal duals?
-abbrev pub WritesSchedulable : Call → SetDef → Type 0
-WritesSchedulable call set = (certificate : CertificateDef) × (call.status ≡ 0) × Appends call.written_before call.written_now (certificate_text certificate)
-    × AreLeastFitting set certificate.bounds × AreOptimalDuals set certificate.duals
-
--- The call analyses the set: its words are those of `analyse`, and the bytes of the name are the set, which requests
--- nothing.
-pub record Analyses (call : Call) (set : SetDef) : Type 0 where
-  pub inputs : Inputs
-  pub name : List ℕ
-  pub form_is : form_of call.words ≡ Some (Analyse name)
-  pub told : call.names ≡ Some inputs
-  pub read : HasRead inputs name (Ok set)
-  pub nothing : RequestsNothing set
-
--- The headline: the call writes "schedulable" exactly where some bounds within all deadlines satisfy the recurrence,
--- giving the least such bounds with optimal duals. Its premises: no count of faults rose in the call, memory did not
--- run out, and the rounds end in an answer. Without the last one: what is written as schedulable is least and
--- optimal, and a set is said to be not shown only where nothing fits.
-pub record IsHeadline (call : Call) (set : SetDef) : Type 0 where
-  pub exactly : (Rose call.shelf_before call.shelf_now → ⊥) → (Rose call.sink_before call.sink_now → ⊥) → (RanOut call → ⊥)
-      → ((i : ℕ) → EndsIn (rounds_of set) DEFAULT_ALLOWANCE (Wide i) → ⊥) → (EndsIn (rounds_of set) DEFAULT_ALLOWANCE Allowance → ⊥)
-      → WritesSchedulable call set ↔ ((s : List ℕ) × AreFitting set s)
-  pub least : call.status ≡ 0 → WritesSchedulable call set
-  pub none : call.status ≡ 1 → (s : List ℕ) → AreFitting set s → ⊥
 
 -- What is true of every call.
 pub record IsRun (call : Call) : Type 0 where

@@ -1,5 +1,5 @@
 -- The texts of answers. Each line ends with one line end.
-use Rattle.std.specs.Prelude.{ℕ, ◌+◌, List, [], ◌∷◌, ◌++◌, codes, decimal}
+use Rattle.std.specs.Prelude.{ℕ, List, [], ◌∷◌, ◌++◌, codes, decimal}
 use Rattle.program_form.specs.Certificate.{DualDef, CertificateDef}
 
 -- Numbers with a comma between each two.

@@ -1,4 +1,4 @@
-use Rattle.std.proofs.Common.{ℕ, ◌≤◌, length, arith, rules, Err}
+use Rattle.std.proofs.Common.{◌≤◌, length, arith, Err}
 use Rattle.taskset_json.specs.Answers.{Reads}
 use Rattle.block_top.proofs.InputLaws.{says_of_fault}
 use Rattle.block_top.proofs.input.read_set.Goals as goal

@@ -1,6 +1,5 @@
-use Rattle.std.proofs.Common.{◌≡◌, Ok, Err}
+use Rattle.std.proofs.Common.{Ok, Err}
 use Rattle.block_top.specs.Outcome.{IsTable}
-use Rattle.block_top.specs.Inputs.{SaysIfTold, IsReadFault}
 use Rattle.block_top.proofs.ReplyLaws.{replied}
 use Rattle.block_top.proofs.reply.report_reply.Goals as goal
 

@@ -1,8 +1,8 @@
-use Rattle.std.proofs.Common.{List, refl}
+use Rattle.std.proofs.Common.{refl}
 use Rattle.std.specs.Io.KnownBytes.{Appends}
 use Rattle.block_top.specs.Words.{words_seen}
 use Rattle.block_top.specs.Replies.{reply_seen}
-use Rattle.block_top.specs.Run.{Call}
+use Rattle.block_top.specs.Headline.{Call}
 use Rattle.block_top.proofs.RunLaws.{run_written}
 use Rattle.block_top.proofs.top.run.Goals as goal
 
