@@ -1,7 +1,8 @@
 -- Which task sets are accepted, and what is true of them.
-use Rattle.std.specs.Prelude.{◌≡◌, ℕ, ◌<◌, ◌≤◌, ◌^◌, length, None, Some, Result, Ok, Err}
-use Rattle.sporadic_model.specs.SetDef.{SetDef, task_at}
-use Rattle.sporadic_model.specs.Refusals.{first_refusal, request_at, request_count}
+use Rattle.std.specs.Prelude.{◌≡◌, ◌≢◌, ℕ, ◌<◌, ◌≤◌, ◌^◌, length, None, Some, Result, Ok, Err, IsTrue, ◌⊎◌}
+use Rattle.sporadic_model.specs.SetDef.{SetDef, RequestDef, task_at, resource_at}
+use Rattle.sporadic_model.specs.Users.{count_of}
+use Rattle.sporadic_model.specs.Refusals.{first_refusal, request_at, request_count, is_name}
 use Rattle.sporadic_model.specs.declared.limits.TheConstants.{MOST_PROCESSORS, MOST_TASKS, MOST_RESOURCES, MOST_REQUESTS, MOST_TICKS, MOST_COUNT}
 use Rattle.sporadic_model.specs.declared.refusal.ModelRefusal.{ModelRefusal}
 use Rattle.sporadic_model.specs.declared.refusal.ModelRefusal.TheVariants as refusal
@@ -38,16 +39,64 @@ pub record TaskNumbers (set : SetDef) (x : ℕ) : Type 0 where
   pub deadline_to : (task_at set x).deadline ≤ (task_at set x).period
   pub period_to : (task_at set x).period ≤ MOST_TICKS
 
--- The numbers of entry j of task x are in their ranges: from 1 request to 1000, and a length from 1
+-- The numbers of an entry of task x are in their ranges: from 1 request to 1000, and a length from 1
 -- tick to below the task's cost.
-pub record RequestNumbers (set : SetDef) (x j : ℕ) : Type 0 where
-  pub count_from : 1 ≤ (request_at set x j).count
-  pub count_to : (request_at set x j).count ≤ MOST_COUNT
-  pub length_from : 1 ≤ (request_at set x j).length
-  pub length_to : (request_at set x j).length < (task_at set x).cost
+pub record EntryNumbers (set : SetDef) (x : ℕ) (entry : RequestDef) : Type 0 where
+  pub count_from : 1 ≤ entry.count
+  pub count_to : entry.count ≤ MOST_COUNT
+  pub length_from : 1 ≤ entry.length
+  pub length_to : entry.length < (task_at set x).cost
+
+-- Entry j of task x has its numbers in their ranges.
+abbrev pub RequestNumbers : SetDef → ℕ → ℕ → Type 0
+RequestNumbers set x j = EntryNumbers set x (request_at set x j)
 
 -- Do the positions of the set's resources, tasks and entries fit the 32 bits of an id?
 pub record FitsIds (set : SetDef) : Type 0 where
   pub resources : length set.resources < 2 ^ 32
   pub tasks : length set.tasks < 2 ^ 32
   pub entries : (x : ℕ) → x < length set.tasks → length (task_at set x).requests < 2 ^ 32
+
+-- Every resource and every task of the set has a name of the right form, no two resources the same
+-- one, and no two tasks.
+pub record AreNamed (set : SetDef) : Type 0 where
+  pub resource_names : (q : ℕ) → q < length set.resources → IsTrue (is_name (resource_at set q).name)
+  pub task_names : (x : ℕ) → x < length set.tasks → IsTrue (is_name (task_at set x).name)
+  pub resources_apart : (p q : ℕ) → p < q → q < length set.resources → (resource_at set p).name ≢ (resource_at set q).name
+  pub tasks_apart : (x y : ℕ) → x < y → y < length set.tasks → (task_at set x).name ≢ (task_at set y).name
+
+-- Each entry of task x names a resource of the set, and no two of its entries the same one.
+pub record AreEntries (set : SetDef) (x : ℕ) : Type 0 where
+  pub known : (j : ℕ) → j < length (task_at set x).requests → (q : ℕ) × (q < length set.resources) × ((resource_at set q).name ≡ (request_at set x j).resource)
+  pub apart : (i j : ℕ) → i < j → j < length (task_at set x).requests → (request_at set x i).resource ≢ (request_at set x j).resource
+
+-- A given home is a processor of the set.
+pub record AreHomes (set : SetDef) : Type 0 where
+  pub homes_from : (q k : ℕ) → q < length set.resources → (resource_at set q).home ≡ Some k → 1 ≤ k
+  pub homes_to : (q k : ℕ) → q < length set.resources → (resource_at set q).home ≡ Some k → k ≤ set.processors
+
+-- Task x is the highest user of resource q: a user, and no higher task is one.
+pub record IsHighestUser (set : SetDef) (q x : ℕ) : Type 0 where
+  pub task : x < length set.tasks
+  pub user : 0 < count_of set x q
+  pub highest : (y : ℕ) → y < x → count_of set y q ≡ 0
+
+-- Task x is the highest user of resource q that isn't on processor k.
+pub record IsHighestRemoteUser (set : SetDef) (q k x : ℕ) : Type 0 where
+  pub task : x < length set.tasks
+  pub user : 0 < count_of set x q
+  pub remote : (task_at set x).processor ≢ k
+  pub highest : (y : ℕ) → y < x → (task_at set y).processor ≢ k → count_of set y q ≡ 0
+
+-- No task uses resource q.
+abbrev pub HasNoUser : SetDef → ℕ → Type 0
+HasNoUser set q = (x : ℕ) → x < length set.tasks → count_of set x q ≡ 0
+
+-- No task that isn't on processor k uses resource q.
+abbrev pub HasNoRemoteUser : SetDef → ℕ → ℕ → Type 0
+HasNoRemoteUser set q k = (x : ℕ) → x < length set.tasks → (task_at set x).processor ≢ k → count_of set x q ≡ 0
+
+-- Task x is the highest user of resource q that isn't on processor k, and where there is none, the
+-- highest user.
+abbrev pub IsBoost : SetDef → ℕ → ℕ → ℕ → Type 0
+IsBoost set q k x = IsHighestRemoteUser set q k x ⊎ (HasNoRemoteUser set q k × IsHighestUser set q x)

@@ -1,14 +1,14 @@
-ghost use Rattle.std.specs.Prelude.{◌≡◌, ℕ, ◌<◌, ◌≤◌, length, IfSome, IsTrue, nat_lt, option_map};
+ghost use Rattle.std.specs.Prelude.{◌≡◌, ℕ, ◌<◌, ◌≤◌, length, IfSome, IfNone, IsTrue, option_map, find};
 ghost use Rattle.sporadic_model.specs.SetDef.{task_at, resource_at, is_higher_local};
-ghost use Rattle.sporadic_model.specs.Seen.{parts_seen, task_seen, resource_seen};
-ghost use Rattle.sporadic_model.specs.Users.{count_of, length_of, ceiling_of, remote_ceiling_of, task_with_name, resource_with_name};
-ghost use Rattle.sporadic_model.specs.Accepted.{IsAccepted, Judged, TaskNumbers, SetSizes};
+ghost use Rattle.sporadic_model.specs.Users.{numbers, entry_of, count_of, length_of, is_remote_user, ceiling_of, remote_ceiling_of, task_with_name, resource_with_name};
+ghost use Rattle.sporadic_model.specs.Seen.{parts_seen, task_seen, resource_seen, request_seen};
+ghost use Rattle.sporadic_model.specs.Accepted.{IsAccepted, Judged, TaskNumbers, RequestNumbers, EntryNumbers, SetSizes, AreNamed, AreHomes, AreEntries, IsHighestUser, HasNoUser, IsHighestRemoteUser, HasNoRemoteUser, IsBoost};
 
 use crate::ids::{ResourceId, TaskId};
 use crate::judging::first_refusal;
-use crate::limits::{MOST_PROCESSORS, MOST_RESOURCES, MOST_TASKS, MOST_TICKS};
-use crate::lookup::{resource_part, task_part};
-use crate::parts::{Parts, ResourcePart, TaskPart};
+use crate::limits::{MOST_COUNT, MOST_PROCESSORS, MOST_RESOURCES, MOST_TASKS, MOST_TICKS};
+use crate::lookup::{entry_for, place_of_resource, place_of_task, resource_part, task_part};
+use crate::parts::{Parts, RequestPart, ResourcePart, TaskPart};
 use crate::refusal::ModelRefusal;
 use std::alloc::Global;
 use std::marker::Model;
@@ -48,6 +48,7 @@ impl TaskSet {
     fn task(&self, x: TaskId) -> &TaskPart
         requires { x.0 < length self.now.tasks }
         ensures seen { task_seen result.now ≡ task_at self.now x.0 }
+        ensures accepted { IsAccepted self.now }
         ensures numbers { TaskNumbers self.now x.0 }
         ensures sizes { SetSizes self.now }
     {
@@ -56,7 +57,9 @@ impl TaskSet {
 
     fn resource(&self, q: ResourceId) -> &ResourcePart
         requires { q.0 < length self.now.resources }
-        ensures { resource_seen result.now ≡ resource_at self.now q.0 }
+        ensures seen { resource_seen result.now ≡ resource_at self.now q.0 }
+        ensures homes { AreHomes self.now }
+        ensures sizes { SetSizes self.now }
     {
         resource_part(&self.parts.resources, q.0 as usize)
     }
@@ -157,6 +160,150 @@ impl TaskSet {
         ensures ticks { result ≤ MOST_TICKS }
     {
         self.task(x).local
+    }
+
+    fn entry(&self, x: TaskId, q: ResourceId) -> Option<&RequestPart>
+        requires task { x.0 < length self.now.tasks }
+        requires resource { q.0 < length self.now.resources }
+        ensures value { option_map (λ e. request_seen e.now) result ≡ entry_of self.now x.0 q.0 }
+        ensures numbers { IfSome result (λ e. EntryNumbers self.now x.0 (request_seen e.now)) }
+        ensures task { TaskNumbers self.now x.0 }
+    {
+        entry_for(&self.task(x).requests, self.resource(q).name.as_bytes())
+    }
+
+    /// How often a job of the task may request the resource: at most 1000, and 0 without an entry.
+    pub fn count(&self, x: TaskId, q: ResourceId) -> u64
+        requires task { x.0 < length self.now.tasks }
+        requires resource { q.0 < length self.now.resources }
+        ensures value { result ≡ count_of self.now x.0 q.0 }
+        ensures most { result ≤ MOST_COUNT }
+    {
+        match self.entry(x, q) {
+            Some(entry) => entry.count,
+            None => 0,
+        }
+    }
+
+    /// For how many ticks one request of the resource by the task may last: below the task's cost, and
+    /// 0 without an entry.
+    pub fn length(&self, x: TaskId, q: ResourceId) -> u64
+        requires task { x.0 < length self.now.tasks }
+        requires resource { q.0 < length self.now.resources }
+        ensures value { result ≡ length_of self.now x.0 q.0 }
+        ensures most { result < (task_at self.now x.0).cost }
+        ensures ticks { result ≤ MOST_TICKS }
+        ensures least { 0 < count_of self.now x.0 q.0 → 1 ≤ result }
+    {
+        match self.entry(x, q) {
+            Some(entry) => entry.length,
+            None => 0,
+        }
+    }
+
+    /// The processor at which the resource's requests run, where one was given.
+    pub fn home(&self, q: ResourceId) -> Option<u32>
+        requires { q.0 < length self.now.resources }
+        ensures value { result ≡ (resource_at self.now q.0).home }
+        ensures least { IfSome result (λ k. 1 ≤ k) }
+        ensures most { IfSome result (λ k. k ≤ self.now.processors) }
+    {
+        match self.resource(q).home {
+            Some(processor) => Some(processor as u32),
+            None => None,
+        }
+    }
+
+    /// The highest task that uses the resource; none exactly where no task does.
+    pub fn ceiling(&self, q: ResourceId) -> Option<TaskId>
+        requires { q.0 < length self.now.resources }
+        ensures value { option_map (λ x. x.0) result ≡ ceiling_of self.now q.0 }
+        ensures highest { IfSome result (λ x. IsHighestUser self.now q.0 x.0) }
+        ensures within { IfSome result (λ x. x.0 < length self.now.tasks) }
+        ensures none { IfNone result (HasNoUser self.now q.0) }
+    {
+        for x in 0..self.tasks() {
+            if self.count(TaskId(x), q) > 0 {
+                return Some(TaskId(x));
+            }
+        }
+        None
+    }
+
+    fn is_user_beyond(&self, x: TaskId, q: ResourceId, k: u32) -> bool
+        requires task { x.0 < length self.now.tasks }
+        requires resource { q.0 < length self.now.resources }
+        ensures { result ≡ is_remote_user self.now q.0 k x.0 }
+    {
+        self.count(x, q) > 0 && self.processor(x) != k
+    }
+
+    /// The highest task that uses the resource and isn't on processor `k`.
+    fn remote_ceiling(&self, q: ResourceId, k: u32) -> Option<TaskId>
+        requires { q.0 < length self.now.resources }
+        ensures value { option_map (λ x. x.0) result ≡ find (is_remote_user self.now q.0 k) (numbers (length self.now.tasks)) }
+        ensures highest { IfSome result (λ x. IsHighestRemoteUser self.now q.0 k x.0) }
+        ensures none { IfNone result (HasNoRemoteUser self.now q.0 k) }
+    {
+        for x in 0..self.tasks() {
+            if self.is_user_beyond(TaskId(x), q, k) {
+                return Some(TaskId(x));
+            }
+        }
+        None
+    }
+
+    /// The ceiling at which a job on processor `k` that holds the resource runs: the highest task that
+    /// uses the resource and isn't on `k`, and where all of its users are on `k`, the highest of them.
+    /// None exactly where no task uses the resource.
+    pub fn boost(&self, q: ResourceId, k: u32) -> Option<TaskId>
+        requires { q.0 < length self.now.resources }
+        ensures value { option_map (λ x. x.0) result ≡ remote_ceiling_of self.now q.0 k }
+        ensures highest { IfSome result (λ x. IsBoost self.now q.0 k x.0) }
+        ensures within { IfSome result (λ x. x.0 < length self.now.tasks) }
+        ensures none { IfNone result (HasNoUser self.now q.0) }
+    {
+        match self.remote_ceiling(q, k) {
+            Some(x) => Some(x),
+            None => self.ceiling(q),
+        }
+    }
+
+    /// The task of this name; none exactly where no task has it.
+    pub fn task_named(&self, name: &[u8]) -> Option<TaskId>
+        ensures value { option_map (λ x. x.0) result ≡ task_with_name self.now name.now }
+        ensures within { IfSome result (λ x. x.0 < length self.now.tasks) }
+        ensures named { IfSome result (λ x. (task_at self.now x.0).name ≡ name.now) }
+    {
+        match place_of_task(&self.parts.tasks, name) {
+            Some(x) => Some(TaskId(x as u32)),
+            None => None,
+        }
+    }
+
+    /// The resource of this name; none exactly where no resource has it.
+    pub fn resource_named(&self, name: &[u8]) -> Option<ResourceId>
+        ensures value { option_map (λ q. q.0) result ≡ resource_with_name self.now name.now }
+        ensures within { IfSome result (λ q. q.0 < length self.now.resources) }
+        ensures named { IfSome result (λ q. (resource_at self.now q.0).name ≡ name.now) }
+    {
+        match place_of_resource(&self.parts.resources, name) {
+            Some(q) => Some(ResourceId(q as u32)),
+            None => None,
+        }
+    }
+
+    /// Every task set keeps the limits and the rules of the model. This says so, and does nothing.
+    pub fn keeps_the_model(&self)
+        ensures accepted { IsAccepted self.now }
+        ensures sizes { SetSizes self.now }
+        ensures names { AreNamed self.now }
+        ensures homes { AreHomes self.now }
+        ensures numbers { (x : ℕ) → x < length self.now.tasks → TaskNumbers self.now x }
+        ensures entries { (x : ℕ) → x < length self.now.tasks → AreEntries self.now x }
+        ensures requests { (x j : ℕ) → x < length self.now.tasks → j < length (task_at self.now x).requests → RequestNumbers self.now x j }
+    {
+        let _parts = &self.parts;
     }
 
     /// Is `h` a task of higher base priority on `i`'s processor?

@@ -12,3 +12,6 @@ pub returns-clause-sizes : goal.returns-clause-sizes
 returns-clause-sizes c =
     let accepted : IsAccepted c.args.self.now = subst IsAccepted c.self.view_is c.self.invariant in
     sizes_of_accepted c.args.self.now accepted
+
+pub returns-clause-accepted : goal.returns-clause-accepted
+returns-clause-accepted c = subst IsAccepted c.self.view_is c.self.invariant
