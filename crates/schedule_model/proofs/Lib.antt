@@ -1,0 +1,4 @@
+pub mod Scripts
+pub mod Releases
+pub mod JobListLaws
+pub mod RowListLaws
