@@ -45,7 +45,8 @@ has_entry_for entries name = list_any (λ e. bytes_eq e.resource name) entries
 abbrev pub request_count : SetDef → ℕ
 request_count set = sum_by (λ t. length t.requests) set.tasks
 
--- Is the refusal due: does the set have the fault that it names, at the place that it names?
+-- Is the refusal due: does the set have the fault that it names, at the place that it names? One that
+-- names a place of another kind, and want of memory, never is.
 unfoldable pub is_due : SetDef → ModelRefusal → Bool
 is_due set refusal.NoTask = length set.tasks == 0
 is_due set (refusal.Size size.Processors) = not (is_in_range 1 MOST_PROCESSORS set.processors)

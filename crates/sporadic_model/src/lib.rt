@@ -20,3 +20,6 @@ pub use limits::{
 pub use parts::{Parts, RequestPart, ResourcePart, TaskPart};
 pub use refusal::{ModelRefusal, Place, SizeOf};
 pub use task_set::TaskSet;
+
+#[cfg(test)]
+mod tests;

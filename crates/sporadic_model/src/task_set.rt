@@ -34,7 +34,8 @@ impl Model for TaskSet {
 impl TaskSet {
     /// Accepts the parts, or names the first refusal that is due. The refusals are tried in the order
     /// in which they stand in [`ModelRefusal`], each over the whole set, and each names the first place
-    /// in the order of resources, then tasks, then a task's request entries.
+    /// in the order of resources, then tasks, then a task's request entries. The set keeps the parts as
+    /// they are; the allocator is for what it may come to hold besides.
     #[tactic(auto, unfolding(crate::specs::Accepted::IsAccepted))]
     pub fn new(_alloc: Global, parts: Parts) -> Result<TaskSet, ModelRefusal>
         ensures { Judged result (parts_seen parts) }
@@ -45,6 +46,7 @@ impl TaskSet {
         }
     }
 
+    /// Task `x`'s part.
     fn task(&self, x: TaskId) -> &TaskPart
         requires { x.0 < length self.now.tasks }
         ensures seen { task_seen result.now ≡ task_at self.now x.0 }
@@ -55,6 +57,7 @@ impl TaskSet {
         task_part(&self.parts.tasks, x.0 as usize)
     }
 
+    /// Resource `q`'s part.
     fn resource(&self, q: ResourceId) -> &ResourcePart
         requires { q.0 < length self.now.resources }
         ensures seen { resource_seen result.now ≡ resource_at self.now q.0 }
@@ -162,6 +165,7 @@ impl TaskSet {
         self.task(x).local
     }
 
+    /// The task's entry for the resource.
     fn entry(&self, x: TaskId, q: ResourceId) -> Option<&RequestPart>
         requires task { x.0 < length self.now.tasks }
         requires resource { q.0 < length self.now.resources }
@@ -230,6 +234,7 @@ impl TaskSet {
         None
     }
 
+    /// Does the task use the resource, from another processor than `k`?
     fn is_user_beyond(&self, x: TaskId, q: ResourceId, k: u32) -> bool
         requires task { x.0 < length self.now.tasks }
         requires resource { q.0 < length self.now.resources }
