@@ -1,15 +1,12 @@
 -- The chosen row as a test that computes, for the worked examples: where the test passes, the row is chosen.
-use Rattle.std.proofs.Common.{◌≡◌, ◌≢◌, ℕ, ◌<◌, ◌≤◌, ◌==◌, ◌&&◌, ◌||◌, not, Bool, true, false, length, ap, arith, Option, Some, None, leb}
+use Rattle.std.proofs.Common.{◌≡◌, ◌≢◌, ℕ, ◌<◌, ◌≤◌, ◌==◌, ◌&&◌, ◌||◌, not, Bool, true, length, Some, leb}
 use Rattle.std.proofs.lemmas.Bool.{and_parts, and_from, leb-true, eqb-true, eq-eqb}
 use Rattle.bounded_sums.specs.Tests.{all_below}
 use Rattle.bounded_sums.proofs.TestLaws.{all_below-each}
 use Rattle.sporadic_model.specs.SetDef.{SetDef}
-use Rattle.schedule_model.specs.JobDef.{JobDef}
 use Rattle.schedule_model.specs.RowDef.{RowDef, Trace, is_job, running_on, holder_in, held_before}
 use Rattle.schedule_model.specs.Activity.{task_of, processor_of, is_requester, is_ready_holder}
 use Rattle.schedule_model.specs.SharedRules.{Ranks}
-use Rattle.schedule_model.specs.Protocols.{shared_rule}
-use Rattle.schedule_model.specs.Keeping.{KeepsRow}
 use Rattle.schedule_model.specs.Chosen.{IsSized, IsSharedChoice}
 use Rattle.schedule_model.proofs.RuleTests.{each_place, each_running, place_named, running_named, is_job-true, then_true, or_other, not_true, passes_shared, shared_from}
 use Rattle.schedule_model.proofs.KeepingTests.{each_rule, each_rule-passes}

@@ -1,19 +1,16 @@
 -- The worked schedules under DPCP.
-use Rattle.std.proofs.Common.{◌≡◌, ℕ, zero, suc, ◌<◌, ◌≤◌, Bool, true, false, List, [], ◌∷◌, refl, arith, Option, Some, None}
-use Rattle.bounded_sums.specs.Tests.{all_below}
-use Rattle.schedule_model.specs.RowDef.{Trace, runs_in}
-use Rattle.schedule_model.specs.Phase.{Phase, phase_from, executed, phase_of}
-use Rattle.schedule_model.specs.Phase.Phase.{Local, Asking, Finished}
+use Rattle.std.proofs.Common.{◌≡◌, true, false, [], ◌∷◌, refl, arith, Some, None}
+use Rattle.schedule_model.specs.RowDef.{runs_in}
+use Rattle.schedule_model.specs.Phase.{phase_from, executed, phase_of}
 use Rattle.schedule_model.specs.Activity.{is_pending, is_next, is_active, is_requester, is_active_local}
 use Rattle.schedule_model.specs.DpcpRules.{has_request_at, has_requests, holds_at, is_kept, waits_at, is_first_waiting, is_barred, is_granted}
 use Rattle.schedule_model.specs.Protocols.{dpcp_rule}
 use Rattle.schedule_model.specs.Keeping.{KeepsBefore, IsFirstUnlawful}
 use Rattle.schedule_model.specs.BlockedTicks.{is_delayed, runs_higher, runs_higher_local, is_shared_interference, is_dpcp_interference, is_blocked}
-use Rattle.schedule_model.specs.Measures.{MeasuresDef, has_finished, finish_of, response_of, blocking_of, counts_for, finished_jobs, measures_of}
-use Rattle.schedule_model.specs.declared.rule.Rule.{Rule}
+use Rattle.schedule_model.specs.Measures.{has_finished, finish_of, response_of, blocking_of, counts_for, finished_jobs, measures_of}
 use Rattle.schedule_model.specs.declared.rule.Rule.TheVariants as rule
 use Rattle.schedule_model.proofs.DpcpTests.{passes_dpcp, dpcp_from}
-use Rattle.schedule_model.proofs.KeepingTests.{each_rule, each_earlier, keeps_from, first_from}
+use Rattle.schedule_model.proofs.KeepingTests.{keeps_from, first_from}
 use Rattle.schedule_model.proofs.WorkedFiles.{trace_home, trace_barred, trace_one, trace_unrun}
 
 -- At tick 2 the first job waits for its resource while the second's request of another runs at their home.

@@ -1,14 +1,13 @@
 -- Each rule of DPCP as a test that computes, for the worked examples: where the test passes, the rule is kept.
-use Rattle.std.proofs.Common.{◌≡◌, ◌≢◌, ℕ, zero, suc, ◌<◌, ◌≤◌, ◌==◌, ◌&&◌, ◌||◌, not, Bool, true, false, cond, List, length, get_or, refl, ap, sym, ◌∙◌, subst, arith, inl, inr, Option, Some, None, is_some, leb}
+use Rattle.std.proofs.Common.{◌≡◌, ℕ, ◌<◌, ◌≤◌, ◌==◌, ◌&&◌, ◌||◌, not, Bool, true, false, length, refl, ap, sym, ◌∙◌, Option, Some, None, is_some, leb}
 use Rattle.std.specs.Option.{option_map_or}
-use Rattle.std.proofs.lemmas.Bool.{cases_Bool, both_ways, and_parts, leb-true, eqb-true}
-use Rattle.bounded_sums.specs.Tests.{all_below, any_below}
+use Rattle.std.proofs.lemmas.Bool.{and_parts, leb-true, eqb-true}
+use Rattle.bounded_sums.specs.Tests.{all_below}
 use Rattle.bounded_sums.proofs.TestLaws.{all_below-each, any_below-some}
-use Rattle.schedule_model.specs.JobDef.{JobDef}
 use Rattle.schedule_model.specs.Protocols.{dpcp_rule}
 use Rattle.schedule_model.specs.declared.rule.Rule.{Rule}
 use Rattle.schedule_model.specs.declared.rule.Rule.TheVariants as rule
-use Rattle.schedule_model.specs.RowDef.{RowDef, Trace, is_job, running_on, holder_in, held_before}
+use Rattle.schedule_model.specs.RowDef.{Trace, is_job, running_on, holder_in, held_before}
 use Rattle.schedule_model.specs.Phase.{Phase, is_local, is_asking, phase_of}
 use Rattle.schedule_model.specs.Phase.Phase.{Local, Asking, Finished}
 use Rattle.schedule_model.specs.Activity.{task_of, processor_of, is_active, is_requester, is_active_local}

@@ -1,24 +1,21 @@
 -- The worked schedules under FMLP+ and MPCP.
-use Rattle.std.proofs.Common.{◌≡◌, ℕ, zero, suc, ◌<◌, ◌≤◌, ◌&&◌, Bool, true, false, List, [], ◌∷◌, refl, arith, Option, Some, None}
-use Rattle.bounded_sums.specs.Tests.{all_below}
+use Rattle.std.proofs.Common.{◌≡◌, ℕ, zero, suc, ◌<◌, ◌≤◌, true, false, List, [], ◌∷◌, refl, arith, Some}
 use Rattle.sporadic_model.specs.Users.{ceiling_of, remote_ceiling_of}
-use Rattle.schedule_model.specs.RowDef.{Trace, runs_in}
-use Rattle.schedule_model.specs.Phase.{Phase, phase_from, executed, phase_of}
+use Rattle.schedule_model.specs.RowDef.{runs_in}
+use Rattle.schedule_model.specs.Phase.{phase_from, executed, phase_of}
 use Rattle.schedule_model.specs.Phase.Phase.{Local, Asking, Finished}
 use Rattle.schedule_model.specs.Activity.{is_pending, is_next, is_active, is_requester, issue_tick_of, is_active_local, is_ready_holder, is_ready}
-use Rattle.schedule_model.specs.SharedRules.{Ranks}
 use Rattle.schedule_model.specs.Ranks.{mpcp, fmlp_plus}
 use Rattle.schedule_model.specs.Protocols.{shared_rule}
 use Rattle.schedule_model.specs.Keeping.{KeepsBefore, IsFirstUnlawful}
 use Rattle.schedule_model.specs.BlockedTicks.{is_delayed, runs_higher, is_shared_interference, is_blocked}
-use Rattle.schedule_model.specs.Measures.{MeasuresDef, has_finished, finish_of, response_of, blocking_of, counts_for, finished_jobs, measures_of}
-use Rattle.schedule_model.specs.declared.rule.Rule.{Rule}
+use Rattle.schedule_model.specs.Measures.{has_finished, finish_of, response_of, blocking_of, counts_for, finished_jobs, measures_of}
 use Rattle.schedule_model.specs.declared.rule.Rule.TheVariants as rule
 use Rattle.schedule_model.proofs.RuleTests.{passes_shared, shared_from}
 use Rattle.bounded_sums.proofs.TestLaws.{all_below-each}
 use Rattle.schedule_model.specs.Chosen.{IsSharedChoice}
 use Rattle.schedule_model.proofs.ChoiceTests.{passes_choice, choice_from}
-use Rattle.schedule_model.proofs.KeepingTests.{each_rule, each_earlier, keeps_from, first_from}
+use Rattle.schedule_model.proofs.KeepingTests.{keeps_from, first_from}
 use Rattle.schedule_model.proofs.WorkedFiles.{trace_a, trace_chosen, trace_run, trace_twice, trace_idle, trace_keep, trace_grant, trace_priority, trace_boost, set_boost}
 
 -- What holds at ticks 0 to 4, in a list.

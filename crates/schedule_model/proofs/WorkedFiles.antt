@@ -2,7 +2,7 @@
 use Rattle.std.proofs.Common.{ℕ, List, [], ◌∷◌, Option, Some, None}
 use Rattle.sporadic_model.specs.SetDef.{SetDef, TaskDef, RequestDef, ResourceDef}
 use Rattle.schedule_model.specs.JobDef.{SegmentDef, JobDef, JobsDef}
-use Rattle.schedule_model.specs.RowDef.{RowDef, RunDef, Trace, trace_in}
+use Rattle.schedule_model.specs.RowDef.{RunDef, Trace, trace_in}
 
 -- A task of this name (one byte), processor, period and cost, with one request entry for each resource and length.
 abbrev pub task : ℕ → ℕ → ℕ → ℕ → List RequestDef → TaskDef

@@ -49,7 +49,8 @@ impl<'a> JobList<'a> {
     pub fn push(&mut self, job: Job) -> Result<(), JobRefusal>
         requires task { job.task.0 < length self.old.set.tasks }
         requires resources { IsTrue (are_resources_in (length self.old.set.resources) (job_seen job).script) }
-        ensures { JobJudged result self.old self.new (job_seen job) }
+        ensures value { JobJudged result self.old self.new (job_seen job) }
+        ensures set { self.new.set ≡ self.old.set }
     {
         match refusal_of(self.set, &self.jobs, self.segments, &job) {
             Some(refusal) => return Err(refusal),

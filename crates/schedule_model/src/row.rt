@@ -1,7 +1,7 @@
 use crate::job::JobId;
 
 /// One tick of a schedule.
-#[derive(Debug, Drop)]
+#[derive(Debug, Drop, PartialEq, Eq)]
 pub struct Row {
     /// The job that runs on each processor, in the order of the processors.
     pub running: Vec<Option<JobId>>,

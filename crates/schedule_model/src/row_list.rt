@@ -1,5 +1,6 @@
 ghost use Rattle.std.specs.Prelude.{◌≡◌, ℕ, ◌<◌, ◌≤◌, IsTrue, true, false, length, map, slice_index_or};
 ghost use Rattle.std.specs.List.{list_all};
+ghost use Rattle.schedule_model.specs.JobDef.{JobsDef};
 ghost use Rattle.schedule_model.specs.RowDef.{ticks_of};
 ghost use Rattle.schedule_model.specs.Fitting.{RunJudged, IsRowList, IsMadeFor, rows_for, is_sized, names_below, names_jobs, is_below, is_fitting, first_refusal, fits_row};
 ghost use Rattle.schedule_model.specs.Seen.{row_seen, run_seen, place_seen};
@@ -38,7 +39,8 @@ impl RowList {
     /// A list without rows, for the processors and resources of the jobs' set and for the jobs that are
     /// listed now.
     pub fn new(alloc: Global, jobs: &JobList) -> RowList
-        ensures { result ≡ rows_for jobs.now }
+        ensures value { result ≡ rows_for jobs.now }
+        ensures made { IsMadeFor result jobs.now }
     {
         RowList {
             processors: jobs.set().processors(),
@@ -53,7 +55,8 @@ impl RowList {
     /// which they stand in [`RowRefusal`]. After a refusal the list is as it was.
     pub fn push(&mut self, run: RowRun) -> Result<(), RowRefusal>
         requires { IsTrue (is_sized self.old.processors self.old.resources (run_seen run).row) }
-        ensures { RunJudged result self.old self.new (run_seen run) }
+        ensures value { RunJudged result self.old self.new (run_seen run) }
+        ensures made { (list : JobsDef) → IsMadeFor self.old list → IsMadeFor self.new list }
     {
         if run.ticks < 1 || run.ticks > MOST_TICKS {
             return Err(RowRefusal::Number);
