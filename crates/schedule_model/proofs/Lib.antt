@@ -1,0 +1,11 @@
+pub mod Scripts
+pub mod Releases
+pub mod JobListLaws
+pub mod RowListLaws
+pub mod RuleTests
+pub mod KeepingTests
+pub mod DpcpTests
+pub mod ChoiceTests
+pub mod WorkedFiles
+pub mod SharedExamples
+pub mod DpcpExamples

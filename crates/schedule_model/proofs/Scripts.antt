@@ -1,0 +1,61 @@
+-- The tests of a script over its segments as they lie in memory, and over the records that contracts see.
+use Rattle.std.proofs.Common.{◌≡◌, ℕ, ◌<◌, ◌≤◌, ◌-◌, ◌==◌, ◌&&◌, not, Bool, true, false, List, [], ◌∷◌, map, length, take, get_or, refl, sym, ◌∙◌, arith, inl, inr, Option, Some, None, is_some, option_map, nat_lt, cond}
+use Rattle.std.specs.Option.{option_map_or}
+use Rattle.std.specs.List.{list_all}
+use Rattle.std.proofs.lemmas.Bool.{cases_Bool, both_ways, and_parts, ltb-true, eqb-true}
+use Rattle.std.proofs.lemmas.List.Folds.{list_all-map, list_all_at}
+use Rattle.std.proofs.lemmas.List.Sums.{sum_by-cons}
+use Rattle.sporadic_model.proofs.Mapped.{length-map, take-map}
+use Rattle.sporadic_model.specs.declared.ids.ResourceId.{ResourceId}
+use Rattle.schedule_model.specs.JobDef.{SegmentDef, asks_for, number_of_requests}
+use Rattle.schedule_model.specs.LawfulJobs.{is_segment, is_script, is_resource_in, are_resources_in}
+use Rattle.schedule_model.specs.Seen.{segment_seen}
+use Rattle.schedule_model.specs.declared.job.Segment.{Segment}
+
+-- Where each element of a list passes a test, so does the one at a place.
+pub list_all-each : {X : Type 0} (p : X → Bool) → (xs : List X) (i : ℕ) (d : X) → i < length xs → list_all p xs ≡ true → p (get_or xs i d) ≡ true
+list_all-each p xs i d l h = elim (cases_Bool (p (get_or xs i d))) [
+  | inl passes ↦ passes
+  | inr fails ↦ absurd (both_ways (list_all p xs) (list_all_at p xs i d l fails) h)
+]
+
+is_some-map : {A B : Type 0} (f : A → B) → (o : Option A) → is_some (option_map f o) ≡ is_some o
+is_some-map f None = refl
+is_some-map f (Some r) = refl
+
+requests-seen : (xs : List Segment) → list_all (λ s. is_some s.request) (map segment_seen xs) ≡ list_all (λ s. is_some s.request) xs
+requests-seen [] = refl
+requests-seen (s ∷ xs) = rw (is_some-map {B = ℕ × ℕ} (λ (r : ResourceId × ℕ). (r.0.0, r.1)) s.request, requests-seen xs) refl
+
+-- A script as it lies in memory passes where its records do.
+pub is_script-seen : (xs : List Segment) → is_script (map segment_seen xs)
+    ≡ (not (length xs == 0) && (list_all (λ s. is_segment (segment_seen s)) xs && list_all (λ s. is_some s.request) (take (length xs - 1) xs)))
+is_script-seen xs =
+    rw (length-map segment_seen xs, take-map segment_seen (length xs - 1) xs, list_all-map is_segment segment_seen xs, requests-seen (take (length xs - 1) xs)) refl
+
+-- A script as it lies in memory: what its three tests answer, together.
+pub is_script-from : (xs : List Segment) (b c d : Bool) → (length xs == 0) ≡ b → list_all (λ s. is_segment (segment_seen s)) xs ≡ c → list_all (λ s. is_some s.request) (take (length xs - 1) xs) ≡ d
+    → is_script (map segment_seen xs) ≡ (not b && (c && d))
+is_script-from xs b c d e f g = is_script-seen xs ∙ rw (e, f, g) refl
+
+-- The resource that a segment requests is in range where all are.
+pub resource_at-each : (n : ℕ) (xs : List Segment) (i : ℕ) (d : Segment) → i < length xs → are_resources_in n (map segment_seen xs) ≡ true → is_resource_in n (segment_seen (get_or xs i d)) ≡ true
+resource_at-each n xs i d l h =
+    list_all-each (λ (s : Segment). is_resource_in n (segment_seen s)) xs i d l (sym (list_all-map (is_resource_in n) segment_seen xs) ∙ h)
+
+asks_for-past : (n q : ℕ) (o : Option (ℕ × ℕ)) → n ≤ q → option_map_or (λ r. nat_lt r.0 n) o true ≡ true → option_map_or (λ r. r.0 == q) o false ≡ false
+asks_for-past n q None l h = refl
+asks_for-past n q (Some r) l h =
+    let below : r.0 < n = ltb-true _ _ h in
+    elim (cases_Bool (r.0 == q)) [
+      | inl same ↦ let e : r.0 ≡ q = eqb-true _ _ same in absurd (omega arith)
+      | inr other ↦ other
+    ]
+
+-- A script doesn't request a resource past those that it names.
+pub number_of_requests-past : (n q : ℕ) (script : List SegmentDef) → n ≤ q → are_resources_in n script ≡ true → number_of_requests script q ≡ 0
+number_of_requests-past n q [] l h = refl
+number_of_requests-past n q (s ∷ script) l h =
+    let parts : (is_resource_in n s ≡ true) × (are_resources_in n script ≡ true) = and_parts (is_resource_in n s) (are_resources_in n script) h in
+    let here : asks_for q s ≡ false = asks_for-past n q s.request l parts.0 in
+    sum_by-cons (λ (r : SegmentDef). cond (asks_for q r) 1 0) s script ∙ rw (here, number_of_requests-past n q script l parts.1) refl

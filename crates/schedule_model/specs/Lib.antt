@@ -1,0 +1,17 @@
+pub mod JobDef
+pub mod RowDef
+pub mod Phase
+pub mod Activity
+pub mod SharedRules
+pub mod Ranks
+pub mod DpcpRules
+pub mod LawfulJobs
+pub mod Fitting
+pub mod Seen
+pub mod ListViews
+pub mod Protocols
+pub mod Keeping
+pub mod Chosen
+pub mod BlockedTicks
+pub mod Measures
+pub mod ProtocolLaws

@@ -1,0 +1,55 @@
+-- What is measured of a schedule: for each task how many jobs finished, their greatest response, and the
+-- greatest blocking of its jobs.
+use Rattle.std.specs.Prelude.{ℕ, zero, suc, ◌-◌, ◌==◌, ◌&&◌, Bool, max, length, if◌then◌else◌, Option, None, Some}
+use Rattle.bounded_sums.specs.Sums.{only_if}
+use Rattle.bounded_sums.specs.Tests.{count_below, first_below}
+use Rattle.schedule_model.specs.JobDef.{job_of}
+use Rattle.schedule_model.specs.RowDef.{Trace}
+use Rattle.schedule_model.specs.Phase.{is_finished, phase_of}
+use Rattle.schedule_model.specs.Activity.{task_of}
+use Rattle.schedule_model.specs.BlockedTicks.{is_blocked}
+
+-- Which is the greatest of f 0, .., f (n - 1)? 0 where there is none.
+abbrev pub greatest_below : ℕ → (ℕ → ℕ) → ℕ
+greatest_below zero f = 0
+greatest_below (suc n) f = max (greatest_below n f) (f n)
+
+-- Is job j finished after n rows?
+unfoldable pub has_finished : Trace → ℕ → ℕ → Bool
+has_finished w n j = is_finished (phase_of w n j)
+
+-- After which tick is job j finished? It is the first one at which it is: the tick after its last running one.
+unfoldable pub finish_of : Trace → ℕ → ℕ → ℕ
+finish_of w n j = first_below n (λ t. is_finished (phase_of w t j))
+
+-- How long did job j, if it finished within n rows, take from its release?
+unfoldable pub response_of : Trace → ℕ → ℕ → ℕ
+response_of w n j = finish_of w n j - (job_of w.jobs j).release
+
+-- At how many of n ticks was job j blocked, where these ticks are interference?
+unfoldable pub blocking_of : (Trace → ℕ → ℕ → Bool) → Trace → ℕ → ℕ → ℕ
+blocking_of interferes w n j = count_below n (λ t. is_blocked interferes w t j)
+
+-- The measures of one task.
+pub record MeasuresDef : Type 0 where
+  pub finished : ℕ
+  pub response : Option ℕ
+  pub blocking : ℕ
+
+-- Is job j of task x, and finished after n rows?
+unfoldable pub counts_for : Trace → ℕ → ℕ → ℕ → Bool
+counts_for w n x j = (task_of w j == x) && has_finished w n j
+
+-- How many jobs of task x finished within n rows?
+unfoldable pub finished_jobs : Trace → ℕ → ℕ → ℕ
+finished_jobs w n x = count_below (length w.jobs) (counts_for w n x)
+
+-- What is measured of task x over n rows, where these ticks are interference? The response is that of the
+-- finished job that took longest; the blocking that of any of its jobs, finished or not.
+unfoldable pub measures_of : (Trace → ℕ → ℕ → Bool) → Trace → ℕ → ℕ → MeasuresDef
+measures_of interferes w n x = record {
+  finished = finished_jobs w n x;
+  response = if finished_jobs w n x == 0 then None
+      else Some (greatest_below (length w.jobs) (λ j. only_if (counts_for w n x j) (response_of w n j)));
+  blocking = greatest_below (length w.jobs) (λ j. only_if (task_of w j == x) (blocking_of interferes w n j));
+}

@@ -1,0 +1,92 @@
+ghost use Rattle.std.specs.Prelude.{◌≡◌, ◌<◌, ◌≤◌, [], length, IsTrue, option_map, map};
+ghost use Rattle.schedule_model.specs.JobDef.{job_of};
+ghost use Rattle.schedule_model.specs.LawfulJobs.{JobJudged, AreLawfulJobs, are_resources_in, first_refusal};
+ghost use Rattle.schedule_model.specs.Seen.{job_seen};
+
+use crate::job::{Job, JobId};
+use crate::judging::refusal_of;
+use crate::limits::MOST_JOBS;
+use crate::refusal::JobRefusal;
+use sporadic_model::TaskSet;
+use std::alloc::Global;
+use std::marker::Model;
+
+/// Lawful jobs of a task set, in the order in which they were pushed. Those of one task are at least a
+/// period apart.
+#[derive(Drop)]
+pub struct JobList<'a> {
+    set: &'a TaskSet,
+    jobs: Vec<Job>,
+    segments: u64,
+}
+
+impl<'a> Model for JobList<'a> {
+    ghost use Rattle.schedule_model.specs.JobDef.{JobsDef};
+
+    ghost Value = { JobsDef };
+
+    ghost use Rattle.schedule_model.specs.ListViews.{jobs_view, IsJobsKept};
+
+    ghost view = { jobs_view };
+
+    ghost invariant = { IsJobsKept };
+}
+
+impl<'a> JobList<'a> {
+    /// A list without jobs.
+    pub fn new(alloc: Global, set: &'a TaskSet) -> JobList<'a>
+        ensures { result ≡ record { set = set.now; jobs = [] } }
+    {
+        JobList {
+            set,
+            jobs: Vec::new(alloc),
+            segments: 0,
+        }
+    }
+
+    /// Takes the job into the list, at its end, or names the first refusal that is due, in the order in
+    /// which they stand in [`JobRefusal`]. After a refusal the list is as it was.
+    pub fn push(&mut self, job: Job) -> Result<(), JobRefusal>
+        requires task { job.task.0 < length self.old.set.tasks }
+        requires resources { IsTrue (are_resources_in (length self.old.set.resources) (job_seen job).script) }
+        ensures value { JobJudged result self.old self.new (job_seen job) }
+        ensures set { self.new.set ≡ self.old.set }
+    {
+        match refusal_of(self.set, &self.jobs, self.segments, &job) {
+            Some(refusal) => return Err(refusal),
+            None => {}
+        }
+        let segments = self.segments + job.script.len() as u64;
+        match self.jobs.push(job) {
+            Ok(()) => {}
+            Err(_) => return Err(JobRefusal::Memory),
+        }
+        self.segments = segments;
+        Ok(())
+    }
+
+    /// How many jobs there are, at most 100,000.
+    pub fn len(&self) -> u32
+        ensures value { result ≡ length self.now.jobs }
+        ensures lawful { AreLawfulJobs self.now }
+        ensures most { result ≤ MOST_JOBS }
+    {
+        self.jobs.len() as u32
+    }
+
+    /// The job.
+    pub fn job(&self, j: JobId) -> &Job
+        requires { j.0 < length self.now.jobs }
+        ensures value { job_seen result.now ≡ job_of self.now.jobs j.0 }
+        ensures lawful { AreLawfulJobs self.now }
+    {
+        &self.jobs[j.0 as usize]
+    }
+
+    /// The set whose tasks the jobs are of.
+    pub fn set(&self) -> &'a TaskSet
+        ensures { result.now ≡ self.now.set }
+    {
+        self.set
+    }
+}

@@ -1,0 +1,92 @@
+ghost use Rattle.std.specs.Prelude.{◌≡◌, ◌<◌, ◌≤◌, ◌+◌, false, IsTrue, nat_lt, map, length};
+ghost use Rattle.std.specs.Option.{option_map_or};
+ghost use Rattle.schedule_model.specs.LawfulJobs.{are_resources_in, last_release, segment_count, is_too_close, is_too_many, first_refusal};
+ghost use Rattle.schedule_model.specs.Seen.{job_seen};
+
+use crate::job::Job;
+use crate::limits::{MOST_JOBS, MOST_SEGMENTS};
+use crate::refusal::JobRefusal;
+use crate::script::{is_lawful_script, stays_within_budget};
+use sporadic_model::{MOST_TICKS, TaskId, TaskSet};
+
+/// When was the task's last listed job released, if it has one?
+fn last_release_of(jobs: &[Job], x: TaskId) -> Option<u64>
+    ensures { result ≡ last_release (map job_seen jobs.now) x.0 }
+{
+    let mut left = jobs.len();
+    while left > 0 {
+        left -= 1;
+        let job = &jobs[left];
+        if job.task == x {
+            return Some(job.release);
+        }
+    }
+    None
+}
+
+/// Is the job released less than a period after the last listed job of its task, or after tick 10^9?
+#[tactic(auto, unfolding(crate::specs::LawfulJobs::is_too_close))]
+fn follows_too_closely(set: &TaskSet, jobs: &[Job], job: &Job) -> bool
+    requires { job.now.task.0 < length set.now.tasks }
+    ensures { result ≡ is_too_close (record { set = set.now; jobs = map job_seen jobs.now }) (job_seen job.now) }
+{
+    if is_within(
+        last_release_of(jobs, job.task),
+        set.period(job.task),
+        job.release,
+    ) {
+        return true;
+    }
+    job.release > MOST_TICKS
+}
+
+/// Is the tick before the end of a period that begins at the last release, if there was one?
+fn is_within(last: Option<u64>, period: u64, tick: u64) -> bool
+    ensures { result ≡ option_map_or (λ last. nat_lt tick (last + period)) last false }
+{
+    match last {
+        Some(last) => tick < last || tick - last < period,
+        None => false,
+    }
+}
+
+/// Is there no room for the job, where the listed ones have so many segments?
+#[tactic(auto, unfolding(crate::specs::LawfulJobs::is_too_many))]
+fn passes_limits(jobs: &[Job], segments: u64, job: &Job) -> bool
+    requires most { segments ≤ MOST_SEGMENTS }
+    requires counted { segments ≡ segment_count (map job_seen jobs.now) }
+    ensures { result ≡ is_too_many (map job_seen jobs.now) (job_seen job.now) }
+{
+    if jobs.len() as u64 >= MOST_JOBS {
+        return true;
+    }
+    job.script.len() as u64 > MOST_SEGMENTS - segments
+}
+
+/// The first refusal that is due for the job after the listed ones, which have so many segments.
+pub(crate) fn refusal_of(
+    set: &TaskSet,
+    jobs: &[Job],
+    segments: u64,
+    job: &Job,
+) -> Option<JobRefusal>
+    requires task { job.now.task.0 < length set.now.tasks }
+    requires resources { IsTrue (are_resources_in (length set.now.resources) (job_seen job.now).script) }
+    requires most { segments ≤ MOST_SEGMENTS }
+    requires counted { segments ≡ segment_count (map job_seen jobs.now) }
+    ensures { result ≡ first_refusal (record { set = set.now; jobs = map job_seen jobs.now }) (job_seen job.now) }
+{
+    if !is_lawful_script(&job.script) {
+        return Some(JobRefusal::Script);
+    }
+    if !stays_within_budget(set, job) {
+        return Some(JobRefusal::OverBudget);
+    }
+    if follows_too_closely(set, jobs, job) {
+        return Some(JobRefusal::TooClose);
+    }
+    if passes_limits(jobs, segments, job) {
+        return Some(JobRefusal::TooMany);
+    }
+    None
+}

@@ -1,0 +1,24 @@
+//! Jobs of a task set, schedules of them, and the rules that locking protocols set for a schedule.
+#![tactic(auto)]
+
+mod job;
+mod job_list;
+mod judging;
+mod limits;
+mod protocol;
+mod refusal;
+mod row;
+mod row_list;
+mod rule;
+mod script;
+#[cfg(test)]
+mod tests;
+
+pub use job::{Job, JobId, Segment};
+pub use job_list::JobList;
+pub use limits::{MOST_JOBS, MOST_SEGMENTS};
+pub use protocol::BlockingProtocol;
+pub use refusal::{JobRefusal, RowRefusal};
+pub use row::{Row, RowRun};
+pub use row_list::RowList;
+pub use rule::Rule;

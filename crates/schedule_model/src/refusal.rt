@@ -1,0 +1,41 @@
+use thiserror::Error;
+
+/// Why a job is not taken into a list. The refusals are tried in the order in which they stand here.
+#[derive(Clone, Copy, Debug, PartialEq, Eq, Error)]
+pub enum JobRefusal {
+    /// The script has no segment, a local number or a request's length that is not from 1 to 10^9, or
+    /// a segment without a request before the last one.
+    #[error("a script is not local ticks and requests in turn, each from 1 to 1000000000 ticks")]
+    Script,
+    /// The job takes more ticks than its task's cost, more local ticks than its local limit, or more
+    /// or longer requests of a resource than its entry for the resource has.
+    #[error("a job exceeds what its task may execute or request")]
+    OverBudget,
+    /// The job is released less than a period after the last job of its task, or after tick 10^9.
+    #[error("a job is released less than a period after its task's last one, or after tick 1000000000")]
+    TooClose,
+    /// There are 100,000 jobs already, or more than 1,000,000 segments with this job's.
+    #[error("there are more than 100000 jobs or 1000000 script segments")]
+    TooMany,
+    /// Memory was refused.
+    #[error("out of memory")]
+    Memory,
+}
+
+/// Why a run of equal rows is not taken into a list. The refusals are tried in the order in which they
+/// stand here.
+#[derive(Clone, Copy, Debug, PartialEq, Eq, Error)]
+pub enum RowRefusal {
+    /// The run's ticks are not from 1 to 10^9.
+    #[error("a number of ticks is not from 1 to 1000000000")]
+    Number,
+    /// The row names a job that is not in the list of jobs.
+    #[error("a row names a job that is not listed")]
+    UnknownJob,
+    /// The list would have more than 10^9 ticks.
+    #[error("a schedule has more than 1000000000 ticks")]
+    TooLong,
+    /// Memory was refused.
+    #[error("out of memory")]
+    Memory,
+}
