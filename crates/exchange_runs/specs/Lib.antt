@@ -1,0 +1,6 @@
+pub mod Table
+pub mod Exchange
+pub mod Run
+pub mod WideExchange
+pub mod Readings
+pub mod Outcomes
