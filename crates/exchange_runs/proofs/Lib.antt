@@ -1,0 +1,5 @@
+pub mod Shown
+pub mod Invariants
+pub mod Ends
+pub mod FirstTable
+pub mod Shadows
