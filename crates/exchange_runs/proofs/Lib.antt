@@ -3,3 +3,4 @@ pub mod Invariants
 pub mod Ends
 pub mod FirstTable
 pub mod Shadows
+pub mod Best
