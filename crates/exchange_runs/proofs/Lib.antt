@@ -4,3 +4,5 @@ pub mod Ends
 pub mod FirstTable
 pub mod Shadows
 pub mod Best
+pub mod Bounded
+pub mod Once
