@@ -1,27 +1,26 @@
 -- What is read off the last table: a point that meets every row, a dual that covers every column, and their equal values.
-use Rattle.std.proofs.Common.{◌≡◌, ℕ, ◌+◌, ◌*◌, ◌<◌, ◌≤◌, List, slice_index, ℤ, pos, ◌*ℤ◌, neg_ℤ, ◌≤ℤ◌, ◌<ℤ◌, unsigned_abs, inl, inr, refl, ap, ap₂, ◌∙◌, sym, subst, arith}
+use Rattle.std.proofs.Common.{◌≡◌, ℕ, ◌*◌, ◌<◌, ◌≤◌, List, slice_index, ℤ, pos, ◌*ℤ◌, neg_ℤ, ◌≤ℤ◌, ◌<ℤ◌, unsigned_abs, inl, inr, ap, ap₂, ◌∙◌, sym, subst, arith}
 use Rattle.std.proofs.lemmas.Int.{ints, unsigned_abs-mul}
-use Rattle.std.proofs.lemmas.Bool.{cases_eq}
 use Rattle.std.proofs.Math.Nat.{mul_comm, mul-le-mul_left, le_of_mul-le-mul_right}
 use Rattle.number_laws.proofs.Ring.{mul-swap_last}
 use Rattle.number_laws.proofs.Order.{cancel}
 use Rattle.bounded_sums.specs.Sums.{sum_below}
-use Rattle.bounded_sums.specs.WholeSums.{total_below, only_at}
-use Rattle.bounded_sums.proofs.SumLaws.{sum_below-agree, sum_below-times, sum_below-times_right}
+use Rattle.bounded_sums.specs.WholeSums.{total_below}
+use Rattle.bounded_sums.proofs.SumLaws.{sum_below-agree, sum_below-times_right}
 use Rattle.bounded_sums.proofs.TotalLaws.{total_below-agree, total_below-of_sum, only_at-here, only_at-away}
-use Rattle.fraction128.specs.Fraction.{Fraction, whole}
+use Rattle.fraction128.specs.Fraction.{Fraction}
 use Rattle.fraction128.specs.Scaling.{IsScaled, fraction_at}
 use Rattle.program_form.specs.Program.{ProgramDef, columns, height, cost, entry, limit}
 use Rattle.program_form.specs.Certificate.{DualDef}
 use Rattle.program_form.specs.Points.{IsScaledPoint, worth}
 use Rattle.program_form.specs.Optimum.{IsOptimum}
-use Rattle.program_form.specs.Duals.{Covers, IsFeasibleDual, IsOptimalDual, dual_total}
+use Rattle.program_form.specs.Duals.{Covers, IsOptimalDual, dual_total}
 use Rattle.program_form.proofs.Duality.{equal_values_optimum}
 use Rattle.exchange_runs.specs.Table.{Table, variables, slack, objective}
 use Rattle.exchange_runs.specs.Exchange.{IsLast}
-use Rattle.exchange_runs.specs.Readings.{value_of, dual_at, minus, IsValueOf, IsPrimal, IsWrittenDual}
+use Rattle.exchange_runs.specs.Readings.{value_of, dual_at, IsValueOf, IsPrimal, IsWrittenDual}
 use Rattle.exchange_runs.specs.Feasible.{IsOptimumValue, IsPointWorth}
-use Rattle.exchange_runs.proofs.Shown.{Shows, shows_minus, shows_at_most_zero, at_least_zero_shown, shows_whole}
+use Rattle.exchange_runs.proofs.Shown.{Shows, shows_minus, shows_at_most_zero, at_least_zero_shown}
 use Rattle.exchange_runs.proofs.Ends.{end_covers, end_value, end_row, end_objective, at_variable, at_variable-nonneg, at_variable-basic, at_variable-none}
 use Rattle.exchange_runs.proofs.FirstTable.{first_z, has_slacks, number_at_column, number_at_cost, number_at_limit, number_at_value}
 use Rattle.exchange_runs.proofs.Shadows.{IsShadow}
@@ -95,7 +94,7 @@ pub worth_of : (p : ProgramDef) (t : Table) (d : ℤ) (z : ℕ → ℕ → ℤ) 
 worth_of p t d z h =
     sym (total_of_products (columns p) (first_z p (height p)) (value_z p t z) (cost p) (point_of p t z) (λ c k. ap pos (number_at_cost p c k)) (λ c k. value_size p t d z c h))
     ∙ end_objective (height p) (columns p) (variables p) d (first_z p (height p)) z t.basic h.reads_objective h.basics (ap pos (number_at_value p))
-      (λ k l. has_slacks p (height p) k (omega arith) l ∙ only_at-away k (pos 1) (height p) (λ e. omega arith))
+    (λ k l. has_slacks p (height p) k (omega arith) l ∙ only_at-away k (pos 1) (height p) (λ e. omega arith))
 
 -- The duals cover every column.
 pub covers_of : (p : ProgramDef) (t : Table) (d : ℤ) (z : ℕ → ℕ → ℤ) → IsShadow p t d z → IsLast p t → Covers p (scale_of d) (dual_num p z)
@@ -105,7 +104,7 @@ covers_of p t d z h last = record {
       let cover = end_covers (height p) (columns p) (first_z p) d (z (height p)) c h.mixes_objective (none_above p t d z c h last (omega arith)) in
       let right : total_below (height p) (λ r. neg_ℤ (z (height p) (slack p r)) *ℤ first_z p r c) ≡ pos (sum_below (height p) (λ r. dual_num p z r * entry p r c))
       = total_of_products (height p) (λ r. neg_ℤ (z (height p) (slack p r))) (λ r. first_z p r c) (dual_num p z) (λ r. entry p r c)
-        (λ r k. dual_size p t d z r h last k) (λ r k. ap pos (number_at_column p r c k l)) in
+      (λ r k. dual_size p t d z r h last k) (λ r k. ap pos (number_at_column p r c k l)) in
       let left : d *ℤ first_z p (height p) c ≡ pos (scale_of d * cost p c)
       = ap₂ ◌*ℤ◌ (sym (size_is d (weaker d h.positive))) (ap pos (number_at_cost p c l)) in
       at_most_natural _ _ (rw (← left, ← right) cover);
@@ -116,14 +115,14 @@ pub dual_total_of : (p : ProgramDef) (t : Table) (d : ℤ) (z : ℕ → ℕ → 
     → pos (dual_total p (dual_num p z)) ≡ neg_ℤ (z (height p) (variables p))
 dual_total_of p t d z h last =
     sym (total_of_products (height p) (λ r. neg_ℤ (z (height p) (slack p r))) (λ r. first_z p r (variables p)) (dual_num p z) (limit p)
-        (λ r k. dual_size p t d z r h last k) (λ r k. ap pos (number_at_limit p r k)))
+    (λ r k. dual_size p t d z r h last k) (λ r k. ap pos (number_at_limit p r k)))
     ∙ end_value (height p) (columns p) (first_z p) d (z (height p)) (variables p) h.mixes_objective (ap pos (number_at_value p))
 
 pub optimum_of : (p : ProgramDef) (t : Table) (d : ℤ) (z : ℕ → ℕ → ℤ) → IsShadow p t d z → IsLast p t → IsOptimum p (dual_total p (dual_num p z)) (scale_of d)
 optimum_of p t d z h last =
     equal_values_optimum p (scale_of d) (point_of p t z) (scale_of d) (dual_num p z) (is_point p t d z h) (covers_of p t d z h last)
     (let same : worth p (point_of p t z) ≡ dual_total p (dual_num p z) = same_natural _ _ (worth_of p t d z h ∙ sym (dual_total_of p t d z h last)) in
-        rw same (mul_comm (dual_total p (dual_num p z)) (scale_of d)))
+    rw same (mul_comm (dual_total p (dual_num p z)) (scale_of d)))
 
 -- The same optimum in other terms.
 pub optimum_at : (p : ProgramDef) (a b x y : ℕ) → 0 < y → a * y ≡ x * b → IsOptimum p a b → IsOptimum p x y

@@ -1,11 +1,10 @@
 -- No program is unbounded: where a variable enters a table of a run, some row has a ratio.
-use Rattle.std.proofs.Common.{◌≡◌, ◌⊎◌, inl, inr, ℕ, zero, suc, ◌+◌, ◌-◌, ◌<◌, ◌≤◌, ℤ, pos, ◌≤ℤ◌, ◌<ℤ◌, ap, ◌∙◌, sym, subst, arith}
+use Rattle.std.proofs.Common.{◌≡◌, ◌⊎◌, inl, inr, ℕ, zero, suc, ◌+◌, ◌-◌, ◌<◌, ℤ, pos, ◌≤ℤ◌, ◌<ℤ◌, ◌∙◌, sym, subst, arith}
 use Rattle.std.proofs.lemmas.Int.{ints, by_lt_z}
 use Rattle.std.proofs.lemmas.Bool.{cases_lt}
 use Rattle.bounded_sums.proofs.TotalLaws.{only_at-here}
-use Rattle.bounded_sums.specs.WholeSums.{only_at}
-use Rattle.program_form.specs.Program.{ProgramDef, IsProgram, IsCovered, columns, height, entry}
-use Rattle.exchange_runs.specs.Table.{Table, variables, slack}
+use Rattle.program_form.specs.Program.{ProgramDef, IsProgram, IsCovered, columns, height}
+use Rattle.exchange_runs.specs.Table.{Table, variables}
 use Rattle.exchange_runs.specs.Exchange.{HasRatio}
 use Rattle.exchange_runs.specs.Run.{Reached}
 use Rattle.exchange_runs.proofs.Shown.{shows_at_most_zero}
@@ -49,7 +48,7 @@ has_ratio p k t e accepted reached l = elim (some_ratio (height p) t e) [
       let behind : (d : ℤ) × (z : ℕ → ℕ → ℤ) × IsShadow p t d z = shadow_reached p k t reached in
       let row : (j : ℕ) × (j < height p) × (pos 0 <ℤ first_z p j e) = first_above p e accepted l in
       absurd (never_unbounded (height p) e behind.0 (first_z p row.0) behind.1 t.basic behind.2.positive (λ v. not_negative _) row.2 (behind.2.reads row.0 row.1)
-          (λ i k. shows_at_most_zero behind.0 (behind.1 i e) (t.cell i e) behind.2.positive (behind.2.shows i e (omega arith)) (none i k)))
+      (λ i k. shows_at_most_zero behind.0 (behind.1 i e) (t.cell i e) behind.2.positive (behind.2.shows i e (omega arith)) (none i k)))
 ]
   where
     not_negative : (n : ℕ) → pos 0 ≤ℤ pos n

@@ -1,9 +1,9 @@
 -- The invariants of a run at its two ends: they hold of the first table, and at the last they give the dual's cover and value,
 -- and the point and its worth.
-use Rattle.std.proofs.Common.{◌≡◌, ℕ, ◌+◌, ◌<◌, ◌≤◌, ℤ, pos, ◌+ℤ◌, ◌*ℤ◌, neg_ℤ, ◌≤ℤ◌, ◌<ℤ◌, inl, inr, refl, ap, ◌∙◌, sym, arith}
+use Rattle.std.proofs.Common.{◌≡◌, ℕ, ◌+◌, ◌<◌, ◌≤◌, ℤ, pos, ◌+ℤ◌, ◌*ℤ◌, neg_ℤ, ◌≤ℤ◌, inl, inr, refl, ap, ◌∙◌, sym, arith}
 use Rattle.std.proofs.lemmas.Int.{ints}
 use Rattle.std.proofs.lemmas.Bool.{cases_eq}
-use Rattle.number_laws.proofs.Ring.{mul-neg_left, mul-one, mul-zero, mul-comm}
+use Rattle.number_laws.proofs.Ring.{mul-neg_left, mul-zero}
 use Rattle.number_laws.proofs.Order.{times_nonneg}
 use Rattle.bounded_sums.specs.WholeSums.{total_below, only_at}
 use Rattle.bounded_sums.proofs.TotalLaws.{total_below-agree, total_below-zero, total_below-times, total_below-nonneg, total_below-only, total_below-swap, total_below-split, only_at-here, only_at-away}
@@ -44,11 +44,13 @@ pub start_mix : (m n : ℕ) (first : ℕ → ℕ → ℤ) (i : ℕ) → HasSlack
 start_mix m n first i slacks l = record {
   mixed = λ v.
       sym (picked_sum m i (λ r. first i (n + r)) (λ r. first r v) l (λ r k. slacks i r (omega arith) k))
-      ∙ zero_plus (first m v) (total_below m (λ r. first i (n + r) *ℤ first r v)) }
+      ∙ zero_plus (first m v) (total_below m (λ r. first i (n + r) *ℤ first r v));
+}
 
 pub start_mix_objective : (m n : ℕ) (first : ℕ → ℕ → ℤ) → HasSlacks m n first → IsMix m n first (pos 1) (first m)
 start_mix_objective m n first slacks = record {
-  mixed = λ v. one_alone (first m v) (total_below m (λ r. first m (n + r) *ℤ first r v)) (none_sum m (λ r. first m (n + r)) (λ r. first r v) (λ r k. slacks m r (omega arith) k)) }
+  mixed = λ v. one_alone (first m v) (total_below m (λ r. first m (n + r) *ℤ first r v)) (none_sum m (λ r. first m (n + r)) (λ r. first r v) (λ r k. slacks m r (omega arith) k));
+}
 
 pub start_read : (m n : ℕ) (first : ℕ → ℕ → ℤ) (basic : ℕ → ℕ) (j : ℕ) → HasSlacks m n first → ((i : ℕ) → i < m → basic i ≡ n + i) → j < m
     → IsRead m (pos 1) (pos 0) (first j) first basic
@@ -56,14 +58,16 @@ start_read m n first basic j slacks is l = record {
   read = λ v.
       one_times (first j v)
       ∙ (sym (picked_sum m j (λ i. first j (basic i)) (λ i. first i v) l (λ i k. ap (first j) (is i k) ∙ slacks j i (omega arith) k))
-      ∙ zero_plus (first m v) (total_below m (λ i. first j (basic i) *ℤ first i v))) }
+      ∙ zero_plus (first m v) (total_below m (λ i. first j (basic i) *ℤ first i v)));
+}
 
 pub start_read_objective : (m n : ℕ) (first : ℕ → ℕ → ℤ) (basic : ℕ → ℕ) → HasSlacks m n first → ((i : ℕ) → i < m → basic i ≡ n + i)
     → IsRead m (pos 1) (pos 1) (first m) first basic
 start_read_objective m n first basic slacks is = record {
   read = λ v.
       one_times (first m v)
-      ∙ one_alone (first m v) (total_below m (λ i. first m (basic i) *ℤ first i v)) (none_sum m (λ i. first m (basic i)) (λ i. first i v) (λ i k. ap (first m) (is i k) ∙ slacks m i (omega arith) k)) }
+      ∙ one_alone (first m v) (total_below m (λ i. first m (basic i) *ℤ first i v)) (none_sum m (λ i. first m (basic i)) (λ i. first i v) (λ i k. ap (first m) (is i k) ∙ slacks m i (omega arith) k));
+}
 
 -- A total of products whose first factors turn their sign.
 total_minus : (m : ℕ) (x y : ℕ → ℤ) → total_below m (λ r. neg_ℤ (x r) *ℤ y r) ≡ neg_ℤ (total_below m (λ r. x r *ℤ y r))
@@ -127,11 +131,11 @@ pub by_variables : (m n : ℕ) (basic : ℕ → ℕ) (g x : ℕ → ℤ) → ((i
     → total_below m (λ i. g (basic i) *ℤ x i) ≡ total_below n (λ v. g v *ℤ at_variable m basic x v)
 by_variables m n basic g x within =
     total_below-agree m (λ i. g (basic i) *ℤ x i) (λ i. total_below n (λ v. g v *ℤ only_at (basic i) (x i) v)) (λ i l.
-        sym (total_below-agree n (λ v. g v *ℤ only_at (basic i) (x i) v) (only_at (basic i) (g (basic i) *ℤ x i)) (λ v k. only_times g (basic i) v (x i))
-        ∙ total_below-only n (basic i) (g (basic i) *ℤ x i) (within i l)))
+    sym (total_below-agree n (λ v. g v *ℤ only_at (basic i) (x i) v) (only_at (basic i) (g (basic i) *ℤ x i)) (λ v k. only_times g (basic i) v (x i))
+    ∙ total_below-only n (basic i) (g (basic i) *ℤ x i) (within i l)))
     ∙ (total_below-swap m n (λ i v. g v *ℤ only_at (basic i) (x i) v)
     ∙ total_below-agree n (λ v. total_below m (λ i. g v *ℤ only_at (basic i) (x i) v)) (λ v. g v *ℤ at_variable m basic x v)
-      (λ v l. total_below-times m (g v) (λ i. only_at (basic i) (x i) v)))
+    (λ v l. total_below-times m (g v) (λ i. only_at (basic i) (x i) v)))
 
 -- A row that is not below zero at the slacks holds, over the columns, at most its limit.
 pub end_row : (m n w : ℕ) (d : ℤ) (g : ℕ → ℤ) (z : ℕ → ℕ → ℤ) (basic : ℕ → ℕ) → IsRead m d (pos 0) g z basic

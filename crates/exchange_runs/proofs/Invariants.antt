@@ -1,12 +1,12 @@
 -- What an exchange keeps of a table of whole numbers z over one denominator d: m rows, the objective row m, n columns and then
 -- the slacks. `first` is the table that the run starts with, over 1.
-use Rattle.std.proofs.Common.{◌≡◌, ℕ, ◌+◌, ◌<◌, ◌≤◌, ℤ, pos, ◌+ℤ◌, ◌-ℤ◌, ◌*ℤ◌, neg_ℤ, ◌≤ℤ◌, ◌<ℤ◌, inl, inr, refl, ap, ◌∙◌, sym, subst, arith, if◌then◌else◌, nat_eq}
+use Rattle.std.proofs.Common.{◌≡◌, ℕ, ◌+◌, ◌<◌, ℤ, pos, ◌+ℤ◌, ◌-ℤ◌, ◌*ℤ◌, neg_ℤ, ◌≤ℤ◌, ◌<ℤ◌, inl, inr, refl, ap, ◌∙◌, sym, arith, if◌then◌else◌, nat_eq}
 use Rattle.std.proofs.lemmas.Int.{ints, by_lt_z}
 use Rattle.std.proofs.lemmas.Bool.{cases_eq, eq-eqb, ne_eqb}
-use Rattle.number_laws.proofs.Ring.{as_diff, diffs, same_diff, by_one, by_two, mul-comm, mul-neg_left}
+use Rattle.number_laws.proofs.Ring.{as_diff, diffs, same_diff, by_two, mul-comm, mul-neg_left}
 use Rattle.number_laws.proofs.Order.{times_nonneg, times_positive}
 use Rattle.bounded_sums.specs.WholeSums.{total_below, only_at}
-use Rattle.bounded_sums.proofs.TotalLaws.{total_below-agree, total_below-zero, total_below-plus, total_below-mix, total_below-times, total_below-nonneg, total_below-only, total_below-swap, only_at-here, only_at-away}
+use Rattle.bounded_sums.proofs.TotalLaws.{total_below-agree, total_below-plus, total_below-mix, total_below-times, total_below-nonneg, total_below-only, only_at-here, only_at-away}
 
 -- Is the row x so many times the first objective row, and each first row as many times as x has at its slack?
 pub record IsMix (m n : ℕ) (first : ℕ → ℕ → ℤ) (times : ℤ) (x : ℕ → ℤ) : Type 0 where
@@ -30,7 +30,8 @@ exchanged-away r e d z i v h = rw (ne_eqb i r h) refl
 pub mix_agree : (m n : ℕ) (first : ℕ → ℕ → ℤ) (w u : ℤ) (x y : ℕ → ℤ) → w ≡ u → ((v : ℕ) → y v ≡ x v) → IsMix m n first w x → IsMix m n first u y
 mix_agree m n first w u x y e same h = record {
   mixed = λ v. same v ∙ (h.mixed v ∙ (ap (λ c. (c *ℤ first m v) +ℤ total_below m (λ r. x (n + r) *ℤ first r v)) e
-      ∙ ap (λ s. (u *ℤ first m v) +ℤ s) (total_below-agree m (λ r. x (n + r) *ℤ first r v) (λ r. y (n + r) *ℤ first r v) (λ r l. ap (λ c. c *ℤ first r v) (sym (same (n + r))))))) }
+      ∙ ap (λ s. (u *ℤ first m v) +ℤ s) (total_below-agree m (λ r. x (n + r) *ℤ first r v) (λ r. y (n + r) *ℤ first r v) (λ r l. ap (λ c. c *ℤ first r v) (sym (same (n + r)))))));
+}
 
 less_ring : (q w u f t a b s z : ℤ) → a ≡ (w *ℤ t) +ℤ s → b ≡ (u *ℤ t) +ℤ z
     → (q *ℤ a) -ℤ (f *ℤ b) ≡ (((q *ℤ w) -ℤ (f *ℤ u)) *ℤ t) +ℤ ((q *ℤ s) +ℤ (neg_ℤ f *ℤ z))
@@ -49,8 +50,8 @@ mix_less m n first q f w u x y hx hy = record {
       let other : ℕ → ℤ = λ r. y (n + r) *ℤ first r v in
       let sums : total_below m (λ r. ((q *ℤ x (n + r)) -ℤ (f *ℤ y (n + r))) *ℤ first r v) ≡ (q *ℤ total_below m one) +ℤ (neg_ℤ f *ℤ total_below m other)
       = total_below-agree m (λ r. ((q *ℤ x (n + r)) -ℤ (f *ℤ y (n + r))) *ℤ first r v) (λ r. (q *ℤ one r) +ℤ (neg_ℤ f *ℤ other r))
-        (λ r l. sym (term_ring q f (x (n + r)) (y (n + r)) (first r v)))
-        ∙ total_below-mix m q (neg_ℤ f) one other in
+      (λ r l. sym (term_ring q f (x (n + r)) (y (n + r)) (first r v)))
+      ∙ total_below-mix m q (neg_ℤ f) one other in
       less_ring q w u f (first m v) (x v) (y v) (total_below m one) (total_below m other) (hx.mixed v) (hy.mixed v)
       ∙ ap (λ s. (((q *ℤ w) -ℤ (f *ℤ u)) *ℤ first m v) +ℤ s) (sym sums);
 }
@@ -113,10 +114,10 @@ read_after m d k g z basic next r e within entered stayed h = record {
       let each : (i : ℕ) → i < m → g (next i) *ℤ exchanged r e d z i v ≡ mix i +ℤ extra i = λ i l. elim (cases_eq i r) [
         | inl here ↦
             rw here (
-              ap (λ b. g b *ℤ exchanged r e d z r v) entered
-              ∙ (ap (λ c. g e *ℤ c) (exchanged-here r e d z v)
-              ∙ (here_ring (g (basic r)) (g e) d q y
-              ∙ ap (λ c. mix r +ℤ c) (sym (only_at-here r (g e *ℤ (d *ℤ y)))))))
+            ap (λ b. g b *ℤ exchanged r e d z r v) entered
+            ∙ (ap (λ c. g e *ℤ c) (exchanged-here r e d z v)
+            ∙ (here_ring (g (basic r)) (g e) d q y
+            ∙ ap (λ c. mix r +ℤ c) (sym (only_at-here r (g e *ℤ (d *ℤ y)))))))
         | inr away ↦
             ap (λ b. g b *ℤ exchanged r e d z i v) (stayed i l away)
             ∙ (ap (λ c. g (basic i) *ℤ c) (exchanged-away r e d z i v away)
@@ -125,9 +126,9 @@ read_after m d k g z basic next r e within entered stayed h = record {
       ] in
       let sums : total_below m (λ i. g (next i) *ℤ exchanged r e d z i v) ≡ ((q *ℤ total_below m one) +ℤ (neg_ℤ y *ℤ total_below m other)) +ℤ (g e *ℤ (d *ℤ y))
       = total_below-agree m (λ i. g (next i) *ℤ exchanged r e d z i v) (λ i. mix i +ℤ extra i) each
-        ∙ (total_below-plus m mix extra
-        ∙ (ap (λ s. s +ℤ total_below m extra) (total_below-mix m q (neg_ℤ y) one other)
-        ∙ ap (λ s. ((q *ℤ total_below m one) +ℤ (neg_ℤ y *ℤ total_below m other)) +ℤ s) (total_below-only m r (g e *ℤ (d *ℤ y)) within))) in
+      ∙ (total_below-plus m mix extra
+      ∙ (ap (λ s. s +ℤ total_below m extra) (total_below-mix m q (neg_ℤ y) one other)
+      ∙ ap (λ s. ((q *ℤ total_below m one) +ℤ (neg_ℤ y *ℤ total_below m other)) +ℤ s) (total_below-only m r (g e *ℤ (d *ℤ y)) within))) in
       let objective : exchanged r e d z m v ≡ (q *ℤ z m v) -ℤ (z m e *ℤ y) = exchanged-away r e d z m v (λ same. omega arith) in
       read_ring d k (g v) (g e) (z m v) (z m e) q y (total_below m one) (total_below m other) (h.read v) (h.read e)
       ∙ (ap (λ c. (k *ℤ c) +ℤ (((q *ℤ total_below m one) +ℤ (neg_ℤ y *ℤ total_below m other)) +ℤ (g e *ℤ (d *ℤ y)))) (sym objective)
@@ -143,7 +144,7 @@ never_unbounded m e d g z basic pd above at_e h none =
     = total_below-nonneg m (λ i. g (basic i) *ℤ neg_ℤ (z i e)) (λ i l. times_nonneg (g (basic i)) (neg_ℤ (z i e)) (above (basic i)) (turned (z i e) (none i l))) in
     let minus : total_below m (λ i. g (basic i) *ℤ neg_ℤ (z i e)) ≡ neg_ℤ (pos 1) *ℤ total_below m (λ i. g (basic i) *ℤ z i e)
     = total_below-agree m (λ i. g (basic i) *ℤ neg_ℤ (z i e)) (λ i. neg_ℤ (pos 1) *ℤ (g (basic i) *ℤ z i e)) (λ i l. minus_ring (g (basic i)) (z i e))
-      ∙ total_below-times m (neg_ℤ (pos 1)) (λ i. g (basic i) *ℤ z i e) in
+    ∙ total_below-times m (neg_ℤ (pos 1)) (λ i. g (basic i) *ℤ z i e) in
     clash (d *ℤ g e) (z m e) (total_below m (λ i. g (basic i) *ℤ z i e)) (total_below m (λ i. g (basic i) *ℤ neg_ℤ (z i e))) left (h.read e) minus flipped
   where
     turned : (x : ℤ) → x ≤ℤ pos 0 → pos 0 ≤ℤ neg_ℤ x
@@ -210,8 +211,8 @@ pub limits_after : (m : ℕ) (d : ℤ) (z : ℕ → ℕ → ℤ) (r e w : ℕ) �
 limits_after m d z r e w pd above within limits least i l = elim (cases_eq i r) [
   | inl here ↦ rw (here, exchanged-here r e d z w) (times_nonneg d (z r w) (weaker d pd) (limits r within))
   | inr away ↦ rw (exchanged-away r e d z i w away) (by_lt_z (pos 0) (z i e)
-    (λ ratio. apart _ _ (at_most (z r w) (z i e) (z i w) (z r e) (least i l ratio)))
-    (λ none. apart _ _ (across (z r e) (z i w) (z i e) (z r w) (times_nonneg (z r e) (z i w) (weaker (z r e) above) (limits i l)) (times_nonneg (neg_ℤ (z i e)) (z r w) (turned (z i e) none) (limits r within)))))
+      (λ ratio. apart _ _ (at_most (z r w) (z i e) (z i w) (z r e) (least i l ratio)))
+      (λ none. apart _ _ (across (z r e) (z i w) (z i e) (z r w) (times_nonneg (z r e) (z i w) (weaker (z r e) above) (limits i l)) (times_nonneg (neg_ℤ (z i e)) (z r w) (turned (z i e) none) (limits r within)))))
 ]
   where
     weaker : (a : ℤ) → pos 0 <ℤ a → pos 0 ≤ℤ a

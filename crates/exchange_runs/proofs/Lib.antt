@@ -6,3 +6,5 @@ pub mod Shadows
 pub mod Best
 pub mod Bounded
 pub mod Once
+pub mod Loops
+pub mod Finals

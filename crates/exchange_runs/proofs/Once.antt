@@ -1,18 +1,17 @@
 -- A program has one run: each table has one entering variable, one leaving row and one next table, and a run that ends or is wide
 -- goes no further.
-use Rattle.std.proofs.Common.{◌≡◌, ◌⊎◌, inl, inr, ℕ, zero, suc, ◌+◌, ◌-◌, ◌^◌, ◌<◌, ◌≤◌, nat_lt, slice_index, ℤ, pos, ◌≤ℤ◌, ◌<ℤ◌, refl, ap, ◌∙◌, sym, subst, arith}
+use Rattle.std.proofs.Common.{◌≡◌, ◌⊎◌, inl, inr, ℕ, zero, suc, ◌+◌, ◌-◌, ◌^◌, ◌<◌, ◌≤◌, slice_index, ℤ, pos, ◌≤ℤ◌, ◌<ℤ◌, ◌∙◌, sym, subst, arith}
 use Rattle.std.proofs.lemmas.Int.{ints}
 use Rattle.std.proofs.lemmas.Bool.{cases_lt, cases_eq, lt-ltb, le-ltb}
-use Rattle.fraction128.specs.Fraction.{Fraction, IsForm, IsQuotient, IsProduct, IsDifference, IsAtMost, whole}
-use Rattle.fraction128.specs.Gives.{HasNoForm}
+use Rattle.fraction128.specs.Fraction.{Fraction, IsForm, IsAtMost}
 use Rattle.fraction128.proofs.Unique.{one_difference, one_product, one_quotient}
 use Rattle.fraction128.proofs.Forms.{form_of_whole}
-use Rattle.program_form.specs.Program.{ProgramDef, IsProgram, columns, height, cost, entry, limit}
-use Rattle.exchange_runs.specs.Table.{Table, variables, slack, objective, IsStart, first_of, first_entries, first_limit, first_number}
-use Rattle.exchange_runs.specs.Exchange.{IsEntering, IsLast, HasRatio, IsRatio, IsLeastOf, IsLeaving, IsLess, IsExchange}
-use Rattle.exchange_runs.specs.Run.{Reached, IsExchangeRun, IsSameTable}
+use Rattle.program_form.specs.Program.{ProgramDef, IsProgram, columns, height}
+use Rattle.exchange_runs.specs.Table.{Table, variables, slack, objective, first_entries, first_limit, first_number}
+use Rattle.exchange_runs.specs.Exchange.{IsEntering, IsLast, HasRatio, IsRatio, IsLeaving, IsLess, IsExchange}
+use Rattle.exchange_runs.specs.Run.{Reached, IsSameTable}
 use Rattle.exchange_runs.specs.WideExchange.{IsWideLess, IsWideRatio, IsWideQuotient, IsWideTaking, IsWideStep, IsWideExchange}
-use Rattle.exchange_runs.proofs.FirstTable.{first_of-column, first_of-own, first_of-other, first_of-limit, first_of-past, entries_of_row, limit_of_row}
+use Rattle.exchange_runs.proofs.FirstTable.{first_of-column, first_of-own, first_of-other, first_of-limit, first_of-past}
 use Rattle.exchange_runs.proofs.Shadows.{IsShadow, shadow_reached}
 use Rattle.exchange_runs.proofs.Best.{basics_apart}
 
@@ -132,8 +131,8 @@ pub one_exchange : (p : ProgramDef) (t t' u u' : Table) (e r : ℕ) → IsSameTa
 one_exchange p t t' u u' e r same form h k =
     let within : r ≤ height p = omega (arith, h.leaves.least.within) in
     let pivot : (v : ℕ) → u.cell r v ≡ u'.cell r v = λ v.
-        one_quotient (t.cell r v) (t.cell r e) (u.cell r v) (u'.cell r v) (form r v within) (not_zero (t.cell r e).num h.leaves.least.has.above)
-        (h.divided_form v) (k.divided_form v) (h.divided v) (rw (same.cells r v within, same.cells r e within) (k.divided v)) in
+    one_quotient (t.cell r v) (t.cell r e) (u.cell r v) (u'.cell r v) (form r v within) (not_zero (t.cell r e).num h.leaves.least.has.above)
+    (h.divided_form v) (k.divided_form v) (h.divided v) (rw (same.cells r v within, same.cells r e within) (k.divided v)) in
     record {
       cells = λ i v l. elim (cases_eq i r) [
         | inl here ↦ rw here (pivot v)
@@ -202,7 +201,7 @@ wide_taking p t u s e r same form h wide =
     let v : ℕ = wide.at_place in
     let pivot : wide.divided v ≡ s.cell r v
     = one_quotient (t.cell r v) (t.cell r e) (wide.divided v) (s.cell r v) (form r v within) (not_zero (t.cell r e).num h.leaves.least.has.above)
-      (wide.divided_form v) (h.divided_form v) (rw (same.cells r v within, same.cells r e within) (wide.is_divided v)) (h.divided v) in
+    (wide.divided_form v) (h.divided_form v) (rw (same.cells r v within, same.cells r e within) (wide.is_divided v)) (h.divided v) in
     wide_less (t.cell i v) (t.cell i e) (s.cell r v) (s.cell i v) (form i e wide.within) (h.divided_form v) (h.taken i v wide.within wide.other)
     (rw (same.cells i v wide.within, same.cells i e wide.within, ← pivot) wide.wide)
 

@@ -1,5 +1,5 @@
 -- The whole numbers behind a table that a run reaches: each cell is a number over one denominator, and the invariants hold of them.
-use Rattle.std.proofs.Common.{◌≡◌, ℕ, zero, suc, ◌+◌, ◌<◌, ◌≤◌, ℤ, pos, ◌-ℤ◌, ◌*ℤ◌, ◌≤ℤ◌, ◌<ℤ◌, inl, inr, refl, ap, ◌∙◌, sym, subst, arith}
+use Rattle.std.proofs.Common.{◌≡◌, ℕ, zero, suc, ◌<◌, ◌≤◌, ℤ, pos, ◌-ℤ◌, ◌*ℤ◌, ◌≤ℤ◌, ◌<ℤ◌, inl, inr, refl, sym, arith}
 use Rattle.std.proofs.lemmas.Int.{ints}
 use Rattle.std.proofs.lemmas.Bool.{cases_eq}
 use Rattle.number_laws.proofs.Ring.{mul-comm}
@@ -7,13 +7,13 @@ use Rattle.number_laws.proofs.Order.{times_positive}
 use Rattle.fraction128.specs.Fraction.{Fraction}
 use Rattle.bounded_sums.specs.WholeSums.{only_at}
 use Rattle.program_form.specs.Program.{ProgramDef, columns, height}
-use Rattle.exchange_runs.specs.Table.{Table, variables, slack, IsStart, first_number}
+use Rattle.exchange_runs.specs.Table.{Table, variables, IsStart, first_number}
 use Rattle.exchange_runs.specs.Exchange.{HasRatio, IsRatio, IsLess, IsExchange}
 use Rattle.exchange_runs.specs.Run.{Reached}
 use Rattle.exchange_runs.proofs.Shown.{Shows, shows_whole, shows_times, shows_at, shows_quotient, shows_product, shows_difference, shows_above, above_shown, shows_at_most}
 use Rattle.exchange_runs.proofs.Invariants.{IsMix, IsRead, exchanged, exchanged-here, exchanged-away, mix_after, mix_after_itself, mix_agree, read_after, unit_after, limits_after}
 use Rattle.exchange_runs.proofs.Ends.{start_mix, start_mix_objective, start_read, start_read_objective}
-use Rattle.exchange_runs.proofs.FirstTable.{first_z, has_slacks, number_at_limit}
+use Rattle.exchange_runs.proofs.FirstTable.{first_z, has_slacks}
 
 pub record IsShadow (p : ProgramDef) (t : Table) (d : ℤ) (z : ℕ → ℕ → ℤ) : Type 0 where
   pub positive : pos 0 <ℤ d
@@ -68,13 +68,13 @@ shadow_after p t u e r d z x h =
     let weak : r ≤ height p = omega arith in
     let above : pos 0 <ℤ z r e = shows_above d (z r e) (t.cell r e) h.positive (h.shows r e weak) x.leaves.least.has.above in
     let pivot : (v : ℕ) → Shows (z r e) (z r v) (u.cell r v) = λ v.
-        shows_quotient d (z r v) (z r e) (t.cell r v) (t.cell r e) (u.cell r v) (h.shows r v weak) (h.shows r e weak) (x.divided_form v).positive (x.divided v) in
+    shows_quotient d (z r v) (z r e) (t.cell r v) (t.cell r e) (u.cell r v) (h.shows r v weak) (h.shows r e weak) (x.divided_form v).positive (x.divided v) in
     record {
       positive = times_positive d (z r e) h.positive above;
       shows = λ i v l. elim (cases_eq i r) [
         | inl here ↦
             rw here (shows_at (d *ℤ z r e) (d *ℤ z r e) (d *ℤ z r v) (exchanged r e d z r v) (u.cell r v) refl (sym (exchanged-here r e d z v))
-                (shows_times d (z r e) (z r v) (u.cell r v) (pivot v)))
+            (shows_times d (z r e) (z r v) (u.cell r v) (pivot v)))
         | inr away ↦
             shows_at (d *ℤ z r e) (d *ℤ z r e) ((z r e *ℤ z i v) -ℤ (z i e *ℤ z r v)) (exchanged r e d z i v) (u.cell i v) refl (sym (exchanged-away r e d z i v away))
             (less_shows d (z r e) (z i v) (z r v) (z i e) (t.cell i v) (t.cell i e) (u.cell i v) (u.cell r v) (h.shows i v l) (h.shows i e l) (pivot v) (x.taken i v l away))

@@ -1,5 +1,5 @@
 -- Fractions as whole numbers over one denominator, with no division: what each operation on fractions makes of those numbers.
-use Rattle.std.proofs.Common.{◌≡◌, ℤ, pos, ◌-ℤ◌, ◌*ℤ◌, neg_ℤ, ◌≤ℤ◌, ◌<ℤ◌, ap, ◌∙◌, sym, subst, arith}
+use Rattle.std.proofs.Common.{◌≡◌, ℤ, pos, ◌-ℤ◌, ◌*ℤ◌, neg_ℤ, ◌≤ℤ◌, ◌<ℤ◌, ap, ◌∙◌, sym, arith}
 use Rattle.std.proofs.lemmas.Int.{ints}
 use Rattle.number_laws.proofs.Ring.{as_diff, diffs, same_diff, by_one, by_three, mul-neg_left}
 use Rattle.number_laws.proofs.Order.{times_positive, times_le, times_lt, cancel, cancel_le, cancel_lt}

@@ -2,6 +2,12 @@
 //! slack table to one that no exchange improves.
 //!
 //! The definitions stand in `specs/`: what a table is, which variable enters and which row leaves, the table after an exchange,
-//! when an exchange or the end is wide, what is read off the last table, and how many units a run spends. There is no code here
-//! but laws, which are functions that do nothing: a program has one run, its end gives the optimum, and it is never unbounded.
+//! when an exchange or the end is wide, what is read off the last table, and how many units a run spends. There is no code here.
+//! The functions of `laws` state what holds of every run: a program has one, its end gives the optimum, and it is never unbounded.
 #![tactic(auto)]
+
+mod laws;
+
+pub use laws::{
+    a_run_gives_one_answer, a_run_has_one_course, no_program_is_unbounded, the_end_is_the_optimum,
+};
