@@ -8,3 +8,5 @@ pub mod Bounded
 pub mod Once
 pub mod Loops
 pub mod Finals
+pub mod ExchangeTests
+mod SevenRowsRun

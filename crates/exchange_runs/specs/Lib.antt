@@ -5,3 +5,5 @@ pub mod WideExchange
 pub mod Readings
 pub mod Feasible
 pub mod Outcomes
+pub mod Account
+pub mod SevenRowsRun

@@ -1,9 +1,10 @@
 //! What holds of every exchange run. Each function is a law: it does nothing, and what it ensures holds for all programs.
 
-ghost use Rattle.std.specs.Prelude.{◌≡◌, ℕ, ◌<◌, ◌≤◌, ◌⊎◌, List, slice_index};
-ghost use Rattle.fraction128.specs.Fraction.{Fraction, IsForm};
+ghost use Rattle.std.specs.Prelude.{◌≡◌, ℕ, ◌<◌, ◌≤◌, ◌⊎◌, List, slice_index, pos};
+ghost use Rattle.fraction128.specs.Fraction.{Fraction, IsForm, over};
 ghost use Rattle.fraction128.specs.Scaling.{IsScaled};
 ghost use Rattle.program_form.specs.Program.{ProgramDef, IsProgram, height};
+ghost use Rattle.program_form.specs.SevenRows.{seven_rows, seven_rows_dual};
 ghost use Rattle.program_form.specs.Certificate.{DualDef};
 ghost use Rattle.program_form.specs.Points.{IsGreatestReached};
 ghost use Rattle.program_form.specs.Duals.{IsOptimalDual, dual_total, dual_value};
@@ -13,6 +14,8 @@ ghost use Rattle.exchange_runs.specs.Run.{Reached, IsExchangeRun, IsSameTable};
 ghost use Rattle.exchange_runs.specs.WideExchange.{IsWideExchange};
 ghost use Rattle.exchange_runs.specs.Feasible.{IsOptimumValue, IsPointWorth};
 ghost use Rattle.exchange_runs.specs.Outcomes.{EndsWithin, IsWideWithin, NeedsMoreThan};
+ghost use Rattle.exchange_runs.specs.Account.{RunReadsSo};
+ghost use Rattle.exchange_runs.specs.SevenRowsRun.{seven_rows_account, seven_rows_primal};
 
 /// A program has one run: one table after as many exchanges, all of whose cells have forms, and one end. Where the table is the
 /// last, or the exchange that begins there is wide, no more exchanges are made.
@@ -59,4 +62,11 @@ pub fn the_end_is_the_optimum()
 pub fn no_program_is_unbounded()
     ensures { (p : ProgramDef) (k : ℕ) (t : Table) (e : ℕ)
         → IsProgram p → Reached p k t → e < variables p → (i : ℕ) × (i < height p) × HasRatio t e i }
+{}
+/// The run of a worked program of three columns and seven rows: four exchanges, each with the variable that enters, the one that
+/// leaves, the ratio and the value; then its value, primal and dual. It takes five units.
+pub fn seven_rows_take_four_exchanges()
+    ensures account { (t : Table) × (RunReadsSo seven_rows seven_rows_account t) × IsLast seven_rows t }
+    ensures end { EndsWithin seven_rows 5 4 (over (pos 14) (pos 3)) seven_rows_primal seven_rows_dual }
+    ensures units { NeedsMoreThan seven_rows 4 }
 {}
