@@ -10,3 +10,5 @@ pub mod Loops
 pub mod Finals
 pub mod ExchangeTests
 mod SevenRowsRun
+pub mod Found
+pub mod Course

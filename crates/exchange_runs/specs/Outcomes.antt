@@ -28,3 +28,9 @@ pub record IsWideWithin (p : ProgramDef) (units : ℕ) : Type 0 where
 abbrev pub NeedsMoreThan : ProgramDef → ℕ → Type 0
 NeedsMoreThan p units =
     (units ≡ 0) ⊎ ((k : ℕ) × (t : Table) × (e : ℕ) × (k + 1 ≡ units) × (Reached p k t) × IsEntering p t e)
+
+-- Does the run do one of the three?
+abbrev pub HasOutcome : ProgramDef → ℕ → Type 0
+HasOutcome p units =
+    ((k : ℕ) × (value : Fraction) × (primal : List Fraction) × (d : DualDef) × EndsWithin p units k value primal d)
+    ⊎ (IsWideWithin p units ⊎ NeedsMoreThan p units)

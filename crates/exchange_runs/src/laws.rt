@@ -13,7 +13,7 @@ ghost use Rattle.exchange_runs.specs.Exchange.{IsLast, HasRatio};
 ghost use Rattle.exchange_runs.specs.Run.{Reached, IsExchangeRun, IsSameTable};
 ghost use Rattle.exchange_runs.specs.WideExchange.{IsWideExchange};
 ghost use Rattle.exchange_runs.specs.Feasible.{IsOptimumValue, IsPointWorth};
-ghost use Rattle.exchange_runs.specs.Outcomes.{EndsWithin, IsWideWithin, NeedsMoreThan};
+ghost use Rattle.exchange_runs.specs.Outcomes.{EndsWithin, IsWideWithin, NeedsMoreThan, HasOutcome};
 ghost use Rattle.exchange_runs.specs.Account.{RunReadsSo};
 ghost use Rattle.exchange_runs.specs.SevenRowsRun.{seven_rows_account, seven_rows_primal};
 
@@ -30,8 +30,10 @@ pub fn a_run_has_one_course()
         → IsProgram p → Reached p k t → IsLast p t ⊎ IsWideExchange p t → Reached p j u → j ≤ k }
 {}
 
-/// A run has one outcome: it ends with one number of exchanges, value, primal and dual, or it is wide, or it needs more units.
+/// A run has one outcome, and no other: it ends with one number of exchanges, value, primal and dual, or it is wide, or it needs
+/// more units.
 pub fn a_run_gives_one_answer()
+    ensures some { (p : ProgramDef) (units : ℕ) → IsProgram p → HasOutcome p units }
     ensures answer { (p : ProgramDef) (m n k j : ℕ) (value other : Fraction) (primal point : List Fraction) (d e : DualDef)
         → IsProgram p → EndsWithin p m k value primal d → EndsWithin p n j other point e
         → (k ≡ j) × (value ≡ other) × (primal ≡ point) × (d ≡ e) }
