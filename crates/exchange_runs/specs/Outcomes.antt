@@ -16,7 +16,7 @@ pub record EndsWithin (p : ProgramDef) (units k : ℕ) (value : Fraction) (prima
   pub within : k < units
   pub read_off : IsReadOff p table value primal d
 
--- Is the run wide within the units: at an exchange begun after k others, which is the k + 2nd unit, or at its end?
+-- Is the run wide within the units: at an exchange begun after so many others, which is paid for too, or at its end?
 pub record IsWideWithin (p : ProgramDef) (units : ℕ) : Type 0 where
   pub exchanges : ℕ
   pub table : Table

@@ -5,7 +5,7 @@ use Rattle.program_form.specs.Program.{ProgramDef, columns, height, row, limit}
 
 -- What stands where: a cell for each row and place, and for each row its basic variable.
 -- The places are the variables, the columns first and then a slack for each row in row order, and behind them the place of the limit.
--- Row `height p` is the objective row. Past the rows and places no cell counts; it is zero past the last place.
+-- Row `height p` is the objective row. Cells past the limit are zero in every table of a run, and those past the objective row count for nothing.
 pub record Table : Type 0 where
   pub cell : ℕ → ℕ → Fraction
   pub basic : ℕ → ℕ
@@ -21,10 +21,6 @@ slack p r = columns p + r
 -- Which cell has variable v in the objective row?
 abbrev pub objective : ProgramDef → Table → ℕ → Fraction
 objective p t v = t.cell (height p) v
-
--- Which cell is the limit of row i?
-abbrev pub limit_cell : ProgramDef → Table → ℕ → Fraction
-limit_cell p t i = t.cell i (variables p)
 
 -- Which number has place v in a first row: of the n columns the entry, of the slacks up to the place `last` one at the row's own,
 -- and at that place the limit?

@@ -6,7 +6,7 @@ use Rattle.program_form.specs.Program.{ProgramDef, height}
 use Rattle.exchange_runs.specs.Table.{Table, variables}
 use Rattle.exchange_runs.specs.Exchange.{IsEntering, HasRatio, IsLeaving}
 
--- Has f times y no form, or a less it?
+-- Has f times y no form, or what is left of a when it is taken away?
 abbrev pub IsWideLess : Fraction → Fraction → Fraction → Type 0
 IsWideLess a f y =
     HasNoForm (IsProduct f y) ⊎ ((product : Fraction) × (IsForm product) × (IsProduct f y product) × HasNoForm (IsDifference a product))

@@ -1,7 +1,7 @@
 //! What holds of every exchange run. Each function is a law: it does nothing, and what it ensures holds for all programs.
 
 ghost use Rattle.std.specs.Prelude.{◌≡◌, ℕ, ◌<◌, ◌≤◌, ◌⊎◌, List, slice_index, pos};
-ghost use Rattle.fraction128.specs.Fraction.{Fraction, IsForm, over};
+ghost use Rattle.fraction128.specs.Fraction.{Fraction, IsForm, over, whole};
 ghost use Rattle.fraction128.specs.Scaling.{IsScaled};
 ghost use Rattle.program_form.specs.Program.{ProgramDef, IsProgram, height};
 ghost use Rattle.program_form.specs.SevenRows.{seven_rows, seven_rows_dual};
@@ -17,13 +17,15 @@ ghost use Rattle.exchange_runs.specs.Outcomes.{EndsWithin, IsWideWithin, NeedsMo
 ghost use Rattle.exchange_runs.specs.Account.{RunReadsSo};
 ghost use Rattle.exchange_runs.specs.SevenRowsRun.{seven_rows_account, seven_rows_primal};
 
-/// A program has one run: one table after as many exchanges, all of whose cells have forms, and one end. Where the table is the
-/// last, or the exchange that begins there is wide, no more exchanges are made.
+/// A program has one run: one table after as many exchanges, all of whose cells have forms and are zero past the limit, and one
+/// end. Where the table is the last, or the exchange that begins there is wide, no more exchanges are made.
 pub fn a_run_has_one_course()
     ensures table { (p : ProgramDef) (k : ℕ) (t u : Table)
         → IsProgram p → Reached p k t → Reached p k u → IsSameTable p t u }
     ensures cells { (p : ProgramDef) (k : ℕ) (t : Table)
         → IsProgram p → Reached p k t → (i v : ℕ) → i ≤ height p → IsForm (t.cell i v) }
+    ensures past { (p : ProgramDef) (k : ℕ) (t : Table)
+        → IsProgram p → Reached p k t → (i v : ℕ) → i ≤ height p → variables p < v → t.cell i v ≡ whole (pos 0) }
     ensures end { (p : ProgramDef) (k j : ℕ) (t u : Table)
         → IsProgram p → IsExchangeRun p k t → IsExchangeRun p j u → k ≡ j }
     ensures no_later { (p : ProgramDef) (k j : ℕ) (t u : Table)
