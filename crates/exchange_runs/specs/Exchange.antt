@@ -1,0 +1,56 @@
+-- One exchange: which variable enters the basis, which row's leaves it, and the table after it.
+use Rattle.std.specs.Prelude.{◌≡◌, ◌≢◌, ℕ, ◌<◌, ◌≤◌, pos, ◌≤ℤ◌, ◌<ℤ◌}
+use Rattle.fraction128.specs.Fraction.{Fraction, IsForm, IsQuotient, IsProduct, IsDifference, IsAtMost}
+use Rattle.program_form.specs.Program.{ProgramDef, height}
+use Rattle.exchange_runs.specs.Table.{Table, variables, objective}
+
+-- Does e enter: is it the least variable whose objective cell is above zero?
+pub record IsEntering (p : ProgramDef) (t : Table) (e : ℕ) : Type 0 where
+  pub within : e < variables p
+  pub above : pos 0 <ℤ (objective p t e).num
+  pub least : (v : ℕ) → v < e → (objective p t v).num ≤ℤ pos 0
+
+-- Is t the last table of its run: is no objective cell of a variable above zero?
+pub record IsLast (p : ProgramDef) (t : Table) : Type 0 where
+  pub none : (v : ℕ) → v < variables p → (objective p t v).num ≤ℤ pos 0
+
+-- Has row i a ratio where e enters: is its cell there above zero?
+pub record HasRatio (t : Table) (e i : ℕ) : Type 0 where
+  pub above : pos 0 <ℤ (t.cell i e).num
+
+-- Is f the ratio of row i: its limit, which stands at the given place, over its cell at e?
+pub record IsRatio (place : ℕ) (t : Table) (e i : ℕ) (f : Fraction) : Type 0 where
+  pub form : IsForm f
+  pub quotient : IsQuotient (t.cell i place) (t.cell i e) f
+
+-- Has r, of the rows below k, the least ratio, which is f? Among equal ratios its basic variable is the least.
+pub record IsLeastOf (place : ℕ) (t : Table) (e k r : ℕ) (f : Fraction) : Type 0 where
+  pub within : r < k
+  pub has : HasRatio t e r
+  pub ratio : IsRatio place t e r f
+  pub least : (i : ℕ) → i < k → HasRatio t e i
+      → (g : Fraction) × (IsRatio place t e i g) × (IsAtMost f g) × (IsAtMost g f → t.basic r ≤ t.basic i)
+
+-- Does row r leave where e enters?
+pub record IsLeaving (p : ProgramDef) (t : Table) (e r : ℕ) : Type 0 where
+  pub ratio : Fraction
+  pub least : IsLeastOf (variables p) t e (height p) r ratio
+
+-- Is b what is left of a when f times y is taken away, and have both values a form?
+pub record IsLess (a f y b : Fraction) : Type 0 where
+  pub product : Fraction
+  pub product_form : IsForm product
+  pub is_product : IsProduct f y product
+  pub form : IsForm b
+  pub is_difference : IsDifference a product b
+
+-- Is u the table after t where e enters and row r leaves: row r divided by its cell at e, and from each other row and the
+-- objective row its cell at e times the new row r taken away?
+pub record IsExchange (p : ProgramDef) (t u : Table) (e r : ℕ) : Type 0 where
+  pub enters : IsEntering p t e
+  pub leaves : IsLeaving p t e r
+  pub divided_form : (v : ℕ) → IsForm (u.cell r v)
+  pub divided : (v : ℕ) → IsQuotient (t.cell r v) (t.cell r e) (u.cell r v)
+  pub taken : (i v : ℕ) → i ≤ height p → i ≢ r → IsLess (t.cell i v) (t.cell i e) (u.cell r v) (u.cell i v)
+  pub entered : u.basic r ≡ e
+  pub stayed : (i : ℕ) → i < height p → i ≢ r → u.basic i ≡ t.basic i

@@ -1,0 +1,9 @@
+pub mod Table
+pub mod Exchange
+pub mod Run
+pub mod WideExchange
+pub mod Readings
+pub mod Feasible
+pub mod Outcomes
+pub mod Account
+pub mod SevenRowsRun

@@ -1,0 +1,20 @@
+-- The exchange run of a program.
+use Rattle.std.specs.Prelude.{◌≡◌, ℕ, zero, suc, ◌<◌, ◌≤◌}
+use Rattle.program_form.specs.Program.{ProgramDef, height}
+use Rattle.exchange_runs.specs.Table.{Table, IsStart}
+use Rattle.exchange_runs.specs.Exchange.{IsLast, IsExchange}
+
+-- Does table t stand in the run of p after k exchanges?
+abbrev pub Reached : ProgramDef → ℕ → Table → Type 0
+Reached p zero t = IsStart p t
+Reached p (suc k) t = (s : Table) × (e : ℕ) × (r : ℕ) × (Reached p k s) × (IsExchange p s t e r)
+
+-- Does the run of p make k exchanges and end at table t?
+pub record IsExchangeRun (p : ProgramDef) (k : ℕ) (t : Table) : Type 0 where
+  pub reached : Reached p k t
+  pub last : IsLast p t
+
+-- Have t and u the same cells and basis, in all rows that count?
+pub record IsSameTable (p : ProgramDef) (t u : Table) : Type 0 where
+  pub cells : (i v : ℕ) → i ≤ height p → t.cell i v ≡ u.cell i v
+  pub basis : (i : ℕ) → i < height p → t.basic i ≡ u.basic i
