@@ -1,0 +1,9 @@
+pub mod Phases
+pub mod Ticks
+pub mod ActiveJobs
+pub mod Issues
+pub mod Agreement
+pub mod Rows
+pub mod Holders
+pub mod SharedLaws
+pub mod DpcpLaws

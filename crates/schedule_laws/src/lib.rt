@@ -1,0 +1,16 @@
+//! Laws of jobs, of schedules and of the rules of MPCP, FMLP+ and DPCP, for the crates that run, judge, charge and
+//! bound them.
+//!
+//! Each function here does nothing: its contract is a law, and the lemmas that prove it stand in `proofs/`, one file a
+//! subject, for the proofs of the crates above.
+#![tactic(auto)]
+
+mod agreement_laws;
+mod protocol_laws;
+mod request_laws;
+mod tick_laws;
+
+pub use agreement_laws::{added_rows_change_no_earlier_tick, ticks_depend_on_earlier_rows};
+pub use protocol_laws::{dpcp_keeps_its_laws, shared_memory_keeps_its_laws};
+pub use request_laws::{holders_stay, issue_ticks_are_first, requests_follow_local_ticks};
+pub use tick_laws::{executed_ticks_rise_by_one, phases_move_forward, tasks_have_one_active_job};
