@@ -7,3 +7,7 @@ pub mod Rows
 pub mod Holders
 pub mod SharedLaws
 pub mod DpcpLaws
+pub mod SumLaws
+pub mod Segments
+pub mod Counts
+pub mod Begun

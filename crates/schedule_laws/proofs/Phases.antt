@@ -39,7 +39,7 @@ segment_local s h =
     let least : 1 ≤ s.local = leb-true 1 s.local low in
     omega arith
 
-asking_at : (n m q : ℕ) (o : Option (ℕ × ℕ)) → asking n o ≡ Asking m q → (m ≡ n) × (option_map_or (λ r. r.0 == q) o false ≡ true)
+pub asking_at : (n m q : ℕ) (o : Option (ℕ × ℕ)) → asking n o ≡ Asking m q → (m ≡ n) × (option_map_or (λ r. r.0 == q) o false ≡ true)
 asking_at n m q None h = absurd (cc)
 asking_at n m q (Some r) h = let e : n ≡ m = cc in let f : r.0 ≡ q = cc in (sym e, eq-eqb r.0 q f)
 
