@@ -1,13 +1,13 @@
 -- Holders stay while their request is open, and a job in a request is active.
 use Rattle.std.proofs.Common.{◌≡◌, ℕ, zero, suc, ◌<◌, ◌≤◌, true, false, List, [], ◌∷◌, refl, sym, ◌∙◌, arith, inl, inr, Some}
 use Rattle.std.specs.List.{list_all}
-use Rattle.std.proofs.lemmas.Bool.{cases_lt, and_parts}
+use Rattle.std.proofs.lemmas.Bool.{cases_lt, cases_Bool, and_parts}
 use Rattle.schedule_model.specs.declared.rule.Rule.TheVariants as rule
 use Rattle.schedule_model.specs.JobDef.{SegmentDef, job_of}
 use Rattle.schedule_model.specs.LawfulJobs.{is_segment, is_script}
-use Rattle.schedule_model.specs.RowDef.{Trace, running_on, holder_in}
+use Rattle.schedule_model.specs.RowDef.{Trace, running_on, holder_in, runs_in}
 use Rattle.schedule_model.specs.Phase.{Phase, is_finished, is_same_request, phase_from, phase_of}
-use Rattle.schedule_model.specs.Phase.Phase.{Asking}
+use Rattle.schedule_model.specs.Phase.Phase.{Local, Asking}
 use Rattle.schedule_model.specs.Activity.{is_active}
 use Rattle.schedule_model.specs.SharedRules as shared
 use Rattle.schedule_model.specs.SharedRules.{Ranks, KeepsKeep}
@@ -17,7 +17,7 @@ use Rattle.schedule_model.specs.Keeping.{KeepsBefore}
 use Rattle.schedule_laws.specs.Agreement.{RunsActiveBefore}
 use Rattle.schedule_laws.specs.LocalRuns.{LocalRun}
 use Rattle.schedule_laws.proofs.Phases.{phase_of_none, phase_local, segment_local}
-use Rattle.schedule_laws.proofs.Ticks.{executed_none, open_between, local_run_before, script_segments}
+use Rattle.schedule_laws.proofs.Ticks.{executed_none, open_between, local_run_before, script_segments, same_true, one_resource}
 use Rattle.schedule_laws.proofs.ActiveJobs.{active_stays, Requester, requester_is, requester_from}
 use Rattle.schedule_laws.proofs.Rows.{runs_where}
 
@@ -76,3 +76,16 @@ open_active w n t j m q active l lawful h =
     let before : LocalRun w 0 t j = local_run_before w 0 t j m q lawful (omega arith) h (not_open_at_first w j m q lawful) in
     let at : (k : ℕ) × (running_on (w.row before.tick) k ≡ Some j) = runs_where (w.row before.tick) j before.runs in
     active_stays w before.tick t j (active before.tick at.0 j (omega (arith, before.before)) at.1) (omega (arith, before.before)) (asking_unfinished m q (phase_of w t j) h)
+
+-- A request that is open at a later tick, with no executed Local tick since an earlier one, was open there.
+pub open_at : (w : Trace) (u v j m q : ℕ) → is_script (job_of w.jobs j).script ≡ true → u ≤ v → phase_of w v j ≡ Asking m q
+    → ((t : ℕ) → u ≤ t → t < v → phase_of w t j ≡ Local → runs_in (w.row t) j ≡ true → ⊥) → phase_of w u j ≡ Asking m q
+open_at w u v j m q lawful l h none = elim (cases_Bool (is_same_request (phase_of w u j) (Asking m q))) [
+  | inl same ↦
+      let some : (r : ℕ) × (phase_of w u j ≡ Asking m r) = same_true (phase_of w u j) m q same in
+      let e : some.0 ≡ q = one_resource w u v j m some.0 q some.1 h in
+      rw (← e) some.1
+  | inr other ↦
+      let r : LocalRun w u v j = local_run_before w u v j m q lawful l h other in
+      absurd (none r.tick r.from r.before r.local r.runs)
+]

@@ -11,3 +11,11 @@ pub mod SumLaws
 pub mod Segments
 pub mod Counts
 pub mod Begun
+pub mod OwnRequests
+pub mod TickAgreement
+pub mod SharedAgreement
+pub mod DpcpAgreement
+pub mod Predecessors
+pub mod KindsOfTicks
+pub mod RuleUses
+pub mod Slots

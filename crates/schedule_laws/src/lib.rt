@@ -6,11 +6,21 @@
 #![tactic(auto)]
 
 mod agreement_laws;
+mod count_laws;
 mod protocol_laws;
 mod request_laws;
 mod tick_laws;
 
-pub use agreement_laws::{added_rows_change_no_earlier_tick, ticks_depend_on_earlier_rows};
+pub use agreement_laws::{
+    added_rows_change_no_earlier_tick, rules_depend_on_earlier_rows, ticks_depend_on_earlier_rows,
+};
+pub use count_laws::{
+    executed_ticks_are_counted_along_the_script, requests_are_within_the_budget,
+    requests_begun_are_counted,
+};
 pub use protocol_laws::{dpcp_keeps_its_laws, shared_memory_keeps_its_laws};
 pub use request_laws::{holders_stay, issue_ticks_are_first, requests_follow_local_ticks};
-pub use tick_laws::{executed_ticks_rise_by_one, phases_move_forward, tasks_have_one_active_job};
+pub use tick_laws::{
+    executed_ticks_rise_by_one, jobs_finish_in_order, phases_move_forward,
+    tasks_have_one_active_job,
+};

@@ -1,9 +1,12 @@
 ghost use Rattle.std.specs.Prelude.{◌≡◌, ℕ, ◌+◌, ◌<◌, ◌≤◌, true, false, length};
 ghost use Rattle.bounded_sums.specs.Sums.{flag};
+ghost use Rattle.schedule_model.specs.JobDef.{job_of};
+ghost use Rattle.schedule_model.specs.LawfulJobs.{is_script};
 ghost use Rattle.schedule_model.specs.RowDef.{Trace, runs_in};
 ghost use Rattle.schedule_model.specs.Phase.{is_finished, executed, phase_of};
 ghost use Rattle.schedule_model.specs.Phase.Phase.{Asking, Finished};
 ghost use Rattle.schedule_model.specs.Activity.{task_of, is_active};
+ghost use Rattle.schedule_laws.specs.Agreement.{RunsActiveBefore};
 
 /// A job's executed ticks begin with none, rise by one at a tick at which it runs, and else stay.
 pub fn executed_ticks_rise_by_one()
@@ -16,7 +19,8 @@ pub fn executed_ticks_rise_by_one()
 pub fn phases_move_forward()
     ensures waits { (w : Trace) (t j : ℕ) → runs_in (w.row t) j ≡ false → phase_of w (t + 1) j ≡ phase_of w t j }
     ensures finished { (w : Trace) (u t j : ℕ) → u ≤ t → phase_of w u j ≡ Finished → phase_of w t j ≡ Finished }
-    ensures between { (w : Trace) (u t v j m q r : ℕ) → phase_of w u j ≡ Asking m q → phase_of w v j ≡ Asking m r → u ≤ t → t ≤ v → phase_of w t j ≡ Asking m q }
+    ensures between { (w : Trace) (u t v j m q r : ℕ) → phase_of w u j ≡ Asking m q → phase_of w v j ≡ Asking m r → u ≤ t → t ≤ v
+        → phase_of w t j ≡ Asking m q }
     ensures resource { (w : Trace) (u v j m q r : ℕ) → phase_of w u j ≡ Asking m q → phase_of w v j ≡ Asking m r → q ≡ r }
 {}
 
@@ -24,5 +28,17 @@ pub fn phases_move_forward()
 pub fn tasks_have_one_active_job()
     ensures listed { (w : Trace) (t j : ℕ) → is_active w t j ≡ true → j < length w.jobs }
     ensures one { (w : Trace) (t i j : ℕ) → is_active w t i ≡ true → is_active w t j ≡ true → task_of w i ≡ task_of w j → i ≡ j }
-    ensures stays { (w : Trace) (u t j : ℕ) → is_active w u j ≡ true → u ≤ t → is_finished (phase_of w t j) ≡ false → is_active w t j ≡ true }
+    ensures stays { (w : Trace) (u t j : ℕ) → is_active w u j ≡ true → u ≤ t → is_finished (phase_of w t j) ≡ false
+        → is_active w t j ≡ true }
+{}
+
+/// The jobs of a task finish in their order, where running jobs are active. So a job is active once it is released and
+/// the last job of its task before it is finished, until it is finished itself.
+pub fn jobs_finish_in_order()
+    ensures order { (w : Trace) (n t p e : ℕ) → RunsActiveBefore w n → t ≤ n → is_script (job_of w.jobs p).script ≡ true
+        → phase_of w t p ≡ Finished → e < p → task_of w e ≡ task_of w p → phase_of w t e ≡ Finished }
+    ensures after { (w : Trace) (n t p j : ℕ) → RunsActiveBefore w n → t ≤ n → is_script (job_of w.jobs p).script ≡ true → p < j
+        → task_of w p ≡ task_of w j → ((e : ℕ) → p < e → e < j → task_of w e ≡ task_of w j → ⊥)
+        → (job_of w.jobs j).release ≤ t → is_finished (phase_of w t j) ≡ false → phase_of w t p ≡ Finished
+        → is_active w t j ≡ true }
 {}
