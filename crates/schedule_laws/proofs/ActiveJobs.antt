@@ -110,3 +110,10 @@ active_local_is w t j h = let parts : (is_active w t j ≡ true) × (is_local (p
 pub active_local_from : (w : Trace) (t j : ℕ) → is_active w t j ≡ true → phase_of w t j ≡ Local → is_active_local w t j ≡ true
 unfolding is_active_local
 active_local_from w t j a e = and_from _ _ a (rw e refl)
+
+-- Where each earlier job of its task is finished at a tick, a job is active from then on, once it is released, until it
+-- is finished.
+pub active_since : (w : Trace) (u t j : ℕ) → ((e : ℕ) → e < j → task_of w e ≡ task_of w j → phase_of w u e ≡ Finished) → u ≤ t → (job_of w.jobs j).release ≤ t
+    → is_finished (phase_of w t j) ≡ false → is_active w t j ≡ true
+active_since w u t j earlier l released unfinished =
+    active_from w t j (record { released = released; unfinished = unfinished; next = λ e b same. finished_stays w u t e l (earlier e b same) })

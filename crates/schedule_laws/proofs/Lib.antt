@@ -19,3 +19,5 @@ pub mod Predecessors
 pub mod KindsOfTicks
 pub mod RuleUses
 pub mod Slots
+pub mod Spacing
+pub mod MeasureLaws

@@ -7,6 +7,7 @@
 
 mod agreement_laws;
 mod count_laws;
+mod measure_laws;
 mod protocol_laws;
 mod request_laws;
 mod tick_laws;
@@ -18,6 +19,7 @@ pub use count_laws::{
     executed_ticks_are_counted_along_the_script, requests_are_within_the_budget,
     requests_begun_are_counted,
 };
+pub use measure_laws::{measures_are_kept, releases_are_spaced};
 pub use protocol_laws::{dpcp_keeps_its_laws, shared_memory_keeps_its_laws};
 pub use request_laws::{holders_stay, issue_ticks_are_first, requests_follow_local_ticks};
 pub use tick_laws::{
