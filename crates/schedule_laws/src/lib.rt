@@ -1,0 +1,28 @@
+//! Laws of jobs, of schedules and of the rules of MPCP, FMLP+ and DPCP, for the crates that run, judge, charge and
+//! bound them.
+//!
+//! Each function here does nothing: its contract is a law, and the lemmas that prove it stand in `proofs/`, one file a
+//! subject, for the proofs of the crates above.
+#![tactic(auto)]
+
+mod agreement_laws;
+mod count_laws;
+mod measure_laws;
+mod protocol_laws;
+mod request_laws;
+mod tick_laws;
+
+pub use agreement_laws::{
+    added_rows_change_no_earlier_tick, rules_depend_on_earlier_rows, ticks_depend_on_earlier_rows,
+};
+pub use count_laws::{
+    executed_ticks_are_counted_along_the_script, requests_are_within_the_budget,
+    requests_begun_are_counted,
+};
+pub use measure_laws::{measures_are_kept, releases_are_spaced};
+pub use protocol_laws::{dpcp_keeps_its_laws, shared_memory_keeps_its_laws};
+pub use request_laws::{holders_stay, issue_ticks_are_first, requests_follow_local_ticks};
+pub use tick_laws::{
+    executed_ticks_rise_by_one, jobs_finish_in_order, phases_move_forward,
+    tasks_have_one_active_job,
+};
