@@ -48,7 +48,8 @@ kept_agree v w n t q a l = go (held_before v t q) ∙ ap (λ o. option_map_or (�
   go None = refl
   go (Some j) = requester_agree v w n t q j a l
 
-holds_agree : (f g : ℕ → Option ℕ) (j : ℕ) → ((q : ℕ) → f q ≡ g q) → (p : Phase) → holds_by f j p ≡ holds_by g j p
+-- Holders that agree are held by the same jobs.
+pub holds_agree : (f g : ℕ → Option ℕ) (j : ℕ) → ((q : ℕ) → f q ≡ g q) → (p : Phase) → holds_by f j p ≡ holds_by g j p
 holds_agree f g j h Local = refl
 holds_agree f g j h Finished = refl
 holds_agree f g j h (Asking m q) = ap (λ o. option_map_or (λ i. i == j) o false) (h q)

@@ -21,3 +21,5 @@ pub mod RuleUses
 pub mod Slots
 pub mod Spacing
 pub mod MeasureLaws
+pub mod SharedChoice
+pub mod DpcpChoice
