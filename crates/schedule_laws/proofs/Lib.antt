@@ -18,7 +18,6 @@ pub mod DpcpAgreement
 pub mod Predecessors
 pub mod KindsOfTicks
 pub mod RuleUses
-pub mod Slots
 pub mod Spacing
 pub mod MeasureLaws
 pub mod SharedChoice

@@ -21,10 +21,12 @@ pub record RanksAgree (o : Ranks) (v w : Trace) (t : ℕ) : Type 0 where
   pub grant : (j : ℕ) → o.grant v t j ≡ o.grant w t j
   pub run : (j : ℕ) → o.run v t j ≡ o.run w t j
 
+-- The order of FMLP+ agrees.
 pub fmlp_plus_agree : (v w : Trace) (n t : ℕ) → AgreeBefore v w n → t ≤ n → RanksAgree fmlp_plus v w t
 unfolding fmlp_plus
 fmlp_plus_agree v w n t a l = record { grant = λ j. issue_agree v w n t j a l; run = λ j. issue_agree v w n t j a l }
 
+-- Boosts agree.
 pub boost_agree : (v w : Trace) (n k : ℕ) (p : Phase) → AgreeBefore v w n → boost_in v k p ≡ boost_in w k p
 boost_agree v w n k p a = go p where
   go : (p : Phase) → boost_in v k p ≡ boost_in w k p
@@ -32,6 +34,7 @@ boost_agree v w n k p a = go p where
   go Finished = ap (λ (set : SetDef). length set.tasks) a.set
   go (Asking m q) = ap (λ (set : SetDef). unwrap_or (remote_ceiling_of set q k) (length set.tasks)) a.set
 
+-- The order of MPCP agrees.
 pub mpcp_agree : (v w : Trace) (n t : ℕ) → AgreeBefore v w n → t ≤ n → RanksAgree mpcp v w t
 unfolding mpcp
 mpcp_agree v w n t a l = record {
@@ -98,6 +101,7 @@ shared_row_agree o v w n t a l ranks rule.Grant h = grant_agree o v w n t a l ra
 shared_row_agree o v w n t a l ranks rule.Idle h = idle_agree v w n t a l h
 shared_row_agree o v w n t a l ranks rule.Priority h = priority_agree o v w n t a l ranks h
 
+-- The sizes of a row agree.
 pub sized_agree : (v w : Trace) (n t : ℕ) → AgreeBefore v w n → t < n → IsSized v.set (v.row t) → IsSized w.set (w.row t)
 sized_agree v w n t a l sized = record {
   processors = sym (ap (λ (row : RowDef). length row.running) (a.rows t l)) ∙ sized.processors ∙ ap (λ set. set.processors) a.set;

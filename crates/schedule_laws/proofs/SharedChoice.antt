@@ -30,6 +30,7 @@ row_from a b e f =
     let two : record { running = b.running; holders = a.holders } ≡ b = ap (λ (h : List (Option ℕ)). record { running = b.running; holders = h }) f in
     one ∙ two
 
+-- Rows of one size that name the same jobs are equal.
 pub rows_same : (v w : Trace) (t : ℕ) → v.set ≡ w.set → IsSized v.set (v.row t) → IsSized w.set (w.row t) → ((k : ℕ) → running_on (v.row t) k ≡ running_on (w.row t) k)
     → ((q : ℕ) → holder_in (v.row t) q ≡ holder_in (w.row t) q) → v.row t ≡ w.row t
 rows_same v w t set a b running holders =
@@ -192,9 +193,11 @@ shared_choice_one o v w t a ranks c d = rows_same v w t a.set c.sized d.sized ru
   running k = same_named (running_on (v.row t) k) (running_on (w.row t) k) (λ r e. running_same o v w t k r a ranks holders c d e)
       (λ r e. running_same o w v t k r back (ranks_back o v w t ranks) (λ q. sym (holders q)) d c e)
 
+-- So under MPCP.
 pub mpcp_choice_one : (v w : Trace) (t : ℕ) → AgreeBefore v w t → IsSharedChoice mpcp v t → IsSharedChoice mpcp w t → v.row t ≡ w.row t
 mpcp_choice_one v w t a c d = shared_choice_one mpcp v w t a (mpcp_agree v w t t a (omega arith)) c d
 
+-- So under FMLP+.
 pub fmlp_plus_choice_one : (v w : Trace) (t : ℕ) → AgreeBefore v w t → IsSharedChoice fmlp_plus v t → IsSharedChoice fmlp_plus w t → v.row t ≡ w.row t
 fmlp_plus_choice_one v w t a c d = shared_choice_one fmlp_plus v w t a (fmlp_plus_agree v w t t a (omega arith)) c d
 
