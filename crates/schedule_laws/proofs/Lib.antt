@@ -22,3 +22,4 @@ pub mod Spacing
 pub mod MeasureLaws
 pub mod SharedChoice
 pub mod DpcpChoice
+pub mod Responses
