@@ -23,3 +23,4 @@ pub mod MeasureLaws
 pub mod SharedChoice
 pub mod DpcpChoice
 pub mod Responses
+pub mod KeepingAgreement

@@ -11,9 +11,8 @@ use Rattle.schedule_model.specs.Activity.{task_of, processor_of, is_requester, i
 use Rattle.schedule_model.specs.SharedRules.{Ranks, KeepsRun, KeepsKeep, KeepsGrant, KeepsIdle, KeepsPriority}
 use Rattle.schedule_model.specs.Ranks.{boost_in, mpcp, fmlp_plus}
 use Rattle.schedule_model.specs.Protocols.{shared_rule}
-use Rattle.schedule_model.specs.Keeping.{KeepsRow}
 use Rattle.schedule_model.specs.Chosen.{IsSized, IsSharedChoice}
-use Rattle.schedule_laws.specs.Agreement.{AgreeBefore}
+use Rattle.schedule_laws.specs.Agreement.{AgreeBefore, RulesReadUpTo, ChoiceReadsUpTo}
 use Rattle.schedule_laws.proofs.Agreement.{listed_agree, task_agree, processor_agree, phase_agree, requester_agree, active_local_agree, issue_agree, held_before_agree, running_agree, holder_agree, ready_holder_agree, ready_agree}
 
 -- Does an order of grants and runs give the same numbers at tick t of both schedules?
@@ -129,14 +128,15 @@ shared_choice_agree o v w n t a l ranks chosen = record {
       omega (arith, order, task_agree v w n r a, task_agree v w n i a)
 
 -- So under MPCP and FMLP+.
-pub mpcp_row_agree : (v w : Trace) (n t : ℕ) → AgreeBefore v w n → t < n → KeepsRow (shared_rule mpcp) v t → KeepsRow (shared_rule mpcp) w t
-mpcp_row_agree v w n t a l keeps r = shared_row_agree mpcp v w n t a l (mpcp_agree v w n t a (omega arith)) r (keeps r)
+pub mpcp_rules_read : RulesReadUpTo (shared_rule mpcp)
+mpcp_rules_read r v w n t a l h = shared_row_agree mpcp v w n t a l (mpcp_agree v w n t a (omega arith)) r h
 
-pub fmlp_plus_row_agree : (v w : Trace) (n t : ℕ) → AgreeBefore v w n → t < n → KeepsRow (shared_rule fmlp_plus) v t → KeepsRow (shared_rule fmlp_plus) w t
-fmlp_plus_row_agree v w n t a l keeps r = shared_row_agree fmlp_plus v w n t a l (fmlp_plus_agree v w n t a (omega arith)) r (keeps r)
+pub fmlp_plus_rules_read : RulesReadUpTo (shared_rule fmlp_plus)
+fmlp_plus_rules_read r v w n t a l h = shared_row_agree fmlp_plus v w n t a l (fmlp_plus_agree v w n t a (omega arith)) r h
 
-pub mpcp_choice_agree : (v w : Trace) (n t : ℕ) → AgreeBefore v w n → t < n → IsSharedChoice mpcp v t → IsSharedChoice mpcp w t
-mpcp_choice_agree v w n t a l chosen = shared_choice_agree mpcp v w n t a l (mpcp_agree v w n t a (omega arith)) chosen
+-- And so the chosen row.
+pub mpcp_choice_reads : ChoiceReadsUpTo (IsSharedChoice mpcp)
+mpcp_choice_reads v w n t a l chosen = shared_choice_agree mpcp v w n t a l (mpcp_agree v w n t a (omega arith)) chosen
 
-pub fmlp_plus_choice_agree : (v w : Trace) (n t : ℕ) → AgreeBefore v w n → t < n → IsSharedChoice fmlp_plus v t → IsSharedChoice fmlp_plus w t
-fmlp_plus_choice_agree v w n t a l chosen = shared_choice_agree fmlp_plus v w n t a l (fmlp_plus_agree v w n t a (omega arith)) chosen
+pub fmlp_plus_choice_reads : ChoiceReadsUpTo (IsSharedChoice fmlp_plus)
+fmlp_plus_choice_reads v w n t a l chosen = shared_choice_agree fmlp_plus v w n t a l (fmlp_plus_agree v w n t a (omega arith)) chosen
