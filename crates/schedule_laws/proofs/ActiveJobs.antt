@@ -20,6 +20,7 @@ earlier_finished : (a b : Bool) → (not a || b) ≡ true → a ≡ true → b �
 earlier_finished true b h e = h
 earlier_finished false b h e = absurd (cc)
 
+-- An active job is all that.
 pub active_is : (w : Trace) (t j : ℕ) → is_active w t j ≡ true → Active w t j
 unfolding is_active is_pending is_next
 active_is w t j h =
@@ -41,6 +42,7 @@ next_passes w t j e a l = elim (cases_Bool (task_of w e == task_of w j)) [
   | inr other ↦ or_left (not (task_of w e == task_of w j)) (is_finished (phase_of w t e)) (not_from_false (task_of w e == task_of w j) other)
 ]
 
+-- What is all that is active.
 pub active_from : (w : Trace) (t j : ℕ) → Active w t j → is_active w t j ≡ true
 unfolding is_active is_pending is_next
 active_from w t j a = and_from _ _ (and_from _ _ (le-leb _ _ a.released) (not_from_false _ a.unfinished)) (all_below-from j _ (λ e l. next_passes w t j e a l))
@@ -85,6 +87,7 @@ pub record Requester (w : Trace) (t q j : ℕ) : Type 0 where
   pub number : ℕ
   pub phase : phase_of w t j ≡ Asking number q
 
+-- A requester is active and in a request of q.
 pub requester_is : (w : Trace) (t q j : ℕ) → is_requester w t q j ≡ true → Requester w t q j
 unfolding is_requester
 requester_is w t q j h =
@@ -92,10 +95,12 @@ requester_is w t q j h =
     let a : (m : ℕ) × (phase_of w t j ≡ Asking m q) = asking_true q (phase_of w t j) parts.1 in
     record { active = parts.0; number = a.0; phase = a.1 }
 
+-- What is active and in a request of q is a requester of it.
 pub requester_from : (w : Trace) (t q j m : ℕ) → is_active w t j ≡ true → phase_of w t j ≡ Asking m q → is_requester w t q j ≡ true
 unfolding is_requester
 requester_from w t q j m a e = and_from _ _ a (asking_is m q (phase_of w t j) e)
 
+-- A requester is in the list.
 pub requester_listed : (w : Trace) (t q j : ℕ) → is_requester w t q j ≡ true → j < length w.jobs
 requester_listed w t q j h = let r : Requester w t q j = requester_is w t q j h in active_listed w t j r.active
 
@@ -103,10 +108,12 @@ pub record ActiveLocal (w : Trace) (t j : ℕ) : Type 0 where
   pub active : is_active w t j ≡ true
   pub phase : phase_of w t j ≡ Local
 
+-- An active Local job is active, and Local.
 pub active_local_is : (w : Trace) (t j : ℕ) → is_active_local w t j ≡ true → ActiveLocal w t j
 unfolding is_active_local
 active_local_is w t j h = let parts : (is_active w t j ≡ true) × (is_local (phase_of w t j) ≡ true) = and_parts _ _ h in record { active = parts.0; phase = local_true _ parts.1 }
 
+-- What is active, and Local, is an active Local job.
 pub active_local_from : (w : Trace) (t j : ℕ) → is_active w t j ≡ true → phase_of w t j ≡ Local → is_active_local w t j ≡ true
 unfolding is_active_local
 active_local_from w t j a e = and_from _ _ a (rw e refl)

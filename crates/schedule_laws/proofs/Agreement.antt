@@ -13,12 +13,15 @@ use Rattle.schedule_model.specs.Phase.{is_finished, is_same_request, phase_from,
 use Rattle.schedule_model.specs.Activity.{task_of, processor_of, is_pending, is_next, is_active, is_requester, issue_tick_of, holds_by, is_active_local, is_ready_holder, is_ready}
 use Rattle.schedule_laws.specs.Agreement.{AgreeBefore}
 
+-- Schedules that agree before a tick agree before each earlier one.
 pub agree_sooner : (v w : Trace) (n m : ℕ) → m ≤ n → AgreeBefore v w n → AgreeBefore v w m
 agree_sooner v w n m l a = record { set = a.set; jobs = a.jobs; rows = λ t b. a.rows t (omega arith) }
 
+-- It doesn't matter which schedule is named first.
 pub agree_back : (v w : Trace) (n : ℕ) → AgreeBefore v w n → AgreeBefore w v n
 agree_back v w n a = record { set = sym a.set; jobs = sym a.jobs; rows = λ t b. sym (a.rows t b) }
 
+-- The jobs, their tasks and processors agree at once.
 pub job_agree : (v w : Trace) (n j : ℕ) → AgreeBefore v w n → job_of v.jobs j ≡ job_of w.jobs j
 job_agree v w n j a = ap (λ jobs. job_of jobs j) a.jobs
 
@@ -118,9 +121,11 @@ row_in_added (r ∷ runs) run more t h l =
     let past : r.ticks ≤ t = omega arith in
     rw (le-ltb t r.ticks past) (row_in_added runs run more (t - r.ticks) (omega arith) (omega arith))
 
+-- A list of runs agrees with each that it begins, before its end.
 pub runs_agree : (jobs : JobsDef) (runs more : List RunDef) → AgreeBefore (trace_in jobs (runs ++ more)) (trace_in jobs runs) (ticks_of runs)
 runs_agree jobs runs more = record { set = refl; jobs = refl; rows = λ t l. row_in_begun runs more t l }
 
+-- The run that was added stands at each of its ticks.
 pub run_added : (jobs : JobsDef) (runs : List RunDef) (run : RunDef) (more : List RunDef) (t : ℕ) → ticks_of runs ≤ t → t < ticks_of runs + run.ticks
     → (trace_in jobs (runs ++ run ∷ more)).row t ≡ run.row
 run_added jobs runs run more t h l = row_in_added runs run more t h l

@@ -138,14 +138,17 @@ pub requests_begun_up : (w : Trace) (u t j : ℕ) → u ≤ t → requests_begun
 unfolding requests_begun
 requests_begun_up w u t j l = begun_up (job_of w.jobs j).script (executed w u j) (executed w t j) (executed_up w u t j l)
 
+-- A job has begun no more requests than its script has.
 pub requests_begun_at_most : (w : Trace) (t j : ℕ) → requests_begun w t j ≤ requests_in (job_of w.jobs j).script
 unfolding requests_begun
 requests_begun_at_most w t j = begun_at_most (job_of w.jobs j).script (executed w t j)
 
+-- A request that is open, and none begun since tick u: it was open at u.
 pub open_if_begun : (w : Trace) (u t j m q : ℕ) → u ≤ t → requests_begun w u j ≡ requests_begun w t j → phase_of w t j ≡ Asking m q → phase_of w u j ≡ Asking m q
 unfolding requests_begun phase_of
 open_if_begun w u t j m q l e h = begun_open 0 (job_of w.jobs j).script (executed w u j) (executed w t j) m q (executed_up w u t j l) e h
 
+-- While a request is open none is begun.
 pub begun_while_open : (w : Trace) (u t j m q r : ℕ) → phase_of w u j ≡ Asking m q → phase_of w t j ≡ Asking m r → requests_begun w u j ≡ requests_begun w t j
 unfolding requests_begun phase_of
 begun_while_open w u t j m q r h g = begun_same 0 (job_of w.jobs j).script (executed w u j) (executed w t j) m q r h g

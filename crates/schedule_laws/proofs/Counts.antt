@@ -70,6 +70,7 @@ script_past p n script d none =
     count_below-none d (λ k. p (phase_from n script (total_ticks script + k))) (λ k l. ap p (finished_from n script (total_ticks script + k) (omega arith)) ∙ none) in
     omega (arith, split, rest, script_whole p n script)
 
+-- So at no time are there more ticks of the kind than the segments have.
 pub script_at_most : (p : Phase → Bool) (n : ℕ) (script : List SegmentDef) (d : ℕ) → p Finished ≡ false → count_below d (λ e. p (phase_from n script e)) ≤ ticks_where p n script
 script_at_most p n script d none =
     let longer : count_below d (λ e. p (phase_from n script e)) ≤ count_below (total_ticks script + d) (λ e. p (phase_from n script e)) =
@@ -80,6 +81,7 @@ script_at_most p n script d none =
 pub executed_in_at_most : (p : Phase → Bool) (w : Trace) (t j : ℕ) → p Finished ≡ false → executed_in p w t j ≤ ticks_where p 0 (job_of w.jobs j).script
 executed_in_at_most p w t j none = rw (executed_where p w t j) (script_at_most p 0 (job_of w.jobs j).script (executed w t j) none)
 
+-- Once a job is finished it has run in each kind of phase as often as its script has ticks of the kind.
 pub executed_in_finished : (p : Phase → Bool) (w : Trace) (t j : ℕ) → p Finished ≡ false → phase_of w t j ≡ Finished → executed_in p w t j ≡ ticks_where p 0 (job_of w.jobs j).script
 executed_in_finished p w t j none h =
     let total : total_ticks (job_of w.jobs j).script ≤ executed w t j = finished_executed w t j h in
@@ -98,6 +100,7 @@ ticks_local n (s ∷ script) =
       none None = refl
       none (Some r) = refl
 
+-- A job runs Local at most its local ticks.
 pub local_at_most : (w : Trace) (t j : ℕ) → executed_in is_local w t j ≤ local_ticks (job_of w.jobs j).script
 local_at_most w t j = rw (← ticks_local 0 (job_of w.jobs j).script) (executed_in_at_most is_local w t j refl)
 
@@ -115,6 +118,7 @@ length_kept set x n q s h = go s.request h where
     | inr other ↦ rw other (omega arith)
   ]
 
+-- A script's ticks in requests of q are at most its requests of q, each of the greatest length.
 pub ticks_asking : (set : SetDef) (x n q : ℕ) (script : List SegmentDef) → list_all (is_length_kept set x) script ≡ true
     → ticks_where (is_asking q) n script ≤ number_of_requests script q * length_of set x q
 ticks_asking set x n q [] h = omega arith
@@ -126,6 +130,7 @@ ticks_asking set x n q (s ∷ script) h =
     let product : number_of_requests (s ∷ script) q * length_of set x q ≡ flag (asks_for q s) * length_of set x q + number_of_requests script q * length_of set x q = rw number (add-mul (flag (asks_for q s)) (number_of_requests script q) (length_of set x q)) in
     omega arith
 
+-- A lawful job runs in requests of q at most that number times that length.
 pub asking_at_most : (set : SetDef) (w : Trace) (t q j : ℕ) → IsLawfulJob set (job_of w.jobs j)
     → executed_in (is_asking q) w t j ≤ number_of_requests (job_of w.jobs j).script q * length_of set (job_of w.jobs j).task q
 asking_at_most set w t q j lawful =
@@ -160,6 +165,7 @@ ticks_none set x n m q (s ∷ script) h l =
     let zero : only_if (is_request m q (asking n s.request)) (request_ticks s) ≤ 0 * length_of set x q = rw other at here in
     omega (arith, zero, ticks_none set x (suc n) m q script parts.1 (omega arith))
 
+-- A script's ticks in request number m of q are at most the greatest length.
 pub ticks_request : (set : SetDef) (x n m q : ℕ) (script : List SegmentDef) → list_all (is_length_kept set x) script ≡ true → ticks_where (is_request m q) n script ≤ length_of set x q
 ticks_request set x n m q [] h = omega arith
 ticks_request set x n m q (s ∷ script) h =
@@ -175,6 +181,7 @@ ticks_request set x n m q (s ∷ script) h =
           omega (arith, none, ticks_request set x (suc n) m q script parts.1)
     ]
 
+-- A lawful job runs in one request at most its task's length.
 pub request_at_most : (set : SetDef) (w : Trace) (t m q j : ℕ) → IsLawfulJob set (job_of w.jobs j) → executed_in (is_request m q) w t j ≤ length_of set (job_of w.jobs j).task q
 request_at_most set w t m q j lawful =
     let a : executed_in (is_request m q) w t j ≤ ticks_where (is_request m q) 0 (job_of w.jobs j).script = executed_in_at_most (is_request m q) w t j refl in

@@ -5,7 +5,6 @@ use Rattle.bounded_sums.specs.Tests.{all_below, any_below}
 use Rattle.bounded_sums.proofs.TestLaws.{all_below-agree, any_below-agree}
 use Rattle.sporadic_model.specs.SetDef.{SetDef, resource_at}
 use Rattle.sporadic_model.specs.Users.{ceiling_of}
-use Rattle.schedule_model.specs.declared.rule.Rule.{Rule}
 use Rattle.schedule_model.specs.declared.rule.Rule.TheVariants as rule
 use Rattle.schedule_model.specs.RowDef.{Trace, running_on, holder_in, held_before}
 use Rattle.schedule_model.specs.Phase.{Phase, is_local, is_asking, phase_of}
@@ -13,9 +12,8 @@ use Rattle.schedule_model.specs.Phase.Phase.{Local, Asking, Finished}
 use Rattle.schedule_model.specs.Activity.{task_of, processor_of, is_active, is_requester, is_active_local, holds_by}
 use Rattle.schedule_model.specs.DpcpRules.{home_of, ceiling_rank, is_at, has_request_at, has_requests, holds_at, is_kept, waits_at, is_first_waiting, is_barred, is_granted, KeepsRun, KeepsGrant, KeepsIdle, RunsFirstHolder, KeepsPriority}
 use Rattle.schedule_model.specs.Protocols.{dpcp_rule}
-use Rattle.schedule_model.specs.Keeping.{KeepsRow}
 use Rattle.schedule_model.specs.Chosen.{IsDpcpChoice}
-use Rattle.schedule_laws.specs.Agreement.{AgreeBefore}
+use Rattle.schedule_laws.specs.Agreement.{AgreeBefore, RulesReadUpTo, ChoiceReadsUpTo}
 use Rattle.schedule_laws.proofs.Agreement.{listed_agree, task_agree, processor_agree, phase_agree, active_agree, requester_agree, active_local_agree, held_before_agree, running_agree, holder_agree}
 use Rattle.schedule_laws.proofs.SharedAgreement.{keep_agree, sized_agree}
 
@@ -48,7 +46,8 @@ kept_agree v w n t q a l = go (held_before v t q) ∙ ap (λ o. option_map_or (�
   go None = refl
   go (Some j) = requester_agree v w n t q j a l
 
-holds_agree : (f g : ℕ → Option ℕ) (j : ℕ) → ((q : ℕ) → f q ≡ g q) → (p : Phase) → holds_by f j p ≡ holds_by g j p
+-- Holders that agree are held by the same jobs.
+pub holds_agree : (f g : ℕ → Option ℕ) (j : ℕ) → ((q : ℕ) → f q ≡ g q) → (p : Phase) → holds_by f j p ≡ holds_by g j p
 holds_agree f g j h Local = refl
 holds_agree f g j h Finished = refl
 holds_agree f g j h (Asking m q) = ap (λ o. option_map_or (λ i. i == j) o false) (h q)
@@ -151,16 +150,14 @@ dpcp_priority_agree v w n t a l priority = record {
       i (listed_back v w n i a b) (processor_agree v w n i a ∙ c) (active_local_agree v w n t i a (omega arith) ∙ h) in
       omega (arith, order, task_agree v w n r a, task_agree v w n i a)
 
--- A row keeps the rules in one schedule where it does in the other.
-pub dpcp_row_agree : (v w : Trace) (n t : ℕ) → AgreeBefore v w n → t < n → (r : Rule) → dpcp_rule r v t → dpcp_rule r w t
-dpcp_row_agree v w n t a l rule.Run h = dpcp_run_agree v w n t a l h
-dpcp_row_agree v w n t a l rule.Keep h = keep_agree v w n t a l h
-dpcp_row_agree v w n t a l rule.Grant h = dpcp_grant_agree v w n t a l h
-dpcp_row_agree v w n t a l rule.Idle h = dpcp_idle_agree v w n t a l h
-dpcp_row_agree v w n t a l rule.Priority h = dpcp_priority_agree v w n t a l h
+-- A row keeps a rule in one schedule where it does in the other.
+pub dpcp_rules_read : RulesReadUpTo dpcp_rule
+dpcp_rules_read rule.Run v w n t a l h = dpcp_run_agree v w n t a l h
+dpcp_rules_read rule.Keep v w n t a l h = keep_agree v w n t a l h
+dpcp_rules_read rule.Grant v w n t a l h = dpcp_grant_agree v w n t a l h
+dpcp_rules_read rule.Idle v w n t a l h = dpcp_idle_agree v w n t a l h
+dpcp_rules_read rule.Priority v w n t a l h = dpcp_priority_agree v w n t a l h
 
-pub dpcp_choice_agree : (v w : Trace) (n t : ℕ) → AgreeBefore v w n → t < n → IsDpcpChoice v t → IsDpcpChoice w t
-dpcp_choice_agree v w n t a l chosen = record { sized = sized_agree v w n t a l chosen.sized; keeps = λ r. dpcp_row_agree v w n t a l r (chosen.keeps r) }
-
-pub dpcp_keeps_agree : (v w : Trace) (n t : ℕ) → AgreeBefore v w n → t < n → KeepsRow dpcp_rule v t → KeepsRow dpcp_rule w t
-dpcp_keeps_agree v w n t a l keeps r = dpcp_row_agree v w n t a l r (keeps r)
+-- And so the chosen row.
+pub dpcp_choice_reads : ChoiceReadsUpTo IsDpcpChoice
+dpcp_choice_reads v w n t a l chosen = record { sized = sized_agree v w n t a l chosen.sized; keeps = λ r. dpcp_rules_read r v w n t a l (chosen.keeps r) }

@@ -48,6 +48,7 @@ shared_holder_stays o w n u t q j m r keeps l b h g e =
     let here : phase_of w u j ≡ Asking m q = rw (← number) asks.phase in
     holder_kept w u t q j m (λ s c d. keeps s (omega arith) rule.Keep) l asks.active here g e
 
+-- The same under DPCP.
 pub dpcp_holder_stays : (w : Trace) (n u t q j m r : ℕ) → KeepsBefore dpcp_rule w n → u ≤ t → t < n → phase_of w u j ≡ Asking m r → phase_of w t j ≡ Asking m q
     → holder_in (w.row u) q ≡ Some j → holder_in (w.row t) q ≡ Some j
 dpcp_holder_stays w n u t q j m r keeps l b h g e =

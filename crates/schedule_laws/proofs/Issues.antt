@@ -13,10 +13,12 @@ pub issue_at_most : (w : Trace) (t j : ℕ) → issue_tick_of w t j ≤ t
 unfolding issue_tick_of
 issue_at_most w t j = first_below-at_most t (λ u. is_same_request (phase_of w u j) (phase_of w t j))
 
+-- It is no later than any tick of the same request.
 pub issue_least : (w : Trace) (u t j : ℕ) → is_same_request (phase_of w u j) (phase_of w t j) ≡ true → issue_tick_of w t j ≤ u
 unfolding issue_tick_of
 issue_least w u t j h = first_below-least t (λ k. is_same_request (phase_of w k j) (phase_of w t j)) u h
 
+-- The same, where both phases are known.
 pub issue_no_later : (w : Trace) (u t j m q r : ℕ) → phase_of w u j ≡ Asking m q → phase_of w t j ≡ Asking m r → issue_tick_of w t j ≤ u
 issue_no_later w u t j m q r h g = issue_least w u t j (same_from (phase_of w u j) (phase_of w t j) m q r h g)
 
@@ -47,6 +49,7 @@ issue_stays w u t j m q r h g l =
     let back : issue_tick_of w u j ≤ issue_tick_of w t j = issue_no_later w (issue_tick_of w t j) u j m r q (open_at_issue w t j m r g) h in
     omega arith
 
+-- From one tick to the next.
 pub issue_kept : (w : Trace) (t j : ℕ) → is_same_request (phase_of w t j) (phase_of w (suc t) j) ≡ true → issue_tick_of w (suc t) j ≡ issue_tick_of w t j
 issue_kept w t j h =
     let s : SameRequest (phase_of w t j) (phase_of w (suc t) j) = same_parts (phase_of w t j) (phase_of w (suc t) j) h in
@@ -66,5 +69,6 @@ pub issue_new : (w : Trace) (t j : ℕ) → is_same_request (phase_of w t j) (ph
 unfolding issue_tick_of
 issue_new w t j h = first_below-is (suc t) (λ u. is_same_request (phase_of w u j) (phase_of w (suc t) j)) (suc t) (omega arith) (λ k l. new_before w t j k h l) (λ l. absurd (omega arith))
 
+-- At tick 0 it is 0.
 pub issue_first : (w : Trace) (j : ℕ) → issue_tick_of w 0 j ≡ 0
 issue_first w j = omega (arith, issue_at_most w 0 j)

@@ -18,6 +18,9 @@ pub mod DpcpAgreement
 pub mod Predecessors
 pub mod KindsOfTicks
 pub mod RuleUses
-pub mod Slots
 pub mod Spacing
 pub mod MeasureLaws
+pub mod SharedChoice
+pub mod DpcpChoice
+pub mod Responses
+pub mod KeepingAgreement

@@ -20,6 +20,7 @@ pub finish_at_most : (w : Trace) (n j : ℕ) → finish_of w n j ≤ n
 unfolding finish_of
 finish_at_most w n j = first_below-at_most n (λ t. is_finished (phase_of w t j))
 
+-- Before its finish a job isn't finished.
 pub unfinished_till : (w : Trace) (n t j : ℕ) → t < finish_of w n j → is_finished (phase_of w t j) ≡ false
 unfolding finish_of
 unfinished_till w n t j l = first_below-before n (λ u. is_finished (phase_of w u j)) t l
@@ -28,6 +29,7 @@ finish_passes : (w : Trace) (n j : ℕ) → finish_of w n j < n → is_finished 
 unfolding finish_of
 finish_passes w n j l = first_below-passes n (λ u. is_finished (phase_of w u j)) l
 
+-- At its finish a job that is finished within n rows is finished.
 pub finished_at_finish : (w : Trace) (n j : ℕ) → has_finished w n j ≡ true → phase_of w (finish_of w n j) j ≡ Finished
 unfolding has_finished
 finished_at_finish w n j h = elim (cases_lt (finish_of w n j) n) [
@@ -35,6 +37,7 @@ finished_at_finish w n j h = elim (cases_lt (finish_of w n j) n) [
   | inr end ↦ let e : finish_of w n j ≡ n = omega (arith, finish_at_most w n j) in rw e (finished_true _ h)
 ]
 
+-- It is no later than any tick at which the job is finished.
 pub finish_least : (w : Trace) (n t j : ℕ) → phase_of w t j ≡ Finished → finish_of w n j ≤ t
 unfolding finish_of
 finish_least w n t j h = first_below-least n (λ u. is_finished (phase_of w u j)) t (rw h refl)
@@ -44,6 +47,7 @@ pub has_finished_stays : (w : Trace) (n m j : ℕ) → n ≤ m → has_finished 
 unfolding has_finished
 has_finished_stays w n m j l h = let e : phase_of w m j ≡ Finished = finished_stays w n m j l (finished_true _ h) in rw e refl
 
+-- Its finish stays.
 pub finish_stays : (w : Trace) (n m j : ℕ) → n ≤ m → has_finished w n j ≡ true → finish_of w m j ≡ finish_of w n j
 finish_stays w n m j l h =
     let a : finish_of w m j ≤ finish_of w n j = finish_least w m (finish_of w n j) j (finished_at_finish w n j h) in
@@ -71,6 +75,7 @@ pub blocking_next : (interferes : Trace → ℕ → ℕ → Bool) (w : Trace) (n
 unfolding blocking_of
 blocking_next interferes w n j = refl
 
+-- Blocked ticks rise.
 pub blocking_up : (interferes : Trace → ℕ → ℕ → Bool) (w : Trace) (n m j : ℕ) → n ≤ m → blocking_of interferes w n j ≤ blocking_of interferes w m j
 unfolding blocking_of
 blocking_up interferes w n m j l = count_below-longer n m (λ t. is_blocked interferes w t j) l

@@ -17,16 +17,19 @@ pub phase_local : (n : ℕ) (s : SegmentDef) (script : List SegmentDef) (d : ℕ
 unfolding phase_from
 phase_local n s script d l = rw (lt-ltb d s.local l) refl
 
+-- In its request.
 pub phase_request : (n : ℕ) (s : SegmentDef) (script : List SegmentDef) (d : ℕ) → s.local ≤ d → d < segment_ticks s → phase_from n (s ∷ script) d ≡ asking n s.request
 unfolding phase_from
 phase_request n s script d h l = rw (le-ltb d s.local h, lt-ltb d (segment_ticks s) l) refl
 
+-- Past both.
 pub phase_later : (n : ℕ) (s : SegmentDef) (script : List SegmentDef) (d : ℕ) → segment_ticks s ≤ d → phase_from n (s ∷ script) d ≡ phase_from (suc n) script (d - segment_ticks s)
 unfolding phase_from
 phase_later n s script d h =
     let past : s.local ≤ d = omega arith in
     rw (le-ltb d s.local past, le-ltb d (segment_ticks s) h) refl
 
+-- A script without a segment is finished.
 pub phase_of_none : (n d : ℕ) → phase_from n [] d ≡ Finished
 unfolding phase_from
 phase_of_none n d = refl
@@ -39,6 +42,7 @@ segment_local s h =
     let least : 1 ≤ s.local = leb-true 1 s.local low in
     omega arith
 
+-- The phase of a segment's request has the segment's number and the resource that it asks for.
 pub asking_at : (n m q : ℕ) (o : Option (ℕ × ℕ)) → asking n o ≡ Asking m q → (m ≡ n) × (option_map_or (λ r. r.0 == q) o false ≡ true)
 asking_at n m q None h = absurd (cc)
 asking_at n m q (Some r) h = let e : n ≡ m = cc in let f : r.0 ≡ q = cc in (sym e, eq-eqb r.0 q f)
@@ -58,6 +62,7 @@ finished_from n (s ∷ script) d h =
     let total : total_ticks (s ∷ script) ≡ segment_ticks s + total_ticks script = sum_by-cons segment_ticks s script in
     phase_later n s script d (omega arith) ∙ finished_from (suc n) script (d - segment_ticks s) (omega arith)
 
+-- Where it is finished, all ticks of the script are executed.
 pub finished_total : (n : ℕ) (script : List SegmentDef) (d : ℕ) → phase_from n script d ≡ Finished → total_ticks script ≤ d
 finished_total n [] d h = omega arith
 finished_total n (s ∷ script) d h =

@@ -32,6 +32,7 @@ requests_busy w t k idle h = go (running_on (w.row t) k) refl where
   go None e = absurd (both_ways (has_requests w t k) (idle.requests k e) h)
   go (Some r) e = (r, e)
 
+-- Where a task of the processor has an active Local job, it runs something.
 pub locals_busy : (w : Trace) (t j : ℕ) → distributed.KeepsIdle w t → is_active_local w t j ≡ true → (r : ℕ) × (running_on (w.row t) (processor_of w j) ≡ Some r)
 locals_busy w t j idle h = go (running_on (w.row t) (processor_of w j)) refl where
   listed : j < length w.jobs

@@ -19,6 +19,7 @@ pub record RequestAt (script : List SegmentDef) (i q : ℕ) : Type 0 where
   pub within : i < length script
   pub asks : asks_for q (get_or script i no_segment) ≡ true
 
+-- A request that is open after d ticks is that of the segment of its number.
 pub segment_of : (n : ℕ) (script : List SegmentDef) (d m q : ℕ) → phase_from n script d ≡ Asking m q → (i : ℕ) × (m ≡ n + i) × RequestAt script i q
 segment_of n [] d m q h = let x : Finished ≡ Asking m q = sym (phase_of_none n d) ∙ h in absurd (cc)
 segment_of n (s ∷ script) d m q h = elim (cases_lt d (segment_ticks s)) [
@@ -65,6 +66,7 @@ open_resource set w t j m q lawful h =
     resource_below (length set.resources) q (get_or (job_of w.jobs j).script m no_segment)
     (list_all-place (is_resource_in (length set.resources)) (job_of w.jobs j).script m no_segment lawful.resources r.within) r.asks
 
+-- A lawful job's task is a user of what the job requests.
 pub open_user : (set : SetDef) (w : Trace) (t j m q : ℕ) → IsLawfulJob set (job_of w.jobs j) → phase_of w t j ≡ Asking m q → is_user set q (job_of w.jobs j).task ≡ true
 open_user set w t j m q lawful h =
     let r : RequestAt (job_of w.jobs j).script m q = open_segment w t j m q h in

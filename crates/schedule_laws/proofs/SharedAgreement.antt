@@ -11,9 +11,8 @@ use Rattle.schedule_model.specs.Activity.{task_of, processor_of, is_requester, i
 use Rattle.schedule_model.specs.SharedRules.{Ranks, KeepsRun, KeepsKeep, KeepsGrant, KeepsIdle, KeepsPriority}
 use Rattle.schedule_model.specs.Ranks.{boost_in, mpcp, fmlp_plus}
 use Rattle.schedule_model.specs.Protocols.{shared_rule}
-use Rattle.schedule_model.specs.Keeping.{KeepsRow}
 use Rattle.schedule_model.specs.Chosen.{IsSized, IsSharedChoice}
-use Rattle.schedule_laws.specs.Agreement.{AgreeBefore}
+use Rattle.schedule_laws.specs.Agreement.{AgreeBefore, RulesReadUpTo, ChoiceReadsUpTo}
 use Rattle.schedule_laws.proofs.Agreement.{listed_agree, task_agree, processor_agree, phase_agree, requester_agree, active_local_agree, issue_agree, held_before_agree, running_agree, holder_agree, ready_holder_agree, ready_agree}
 
 -- Does an order of grants and runs give the same numbers at tick t of both schedules?
@@ -21,10 +20,12 @@ pub record RanksAgree (o : Ranks) (v w : Trace) (t : ℕ) : Type 0 where
   pub grant : (j : ℕ) → o.grant v t j ≡ o.grant w t j
   pub run : (j : ℕ) → o.run v t j ≡ o.run w t j
 
+-- The order of FMLP+ agrees.
 pub fmlp_plus_agree : (v w : Trace) (n t : ℕ) → AgreeBefore v w n → t ≤ n → RanksAgree fmlp_plus v w t
 unfolding fmlp_plus
 fmlp_plus_agree v w n t a l = record { grant = λ j. issue_agree v w n t j a l; run = λ j. issue_agree v w n t j a l }
 
+-- Boosts agree.
 pub boost_agree : (v w : Trace) (n k : ℕ) (p : Phase) → AgreeBefore v w n → boost_in v k p ≡ boost_in w k p
 boost_agree v w n k p a = go p where
   go : (p : Phase) → boost_in v k p ≡ boost_in w k p
@@ -32,6 +33,7 @@ boost_agree v w n k p a = go p where
   go Finished = ap (λ (set : SetDef). length set.tasks) a.set
   go (Asking m q) = ap (λ (set : SetDef). unwrap_or (remote_ceiling_of set q k) (length set.tasks)) a.set
 
+-- The order of MPCP agrees.
 pub mpcp_agree : (v w : Trace) (n t : ℕ) → AgreeBefore v w n → t ≤ n → RanksAgree mpcp v w t
 unfolding mpcp
 mpcp_agree v w n t a l = record {
@@ -98,6 +100,7 @@ shared_row_agree o v w n t a l ranks rule.Grant h = grant_agree o v w n t a l ra
 shared_row_agree o v w n t a l ranks rule.Idle h = idle_agree v w n t a l h
 shared_row_agree o v w n t a l ranks rule.Priority h = priority_agree o v w n t a l ranks h
 
+-- The sizes of a row agree.
 pub sized_agree : (v w : Trace) (n t : ℕ) → AgreeBefore v w n → t < n → IsSized v.set (v.row t) → IsSized w.set (w.row t)
 sized_agree v w n t a l sized = record {
   processors = sym (ap (λ (row : RowDef). length row.running) (a.rows t l)) ∙ sized.processors ∙ ap (λ set. set.processors) a.set;
@@ -125,14 +128,15 @@ shared_choice_agree o v w n t a l ranks chosen = record {
       omega (arith, order, task_agree v w n r a, task_agree v w n i a)
 
 -- So under MPCP and FMLP+.
-pub mpcp_row_agree : (v w : Trace) (n t : ℕ) → AgreeBefore v w n → t < n → KeepsRow (shared_rule mpcp) v t → KeepsRow (shared_rule mpcp) w t
-mpcp_row_agree v w n t a l keeps r = shared_row_agree mpcp v w n t a l (mpcp_agree v w n t a (omega arith)) r (keeps r)
+pub mpcp_rules_read : RulesReadUpTo (shared_rule mpcp)
+mpcp_rules_read r v w n t a l h = shared_row_agree mpcp v w n t a l (mpcp_agree v w n t a (omega arith)) r h
 
-pub fmlp_plus_row_agree : (v w : Trace) (n t : ℕ) → AgreeBefore v w n → t < n → KeepsRow (shared_rule fmlp_plus) v t → KeepsRow (shared_rule fmlp_plus) w t
-fmlp_plus_row_agree v w n t a l keeps r = shared_row_agree fmlp_plus v w n t a l (fmlp_plus_agree v w n t a (omega arith)) r (keeps r)
+pub fmlp_plus_rules_read : RulesReadUpTo (shared_rule fmlp_plus)
+fmlp_plus_rules_read r v w n t a l h = shared_row_agree fmlp_plus v w n t a l (fmlp_plus_agree v w n t a (omega arith)) r h
 
-pub mpcp_choice_agree : (v w : Trace) (n t : ℕ) → AgreeBefore v w n → t < n → IsSharedChoice mpcp v t → IsSharedChoice mpcp w t
-mpcp_choice_agree v w n t a l chosen = shared_choice_agree mpcp v w n t a l (mpcp_agree v w n t a (omega arith)) chosen
+-- And so the chosen row.
+pub mpcp_choice_reads : ChoiceReadsUpTo (IsSharedChoice mpcp)
+mpcp_choice_reads v w n t a l chosen = shared_choice_agree mpcp v w n t a l (mpcp_agree v w n t a (omega arith)) chosen
 
-pub fmlp_plus_choice_agree : (v w : Trace) (n t : ℕ) → AgreeBefore v w n → t < n → IsSharedChoice fmlp_plus v t → IsSharedChoice fmlp_plus w t
-fmlp_plus_choice_agree v w n t a l chosen = shared_choice_agree fmlp_plus v w n t a l (fmlp_plus_agree v w n t a (omega arith)) chosen
+pub fmlp_plus_choice_reads : ChoiceReadsUpTo (IsSharedChoice fmlp_plus)
+fmlp_plus_choice_reads v w n t a l chosen = shared_choice_agree fmlp_plus v w n t a l (fmlp_plus_agree v w n t a (omega arith)) chosen

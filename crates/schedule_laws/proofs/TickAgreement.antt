@@ -6,7 +6,7 @@ use Rattle.schedule_model.specs.RowDef.{Trace, running_on, runs_in}
 use Rattle.schedule_model.specs.Phase.{is_local, phase_of}
 use Rattle.schedule_model.specs.Activity.{task_of, processor_of}
 use Rattle.schedule_model.specs.BlockedTicks.{is_executing, is_delayed, runs_higher, runs_higher_local, is_shared_interference, is_dpcp_interference, is_blocked}
-use Rattle.schedule_laws.specs.Agreement.{AgreeBefore}
+use Rattle.schedule_laws.specs.Agreement.{AgreeBefore, TicksReadUpTo}
 use Rattle.schedule_laws.proofs.Agreement.{task_agree, processor_agree, phase_agree, active_agree, running_agree}
 
 pub runs_in_agree : (v w : Trace) (n t j : ℕ) → AgreeBefore v w n → t < n → runs_in (v.row t) j ≡ runs_in (w.row t) j
@@ -62,3 +62,6 @@ pub blocked_agree : (interferes : Trace → ℕ → ℕ → Bool) (v w : Trace) 
     → is_blocked interferes v t j ≡ is_blocked interferes w t j
 unfolding is_blocked
 blocked_agree interferes v w n t j a l same = rw (delayed_agree v w n t j a l, same) refl
+
+pub blocked_reads : (interferes : Trace → ℕ → ℕ → Bool) → TicksReadUpTo interferes → TicksReadUpTo (is_blocked interferes)
+blocked_reads interferes reads v w n t j a l = blocked_agree interferes v w n t j a l (reads v w n t j a l)

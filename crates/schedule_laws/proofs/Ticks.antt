@@ -18,20 +18,25 @@ pub executed_none : (w : Trace) (j : ℕ) → executed w 0 j ≡ 0
 unfolding executed
 executed_none w j = refl
 
+-- From one tick to the next.
 pub executed_next : (w : Trace) (t j : ℕ) → executed w (suc t) j ≡ executed w t j + flag (runs_in (w.row t) j)
 unfolding executed
 executed_next w t j = refl
 
+-- They rise by one where the job runs.
 pub executed_runs : (w : Trace) (t j : ℕ) → runs_in (w.row t) j ≡ true → executed w (suc t) j ≡ suc (executed w t j)
 executed_runs w t j h = let one : flag (runs_in (w.row t) j) ≡ 1 = flag-of_true _ h in omega (arith, executed_next w t j)
 
+-- They stay where it doesn't.
 pub executed_waits : (w : Trace) (t j : ℕ) → runs_in (w.row t) j ≡ false → executed w (suc t) j ≡ executed w t j
 executed_waits w t j h = let none : flag (runs_in (w.row t) j) ≡ 0 = flag-of_false _ h in omega (arith, executed_next w t j)
 
+-- They never fall.
 pub executed_up : (w : Trace) (u t j : ℕ) → u ≤ t → executed w u j ≤ executed w t j
 unfolding executed
 executed_up w u t j h = count_below-longer u t (λ k. runs_in (w.row k) j) h
 
+-- They are at most the ticks so far.
 pub executed_at_most : (w : Trace) (t j : ℕ) → executed w t j ≤ t
 unfolding executed
 executed_at_most w t j = count_below-at_most t (λ k. runs_in (w.row k) j)
@@ -70,6 +75,7 @@ pub phase_at : (w : Trace) (t j : ℕ) → phase_of w t j ≡ phase_from 0 (job_
 unfolding phase_of
 phase_at w t j = refl
 
+-- At two ticks with as many executed ticks it is the same.
 pub phase_same : (w : Trace) (u t j : ℕ) → executed w u j ≡ executed w t j → phase_of w u j ≡ phase_of w t j
 unfolding phase_of
 phase_same w u t j h = ap (phase_from 0 (job_of w.jobs j).script) h
@@ -78,11 +84,13 @@ phase_same w u t j h = ap (phase_from 0 (job_of w.jobs j).script) h
 pub phase_waits : (w : Trace) (t j : ℕ) → runs_in (w.row t) j ≡ false → phase_of w (suc t) j ≡ phase_of w t j
 phase_waits w t j h = phase_same w (suc t) t j (executed_waits w t j h)
 
+-- A phase that passes for Finished is it.
 pub finished_true : (p : Phase) → is_finished p ≡ true → p ≡ Finished
 finished_true Finished h = refl
 finished_true Local h = absurd (cc)
 finished_true (Asking n q) h = absurd (cc)
 
+-- A phase that passes for Local is Local.
 pub local_true : (p : Phase) → is_local p ≡ true → p ≡ Local
 local_true Local h = refl
 local_true Finished h = absurd (cc)
@@ -94,6 +102,7 @@ asking_true q (Asking n r) h = let e : r ≡ q = eqb-true r q h in (n, ap (Askin
 asking_true q Local h = absurd (cc)
 asking_true q Finished h = absurd (cc)
 
+-- A request of q passes for one.
 pub asking_is : (m q : ℕ) (p : Phase) → p ≡ Asking m q → is_asking q p ≡ true
 asking_is m q p e = rw e (eq-eqb q q refl)
 
@@ -103,6 +112,7 @@ same_true (Asking n r) m q h = let e : n ≡ m = eqb-true n m h in (r, ap (λ k.
 same_true Local m q h = absurd (cc)
 same_true Finished m q h = absurd (cc)
 
+-- Two phases of one number are of the same request.
 pub same_from : (p s : Phase) (m q r : ℕ) → p ≡ Asking m q → s ≡ Asking m r → is_same_request p s ≡ true
 same_from p s m q r a b = rw (a, b) (eq-eqb m m refl)
 
@@ -114,6 +124,7 @@ pub record SameRequest (p s : Phase) : Type 0 where
   pub one : p ≡ Asking number first
   pub two : s ≡ Asking number second
 
+-- Phases of the same request are both requests of one number.
 pub same_parts : (p s : Phase) → is_same_request p s ≡ true → SameRequest p s
 same_parts (Asking n q) (Asking m r) h = record { number = n; first = q; second = r; one = refl; two = ap (λ k. Asking k r) (sym (eqb-true n m h)) }
 same_parts (Asking n q) Local h = absurd (cc)
@@ -129,6 +140,7 @@ finished_stays w u t j l h =
     let up : executed w u j ≤ executed w t j = executed_up w u t j l in
     finished_from 0 (job_of w.jobs j).script (executed w t j) (omega arith)
 
+-- A job that isn't finished wasn't before.
 pub unfinished_before : (w : Trace) (u t j : ℕ) → u ≤ t → is_finished (phase_of w t j) ≡ false → is_finished (phase_of w u j) ≡ false
 unfinished_before w u t j l h = elim (cases_Bool (is_finished (phase_of w u j))) [
   | inl finished ↦
@@ -143,6 +155,7 @@ pub finished_at : (w : Trace) (t j : ℕ) → total_ticks (job_of w.jobs j).scri
 unfolding phase_of
 finished_at w t j h = finished_from 0 (job_of w.jobs j).script (executed w t j) h
 
+-- A finished job has executed its script's ticks.
 pub finished_executed : (w : Trace) (t j : ℕ) → phase_of w t j ≡ Finished → total_ticks (job_of w.jobs j).script ≤ executed w t j
 unfolding phase_of
 finished_executed w t j h = finished_total 0 (job_of w.jobs j).script (executed w t j) h
@@ -152,6 +165,7 @@ pub finished_past : (w : Trace) (t j : ℕ) → length w.jobs ≤ j → phase_of
 unfolding phase_of
 finished_past w t j h = let e : job_of w.jobs j ≡ no_job = get_or_past w.jobs j no_job h in rw e (phase_of_none 0 (executed w t j))
 
+-- A job that isn't finished is in the list.
 pub unfinished_listed : (w : Trace) (t j : ℕ) → is_finished (phase_of w t j) ≡ false → j < length w.jobs
 unfinished_listed w t j h = elim (cases_lt j (length w.jobs)) [
   | inl l ↦ l

@@ -1,10 +1,10 @@
 -- How many ticks does a job spend in which kind of phase, and how many requests has it begun?
-use Rattle.std.specs.Prelude.{ℕ, suc, ◌+◌, ◌-◌, ◌==◌, ◌&&◌, Bool, false, nat_lt, if◌then◌else◌, List, [], ◌∷◌, None, is_some, count_by}
+use Rattle.std.specs.Prelude.{◌≡◌, refl, ℕ, suc, ◌+◌, ◌-◌, ◌==◌, ◌&&◌, Bool, false, nat_lt, if◌then◌else◌, List, [], ◌∷◌, Some, None, is_some, count_by}
 use Rattle.bounded_sums.specs.Sums.{flag, only_if}
 use Rattle.bounded_sums.specs.Tests.{count_below}
 use Rattle.schedule_model.specs.JobDef.{SegmentDef, job_of, request_ticks, segment_ticks}
 use Rattle.schedule_model.specs.RowDef.{Trace, runs_in}
-use Rattle.schedule_model.specs.Phase.{Phase, asking, phase_of, executed}
+use Rattle.schedule_model.specs.Phase.{Phase, is_local, asking, phase_of, executed}
 use Rattle.schedule_model.specs.Phase.Phase.{Local, Asking}
 
 -- How many ticks of a script are in a phase that passes p, if the first of these segments is number n?
@@ -38,3 +38,16 @@ begun_after (s ∷ script) d =
 -- How many requests has job j begun at tick t?
 unfoldable pub requests_begun : Trace → ℕ → ℕ → ℕ
 requests_begun w t j = begun_after (job_of w.jobs j).script (executed w t j)
+
+-- A script of one local tick, a request of resource 4 for two ticks, and three local ticks.
+abbrev pub example : List SegmentDef
+example = record { local = 1; request = Some (4, 2) } ∷ record { local = 3; request = None } ∷ []
+
+pub example_local : ticks_where is_local 0 example ≡ 4
+example_local = refl
+
+pub example_request : ticks_where (is_request 0 4) 0 example ≡ 2
+example_request = refl
+
+pub example_begun : begun_after example 0 ∷ begun_after example 1 ∷ begun_after example 2 ∷ begun_after example 3 ∷ begun_after example 6 ∷ [] ≡ 0 ∷ 1 ∷ 1 ∷ 1 ∷ 1 ∷ []
+example_begun = refl

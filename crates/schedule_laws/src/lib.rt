@@ -20,7 +20,9 @@ pub use count_laws::{
     requests_begun_are_counted,
 };
 pub use measure_laws::{measures_are_kept, releases_are_spaced};
-pub use protocol_laws::{dpcp_keeps_its_laws, shared_memory_keeps_its_laws};
+pub use protocol_laws::{
+    chosen_rows_are_unique, dpcp_keeps_its_laws, shared_memory_keeps_its_laws,
+};
 pub use request_laws::{holders_stay, issue_ticks_are_first, requests_follow_local_ticks};
 pub use tick_laws::{
     executed_ticks_rise_by_one, jobs_finish_in_order, phases_move_forward,

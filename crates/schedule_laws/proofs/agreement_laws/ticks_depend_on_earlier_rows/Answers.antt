@@ -1,5 +1,4 @@
 use Rattle.schedule_laws.proofs.Agreement.{executed_agree, phase_agree, pending_agree, active_agree, requester_agree, issue_agree, held_before_agree, ready_agree}
-use Rattle.schedule_laws.proofs.TickAgreement.{executing_agree, shared_interference_agree, dpcp_interference_agree}
 use Rattle.schedule_laws.proofs.agreement_laws.ticks_depend_on_earlier_rows.Goals as goal
 
 pub returns-clause-executed : goal.returns-clause-executed
@@ -22,15 +21,6 @@ returns-clause-issue c = issue_agree
 
 pub returns-clause-held : goal.returns-clause-held
 returns-clause-held c = held_before_agree
-
-pub returns-clause-executing : goal.returns-clause-executing
-returns-clause-executing c = executing_agree
-
-pub returns-clause-shared_interference : goal.returns-clause-shared_interference
-returns-clause-shared_interference c = shared_interference_agree
-
-pub returns-clause-dpcp_interference : goal.returns-clause-dpcp_interference
-returns-clause-dpcp_interference c = dpcp_interference_agree
 
 pub returns-clause-ready : goal.returns-clause-ready
 returns-clause-ready c = ready_agree
