@@ -1,4 +1,4 @@
--- Fractions of lists, zero past the end, and the cells that an exchange leaves as they are.
+-- Fractions and rows of lists: what an index reads, and what is true of one element more.
 use Rattle.std.proofs.Common.{◌≡◌, inl, inr, ℕ, zero, suc, ◌<◌, ◌+◌, List, [], ◌∷◌, ◌++◌, length, slice_index_or, pos, sym, arith}
 use Rattle.std.proofs.lemmas.List.{get_or_read, get_or_default, get_or_at, get_or_append_left}
 use Rattle.std.proofs.lemmas.Bool.{cases_eq}

@@ -1,4 +1,7 @@
 //! The exact optimum of a blocking program, by exchanges of tables of fractions.
+//!
+//! `start` makes the first table, `choice` says which variable enters and which row leaves, `exchange` makes the next table, and
+//! `end` reads the answer off the last one. A row of a table is read by its places and cells alone.
 #![tactic(auto)]
 
 ghost use Rattle.std.specs.Prelude.{slice_index, IfOk};

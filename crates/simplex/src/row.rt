@@ -32,6 +32,7 @@ impl Model for Row {
 }
 
 impl Row {
+    // The row of these cells, the limit last.
     pub(crate) fn new(cells: Vec<Frac>) -> Row
         requires { HasForms (record { cells = cells.items }) }
         ensures { result ≡ record { cells = cells.items } }

@@ -178,13 +178,26 @@ fn wide_runs(rt: HostRuntime) -> Result<(), AllocError> {
     // The third exchange has a ratio of denominator 2^90.
     assert_eq!(rt; solve(alloc, &chained, 4).err(), Some(SolveStop::Wide));
     assert_eq!(rt; solve(alloc, &chained, 3).err(), Some(SolveStop::Units));
+    // The optimum is 2^64.
+    let steep = program_of(&rt, alloc, &[1 << 62], &[&[1]], &[4])?;
+    assert_eq!(rt; solve(alloc, &steep, 2).err(), Some(SolveStop::Wide));
+    assert_eq!(rt; solve(alloc, &steep, 1).err(), Some(SolveStop::Units));
+    // 2^62 less the product 2^63 would fit, but the product doesn't.
+    let crossed = program_of(
+        &rt,
+        alloc,
+        &[1, 1],
+        &[&[1, 2], &[1 << 62, 1 << 62]],
+        &[0, 5],
+    )?;
+    assert_eq!(rt; solve(alloc, &crossed, 2).err(), Some(SolveStop::Wide));
     // The duals 1/2^62 and 1/3 have no common denominator of 63 bits.
     let apart = program_of(&rt, alloc, &[1, 1], &[&[1 << 62, 0], &[0, 3]], &[0, 0])?;
     assert_eq!(rt; solve(alloc, &apart, 3).err(), Some(SolveStop::Wide));
     assert_eq!(rt; solve(alloc, &apart, 2).err(), Some(SolveStop::Units));
     // The duals 1/4 and 2^62 are 1 and 2^64 over 4.
-    let steep = program_of(&rt, alloc, &[1, 1 << 62], &[&[4, 0], &[0, 1]], &[0, 0])?;
-    assert_eq!(rt; solve(alloc, &steep, 3).err(), Some(SolveStop::Wide));
+    let uneven = program_of(&rt, alloc, &[1, 1 << 62], &[&[4, 0], &[0, 1]], &[0, 0])?;
+    assert_eq!(rt; solve(alloc, &uneven, 3).err(), Some(SolveStop::Wide));
     Ok(())
 }
 
