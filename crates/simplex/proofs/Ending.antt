@@ -1,0 +1,61 @@
+-- What is read off the last table, and the first table's parts.
+use Rattle.std.proofs.Common.{◌≡◌, inl, inr, ℕ, ◌<◌, ◌+◌, List, [], ◌∷◌, ◌++◌, length, Err, pos, refl, sym, ◌∙◌, ap, arith, set, slice_index_or, get_or-set_same, get_or-set_other}
+use Rattle.std.proofs.lemmas.Bool.{cases_eq, cases_lt}
+use Rattle.std.proofs.lemmas.List.{get_or_past, get_or_at, get_or_append_left}
+use Rattle.fraction128.specs.Fraction.{Fraction, IsForm, whole}
+use Rattle.fraction128.specs.Scaling.{fraction_at}
+use Rattle.fraction128.proofs.Forms.{form_of_whole}
+use Rattle.program_form.specs.Program.{ProgramDef, IsProgram, columns}
+use Rattle.exchange_runs.specs.Table.{Table, variables, first_entries, first_limit, first_number, slack}
+use Rattle.exchange_runs.specs.Readings.{IsValueOf}
+use Rattle.exchange_runs.proofs.FirstTable.{first_of-past}
+use Rattle.exchange_runs.proofs.Loops.{value_here, value_more}
+use Rattle.exchange_runs.proofs.Once.{first_number_small}
+use Rattle.simplex.specs.Rows.{RowDef, cell_at, no_row}
+use Rattle.simplex.specs.Tables.{row_of, table_of}
+use Rattle.simplex.specs.Starts.{IsFirstRow}
+use Rattle.simplex.proofs.Cells.{row_read}
+use Rattle.simplex.specs.Ends.{WritesDual, Finishes}
+use Rattle.simplex.specs.declared.SolveStop.{SolveStop}
+use Rattle.simplex.specs.declared.SolveStop.TheVariants.{Memory, Wide, Units}
+
+pub finish_stop : (stop : SolveStop) (p : ProgramDef) (t : Table) (k : ℕ) → WritesDual (Err stop) p t → Finishes (Err stop) p t k
+finish_stop Memory p t k h = tt
+finish_stop Wide p t k h = h
+finish_stop Units p t k h = h
+
+-- past the places a row of the first table is zero, as its list of cells is
+pub numbers_all : (p : ProgramDef) (i : ℕ) (cells : List Fraction) → length cells ≡ variables p + 1
+    → ((v : ℕ) → v < variables p + 1 → fraction_at cells v ≡ whole (pos (first_number p i v))) → (v : ℕ) → fraction_at cells v ≡ whole (pos (first_number p i v))
+numbers_all p i cells len h v = elim (cases_lt v (variables p + 1)) [
+  | inl within ↦ h v within
+  | inr past ↦ get_or_past cells v (whole (pos 0)) (omega arith)
+      ∙ sym (rw (first_of-past (columns p) (first_entries p i) (slack p i) (variables p) (first_limit p i) v (omega arith) (omega arith)) refl)
+]
+
+pub first_forms : (p : ProgramDef) (i : ℕ) (cells : List Fraction) → IsProgram p → ((v : ℕ) → fraction_at cells v ≡ whole (pos (first_number p i v)))
+    → (v : ℕ) → IsForm (fraction_at cells v)
+first_forms p i cells accepted h v = rw (h v) (form_of_whole (first_number p i v) (first_number_small p i v accepted))
+
+pub rows_more : (p : ProgramDef) (rows : List RowDef) (row : RowDef) (n : ℕ) → length rows ≡ n → ((i : ℕ) → i < n → IsFirstRow p i (row_of rows i))
+    → IsFirstRow p n row → (i : ℕ) → i < n + 1 → IsFirstRow p i (row_of (rows ++ row ∷ []) i)
+rows_more p rows row n len h here i l = elim (cases_eq i n) [
+  | inl at ↦ rw (at, get_or_at rows row [] no_row n len) here
+  | inr other ↦ let within : i < length rows = omega arith in rw (get_or_append_left rows (row ∷ []) no_row i within) (h i (omega arith))
+]
+
+-- a limit written at its column
+pub value_written : (place : ℕ) (t : Table) (k column v : ℕ) (values : List Fraction) (f : Fraction) → column < length values → t.basic k ≡ column → f ≡ t.cell k place
+    → v < length values → ((c : ℕ) → c < length values → IsValueOf place t k c (fraction_at values c))
+    → IsValueOf place t (k + 1) v (fraction_at (set values column f) v)
+value_written place t k column v values f within own is l h = elim (cases_eq v column) [
+  | inl here ↦ rw (here, get_or-set_same values column f (whole (pos 0)) within, is) (value_here place t k column own)
+  | inr other ↦
+      rw (get_or-set_other values column v f (whole (pos 0)) other)
+      (value_more place t k v (fraction_at values v) (λ q. other (sym q ∙ own)) (h v l))
+]
+
+-- the objective row that was read is the table's
+pub objective_read : (rows : List RowDef) (basis : List ℕ) (h i : ℕ) (row : RowDef) → i ≡ h → i < length rows → row ≡ slice_index_or rows i row
+    → (v : ℕ) → (table_of rows basis).cell h v ≡ cell_at row v
+objective_read rows basis h i row at l is v = rw (← at) (ap (λ (r : RowDef). cell_at r v) (row_read rows i row l is))

@@ -1,0 +1,38 @@
+-- The least ratio of the rows so far, and one row more.
+use Rattle.std.proofs.Common.{◌≡◌, inl, inr, ℕ, ◌≤◌, ◌+◌, ℤ, pos, ◌≤ℤ◌, ◌<ℤ◌, Option, Some, None, subst, arith}
+use Rattle.std.proofs.lemmas.Int.{ints}
+use Rattle.std.proofs.lemmas.Bool.{cases_eq}
+use Rattle.fraction128.specs.Fraction.{Fraction, IsForm, IsAtMost, IsBelow, IsQuotient}
+use Rattle.exchange_runs.specs.Table.{Table}
+use Rattle.exchange_runs.specs.Exchange.{HasRatio, IsRatio}
+use Rattle.exchange_runs.proofs.Loops.{least_skip}
+use Rattle.simplex.specs.Choice.{IsLeastSoFar}
+
+lt-le : (a b : ℤ) → a <ℤ b → a ≤ℤ b
+lt-le a b h = omega (arith, ints)
+
+lt-not_le : (a b : ℤ) → a <ℤ b → b ≤ℤ a → ⊥
+lt-not_le a b h k = omega (arith, ints)
+
+-- the lesser ratio comes first, whatever the basic variables are
+pub below_comes : (g f : Fraction) (j i : ℕ) → IsBelow g f → IsAtMost g f × (IsAtMost f g → j ≤ i)
+below_comes g f j i h = (record { le = lt-le _ _ h.lt }, λ k. absurd (lt-not_le _ _ h.lt k.le))
+
+-- a row that has no ratio changes nothing
+pub no_more : (place : ℕ) (t : Table) (e i : ℕ) (best : Option (ℕ × Fraction)) → IsLeastSoFar place t e i best → (HasRatio t e i → ⊥)
+    → IsLeastSoFar place t e (i + 1) best
+no_more place t e i None so_far not = λ k l above. elim (cases_eq k i) [
+  | inl here ↦ not (subst (λ (n : ℕ). HasRatio t e n) here above)
+  | inr other ↦ so_far k (omega arith) above
+]
+no_more place t e i (Some best) so_far not = least_skip place t e i best.0 best.1 so_far not
+
+-- a ratio, and that there is one, at the cells that were read
+pub ratio_read : (place : ℕ) (t : Table) (e i : ℕ) (a b f : Fraction) → a ≡ t.cell i place → b ≡ t.cell i e → IsForm f → IsQuotient a b f → IsRatio place t e i f
+ratio_read place t e i a b f p q form h = record {
+  form = form;
+  quotient = subst (λ (y : Fraction). IsQuotient (t.cell i place) y f) q (subst (λ (x : Fraction). IsQuotient x b f) p h);
+}
+
+pub has_read : (t : Table) (e i : ℕ) (b : Fraction) → b ≡ t.cell i e → pos 0 <ℤ b.num → HasRatio t e i
+has_read t e i b q h = record { above = subst (λ (y : Fraction). pos 0 <ℤ y.num) q h }

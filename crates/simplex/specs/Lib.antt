@@ -1,0 +1,10 @@
+pub mod Rows
+pub mod RowView
+pub mod Tables
+pub mod CellSteps
+pub mod RowSteps
+pub mod Choice
+pub mod Exchanges
+pub mod Starts
+pub mod Ends
+pub mod Solves

@@ -1,0 +1,34 @@
+-- What the steps of an exchange answer at a row.
+use Rattle.std.specs.Prelude.{◌≡◌, ℕ, Result, Ok, Err}
+use Rattle.fraction128.specs.Fraction.{Fraction, IsForm, IsQuotient}
+use Rattle.fraction128.specs.Gives.{HasNoForm}
+use Rattle.exchange_runs.specs.Exchange.{IsLess}
+use Rattle.exchange_runs.specs.WideExchange.{IsWideLess}
+use Rattle.simplex.specs.Rows.{RowDef, places, cell_at}
+use Rattle.simplex.specs.declared.SolveStop.{SolveStop}
+use Rattle.simplex.specs.declared.SolveStop.TheVariants.{Memory, Wide, Units}
+
+-- Is `divided` the row with each cell divided?
+pub record IsDividedRow (row : RowDef) (by : Fraction) (divided : RowDef) : Type 0 where
+  pub as_many : places divided ≡ places row
+  pub form : (v : ℕ) → IsForm (cell_at divided v)
+  pub quotient : (v : ℕ) → IsQuotient (cell_at row v) by (cell_at divided v)
+
+-- The row divided, or Wide exactly where a quotient has no form.
+abbrev pub DividesRow : Result RowDef SolveStop → RowDef → Fraction → Type 0
+DividesRow (Ok divided) row by = IsDividedRow row by divided
+DividesRow (Err Memory) row by = Unit {0}
+DividesRow (Err Wide) row by = (v : ℕ) × HasNoForm (IsQuotient (cell_at row v) by)
+DividesRow (Err Units) row by = ⊥
+
+-- Is `less` the row less f times the pivot row?
+pub record IsLessRow (row : RowDef) (f : Fraction) (pivot less : RowDef) : Type 0 where
+  pub as_many : places less ≡ places row
+  pub each : (v : ℕ) → IsLess (cell_at row v) f (cell_at pivot v) (cell_at less v)
+
+-- f times the pivot row taken away, or Wide exactly where a product or a difference has no form.
+abbrev pub TakesRow : Result RowDef SolveStop → RowDef → Fraction → RowDef → Type 0
+TakesRow (Ok less) row f pivot = IsLessRow row f pivot less
+TakesRow (Err Memory) row f pivot = Unit {0}
+TakesRow (Err Wide) row f pivot = (v : ℕ) × IsWideLess (cell_at row v) f (cell_at pivot v)
+TakesRow (Err Units) row f pivot = ⊥

@@ -1,0 +1,22 @@
+-- The parts of the first table, as lists.
+use Rattle.std.specs.Prelude.{◌≡◌, ℕ, ◌+◌, ◌<◌, List, length, slice_index, pos}
+use Rattle.fraction128.specs.Fraction.{whole}
+use Rattle.program_form.specs.Program.{ProgramDef, height}
+use Rattle.exchange_runs.specs.Table.{variables, slack, first_number}
+use Rattle.simplex.specs.Rows.{RowDef, Fits, cell_at}
+use Rattle.simplex.specs.Tables.{row_of}
+
+-- Is it row i of the first table of p?
+pub record IsFirstRow (p : ProgramDef) (i : ℕ) (row : RowDef) : Type 0 where
+  pub fits : Fits (variables p) row
+  pub numbers : (v : ℕ) → cell_at row v ≡ whole (pos (first_number p i v))
+
+-- Are these the rows of the first table, with the objective row last?
+pub record AreFirstRows (p : ProgramDef) (rows : List RowDef) : Type 0 where
+  pub row_each : length rows ≡ height p + 1
+  pub first : (i : ℕ) → i < height p + 1 → IsFirstRow p i (row_of rows i)
+
+-- Are these the slacks of the rows?
+pub record IsFirstBasis (p : ProgramDef) (basis : List ℕ) : Type 0 where
+  pub basic_each : length basis ≡ height p
+  pub slacks : (i : ℕ) → i < height p → slice_index basis i ≡ slack p i

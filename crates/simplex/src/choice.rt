@@ -1,0 +1,104 @@
+//! Which variable enters the basis, and which row leaves it.
+
+ghost use Rattle.std.specs.Prelude.{◌≡◌, ℕ, ◌+◌, ◌<◌, ◌≤◌, List, length, slice_index, IfSome};
+ghost use Rattle.program_form.specs.Program.{height};
+ghost use Rattle.exchange_runs.specs.Table.{Table, variables};
+ghost use Rattle.exchange_runs.specs.Exchange.{HasRatio, IsRatio, IsLeastOf};
+ghost use Rattle.simplex.specs.Rows.{places, Fits};
+ghost use Rattle.simplex.specs.Tables.{row_of, table_of};
+ghost use Rattle.simplex.specs.Choice.{IsFirstAbove, Enters, Comes, IsLeastSoFar, Leaves};
+
+use crate::row::Row;
+use fraction128::{Frac, Wide};
+use program_form::Program;
+use std::cmp::Ordering;
+
+// The least variable whose objective cell is above 0.
+pub(crate) fn entering(program: &Program, rows: &[Row]) -> Option<usize>
+    requires rows { length rows.now ≡ height program.now + 1 }
+    requires fits { Fits (variables program.now) (row_of rows.now (height program.now)) }
+    ensures { (basis : List ℕ) → Enters result program.now (table_of rows.now basis) }
+{
+    let objective = program.rows() as usize;
+    let variables = program.columns() as usize + objective;
+    first_above(&rows[objective], variables)
+}
+
+// The first of the variables whose cell is above 0.
+fn first_above(objective: &Row, variables: usize) -> Option<usize>
+    requires { variables ≤ places objective.now }
+    ensures { IsFirstAbove result variables objective.now }
+{
+    for v in 0..variables {
+        if objective.cell(v).is_above_zero() {
+            return Some(v);
+        }
+    }
+    None
+}
+
+// Whether the ratio g of a row whose basic variable is j comes before the ratio f of one whose basic variable is i.
+fn comes_before(g: Frac, f: Frac, j: usize, i: usize) -> bool
+    ensures { Comes result g f j i }
+{
+    match g.cmp(f) {
+        Ordering::Less => true,
+        Ordering::Equal => j < i,
+        Ordering::Greater => false,
+    }
+}
+
+// The row of the least ratio so far, or the next row.
+fn better(r: usize, least: Frac, i: usize, ratio: Frac, basis: &[usize]) -> (usize, Frac)
+    requires earlier { r < i }
+    requires within { i < length basis.now }
+    ensures { (t : Table) (place e : ℕ) → ((k : ℕ) → t.basic k ≡ slice_index basis.now k)
+        → IsLeastOf place t e i r least → HasRatio t e i → IsRatio place t e i ratio
+        → IsLeastOf place t e (i + 1) result.0 result.1 }
+{
+    if comes_before(ratio, least, basis[i], basis[r]) {
+        (i, ratio)
+    } else {
+        (r, least)
+    }
+}
+
+// The same, where there may be no row so far.
+fn chosen(best: Option<(usize, Frac)>, i: usize, ratio: Frac, basis: &[usize]) -> (usize, Frac)
+    requires within { i < length basis.now }
+    requires earlier { IfSome best (λ b. b.0 < i) }
+    ensures { (t : Table) (place e : ℕ) → ((k : ℕ) → t.basic k ≡ slice_index basis.now k)
+        → IsLeastSoFar place t e i best → HasRatio t e i → IsRatio place t e i ratio
+        → IsLeastOf place t e (i + 1) result.0 result.1 }
+{
+    match best {
+        Some((r, least)) => better(r, least, i, ratio, basis),
+        None => (i, ratio),
+    }
+}
+
+// The row that leaves where the variable e enters, with its ratio. The limits stand at `place`.
+pub(crate) fn leaving(
+    rows: &[Row],
+    basis: &[usize],
+    e: usize,
+    place: usize,
+) -> Result<Option<(usize, Frac)>, Wide>
+    requires rows { length basis.now ≤ length rows.now }
+    requires fits { (i : ℕ) → i < length rows.now → Fits place (row_of rows.now i) }
+    requires within { e < place }
+    ensures { Leaves result place (table_of rows.now basis.now) e (length basis.now) }
+{
+    let mut best = None;
+    for i in 0..basis.len() {
+        let cell = rows[i].cell(e);
+        if cell.is_above_zero() {
+            let ratio = match rows[i].cell(place).div(cell) {
+                Ok(ratio) => ratio,
+                Err(Wide) => return Err(Wide),
+            };
+            best = Some(chosen(best, i, ratio, basis));
+        }
+    }
+    Ok(best)
+}

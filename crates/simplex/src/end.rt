@@ -1,0 +1,125 @@
+//! What is read off the last table.
+
+ghost use Rattle.std.specs.Prelude.{◌≡◌, ℕ, ◌+◌, ◌-◌, ◌<◌, ◌≤◌, pos, ◌≤ℤ◌, length, IfOk};
+ghost use Rattle.fraction128.specs.Fraction.{whole};
+ghost use Rattle.fraction128.specs.Scaling.{fraction_at};
+ghost use Rattle.program_form.specs.Program.{columns, height};
+ghost use Rattle.exchange_runs.specs.Table.{Table, variables};
+ghost use Rattle.exchange_runs.specs.Exchange.{IsLast};
+ghost use Rattle.exchange_runs.specs.Readings.{IsPrimal, IsValueOf};
+ghost use Rattle.simplex.specs.Rows.{Fits, places, cell_at};
+ghost use Rattle.simplex.specs.Tables.{row_of, table_of, HasSize};
+ghost use Rattle.simplex.specs.Ends.{AreMinus, WritesDual, Finishes};
+
+use crate::row::Row;
+use crate::{SolveStop, Solved};
+use fraction128::{Frac, Scaled, ScalingError, scale};
+use program_form::{Dual, Program};
+use std::alloc::{AllocError, Global};
+
+// Minus the cells of a row, from one place up to another.
+fn minus_cells(alloc: Global, row: &Row, first: usize, last: usize) -> Result<Vec<Frac>, AllocError>
+    requires order { first ≤ last }
+    requires within { last ≤ places row.now }
+    ensures { IfOk result (λ list. AreMinus row.now first (last - first) list.items) }
+{
+    let mut list = Vec::new(alloc);
+    for v in first..last {
+        list.push(row.cell(v).neg())?;
+    }
+    Ok(list)
+}
+
+// The dual that is written for the objective row of a last table.
+fn dual_of(alloc: Global, program: &Program, row: &Row) -> Result<Dual, SolveStop>
+    requires fits { Fits (variables program.now) row.now }
+    requires last { (v : ℕ) → v < variables program.now → (cell_at row.now v).num ≤ℤ pos 0 }
+    ensures { (t : Table) → ((v : ℕ) → t.cell (height program.now) v ≡ cell_at row.now v) → WritesDual result program.now t }
+{
+    let columns = program.columns() as usize;
+    let variables = columns + program.rows() as usize;
+    let duals = match minus_cells(alloc, row, columns, variables) {
+        Ok(duals) => duals,
+        Err(AllocError) => return Err(SolveStop::Memory),
+    };
+    match scale(alloc, &duals) {
+        Ok(Scaled { den, num }) => Ok(Dual { den, num }),
+        Err(ScalingError::Memory) => Err(SolveStop::Memory),
+        Err(ScalingError::Wide) => Err(SolveStop::Wide),
+    }
+}
+
+// Zero for each column.
+fn zeros(alloc: Global, columns: usize) -> Result<Vec<Frac>, AllocError>
+    ensures len { IfOk result (λ v. length v.items ≡ columns) }
+    ensures zero { IfOk result (λ v. (c : ℕ) → fraction_at v.items c ≡ whole (pos 0)) }
+{
+    let mut list = Vec::new(alloc);
+    for _ in 0..columns {
+        list.push(Frac::whole(0))?;
+    }
+    Ok(list)
+}
+
+// Writes the limit of each row whose basic variable is a column at that column.
+fn write_limits(values: &mut [Frac], rows: &[Row], basis: &[usize], place: usize)
+    requires zero { (c : ℕ) → fraction_at values.old c ≡ whole (pos 0) }
+    requires rows { length basis.now ≤ length rows.now }
+    requires fits { (i : ℕ) → i < length rows.now → Fits place (row_of rows.now i) }
+    ensures { (c : ℕ) → c < length values.new
+        → IsValueOf place (table_of rows.now basis.now) (length basis.now) c (fraction_at values.new c) }
+{
+    for i in 0..basis.len() {
+        let column = basis[i];
+        if column < values.len() {
+            values[column] = rows[i].cell(place);
+        }
+    }
+}
+
+// The value of each column.
+fn primal_of(
+    alloc: Global,
+    program: &Program,
+    rows: &[Row],
+    basis: &[usize],
+) -> Result<Vec<Frac>, AllocError>
+    requires size { HasSize program.now rows.now basis.now }
+    ensures { IfOk result (λ v. IsPrimal program.now (table_of rows.now basis.now) v.items) }
+{
+    let columns = program.columns() as usize;
+    let variables = columns + program.rows() as usize;
+    let mut values = zeros(alloc, columns)?;
+    write_limits(&mut values, rows, basis, variables);
+    Ok(values)
+}
+
+// The answer at the last table of a run.
+pub(crate) fn finish(
+    alloc: Global,
+    program: &Program,
+    rows: &[Row],
+    basis: &[usize],
+    exchanges: u64,
+) -> Result<Solved, SolveStop>
+    requires size { HasSize program.now rows.now basis.now }
+    requires last { IsLast program.now (table_of rows.now basis.now) }
+    ensures { Finishes result program.now (table_of rows.now basis.now) exchanges }
+{
+    let objective = program.rows() as usize;
+    let variables = program.columns() as usize + objective;
+    let value = rows[objective].cell(variables).neg();
+    let dual = match dual_of(alloc, program, &rows[objective]) {
+        Ok(dual) => dual,
+        Err(stop) => return Err(stop),
+    };
+    match primal_of(alloc, program, rows, basis) {
+        Ok(primal) => Ok(Solved {
+            value,
+            primal,
+            dual,
+            exchanges,
+        }),
+        Err(AllocError) => Err(SolveStop::Memory),
+    }
+}

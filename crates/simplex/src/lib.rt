@@ -1,0 +1,105 @@
+//! The exact optimum of a blocking program, by exchanges of tables of fractions.
+//!
+//! `start` makes the first table, `choice` says which variable enters and which row leaves, `exchange` makes the next table, and
+//! `end` reads the answer off the last one. A row of a table is read by its places and cells alone.
+#![tactic(auto)]
+
+ghost use Rattle.std.specs.Prelude.{slice_index, IfOk};
+ghost use Rattle.fraction128.specs.Scaling.{IsScaled};
+ghost use Rattle.program_form.specs.Certificate.{dual_seen};
+ghost use Rattle.program_form.specs.Points.{IsGreatestReached};
+ghost use Rattle.program_form.specs.Duals.{IsOptimalDual, dual_total, dual_value};
+ghost use Rattle.program_form.specs.Program.{IsProgram};
+ghost use Rattle.exchange_runs.specs.Feasible.{IsOptimumValue, IsPointWorth};
+ghost use Rattle.simplex.specs.Solves.{Solves, IsOnlyAnswer};
+
+use fraction128::Frac;
+use program_form::{Dual, Program};
+use std::alloc::{AllocError, Global};
+use thiserror::Error;
+
+mod choice;
+mod end;
+mod exchange;
+mod row;
+mod start;
+
+use choice::entering;
+use end::finish;
+use exchange::step;
+use start::{first_basis, first_rows};
+
+/// The end of an exchange run: the optimum, the point that attains it, and a dual that shows that none passes it.
+#[derive(Debug, Drop)]
+pub struct Solved {
+    /// The optimum.
+    pub value: Frac,
+    /// The value of each column at a best point.
+    pub primal: Vec<Frac>,
+    /// A best dual, over its least common denominator.
+    pub dual: Dual,
+    /// How many exchanges the run made.
+    pub exchanges: u64,
+}
+
+/// Why a program was not solved.
+#[derive(Clone, Copy, Debug, PartialEq, Eq, Error)]
+pub enum SolveStop {
+    /// There is no memory for the table.
+    #[error("there is no memory for the table")]
+    Memory,
+    /// The run is wide: a value of an exchange, or of the dual at the end, passes 2^63 - 1.
+    #[error("a value of the exchange run passes 2^63 - 1")]
+    Wide,
+    /// The run takes more units than it was given.
+    #[error("the exchange run takes more units than it was given")]
+    Units,
+}
+
+/// Solves a program by its exchange run. The run takes 1 unit, and 1 more for each exchange begun.
+///
+/// `Wide` comes exactly where the run is wide within the units, and `Units` exactly where it needs more of them. No program is
+/// unbounded, so there is no such answer.
+pub fn solve(alloc: Global, program: &Program, units: u64) -> Result<Solved, SolveStop>
+    ensures run { Solves result program.now units }
+    ensures only { IsOnlyAnswer result program.now units }
+    ensures optimum { IfOk result (λ s. IsOptimumValue program.now s.value) }
+    ensures primal { IfOk result (λ s. IsPointWorth program.now s.primal.items s.value) }
+    ensures dual { IfOk result (λ s. IsOptimalDual program.now (dual_seen s.dual)) }
+    ensures equal { IfOk result (λ s. IsScaled s.dual.den s.value (dual_total program.now (λ r. slice_index s.dual.num.items r))) }
+    ensures greatest { IfOk result (λ s. IsGreatestReached program.now (dual_value program.now s.dual.den (λ r. slice_index s.dual.num.items r))) }
+{
+    run(alloc, program, units)
+}
+
+// The exchange run, up to its end or its first stop.
+fn run(alloc: Global, program: &Program, units: u64) -> Result<Solved, SolveStop>
+    ensures outcome { Solves result program.now units }
+    ensures program { IsProgram program.now }
+{
+    let mut rows = match first_rows(alloc, program) {
+        Ok(rows) => rows,
+        Err(AllocError) => return Err(SolveStop::Memory),
+    };
+    let mut basis = match first_basis(alloc, program) {
+        Ok(basis) => basis,
+        Err(AllocError) => return Err(SolveStop::Memory),
+    };
+    for exchanges in 0..units {
+        let e = match entering(program, &rows) {
+            Some(e) => e,
+            None => return finish(alloc, program, &rows, &basis, exchanges),
+        };
+        if exchanges + 1 == units {
+            return Err(SolveStop::Units);
+        }
+        match step(alloc, program, &mut rows, &mut basis, e) {
+            Ok(()) => {}
+            Err(stop) => return Err(stop),
+        }
+    }
+    Err(SolveStop::Units)
+}
+
+#[cfg(test)]
+mod tests;
