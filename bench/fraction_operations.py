@@ -1,7 +1,7 @@
 #!/usr/bin/env python3
 """Times a million operations of each kind on `fraction128`'s fractions against i128 fractions in plain Rust with the same reduction.
 
-    python3 bench/fractions.py
+    python3 bench/fraction_operations.py
 
 It wants `rt` and `rustc` on the path. Both programs are made and built in a temporary directory, run one after the other on the same
 operands, and must come to the same checksums. It prints a line for each operation: nanoseconds with each, and their ratio.
