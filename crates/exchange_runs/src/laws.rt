@@ -67,6 +67,7 @@ pub fn no_program_is_unbounded()
     ensures { (p : ProgramDef) (k : ℕ) (t : Table) (e : ℕ)
         → IsProgram p → Reached p k t → e < variables p → (i : ℕ) × (i < height p) × HasRatio t e i }
 {}
+
 /// The run of a worked program of three columns and seven rows: four exchanges, each with the variable that enters, the one that
 /// leaves, the ratio and the value; then its value, primal and dual. It takes five units.
 pub fn seven_rows_take_four_exchanges()

@@ -9,5 +9,6 @@
 mod laws;
 
 pub use laws::{
-    a_run_gives_one_answer, a_run_has_one_course, no_program_is_unbounded, the_end_is_the_optimum,
+    a_run_gives_one_answer, a_run_has_one_course, no_program_is_unbounded,
+    seven_rows_take_four_exchanges, the_end_is_the_optimum,
 };

@@ -229,7 +229,7 @@ fn lists_are_scaled(rt: HostRuntime) {
             assert_eq!(rt; den, 12);
             assert_eq!(rt; num.as_slice(), [3, 10, 0].as_slice());
         }
-        Err(error) => assert_eq!(rt; error, ScalingError::Memory, "no scaling"),
+        Err(_) => assert!(rt; false, "no scaling"),
     }
 }
 
@@ -242,7 +242,7 @@ fn scaling_is_wide_past_the_limit(rt: HostRuntime) {
     let large = part(&rt, 1 << 62, 1);
     let quarter = part(&rt, 1, 4);
     match scale(rt.alloc(), &[large, quarter]) {
-        Ok(Scaled { den, num: _ }) => assert_eq!(rt; den, 0, "a scaling"),
+        Ok(_) => assert!(rt; false, "a scaling"),
         Err(error) => assert_eq!(rt; error, ScalingError::Wide),
     }
 }
