@@ -93,6 +93,21 @@ asking_from n (s ∷ script) d m q h = elim (cases_lt d (segment_ticks s)) [
   ]
 ]
 
+-- The numbers of requests rise with the executed ticks.
+pub asking_forward : (n : ℕ) (script : List SegmentDef) (d e m k q r : ℕ) → d ≤ e → phase_from n script d ≡ Asking m q → phase_from n script e ≡ Asking k r → m ≤ k
+asking_forward n [] d e m k q r l h g = let none : Finished ≡ Asking m q = sym (phase_of_none n d) ∙ h in absurd (cc)
+asking_forward n (s ∷ script) d e m k q r l h g = elim (cases_lt d (segment_ticks s)) [
+  | inr later ↦ asking_forward (suc n) script (d - segment_ticks s) (e - segment_ticks s) m k q r (omega arith)
+      (sym (phase_later n s script d later) ∙ h) (sym (phase_later n s script e (omega arith)) ∙ g)
+  | inl first ↦ elim (cases_lt d s.local) [
+    | inl local ↦ let none : Local ≡ Asking m q = sym (phase_local n s script d local) ∙ h in absurd (cc)
+    | inr request ↦
+        let here : m ≡ n = (asking_at n m q s.request (sym (phase_request n s script d request first) ∙ h)).0 in
+        let least : n ≤ k = asking_from n (s ∷ script) e k r g in
+        omega arith
+  ]
+]
+
 -- A request stays open between two ticks of it.
 pub asking_between : (n : ℕ) (script : List SegmentDef) (c e d m q r : ℕ) → phase_from n script c ≡ Asking m q → phase_from n script d ≡ Asking m r → c ≤ e → e ≤ d
     → phase_from n script e ≡ Asking m q

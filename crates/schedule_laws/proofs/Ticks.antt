@@ -11,7 +11,7 @@ use Rattle.schedule_model.specs.LawfulJobs.{is_segment, is_script}
 use Rattle.schedule_model.specs.Phase.{Phase, is_local, is_finished, is_asking, is_same_request, phase_from, executed, phase_of}
 use Rattle.schedule_model.specs.Phase.Phase.{Local, Asking, Finished}
 use Rattle.schedule_laws.specs.LocalRuns.{LocalRun}
-use Rattle.schedule_laws.proofs.Phases.{phase_of_none, finished_from, finished_total, asking_between, LocalTick, local_before}
+use Rattle.schedule_laws.proofs.Phases.{phase_of_none, finished_from, finished_total, asking_between, asking_forward, LocalTick, local_before}
 
 -- Executed ticks begin with none, rise by one where the job runs, and else stay.
 pub executed_none : (w : Trace) (j : ℕ) → executed w 0 j ≡ 0
@@ -131,6 +131,11 @@ same_parts (Asking n q) Local h = absurd (cc)
 same_parts (Asking n q) Finished h = absurd (cc)
 same_parts Local s h = absurd (cc)
 same_parts Finished s h = absurd (cc)
+
+-- The numbers of requests rise from tick to tick.
+pub requests_rise : (w : Trace) (u t j m n q r : ℕ) → phase_of w u j ≡ Asking m q → phase_of w t j ≡ Asking n r → u ≤ t → m ≤ n
+unfolding phase_of
+requests_rise w u t j m n q r h g l = asking_forward 0 (job_of w.jobs j).script (executed w u j) (executed w t j) m n q r (executed_up w u t j l) h g
 
 -- A finished job stays finished.
 pub finished_stays : (w : Trace) (u t j : ℕ) → u ≤ t → phase_of w u j ≡ Finished → phase_of w t j ≡ Finished

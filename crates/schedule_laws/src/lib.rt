@@ -21,7 +21,8 @@ pub use count_laws::{
 };
 pub use measure_laws::{measures_are_kept, releases_are_spaced};
 pub use protocol_laws::{
-    chosen_rows_are_unique, dpcp_keeps_its_laws, shared_memory_keeps_its_laws,
+    chosen_rows_are_unique, dpcp_keeps_its_laws, jobs_end_in_time, running_jobs_are_active,
+    shared_memory_keeps_its_laws,
 };
 pub use request_laws::{holders_stay, issue_ticks_are_first, requests_follow_local_ticks};
 pub use tick_laws::{

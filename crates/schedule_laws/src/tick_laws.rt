@@ -15,12 +15,13 @@ pub fn executed_ticks_rise_by_one()
 {}
 
 /// A phase moves forward: it stays where the job doesn't run, a finished job stays finished, a request that is open at
-/// two ticks is open at each between, and one number is a request of one resource.
+/// two ticks is open at each between, the numbers of requests rise, and one number is a request of one resource.
 pub fn phases_move_forward()
     ensures waits { (w : Trace) (t j : ℕ) → runs_in (w.row t) j ≡ false → phase_of w (t + 1) j ≡ phase_of w t j }
     ensures finished { (w : Trace) (u t j : ℕ) → u ≤ t → phase_of w u j ≡ Finished → phase_of w t j ≡ Finished }
     ensures between { (w : Trace) (u t v j m q r : ℕ) → phase_of w u j ≡ Asking m q → phase_of w v j ≡ Asking m r → u ≤ t → t ≤ v
         → phase_of w t j ≡ Asking m q }
+    ensures forward { (w : Trace) (u t j m n q r : ℕ) → phase_of w u j ≡ Asking m q → phase_of w t j ≡ Asking n r → u ≤ t → m ≤ n }
     ensures resource { (w : Trace) (u v j m q r : ℕ) → phase_of w u j ≡ Asking m q → phase_of w v j ≡ Asking m r → q ≡ r }
 {}
 

@@ -32,7 +32,7 @@ abbrev pub KeepsIdle : Trace → ℕ → Type 0
 KeepsIdle w t = (k : ℕ) → running_on (w.row t) k ≡ None
     → (i : ℕ) → i < length w.jobs → processor_of w i ≡ k → is_ready w t i ≡ false
 
--- Priority: where a processor has ready holders, it runs one that goes first among them; else it runs a job
+-- Priority: where a processor that runs a job has ready holders, it runs one that goes first among them; else it runs a job
 -- such that no active Local job there is of a higher task.
 pub record KeepsPriority (o : Ranks) (w : Trace) (t : ℕ) : Type 0 where
   pub holders : (k r : ℕ) → running_on (w.row t) k ≡ Some r

@@ -20,7 +20,7 @@ pub trait BlockingProtocol {
     ghost interferes: { Self → Trace → ℕ → ℕ → Bool };
 
     /// Each tick at which a job is active is exactly one of executing, interference and blocked.
-    ghost one_of_three: { (p : Self) (w : Trace) (t j : ℕ) → suits p w.set → KeepsRow (keeps p) w t → IsOneOfThree (interferes p) w t j };
+    ghost one_of_three: { (p : Self) (w : Trace) (t j : ℕ) → suits p w.set → IsOneOfThree (interferes p) w t j };
 
     /// In a row that keeps the rules each named job is in the list, each running job is active and stands
     /// in one column only, and interference comes from a higher task of the job's processor that runs there.

@@ -1,5 +1,5 @@
 use Rattle.std.proofs.Common.{add-one}
-use Rattle.schedule_laws.proofs.Ticks.{phase_waits, finished_stays, open_between, one_resource}
+use Rattle.schedule_laws.proofs.Ticks.{phase_waits, finished_stays, open_between, requests_rise, one_resource}
 use Rattle.schedule_laws.proofs.tick_laws.phases_move_forward.Goals as goal
 
 pub returns-clause-waits : goal.returns-clause-waits
@@ -10,6 +10,9 @@ returns-clause-finished c = finished_stays
 
 pub returns-clause-between : goal.returns-clause-between
 returns-clause-between c = open_between
+
+pub returns-clause-forward : goal.returns-clause-forward
+returns-clause-forward c = requests_rise
 
 pub returns-clause-resource : goal.returns-clause-resource
 returns-clause-resource c = one_resource
