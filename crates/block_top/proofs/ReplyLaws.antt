@@ -1,5 +1,5 @@
 -- What is replied is the outcome, or a read fault.
-use Rattle.std.proofs.Common.{◌≡◌, ◌≢◌, ℕ, ◌+◌, ◌≤◌, Bool, true, false, List, length, refl, sym, ◌∙◌, ap, subst, arith, inl, inr, ◌⊎◌, Ok, Err, Some, None, IfOk, map, ◌++◌}
+use Rattle.std.proofs.Common.{[], ◌≡◌, ◌≢◌, ℕ, ◌+◌, ◌≤◌, Bool, true, false, List, length, refl, sym, ◌∙◌, ap, subst, arith, inl, inr, ◌⊎◌, Ok, Err, Some, None, IfOk, map, ◌++◌}
 use Rattle.std.proofs.lemmas.Bool.{le-ltb, lt-ltb}
 use Rattle.std.specs.Prelude.{Option, Result, MatchOption, nat_lt, codes, decimal}
 use Rattle.std.specs.Bool.{MatchBool}
@@ -84,7 +84,7 @@ outcome_of done inputs name (Err fault.Memory) a read is = absurd is
 
 outcome_of_named : (done : SetDef → Answer → Type 0) (names : Option Inputs) (name : List ℕ) (r : Result SetDef InputFault) (a : Answer) → SaysIfTold names name r → Yields done r a
     → IsReadFault r ⊎ IsOutcomeOfNamed done names name a
-outcome_of_named done None name r a says yields = inr tt
+outcome_of_named done None name r a says yields = elim (outcome_of done says.0 name r a says.1 yields) [ inl f ↦ inl f | inr o ↦ inr (says.0, o) ]
 outcome_of_named done (Some inputs) name r a says yields = outcome_of done inputs name r a says yields
 
 made_of : (done : SetDef → Answer → Type 0) (r : Result SetDef InputFault) (a : Answer) → Yields done r a → IsReadFault r ⊎ IsMade done a
@@ -174,7 +174,8 @@ status_of_plain words form a is plain = record {
 
 told_of_named : (names : Option Inputs) (words : List (List ℕ)) (form : Form) (done : SetDef → Answer → Type 0) (name : List ℕ) (a : Answer) → form_of words ≡ Some form
     → ((inputs : Inputs) → IsOutcomeOfInput done (bytes_of inputs name) a → IsOutcomeOfForm inputs form a) → IsOutcomeOfNamed done names name a → IsOutcomeIfTold names words a
-told_of_named None words form done name a is fits out = tt
+told_of_named None words form done name a is fits out =
+    (out.0, subst (λ (o : Option Form). MatchOption o (a ≡ refused_words) (λ f. IsOutcomeOfForm out.0 f a)) (sym is) (fits out.0 out.1))
 told_of_named (Some inputs) words form done name a is fits out =
     subst (λ (o : Option Form). MatchOption o (a ≡ refused_words) (λ f. IsOutcomeOfForm inputs f a)) (sym is) (fits inputs out)
 
@@ -199,7 +200,7 @@ work_replied names words w name before now (Ok x) is yields = reply_of_work name
 work_replied names words w name before now (Err e) is yields = tt
 
 told_of_none : (names : Option Inputs) (words : List (List ℕ)) (a : Answer) → form_of words ≡ None → a ≡ refused_words → IsOutcomeIfTold names words a
-told_of_none None words a none is = tt
+told_of_none None words a none is = ([], subst (λ (o : Option Form). MatchOption o (a ≡ refused_words) (λ f. IsOutcomeOfForm [] f a)) (sym none) is)
 told_of_none (Some inputs) words a none is = subst (λ (o : Option Form). MatchOption o (a ≡ refused_words) (λ f. IsOutcomeOfForm inputs f a)) (sym none) is
 
 -- The reply to words that have none.

@@ -142,7 +142,7 @@ other_run : (call : Call) → (FailsToRead call ⊎ (FailsToWrite call ⊎ RanOu
 other_run call answers status cause = record {
   answers = inr answers;
   refused_words = λ two. absurd (apart 2 (λ e. absurd (omega (arith, e))) (λ e. absurd (omega (arith, e))) two);
-  no_form = λ none. elim status [ inl four ↦ inr (inl four) | inr ran ↦ inr (inr ran.0) ];
+  no_form = λ none. elim answers [ inl reads ↦ absurd (reads.2 none) | inr other ↦ inr other ];
   exactly = λ inputs b is outcome. inr status;
   never_wide = λ five. apart 5 (λ e. absurd (omega (arith, e))) (λ e. absurd (omega (arith, e))) five;
   complete = λ inputs form set premise. elim cause [
@@ -166,14 +166,14 @@ pub run_written : (call : Call) (a : Answer) → IsReply call.names call.words c
 run_written call a (inl (rose, is, form)) gives =
     let moved : Gives call read_fault = subst (λ (x : Answer). Gives call x) is gives in
     let four : call.status ≡ 4 = moved.0 in
-    other_run call (inl (rose, moved)) (inl four) (inl rose)
+    other_run call (inl (rose, moved, form)) (inl four) (inl rose)
 run_written call a (inr (has, out)) gives = outcome_run call a has out gives
 
 -- It did not.
 pub run_failed : (call : Call) (a : Answer) → IsReply call.names call.words call.shelf_before call.shelf_now a → call.status ≡ 4
     → AppendsPart call.written_before call.written_now a.text → Rose call.sink_before call.sink_now → IsRun call
 run_failed call a (inl (rose, is, form)) four part sink =
-    other_run call (inr (inl (record { intended = a; is = inl (rose, is); rose = sink; part = part; status = four }))) (inl four) (inr (inl sink))
+    other_run call (inr (inl (record { intended = a; is = inl (rose, is, form); rose = sink; part = part; status = four }))) (inl four) (inr (inl sink))
 run_failed call a (inr (has, out)) four part sink =
     other_run call (inr (inl (record { intended = a; is = inr out; rose = sink; part = part; status = four }))) (inl four) (inr (inl sink))
 

@@ -32,9 +32,9 @@ SaysOfInput inputs name (Err (fault.Refused r)) = HasRead inputs name (Err r)
 SaysOfInput inputs name (Err fault.Read) = Unit {0}
 SaysOfInput inputs name (Err fault.Memory) = Unit {0}
 
--- The same where the shelf tells its inputs.
+-- The same of the shelf's inputs where it tells them, and else of some inputs.
 abbrev pub SaysIfTold : Option Inputs → List ℕ → Result SetDef InputFault → Type 0
-SaysIfTold None name answer = Unit {0}
+SaysIfTold None name answer = (inputs : Inputs) × SaysOfInput inputs name answer
 SaysIfTold (Some inputs) name answer = SaysOfInput inputs name answer
 
 -- Is the answer that the input could not be read?

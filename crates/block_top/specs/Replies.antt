@@ -43,13 +43,13 @@ RepliesToFault (fault.Refused r) answer = answer ≡ refused_set (reason_text r)
 RepliesToFault fault.Read answer = answer ≡ read_fault
 RepliesToFault fault.Memory answer = ⊥
 
--- Is the answer a refusal of the set's input, or what `done` says of some accepted set?
+-- Is the answer a refusal of the set's input, or what `done` says of some set?
 abbrev pub IsMade : (SetDef → Answer → Type 0) → Answer → Type 0
 IsMade done answer = ((reason : List ℕ) × (answer ≡ refused_set reason)) ⊎ ((set : SetDef) × done set answer)
 
--- Is the answer the outcome of the input of this name, where the shelf tells its inputs?
+-- Is the answer the outcome of the input of this name, among the shelf's inputs where it tells them and else among some?
 abbrev pub IsOutcomeOfNamed : (SetDef → Answer → Type 0) → Option Inputs → List ℕ → Answer → Type 0
-IsOutcomeOfNamed done None name answer = Unit {0}
+IsOutcomeOfNamed done None name answer = (inputs : Inputs) × IsOutcomeOfInput done (bytes_of inputs name) answer
 IsOutcomeOfNamed done (Some inputs) name answer = IsOutcomeOfInput done (bytes_of inputs name) answer
 
 -- A reply about the set of this name: a read fault, for which the shelf's count of faults rose, or the outcome.
@@ -62,9 +62,9 @@ abbrev pub IsReplyToWork : Option Inputs → Work → List ℕ → ℕ → ℕ �
 IsReplyToWork names work.Analyse name before now answer = IsReplyOnSet IsAnalysis names name before now answer
 IsReplyToWork names (work.Report protocol) name before now answer = IsReplyOnSet (IsTable protocol) names name before now answer
 
--- Is the answer the outcome of the words, where the shelf tells its inputs?
+-- Is the answer the outcome of the words, with the shelf's inputs where it tells them and else with some?
 abbrev pub IsOutcomeIfTold : Option Inputs → List (List ℕ) → Answer → Type 0
-IsOutcomeIfTold None words answer = Unit {0}
+IsOutcomeIfTold None words answer = (inputs : Inputs) × IsOutcome inputs words answer
 IsOutcomeIfTold (Some inputs) words answer = IsOutcome inputs words answer
 
 -- The statuses of outcomes: that of refused words comes exactly where the words have no form, and none is that of

@@ -21,13 +21,13 @@ Gives call answer = (call.status ≡ answer.status) × Appends call.written_befo
 
 -- The set's input could not be read, for which the shelf's count of faults rose; the text that says so went out.
 abbrev pub FailsToRead : Call → Type 0
-FailsToRead call = Rose call.shelf_before call.shelf_now × Gives call read_fault
+FailsToRead call = Rose call.shelf_before call.shelf_now × Gives call read_fault × (form_of call.words ≢ None)
 
 -- A text was not written whole, for which the sink's count of faults rose. It is the outcome's, or that of a read
 -- fault, for which the shelf's count rose. A proper prefix of it went out.
 pub record FailsToWrite (call : Call) : Type 0 where
   pub intended : Answer
-  pub is : (Rose call.shelf_before call.shelf_now × (intended ≡ read_fault)) ⊎ IsOutcomeIfTold call.names call.words intended
+  pub is : (Rose call.shelf_before call.shelf_now × (intended ≡ read_fault) × (form_of call.words ≢ None)) ⊎ IsOutcomeIfTold call.names call.words intended
   pub rose : Rose call.sink_before call.sink_now
   pub part : AppendsPart call.written_before call.written_now intended.text
   pub status : call.status ≡ 4
@@ -73,7 +73,7 @@ pub record IsRun (call : Call) : Type 0 where
   pub answers : GivesOutcome call ⊎ (FailsToRead call ⊎ (FailsToWrite call ⊎ RanOut call))
   -- Status 2 comes exactly where the words have no form, except where a write fails or memory ran out.
   pub refused_words : call.status ≡ 2 → form_of call.words ≡ None
-  pub no_form : form_of call.words ≡ None → (call.status ≡ 2) ⊎ ((call.status ≡ 4) ⊎ (call.status ≡ 7))
+  pub no_form : form_of call.words ≡ None → (call.status ≡ 2) ⊎ (FailsToWrite call ⊎ RanOut call)
   -- Each outcome comes exactly where it is the outcome, except where a fault comes or memory ran out.
   pub exactly : (inputs : Inputs) (answer : Answer) → call.names ≡ Some inputs → IsOutcome inputs call.words answer
       → Gives call answer ⊎ ((call.status ≡ 4) ⊎ RanOut call)

@@ -32,6 +32,7 @@ fn fault_of(refusal: SetRefusal) -> InputFault
 }
 
 /// Loads and reads the task set of this name.
+#[tactic(auto, using(crate::proofs::InputLaws::says_of_long))]
 pub fn read_set<S: Shelf>(alloc: Global, shelf: &mut S, name: &str) -> Result<TaskSet, InputFault>
     ensures input { SaysIfTold (S.names shelf.old) name.now result }
     ensures fault { IsReadFault result → Rose (S.faults shelf.old) (S.faults shelf.new) }

@@ -115,6 +115,7 @@ fn refuses_words_without_a_form(rt: HostRuntime) -> Result<(), Fail> {
     let alloc = rt.alloc();
     let want = answer(alloc, 2, "refused words\n")?;
     assert_eq!(rt; ran(&rt, alloc, &[], b"")?, want);
+    assert_eq!(rt; ran(&rt, alloc, &["--help"], b"")?, want);
     for words in [
         ["analyse", "edf", "set"],
         ["analyse", "mpcp", "set"],
@@ -141,14 +142,11 @@ fn reports_under_each_protocol(rt: HostRuntime) -> Result<(), Fail> {
         let given = ran(&rt, alloc, &["report", protocol, "set"], SET_A.as_bytes())?;
         assert_eq!(rt; given, answer(alloc, 0, TABLE_A)?);
     }
-    let homeless =
-        r#"{"processors":1,"resources":[{"name":"q"}],"tasks":[{"name":"t1","processor":1,"period":1,"cost":1}]}"#;
+    let homeless = SET_A.replacen(alloc, ",\"home\":2", "", 1)?;
     let given = ran(&rt, alloc, &["report", "dpcp", "set"], homeless.as_bytes())?;
     assert_eq!(rt; given, answer(alloc, 3, "refused set nohome resource 1\n")?);
-    assert_eq!(rt;
-        ran(&rt, alloc, &["report", "mpcp", "set"], homeless.as_bytes())?.status,
-        0
-    );
+    let given = ran(&rt, alloc, &["report", "mpcp", "set"], homeless.as_bytes())?;
+    assert_eq!(rt; given, answer(alloc, 0, TABLE_A)?);
     Ok(())
 }
 
@@ -165,6 +163,11 @@ fn names_the_refusal_and_its_place(rt: HostRuntime) -> Result<(), Fail> {
             "\"period\":10,\"cost\":3",
             "\"period\":10,\"deadline\":11,\"cost\":3",
             "refused set deadline task 1\n",
+        ),
+        (
+            "\"count\":1,\"length\":1",
+            "\"count\":1,\"size\":1",
+            "refused set shape request 1 1\n",
         ),
         (
             "\"count\":1,\"length\":1",
@@ -236,6 +239,56 @@ fn names_the_refusal_and_its_place(rt: HostRuntime) -> Result<(), Fail> {
     Ok(())
 }
 
+/// A set of this many tasks `t1`, `t2`, .. of period 1 and cost 1 on processors of their own, counted round 64.
+fn tasks_alone(alloc: Global, tasks: u64) -> Result<String, AllocError> {
+    let mut set = String::from_str(alloc, "{\"processors\":64,\"tasks\":[")?;
+    for k in 0..tasks {
+        let mark = if k == 0 { "" } else { "," };
+        let number = k + 1;
+        let processor = k % 64 + 1;
+        let task = format!(in alloc;
+            "{mark}{{\"name\":\"t{number}\",\"processor\":{processor},\"period\":1,\"cost\":1}}"
+        )?;
+        set.push_str(task.as_str())?;
+    }
+    set.push_str("]}")?;
+    Ok(set)
+}
+
+#[test]
+fn accepts_64_tasks_and_no_more(rt: HostRuntime) -> Result<(), Fail> {
+    let alloc = rt.alloc();
+    for (tasks, text) in [
+        (0, "refused set notask\n"),
+        (65, "refused set size tasks\n"),
+    ] {
+        let set = tasks_alone(alloc, tasks)?;
+        let given = ran(&rt, alloc, &["report", "fmlp+", "set"], set.as_bytes())?;
+        assert_eq!(rt; given, answer(alloc, 3, text)?);
+    }
+    let set = tasks_alone(alloc, 64)?;
+    let given = ran(&rt, alloc, &["report", "fmlp+", "set"], set.as_bytes())?;
+    assert_eq!(rt; given.status, 0);
+    Ok(())
+}
+
+#[test]
+fn names_the_first_of_two_faults(rt: HostRuntime) -> Result<(), Fail> {
+    let alloc = rt.alloc();
+    let period = SET_A.replacen(
+        alloc,
+        "\"period\":10,\"cost\":3",
+        "\"period\":0,\"cost\":3",
+        1,
+    )?;
+    let both = period
+        .as_str()
+        .replacen(alloc, "\"cost\":4", "\"cost\":0", 1)?;
+    let given = ran(&rt, alloc, &["report", "fmlp+", "set"], both.as_bytes())?;
+    assert_eq!(rt; given, answer(alloc, 3, "refused set period task 1\n")?);
+    Ok(())
+}
+
 #[test]
 fn refuses_bytes_that_are_no_json(rt: HostRuntime) -> Result<(), Fail> {
     let alloc = rt.alloc();
@@ -244,6 +297,8 @@ fn refuses_bytes_that_are_no_json(rt: HostRuntime) -> Result<(), Fail> {
     for bytes in [cut, b"", b"\xff\xfe"] {
         assert_eq!(rt; ran(&rt, alloc, &["analyse", "fmlp+", "set"], bytes)?, want);
     }
+    let cut: &[u8] = &SET_A.as_bytes()[..20];
+    assert_eq!(rt; ran(&rt, alloc, &["report", "fmlp+", "set"], cut)?, want);
     let absent = ran(&rt, alloc, &["analyse", "fmlp+", "other"], b"")?;
     assert_eq!(rt; absent, answer(alloc, 3, "refused set absent\n")?);
     Ok(())

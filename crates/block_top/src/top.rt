@@ -10,7 +10,7 @@ use std::thread::Threads;
 /// How a run of the program ended: the number of its exit status.
 ///
 /// 0: done, or the answer is yes. 1: not shown. 2: the words have no form. 3: an input is refused. 4: a read or a
-/// write failed. 6: the programs want more units than the allowance. 7: no memory is left.
+/// write failed. 5: a program is too wide. 6: the programs want more units than the allowance. 7: no memory is left.
 #[derive(Clone, Copy, Debug, PartialEq, Eq)]
 pub struct Status(pub u8);
 

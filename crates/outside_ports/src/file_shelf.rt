@@ -8,8 +8,8 @@ use std::{fs, io};
 
 /// The files of the system, named by their paths. It tells no content and counts no calls.
 ///
-/// A call makes at most one opening or one read of the system. Each error of the system but want of memory raises the
-/// count of faults.
+/// A call makes at most one opening or one read of the system. Each error of the system raises the count of faults,
+/// but for want of memory at an opening.
 #[derive(Drop)]
 pub struct FileShelf<R: Files + Drop> {
     runtime: R,

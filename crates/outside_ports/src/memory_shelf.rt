@@ -71,7 +71,7 @@ impl Shelf for MemShelf {
 
     ghost steady = { λ s. s.failing ≡ [] };
 
-    ghost start_gives = { λ s name answer t. Unit {0} };
+    ghost start_gives = { λ s name answer t. answer ≡ start_answer s name };
 
     ghost tells_rest = { λ s told. told };
 

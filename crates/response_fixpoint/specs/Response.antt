@@ -19,7 +19,8 @@ pub record IsFirstRequester (set : SetDef) (x : ℕ) : Type 0 where
   pub requests : (q : ℕ) × (q < length set.resources) × (0 < count_of set x q)
   pub first : (h q : ℕ) → h < x → q < length set.resources → count_of set h q ≡ 0
 
--- For how many ticks can jobs of task h run within the bound of a job of task i, where r are the bounds?
+-- What does the recurrence count, in ticks, for jobs of task h within the bound of a job of task i, where r are the
+-- bounds?
 abbrev pub interference_by : SetDef → List ℕ → ℕ → ℕ → ℕ
 interference_by set r i h = jobs_within (slice_index r i) (slice_index r h - (task_at set h).cost) (task_at set h).period * (task_at set h).cost
 

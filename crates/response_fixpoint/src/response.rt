@@ -6,7 +6,7 @@ ghost use Rattle.response_fixpoint.specs.Response.{interference_by, interference
 
 use sporadic_model::{ResourceId, TaskId, TaskSet, jobs_in};
 
-/// The ticks that jobs of the higher local task `h` take within the bound of a job of `i`.
+/// The recurrence's term for the higher local task `h` in the value of `i`, in ticks.
 fn interference_by_task(set: &TaskSet, bounds: &[u64], i: TaskId, h: TaskId) -> u64
     requires range { IsInRange set.now bounds.now }
     requires task { i.0 < length set.now.tasks }
@@ -22,7 +22,7 @@ fn interference_by_task(set: &TaskSet, bounds: &[u64], i: TaskId, h: TaskId) -> 
     jobs_in(window, bound - cost, period) * cost
 }
 
-/// The ticks that jobs of all higher local tasks take within the bound of a job of `i`.
+/// The recurrence's terms for all higher local tasks in the value of `i` together, in ticks.
 fn interference(set: &TaskSet, bounds: &[u64], i: TaskId) -> u64
     requires range { IsInRange set.now bounds.now }
     requires task { i.0 < length set.now.tasks }
