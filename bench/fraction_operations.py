@@ -8,10 +8,11 @@ operands, and must come to the same checksums. It prints a line for each operati
 It is no test: no gate runs it, and it bounds nothing.
 """
 import shutil
-import subprocess
 import sys
 import tempfile
 from pathlib import Path
+
+from commands import run
 
 TOP = Path(__file__).resolve().parent.parent
 COUNT = 1_000_000
@@ -103,37 +104,26 @@ fn quotient(a: Frac, b: Frac) -> u64 {
     if b.is_zero() { 0 } else { mark(a.div(b)) }
 }
 
+// Runs one operation over all operands and prints its name, nanoseconds and checksum.
+fn timed<F: Fn(Frac, Frac) -> u64>(rt: &HostRuntime, name: &str, values: &[Frac; PLACES], operation: F) -> io::Result<()>
+    requires { F.IsAlwaysCallable operation }
+{
+    let start = Instant::now(rt)?;
+    let sum = checksum(values, operation);
+    let took = start.elapsed(rt)?.as_nanos();
+    println!(rt; "{name} {took} {sum}")?;
+    Ok(())
+}
+
 fn main(rt: HostRuntime) -> io::Result<()> {
     let values = values();
-    let start = Instant::now(&rt)?;
-    let sum = checksum(&values, ratio);
-    let took = start.elapsed(&rt)?.as_nanos();
-    println!(rt; "ratio {took} {sum}")?;
-    let start = Instant::now(&rt)?;
-    let sum = checksum(&values, |a, b| mark(a.add(b)));
-    let took = start.elapsed(&rt)?.as_nanos();
-    println!(rt; "add {took} {sum}")?;
-    let start = Instant::now(&rt)?;
-    let sum = checksum(&values, |a, b| mark(a.sub(b)));
-    let took = start.elapsed(&rt)?.as_nanos();
-    println!(rt; "sub {took} {sum}")?;
-    let start = Instant::now(&rt)?;
-    let sum = checksum(&values, |a, b| mark(a.mul(b)));
-    let took = start.elapsed(&rt)?.as_nanos();
-    println!(rt; "mul {took} {sum}")?;
-    let start = Instant::now(&rt)?;
-    let sum = checksum(&values, quotient);
-    let took = start.elapsed(&rt)?.as_nanos();
-    println!(rt; "div {took} {sum}")?;
-    let start = Instant::now(&rt)?;
-    let sum = checksum(&values, |a, b| mark_of_order(a.cmp(b)));
-    let took = start.elapsed(&rt)?.as_nanos();
-    println!(rt; "cmp {took} {sum}")?;
-    let start = Instant::now(&rt)?;
-    let sum = checksum(&values, |a, _b| a.floor().unsigned_abs());
-    let took = start.elapsed(&rt)?.as_nanos();
-    println!(rt; "floor {took} {sum}")?;
-    Ok(())
+    timed(&rt, "ratio", &values, ratio)?;
+    timed(&rt, "add", &values, |a, b| mark(a.add(b)))?;
+    timed(&rt, "sub", &values, |a, b| mark(a.sub(b)))?;
+    timed(&rt, "mul", &values, |a, b| mark(a.mul(b)))?;
+    timed(&rt, "div", &values, quotient)?;
+    timed(&rt, "cmp", &values, |a, b| mark_of_order(a.cmp(b)))?;
+    timed(&rt, "floor", &values, |a, _b| a.floor().unsigned_abs())
 }
 """
 
@@ -247,14 +237,6 @@ fn main() {
     timed("floor", &values, |a, _| a.floor().unsigned_abs() as u64);
 }
 """
-
-
-def run(command, where):
-    """What the command writes, or the end of the script with what it said."""
-    done = subprocess.run(command, cwd=where, capture_output=True, text=True)
-    if done.returncode != 0:
-        sys.exit(f"{' '.join(map(str, command))} failed:\n{done.stdout[-3000:]}\n{done.stderr[-3000:]}")
-    return done.stdout
 
 
 def results(text):

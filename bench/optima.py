@@ -11,11 +11,12 @@ Ours is timed around `solve` alone. glpsol is timed as a process, less the time 
 It is no test: no gate runs it, and it bounds nothing.
 """
 import shutil
-import subprocess
 import sys
 import tempfile
 import time
 from pathlib import Path
+
+from commands import run
 
 TOP = Path(__file__).resolve().parent.parent
 CRATES = ["number_laws", "bounded_sums", "fraction128", "program_form", "exchange_runs", "simplex"]
@@ -137,14 +138,6 @@ def as_lp(costs, rows):
     for limit, entries in rows:
         lines.append(" " + " + ".join(f"{number} x{column}" for column, number in entries.items()) + f" <= {limit}")
     return "\n".join(lines + ["End", ""])
-
-
-def run(command, where):
-    """What the command writes, or the end of the script with what it said."""
-    done = subprocess.run(command, cwd=where, capture_output=True, text=True)
-    if done.returncode != 0:
-        sys.exit(f"{' '.join(map(str, command))} failed:\n{done.stdout[-3000:]}\n{done.stderr[-3000:]}")
-    return done.stdout
 
 
 def build(folder):
