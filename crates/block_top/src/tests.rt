@@ -150,88 +150,91 @@ fn reports_under_each_protocol(rt: HostRuntime) -> Result<(), Fail> {
     Ok(())
 }
 
+// What is written in the set for what, and the refusal that it gets.
+const CHANGES: [(&str, &str, &str); 17] = [
+    (
+        "\"period\":10,\"cost\":3",
+        "\"period\":0,\"cost\":3",
+        "refused set period task 1\n",
+    ),
+    (
+        "\"period\":10,\"cost\":3",
+        "\"period\":10,\"deadline\":11,\"cost\":3",
+        "refused set deadline task 1\n",
+    ),
+    (
+        "\"count\":1,\"length\":1",
+        "\"count\":1,\"size\":1",
+        "refused set shape request 1 1\n",
+    ),
+    (
+        "\"count\":1,\"length\":1",
+        "\"count\":1,\"length\":3",
+        "refused set length request 1 1\n",
+    ),
+    (
+        "\"count\":1,\"length\":1",
+        "\"count\":1001,\"length\":1",
+        "refused set count request 1 1\n",
+    ),
+    (
+        "\"name\":\"t2\"",
+        "\"name\":\"t1\"",
+        "refused set twicename task 2\n",
+    ),
+    (
+        "\"name\":\"t2\"",
+        "\"name\":\"t 2\"",
+        "refused set name task 2\n",
+    ),
+    (
+        "\"name\":\"t1\"",
+        "\"name\":\"t1\",\"prio\":1",
+        "refused set shape task 1\n",
+    ),
+    (
+        "\"name\":\"q\",",
+        "\"name\":\"q\",\"at\":1,",
+        "refused set shape resource 1\n",
+    ),
+    (
+        "{\"processors\":2",
+        "{\"processors\":65",
+        "refused set size processors\n",
+    ),
+    (
+        "{\"processors\":2",
+        "{\"processors\":1",
+        "refused set processor task 2\n",
+    ),
+    (
+        "{\"processors\":2",
+        "{\"processors\":2.0",
+        "refused set shape root\n",
+    ),
+    ("\"home\":2", "\"home\":3", "refused set home resource 1\n"),
+    ("\"cost\":4", "\"cost\":11", "refused set cost task 2\n"),
+    (
+        "\"cost\":4",
+        "\"cost\":4,\"local\":5",
+        "refused set local task 2\n",
+    ),
+    (
+        "\"cost\":4,\"requests\":[{\"resource\":\"q\"",
+        "\"cost\":4,\"requests\":[{\"resource\":\"r\"",
+        "refused set resource request 2 1\n",
+    ),
+    (
+        "[{\"resource\":\"q\",\"count\":1,\"length\":1}",
+        "[{\"resource\":\"q\",\"count\":1,\"length\":1},{\"resource\":\"q\",\"count\":1,\"length\":1}",
+        "refused set twicerequest request 1 2\n",
+    ),
+];
+
 #[test]
 fn names_the_refusal_and_its_place(rt: HostRuntime) -> Result<(), Fail> {
     let alloc = rt.alloc();
-    for (old, new, text) in [
-        (
-            "\"period\":10,\"cost\":3",
-            "\"period\":0,\"cost\":3",
-            "refused set period task 1\n",
-        ),
-        (
-            "\"period\":10,\"cost\":3",
-            "\"period\":10,\"deadline\":11,\"cost\":3",
-            "refused set deadline task 1\n",
-        ),
-        (
-            "\"count\":1,\"length\":1",
-            "\"count\":1,\"size\":1",
-            "refused set shape request 1 1\n",
-        ),
-        (
-            "\"count\":1,\"length\":1",
-            "\"count\":1,\"length\":3",
-            "refused set length request 1 1\n",
-        ),
-        (
-            "\"count\":1,\"length\":1",
-            "\"count\":1001,\"length\":1",
-            "refused set count request 1 1\n",
-        ),
-        (
-            "\"name\":\"t2\"",
-            "\"name\":\"t1\"",
-            "refused set twicename task 2\n",
-        ),
-        (
-            "\"name\":\"t2\"",
-            "\"name\":\"t 2\"",
-            "refused set name task 2\n",
-        ),
-        (
-            "\"name\":\"t1\"",
-            "\"name\":\"t1\",\"prio\":1",
-            "refused set shape task 1\n",
-        ),
-        (
-            "\"name\":\"q\",",
-            "\"name\":\"q\",\"at\":1,",
-            "refused set shape resource 1\n",
-        ),
-        (
-            "{\"processors\":2",
-            "{\"processors\":65",
-            "refused set size processors\n",
-        ),
-        (
-            "{\"processors\":2",
-            "{\"processors\":1",
-            "refused set processor task 2\n",
-        ),
-        (
-            "{\"processors\":2",
-            "{\"processors\":2.0",
-            "refused set shape root\n",
-        ),
-        ("\"home\":2", "\"home\":3", "refused set home resource 1\n"),
-        ("\"cost\":4", "\"cost\":11", "refused set cost task 2\n"),
-        (
-            "\"cost\":4",
-            "\"cost\":4,\"local\":5",
-            "refused set local task 2\n",
-        ),
-        (
-            "\"cost\":4,\"requests\":[{\"resource\":\"q\"",
-            "\"cost\":4,\"requests\":[{\"resource\":\"r\"",
-            "refused set resource request 2 1\n",
-        ),
-        (
-            "[{\"resource\":\"q\",\"count\":1,\"length\":1}",
-            "[{\"resource\":\"q\",\"count\":1,\"length\":1},{\"resource\":\"q\",\"count\":1,\"length\":1}",
-            "refused set twicerequest request 1 2\n",
-        ),
-    ] {
+    for (old, new, text) in CHANGES {
         let changed = SET_A.replacen(alloc, old, new, 1)?;
         let given = ran(&rt, alloc, &["report", "fmlp+", "set"], changed.as_bytes())?;
         assert_eq!(rt; given, answer(alloc, 3, text)?);

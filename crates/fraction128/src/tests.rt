@@ -50,102 +50,105 @@ fn results(rt: &impl Abort, a: Frac, b: Frac) -> [Option<(i64, i64)>; 4] {
     ]
 }
 
+// Two fractions, and what their sum, difference, product and quotient are.
+const OPERATIONS: [((i128, i128), (i128, i128), [Option<(i64, i64)>; 4]); 14] = [
+    (
+        (1, 3),
+        (1, 6),
+        [Some((1, 2)), Some((1, 6)), Some((1, 18)), Some((2, 1))],
+    ),
+    (
+        (1 << 62, 1),
+        (2, 1),
+        [
+            Some((4611686018427387906, 1)),
+            Some((4611686018427387902, 1)),
+            None,
+            Some((2305843009213693952, 1)),
+        ],
+    ),
+    (
+        (1 << 62, 1),
+        (2, 4),
+        [
+            None,
+            Some((9223372036854775807, 2)),
+            Some((2305843009213693952, 1)),
+            None,
+        ],
+    ),
+    (
+        (1, 2),
+        (-3, 4),
+        [Some((-1, 4)), Some((5, 4)), Some((-3, 8)), Some((-2, 3))],
+    ),
+    (
+        (0, 7),
+        (-5, 9),
+        [Some((-5, 9)), Some((5, 9)), Some((0, 1)), Some((0, 1))],
+    ),
+    (
+        (MOST, 1),
+        (-MOST, 1),
+        [Some((0, 1)), None, None, Some((-1, 1))],
+    ),
+    (
+        (-MOST, 1),
+        (-MOST, 1),
+        [None, Some((0, 1)), None, Some((1, 1))],
+    ),
+    (
+        (MOST, 1),
+        (2, 1),
+        [
+            None,
+            Some((9223372036854775805, 1)),
+            None,
+            Some((9223372036854775807, 2)),
+        ],
+    ),
+    (
+        (MOST - 1, MOST),
+        (1, MOST),
+        [
+            Some((1, 1)),
+            Some((9223372036854775805, 9223372036854775807)),
+            None,
+            Some((9223372036854775806, 1)),
+        ],
+    ),
+    (
+        (1, MOST),
+        (1, MOST),
+        [
+            Some((2, 9223372036854775807)),
+            Some((0, 1)),
+            None,
+            Some((1, 1)),
+        ],
+    ),
+    ((1, MOST), (-MOST, 1), [None, None, Some((-1, 1)), None]),
+    ((-MOST, 1), (1, MOST), [None, None, Some((-1, 1)), None]),
+    (
+        (1, MOST),
+        (1, MOST - 1),
+        [
+            None,
+            None,
+            None,
+            Some((9223372036854775806, 9223372036854775807)),
+        ],
+    ),
+    (
+        (MOST, MOST - 1),
+        (MOST - 1, MOST),
+        [None, None, Some((1, 1)), None],
+    ),
+];
+
 #[test]
 fn operations_are_exact_or_wide(rt: HostRuntime) {
-    for ((an, ad), (bn, bd), want) in [
-        (
-            (1, 3),
-            (1, 6),
-            [Some((1, 2)), Some((1, 6)), Some((1, 18)), Some((2, 1))],
-        ),
-        (
-            (1 << 62, 1),
-            (2, 1),
-            [
-                Some((4611686018427387906, 1)),
-                Some((4611686018427387902, 1)),
-                None,
-                Some((2305843009213693952, 1)),
-            ],
-        ),
-        (
-            (1 << 62, 1),
-            (2, 4),
-            [
-                None,
-                Some((9223372036854775807, 2)),
-                Some((2305843009213693952, 1)),
-                None,
-            ],
-        ),
-        (
-            (1, 2),
-            (-3, 4),
-            [Some((-1, 4)), Some((5, 4)), Some((-3, 8)), Some((-2, 3))],
-        ),
-        (
-            (0, 7),
-            (-5, 9),
-            [Some((-5, 9)), Some((5, 9)), Some((0, 1)), Some((0, 1))],
-        ),
-        (
-            (MOST, 1),
-            (-MOST, 1),
-            [Some((0, 1)), None, None, Some((-1, 1))],
-        ),
-        (
-            (-MOST, 1),
-            (-MOST, 1),
-            [None, Some((0, 1)), None, Some((1, 1))],
-        ),
-        (
-            (MOST, 1),
-            (2, 1),
-            [
-                None,
-                Some((9223372036854775805, 1)),
-                None,
-                Some((9223372036854775807, 2)),
-            ],
-        ),
-        (
-            (MOST - 1, MOST),
-            (1, MOST),
-            [
-                Some((1, 1)),
-                Some((9223372036854775805, 9223372036854775807)),
-                None,
-                Some((9223372036854775806, 1)),
-            ],
-        ),
-        (
-            (1, MOST),
-            (1, MOST),
-            [
-                Some((2, 9223372036854775807)),
-                Some((0, 1)),
-                None,
-                Some((1, 1)),
-            ],
-        ),
-        ((1, MOST), (-MOST, 1), [None, None, Some((-1, 1)), None]),
-        ((-MOST, 1), (1, MOST), [None, None, Some((-1, 1)), None]),
-        (
-            (1, MOST),
-            (1, MOST - 1),
-            [
-                None,
-                None,
-                None,
-                Some((9223372036854775806, 9223372036854775807)),
-            ],
-        ),
-        (
-            (MOST, MOST - 1),
-            (MOST - 1, MOST),
-            [None, None, Some((1, 1)), None],
-        ),
-    ] {
+    for ((an, ad), (bn, bd), want) in OPERATIONS {
         let got = results(&rt, make(&rt, an, ad), make(&rt, bn, bd));
         assert_eq!(rt; got, want, "{an}/{ad} and {bn}/{bd}");
     }

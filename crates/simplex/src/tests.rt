@@ -115,7 +115,7 @@ fn seven_rows_over_three_columns(rt: HostRuntime) -> Result<(), AllocError> {
 }
 
 #[test]
-fn ties_and_ends(rt: HostRuntime) -> Result<(), AllocError> {
+fn ties_go_to_the_least_variable(rt: HostRuntime) -> Result<(), AllocError> {
     // Two rows with the same ratio: the first one's slack is the lesser variable.
     let tie = Case {
         costs: &[1],
@@ -139,7 +139,11 @@ fn ties_and_ends(rt: HostRuntime) -> Result<(), AllocError> {
         num: &[1, 1],
         exchanges: 2,
     };
-    level.holds(&rt, rt.alloc())?;
+    level.holds(&rt, rt.alloc())
+}
+
+#[test]
+fn runs_of_no_exchange_and_of_a_large_denominator(rt: HostRuntime) -> Result<(), AllocError> {
     let empty = Case {
         costs: &[],
         rows: &[&[]],

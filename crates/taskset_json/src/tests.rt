@@ -162,73 +162,76 @@ fn reads_127_open_levels(rt: HostRuntime) -> Result<(), Fail> {
     Ok(())
 }
 
+// A text, and the first object in it that does not have its form.
+const MISSHAPEN: [(&str, Place); 21] = [
+    ("[]", Place::Root),
+    ("{}", Place::Root),
+    (r#"{"processors":1,"tasks":[],"prio":1}"#, Place::Root),
+    (
+        r#"{"processors":1,"tasks":[],"resources":null}"#,
+        Place::Root,
+    ),
+    (r#"{"processors":1.0,"tasks":[]}"#, Place::Root),
+    (r#"{"processors":1e3,"tasks":[]}"#, Place::Root),
+    (r#"{"processors":-1,"tasks":[]}"#, Place::Root),
+    (r#"{"processors":-0,"tasks":[]}"#, Place::Root),
+    (
+        r#"{"processors":18446744073709551616,"tasks":[]}"#,
+        Place::Root,
+    ),
+    (
+        r#"{"processors":1,"processors":"1","tasks":[]}"#,
+        Place::Root,
+    ),
+    (
+        r#"{"processors":1,"tasks":[1],"resources":["q"]}"#,
+        Place::Resource(0),
+    ),
+    (
+        r#"{"processors":1,"tasks":[],"resources":[{"name":"q","home":2},{"name":"r","home":null}]}"#,
+        Place::Resource(1),
+    ),
+    (
+        r#"{"processors":1,"tasks":[],"resources":[{"name":"q","at":1}]}"#,
+        Place::Resource(0),
+    ),
+    (
+        r#"{"processors":1,"tasks":[{"name":"a","processor":1,"period":9}]}"#,
+        Place::Task(0),
+    ),
+    (
+        r#"{"processors":1,"tasks":[{"name":"a","processor":1,"period":9,"cost":1,"deadline":null}]}"#,
+        Place::Task(0),
+    ),
+    (
+        r#"{"processors":1,"tasks":[{"name":"a","processor":1,"period":9,"cost":1,"prio":1}]}"#,
+        Place::Task(0),
+    ),
+    (
+        r#"{"processors":1,"tasks":[{"name":"a","processor":1,"period":9,"cost":1,"local":"1"}]}"#,
+        Place::Task(0),
+    ),
+    (
+        r#"{"processors":1,"tasks":[{"name":"a","processor":1,"period":9,"cost":1,"requests":[{"resource":"q","count":1,"length":1,"home":1}]},{}]}"#,
+        Place::Request(0, 0),
+    ),
+    (
+        r#"{"processors":1,"tasks":[{"name":"a","processor":1,"period":9,"cost":1,"requests":[{"resource":"q","count":1,"length":1},{"resource":1,"count":1,"length":1}]},{}]}"#,
+        Place::Request(0, 1),
+    ),
+    (
+        r#"{"processors":1,"tasks":[{"name":"a","processor":1,"cost":1,"requests":[{}]},{}]}"#,
+        Place::Task(0),
+    ),
+    (
+        r#"{"processors":1,"tasks":[{"name":"a","processor":1,"period":0,"cost":1},{}]}"#,
+        Place::Task(1),
+    ),
+];
+
 #[test]
 fn names_the_first_misshapen_object(rt: HostRuntime) -> Result<(), Fail> {
-    for (text, place) in [
-        ("[]", Place::Root),
-        ("{}", Place::Root),
-        (r#"{"processors":1,"tasks":[],"prio":1}"#, Place::Root),
-        (
-            r#"{"processors":1,"tasks":[],"resources":null}"#,
-            Place::Root,
-        ),
-        (r#"{"processors":1.0,"tasks":[]}"#, Place::Root),
-        (r#"{"processors":1e3,"tasks":[]}"#, Place::Root),
-        (r#"{"processors":-1,"tasks":[]}"#, Place::Root),
-        (r#"{"processors":-0,"tasks":[]}"#, Place::Root),
-        (
-            r#"{"processors":18446744073709551616,"tasks":[]}"#,
-            Place::Root,
-        ),
-        (
-            r#"{"processors":1,"processors":"1","tasks":[]}"#,
-            Place::Root,
-        ),
-        (
-            r#"{"processors":1,"tasks":[1],"resources":["q"]}"#,
-            Place::Resource(0),
-        ),
-        (
-            r#"{"processors":1,"tasks":[],"resources":[{"name":"q","home":2},{"name":"r","home":null}]}"#,
-            Place::Resource(1),
-        ),
-        (
-            r#"{"processors":1,"tasks":[],"resources":[{"name":"q","at":1}]}"#,
-            Place::Resource(0),
-        ),
-        (
-            r#"{"processors":1,"tasks":[{"name":"a","processor":1,"period":9}]}"#,
-            Place::Task(0),
-        ),
-        (
-            r#"{"processors":1,"tasks":[{"name":"a","processor":1,"period":9,"cost":1,"deadline":null}]}"#,
-            Place::Task(0),
-        ),
-        (
-            r#"{"processors":1,"tasks":[{"name":"a","processor":1,"period":9,"cost":1,"prio":1}]}"#,
-            Place::Task(0),
-        ),
-        (
-            r#"{"processors":1,"tasks":[{"name":"a","processor":1,"period":9,"cost":1,"local":"1"}]}"#,
-            Place::Task(0),
-        ),
-        (
-            r#"{"processors":1,"tasks":[{"name":"a","processor":1,"period":9,"cost":1,"requests":[{"resource":"q","count":1,"length":1,"home":1}]},{}]}"#,
-            Place::Request(0, 0),
-        ),
-        (
-            r#"{"processors":1,"tasks":[{"name":"a","processor":1,"period":9,"cost":1,"requests":[{"resource":"q","count":1,"length":1},{"resource":1,"count":1,"length":1}]},{}]}"#,
-            Place::Request(0, 1),
-        ),
-        (
-            r#"{"processors":1,"tasks":[{"name":"a","processor":1,"cost":1,"requests":[{}]},{}]}"#,
-            Place::Task(0),
-        ),
-        (
-            r#"{"processors":1,"tasks":[{"name":"a","processor":1,"period":0,"cost":1},{}]}"#,
-            Place::Task(1),
-        ),
-    ] {
+    for (text, place) in MISSHAPEN {
         let refusal = refusal_of(rt.alloc(), text.as_bytes());
         assert_eq!(rt; refusal, Some(SetRefusal::Shape(place)), "at {text}");
     }
