@@ -1,5 +1,5 @@
 -- A value breaks the form of a task set nowhere exactly where it has the form.
-use Rattle.std.proofs.Common.{◌≡◌, ℕ, ◌+◌, ◌&&◌, not, Bool, true, false, cond, List, [], ◌∷◌, ◌++◌, map, refl, ap, sym, ◌∙◌, codes, Option, Some, None, option_map, IfNone}
+use Rattle.std.proofs.Common.{◌≡◌, ℕ, ◌+◌, ◌&&◌, not, Bool, true, false, cond, List, [], ◌∷◌, map, refl, ap, sym, ◌∙◌, codes, Option, Some, None, option_map, IfNone}
 use Rattle.std.specs.List.{list_all, flat_map, find}
 use Rattle.std.specs.Option.{is_none}
 use Rattle.std.proofs.lemmas.List.Folds.{list_all-append}
