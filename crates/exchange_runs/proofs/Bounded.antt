@@ -26,7 +26,7 @@ some_ratio (suc m) t e = elim (some_ratio m t e) [
 ]
 
 -- Some first row stands above zero at each variable: a covered column's, and a slack's own.
-first_above : (p : ProgramDef) (e : ℕ) → IsProgram p → e < variables p → (j : ℕ) × (j < height p) × (pos 0 <ℤ first_z p j e)
+pub first_above : (p : ProgramDef) (e : ℕ) → IsProgram p → e < variables p → (j : ℕ) × (j < height p) × (pos 0 <ℤ first_z p j e)
 first_above p e accepted l = elim (cases_lt e (columns p)) [
   | inl column ↦
       let held : IsCovered p e = accepted.covered e column in

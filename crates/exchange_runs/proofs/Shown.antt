@@ -105,11 +105,11 @@ at_least_zero_shown d x f pd h above =
     cancel_le (pos 0) f.num d pd
     (at_most_of _ _ _ _ (zero_times f.den ∙ sym (zero_times d)) (sym h.same) (times_le (pos 0) x f.den (not_negative f.den h.positive) above))
 
-at_most_left : (fn fd gd d x b : ℤ) → fn *ℤ d ≡ x *ℤ fd → (fn *ℤ gd) *ℤ (d *ℤ b) ≡ (x *ℤ b) *ℤ (fd *ℤ gd)
+pub at_most_left : (fn fd gd d x b : ℤ) → fn *ℤ d ≡ x *ℤ fd → (fn *ℤ gd) *ℤ (d *ℤ b) ≡ (x *ℤ b) *ℤ (fd *ℤ gd)
 at_most_left fn fd gd d x b h =
     by_one (gd *ℤ b) h _ _ (rw (as_diff fn, as_diff fd, as_diff gd, as_diff d, as_diff x, as_diff b) (simp diffs (same_diff _ _ _ _ (omega arith))))
 
-at_most_right : (fd gn gd d b y : ℤ) → gn *ℤ b ≡ y *ℤ gd → (gn *ℤ fd) *ℤ (d *ℤ b) ≡ (y *ℤ d) *ℤ (fd *ℤ gd)
+pub at_most_right : (fd gn gd d b y : ℤ) → gn *ℤ b ≡ y *ℤ gd → (gn *ℤ fd) *ℤ (d *ℤ b) ≡ (y *ℤ d) *ℤ (fd *ℤ gd)
 at_most_right fd gn gd d b y h =
     by_one (fd *ℤ d) h _ _ (rw (as_diff fd, as_diff gn, as_diff gd, as_diff d, as_diff b, as_diff y) (simp diffs (same_diff _ _ _ _ (omega arith))))
 

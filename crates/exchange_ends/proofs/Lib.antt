@@ -1,0 +1,4 @@
+pub mod States
+pub mod Bland
+pub mod Pigeons
+pub mod Traces

@@ -1,0 +1,2 @@
+//! Ends.
+#![tactic(auto)]
