@@ -2,6 +2,7 @@ pub mod Shown
 pub mod Invariants
 pub mod Ends
 pub mod FirstTable
+pub mod Leasts
 pub mod Shadows
 pub mod Best
 pub mod Bounded

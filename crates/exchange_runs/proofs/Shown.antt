@@ -105,11 +105,11 @@ at_least_zero_shown d x f pd h above =
     cancel_le (pos 0) f.num d pd
     (at_most_of _ _ _ _ (zero_times f.den ∙ sym (zero_times d)) (sym h.same) (times_le (pos 0) x f.den (not_negative f.den h.positive) above))
 
-pub at_most_left : (fn fd gd d x b : ℤ) → fn *ℤ d ≡ x *ℤ fd → (fn *ℤ gd) *ℤ (d *ℤ b) ≡ (x *ℤ b) *ℤ (fd *ℤ gd)
+at_most_left : (fn fd gd d x b : ℤ) → fn *ℤ d ≡ x *ℤ fd → (fn *ℤ gd) *ℤ (d *ℤ b) ≡ (x *ℤ b) *ℤ (fd *ℤ gd)
 at_most_left fn fd gd d x b h =
     by_one (gd *ℤ b) h _ _ (rw (as_diff fn, as_diff fd, as_diff gd, as_diff d, as_diff x, as_diff b) (simp diffs (same_diff _ _ _ _ (omega arith))))
 
-pub at_most_right : (fd gn gd d b y : ℤ) → gn *ℤ b ≡ y *ℤ gd → (gn *ℤ fd) *ℤ (d *ℤ b) ≡ (y *ℤ d) *ℤ (fd *ℤ gd)
+at_most_right : (fd gn gd d b y : ℤ) → gn *ℤ b ≡ y *ℤ gd → (gn *ℤ fd) *ℤ (d *ℤ b) ≡ (y *ℤ d) *ℤ (fd *ℤ gd)
 at_most_right fd gn gd d b y h =
     by_one (fd *ℤ d) h _ _ (rw (as_diff fd, as_diff gn, as_diff gd, as_diff d, as_diff b, as_diff y) (simp diffs (same_diff _ _ _ _ (omega arith))))
 
@@ -119,3 +119,11 @@ shows_at_most d x b y f g pd pb hf hg h =
     cancel_le (x *ℤ b) (y *ℤ d) (f.den *ℤ g.den) (times_positive f.den g.den hf.positive hg.positive)
     (at_most_of _ _ _ _ (at_most_left f.num f.den g.den d x b hf.same) (at_most_right f.den g.num g.den d b y hg.same)
     (times_le (f.num *ℤ g.den) (g.num *ℤ f.den) (d *ℤ b) (not_negative _ (times_positive d b pd pb)) h.le))
+
+-- And the other way round.
+pub at_most_shown : (d x b y : ℤ) (f g : Fraction) → pos 0 <ℤ d → pos 0 <ℤ b → Shows d x f → Shows b y g → (x *ℤ b) ≤ℤ (y *ℤ d) → IsAtMost f g
+at_most_shown d x b y f g pd pb hf hg h = record {
+  le = cancel_le (f.num *ℤ g.den) (g.num *ℤ f.den) (d *ℤ b) (times_positive d b pd pb)
+      (at_most_of _ _ _ _ (sym (at_most_left f.num f.den g.den d x b hf.same)) (sym (at_most_right f.den g.num g.den d b y hg.same))
+      (times_le (x *ℤ b) (y *ℤ d) (f.den *ℤ g.den) (not_negative _ (times_positive f.den g.den hf.positive hg.positive)) h));
+}
