@@ -1,10 +1,9 @@
 -- Where no variable past t moves and the value stays, t does not both leave and enter.
-use Rattle.std.proofs.Common.{◌≡◌, ◌⊎◌, inl, inr, ℕ, ◌<◌, ◌≤◌, ℤ, pos, ◌+ℤ◌, ◌-ℤ◌, ◌*ℤ◌, neg_ℤ, ◌≤ℤ◌, ◌<ℤ◌, refl, ap, ◌∙◌, sym, subst, arith}
+use Rattle.std.proofs.Common.{◌≡◌, ◌⊎◌, inl, inr, ℕ, ◌<◌, ◌≤◌, ℤ, pos, ◌+ℤ◌, ◌-ℤ◌, ◌*ℤ◌, neg_ℤ, ◌≤ℤ◌, ◌<ℤ◌, ap, ◌∙◌, sym, subst, arith}
 use Rattle.std.proofs.lemmas.Int.{ints, by_lt_z}
 use Rattle.std.proofs.lemmas.Bool.{cases_eq, cases_lt}
 use Rattle.number_laws.proofs.Ring.{as_diff, diffs, same_diff, mul-comm}
 use Rattle.number_laws.proofs.Order.{times_nonneg, times_positive, times_le, cancel_lt}
-use Rattle.bounded_sums.specs.WholeSums.{total_below}
 use Rattle.bounded_sums.proofs.TotalLaws.{total_below-nonneg}
 use Rattle.program_form.specs.Program.{ProgramDef, height}
 use Rattle.exchange_runs.specs.Table.{variables}
@@ -126,11 +125,13 @@ firm_on p t s u e r i step left flat l firm = elim (cases_eq i r) [
     | inr above ↦ not_zero _ above (ap (λ (k : ℕ). s.z k (variables p)) here ∙ flat)
   ])
   | inr away ↦
-      let same : u.basic i ≡ s.basic i = step.stayed i l away in
-      (elim firm [
-        | inl past ↦ inl (omega arith)
-        | inr above ↦ inr (above_by _ _ (limit_cell p s u e r i step flat away) (times_positive _ _ above step.leaves.pivot))
-      ], same)
+      let same : u.basic i ≡ s.basic i = step.stayed i l away in (
+        elim firm [
+          | inl past ↦ inl (omega arith)
+          | inr above ↦ inr (above_by _ _ (limit_cell p s u e r i step flat away) (times_positive _ _ above step.leaves.pivot))
+        ],
+        same,
+      )
 ]
   where
     not_past : (a b : ℕ) → a ≡ b → t < a → b ≤ t → ⊥
@@ -145,11 +146,13 @@ firm_back p t s u e r i step entered flat l firm = elim (cases_eq i r) [
     | inr above ↦ not_zero _ above (ap (λ (k : ℕ). u.z k (variables p)) here ∙ (step.cells r (variables p) ∙ (exchanged-here r e s.d s.z (variables p) ∙ zero_scaled s.d _ flat)))
   ])
   | inr away ↦
-      let same : u.basic i ≡ s.basic i = step.stayed i l away in
-      (elim firm [
-        | inl past ↦ inl (omega arith)
-        | inr above ↦ inr (cancel_lt (pos 0) (s.z i (variables p)) (s.z r e) step.leaves.pivot (over _ _ (s.z r e) (limit_cell p s u e r i step flat away) above))
-      ], same)
+      let same : u.basic i ≡ s.basic i = step.stayed i l away in (
+        elim firm [
+          | inl past ↦ inl (omega arith)
+          | inr above ↦ inr (cancel_lt (pos 0) (s.z i (variables p)) (s.z r e) step.leaves.pivot (over _ _ (s.z r e) (limit_cell p s u e r i step flat away) above))
+        ],
+        same,
+      )
 ]
   where
     not_past : (a : ℕ) → a ≡ e → t < a → ⊥

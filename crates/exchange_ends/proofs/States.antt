@@ -1,5 +1,5 @@
 -- Tables as whole numbers over one denominator, and what holds of each that a run reaches.
-use Rattle.std.proofs.Common.{◌≡◌, ◌⊎◌, inl, inr, ℕ, ◌+◌, ◌<◌, ◌≤◌, ℤ, pos, ◌+ℤ◌, ◌*ℤ◌, ◌≤ℤ◌, ◌<ℤ◌, refl, ap, ap₂, ◌∙◌, sym, subst, arith}
+use Rattle.std.proofs.Common.{◌≡◌, inl, inr, ℕ, ◌+◌, ◌<◌, ◌≤◌, ℤ, pos, ◌+ℤ◌, ◌*ℤ◌, ◌≤ℤ◌, ◌<ℤ◌, ap, ◌∙◌, sym, subst, arith}
 use Rattle.std.proofs.lemmas.Int.{ints}
 use Rattle.std.proofs.lemmas.Bool.{cases_eq}
 use Rattle.number_laws.proofs.Ring.{as_diff, diffs, same_diff, by_two, mul-comm}
@@ -35,10 +35,11 @@ pub record Enters (p : ProgramDef) (s : State) (e : ℕ) : Type 0 where
   pub above : pos 0 <ℤ s.z (height p) e
   pub least : (v : ℕ) → v < e → s.z (height p) v ≤ℤ pos 0
 
--- Has row r a ratio where e enters, and of the rows whose ratio is no greater the least basic variable?
+-- Has row r the least ratio where e enters, and of the rows with that ratio the least basic variable?
 pub record Leaves (p : ProgramDef) (s : State) (e r : ℕ) : Type 0 where
   pub within : r < height p
   pub pivot : pos 0 <ℤ s.z r e
+  pub ratio : (i : ℕ) → i < height p → pos 0 <ℤ s.z i e → (s.z r (variables p) *ℤ s.z i e) ≤ℤ (s.z i (variables p) *ℤ s.z r e)
   pub tie : (i : ℕ) → i < height p → pos 0 <ℤ s.z i e → (s.z i (variables p) *ℤ s.z r e) ≤ℤ (s.z r (variables p) *ℤ s.z i e) → s.basic r ≤ s.basic i
 
 -- Is u the table after s where e enters and row r leaves?

@@ -1,18 +1,17 @@
 -- No basis comes twice in a run of exchanges by the least entering and the least leaving variable. So their number is bounded.
-use Rattle.std.proofs.Common.{◌≡◌, ◌⊎◌, inl, inr, ℕ, zero, suc, ◌+◌, ◌^◌, ◌<◌, ◌≤◌, max, Bool, true, false, ℤ, pos, ◌+ℤ◌, ◌-ℤ◌, ◌*ℤ◌, ◌≤ℤ◌, ◌<ℤ◌, refl, ap, ap₂, ◌∙◌, sym, subst, arith, nat_eq}
+use Rattle.std.proofs.Common.{◌≡◌, ◌⊎◌, inl, inr, ℕ, zero, suc, ◌^◌, ◌<◌, ◌≤◌, max, Bool, true, ℤ, pos, ◌+ℤ◌, ◌-ℤ◌, ◌*ℤ◌, ◌≤ℤ◌, ◌<ℤ◌, refl, ap, ◌∙◌, sym, subst, arith, nat_eq}
 use Rattle.std.proofs.lemmas.Int.{ints, by_lt_z}
 use Rattle.std.proofs.lemmas.Bool.{cases_eq, cases_lt, eq-eqb, eqb-true}
 use Rattle.number_laws.proofs.Ring.{as_diff, diffs, same_diff, mul-comm}
 use Rattle.number_laws.proofs.Order.{times_nonneg, times_positive}
 use Rattle.number_laws.proofs.Comparison.{chained_le}
-use Rattle.bounded_sums.specs.WholeSums.{total_below}
 use Rattle.bounded_sums.specs.Tests.{any_below}
 use Rattle.bounded_sums.proofs.TotalLaws.{total_below-zero}
 use Rattle.bounded_sums.proofs.TestLaws.{any_below-from, any_below-some}
 use Rattle.program_form.specs.Program.{ProgramDef, height}
 use Rattle.exchange_runs.specs.Table.{variables}
 use Rattle.exchange_runs.proofs.Invariants.{exchanged-away}
-use Rattle.exchange_ends.proofs.States.{State, IsGood, Enters, Leaves, IsStep, IsBasic, objective_read, basic_zero, entering_not_basic, apart}
+use Rattle.exchange_ends.proofs.States.{State, IsGood, Enters, IsStep, IsBasic, objective_read, basic_zero, entering_not_basic, apart}
 use Rattle.exchange_ends.proofs.Bland.{IsFirm, no_return, firm_on, firm_back}
 use Rattle.exchange_ends.proofs.Pigeons.{HasTwice, pigeons, code, code_below, code_same}
 
@@ -206,28 +205,37 @@ greatest_of f a (suc b) l = elim (cases_lt a b) [
   | inl more ↦
       let last : (j : ℕ) × IsGreatest f a b j = greatest_of f a b more in
       elim (cases_lt (f last.0) (f b)) [
-        | inl take ↦ (b, record {
-          from = omega arith;
-          to = omega arith;
-          greatest = λ i g h. elim (cases_lt i b) [
-            | inl earlier ↦ omega (arith, last.1.greatest i g earlier)
-            | inr end ↦ let same : i ≡ b = omega arith in rw same (omega arith)
-          ];
-        })
-        | inr keep ↦ (last.0, record {
-          from = last.1.from;
-          to = omega (arith, last.1.to);
-          greatest = λ i g h. elim (cases_lt i b) [
-            | inl earlier ↦ last.1.greatest i g earlier
-            | inr end ↦ let same : i ≡ b = omega arith in rw same keep
-          ];
-        })
+        | inl take ↦ (
+          b,
+          record {
+            from = omega arith;
+            to = omega arith;
+            greatest = λ i g h. elim (cases_lt i b) [
+              | inl earlier ↦ omega (arith, last.1.greatest i g earlier)
+              | inr end ↦ let same : i ≡ b = omega arith in rw same (omega arith)
+            ];
+          },
+        )
+        | inr keep ↦ (
+          last.0,
+          record {
+            from = last.1.from;
+            to = omega (arith, last.1.to);
+            greatest = λ i g h. elim (cases_lt i b) [
+              | inl earlier ↦ last.1.greatest i g earlier
+              | inr end ↦ let same : i ≡ b = omega arith in rw same keep
+            ];
+          },
+        )
       ]
-  | inr one ↦ (b, record {
-    from = omega arith;
-    to = omega arith;
-    greatest = λ i g h. let same : i ≡ b = omega arith in rw same (omega arith);
-  })
+  | inr one ↦ (
+    b,
+    record {
+      from = omega arith;
+      to = omega arith;
+      greatest = λ i g h. let same : i ≡ b = omega arith in rw same (omega arith);
+    },
+  )
 ]
 
 -- Where the greatest variable that moves enters, and where it leaves.

@@ -10,6 +10,6 @@ pub mod Once
 pub mod Loops
 pub mod Finals
 pub mod ExchangeTests
-mod SevenRowsRun
+pub mod SevenRowsRun
 pub mod Found
 pub mod Course
