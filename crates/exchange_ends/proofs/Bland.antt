@@ -44,7 +44,8 @@ least_ratio x q y c h pq hy pc = between _ _ q (times_le x (pos 0) q (weaker q p
     between a b k l g = omega (arith, ints)
 
 -- In s row r leaves with t where e enters, in g t enters, and the firm rows' variables of s are basic in g. That can't be.
-pub no_return : (p : ProgramDef) (s g : State) (e r t : ℕ) → IsGood p s → IsGood p g → Enters p s e → Leaves p s e r → s.basic r ≡ t → Enters p g t → e ≤ t
+pub no_return : (p : ProgramDef) (s g : State) (e r t : ℕ) → IsGood p s → IsGood p g → Enters p s e → Leaves p s e r → s.basic r ≡ t
+    → Enters p g t → e ≤ t
     → ((i : ℕ) → i < height p → IsFirm p t s i → IsBasic p (s.basic i) g) → ⊥
 no_return p s g e r t hs hg enters leaves is_t returns e_to firm =
     clash _ _ _ _ (objective_read p g s e hg hs)
@@ -58,7 +59,8 @@ no_return p s g e r t hs hg enters leaves is_t returns e_to firm =
 
     e_below : e < t
     e_below = elim (cases_eq e t) [
-      | inl same ↦ absurd (not_zero _ enters.above (basic_zero p s e hs (record { of_row = r; within = leaves.within; is = is_t ∙ sym same })))
+      | inl same ↦ absurd (not_zero _ enters.above
+          (basic_zero p s e hs (record { of_row = r; within = leaves.within; is = is_t ∙ sym same })))
       | inr away ↦ omega arith
     ]
 
@@ -69,12 +71,15 @@ no_return p s g e r t hs hg enters leaves is_t returns e_to firm =
     of_flat i l to none = elim (cases_eq (s.basic i) t) [
       | inl same ↦
           let one : i ≡ r = apart p s i r hs l leaves.within (same ∙ sym is_t) in
-          times_nonneg _ _ (subst (λ (v : ℕ). pos 0 ≤ℤ g.z (height p) v) (sym same) (weaker _ returns.above)) (subst (λ (k : ℕ). pos 0 ≤ℤ s.z k e) (sym one) (weaker _ leaves.pivot))
+          times_nonneg _ _ (subst (λ (v : ℕ). pos 0 ≤ℤ g.z (height p) v) (sym same) (weaker _ returns.above))
+          (subst (λ (k : ℕ). pos 0 ≤ℤ s.z k e) (sym one) (weaker _ leaves.pivot))
       | inr away ↦
           let before : s.basic i < t = omega arith in
           both_below _ _ (returns.least (s.basic i) before)
           (by_lt_z (pos 0) (s.z i e)
-          (λ above. absurd (not_first (s.basic r) (s.basic i) is_t before (leaves.tie i l above (least_ratio (s.z i (variables p)) (s.z r e) (s.z r (variables p)) (s.z i e) none leaves.pivot (hs.limits r leaves.within) above))))
+          (λ above. absurd (not_first (s.basic r) (s.basic i) is_t before
+          (leaves.tie i l above (least_ratio (s.z i (variables p)) (s.z r e) (s.z r (variables p)) (s.z i e) none leaves.pivot
+          (hs.limits r leaves.within) above))))
           (λ below. below))
     ]
       where
@@ -112,12 +117,15 @@ zero_scaled d x h = rw h (none d)
     none : (a : ℤ) → a *ℤ pos 0 ≡ pos 0
     none a = omega (arith, ints)
 
-limit_cell : (p : ProgramDef) (s u : State) (e r i : ℕ) → IsStep p s e r u → s.z r (variables p) ≡ pos 0 → (i ≡ r → ⊥) → u.z i (variables p) ≡ s.z i (variables p) *ℤ s.z r e
+limit_cell : (p : ProgramDef) (s u : State) (e r i : ℕ) → IsStep p s e r u → s.z r (variables p) ≡ pos 0 → (i ≡ r → ⊥)
+    → u.z i (variables p) ≡ s.z i (variables p) *ℤ s.z r e
 limit_cell p s u e r i step flat away =
-    step.cells i (variables p) ∙ (exchanged-away r e s.d s.z i (variables p) away ∙ limit_after (s.z r e) (s.z i (variables p)) (s.z i e) (s.z r (variables p)) flat)
+    step.cells i (variables p) ∙ (exchanged-away r e s.d s.z i (variables p) away
+    ∙ limit_after (s.z r e) (s.z i (variables p)) (s.z i e) (s.z r (variables p)) flat)
 
 -- In an exchange where the value stays and no variable past t moves, a firm row keeps its variable and stays firm.
-pub firm_on : (p : ProgramDef) (t : ℕ) (s u : State) (e r i : ℕ) → IsStep p s e r u → s.basic r ≤ t → s.z r (variables p) ≡ pos 0 → i < height p
+pub firm_on : (p : ProgramDef) (t : ℕ) (s u : State) (e r i : ℕ) → IsStep p s e r u → s.basic r ≤ t → s.z r (variables p) ≡ pos 0
+    → i < height p
     → IsFirm p t s i → IsFirm p t u i × (u.basic i ≡ s.basic i)
 firm_on p t s u e r i step left flat l firm = elim (cases_eq i r) [
   | inl here ↦ absurd (elim firm [
@@ -143,13 +151,15 @@ pub firm_back : (p : ProgramDef) (t : ℕ) (s u : State) (e r i : ℕ) → IsSte
 firm_back p t s u e r i step entered flat l firm = elim (cases_eq i r) [
   | inl here ↦ absurd (elim firm [
     | inl past ↦ not_past (u.basic i) (ap u.basic here ∙ step.entered) past
-    | inr above ↦ not_zero _ above (ap (λ (k : ℕ). u.z k (variables p)) here ∙ (step.cells r (variables p) ∙ (exchanged-here r e s.d s.z (variables p) ∙ zero_scaled s.d _ flat)))
+    | inr above ↦ not_zero _ above (ap (λ (k : ℕ). u.z k (variables p)) here
+        ∙ (step.cells r (variables p) ∙ (exchanged-here r e s.d s.z (variables p) ∙ zero_scaled s.d _ flat)))
   ])
   | inr away ↦
       let same : u.basic i ≡ s.basic i = step.stayed i l away in (
         elim firm [
           | inl past ↦ inl (omega arith)
-          | inr above ↦ inr (cancel_lt (pos 0) (s.z i (variables p)) (s.z r e) step.leaves.pivot (over _ _ (s.z r e) (limit_cell p s u e r i step flat away) above))
+          | inr above ↦ inr (cancel_lt (pos 0) (s.z i (variables p)) (s.z r e) step.leaves.pivot
+              (over _ _ (s.z r e) (limit_cell p s u e r i step flat away) above))
         ],
         same,
       )

@@ -19,7 +19,8 @@ pub are_fractions : AreFractions IsFraction
 are_fractions f is = is.positive
 
 -- What is asked of each value may be less.
-exchange_weaker : (A B : Fraction → Type 0) (p : ProgramDef) (t u : Table) (e r : ℕ) → ((f : Fraction) → A f → B f) → IsExchangeOver A p t u e r → IsExchangeOver B p t u e r
+exchange_weaker : (A B : Fraction → Type 0) (p : ProgramDef) (t u : Table) (e r : ℕ) → ((f : Fraction) → A f → B f)
+    → IsExchangeOver A p t u e r → IsExchangeOver B p t u e r
 exchange_weaker A B p t u e r weaker x = record {
   enters = x.enters;
   leaves = record {
@@ -50,7 +51,14 @@ exchange_weaker A B p t u e r weaker x = record {
 -- A run whose values all have forms is one over unbounded fractions.
 pub freely : (p : ProgramDef) (k : ℕ) (t : Table) → Reached p k t → FreelyReached p k t
 freely p zero t h = h
-freely p (suc k) t h = (h.0, h.1, h.2, freely p k h.0 h.3, exchange_weaker IsForm IsFraction p h.0 t h.1 h.2 (λ f form. record { positive = form.positive }) h.4)
+freely p (suc k) t h = (
+  h.0,
+  h.1,
+  h.2,
+  freely p k h.0 h.3,
+  exchange_weaker IsForm IsFraction p h.0 t h.1 h.2
+      (λ f form. record { positive = form.positive }) h.4,
+)
 
 -- The whole numbers of a table, and its basis.
 abbrev pub state_at : Table → ℤ → (ℕ → ℕ → ℤ) → State
@@ -67,13 +75,16 @@ good_of p t d z h = record {
   limits = h.limits;
 }
 
-leaves_of : (p : ProgramDef) (t u : Table) (e r : ℕ) (d : ℤ) (z : ℕ → ℕ → ℤ) → IsExchangeOver IsFraction p t u e r → IsShadow p t d z → Leaves p (state_at t d z) e r
+leaves_of : (p : ProgramDef) (t u : Table) (e r : ℕ) (d : ℤ) (z : ℕ → ℕ → ℤ) → IsExchangeOver IsFraction p t u e r → IsShadow p t d z
+    → Leaves p (state_at t d z) e r
 leaves_of p t u e r d z x h =
     let least = x.leaves.least in
     let within : r < height p = least.within in
     let above : pos 0 <ℤ z r e = shows_above d (z r e) (t.cell r e) h.positive (h.shows r e (omega arith)) least.has.above in
-    let ratio_of_r : Shows (z r e) (z r (variables p)) x.leaves.ratio = ratio_shows IsFraction p t d z e r x.leaves.ratio are_fractions h (omega arith) least.ratio in
-    let has : (i : ℕ) → i < height p → pos 0 <ℤ z i e → HasRatio t e i = λ i l a. record { above = above_shown d (z i e) (t.cell i e) h.positive (h.shows i e (omega arith)) a } in
+    let ratio_of_r : Shows (z r e) (z r (variables p)) x.leaves.ratio
+    = ratio_shows IsFraction p t d z e r x.leaves.ratio are_fractions h (omega arith) least.ratio in
+    let has : (i : ℕ) → i < height p → pos 0 <ℤ z i e → HasRatio t e i
+    = λ i l a. record { above = above_shown d (z i e) (t.cell i e) h.positive (h.shows i e (omega arith)) a } in
     record {
       within = within;
       pivot = above;
@@ -93,7 +104,8 @@ step_of p t u e r d z x h = record {
   enters = record {
     within = x.enters.within;
     above = shows_above d (z (height p) e) (objective p t e) h.positive (h.shows (height p) e (omega arith)) x.enters.above;
-    least = λ v l. shows_at_most_zero d (z (height p) v) (objective p t v) h.positive (h.shows (height p) v (omega arith)) (x.enters.least v l);
+    least = λ v l. shows_at_most_zero d (z (height p) v) (objective p t v) h.positive (h.shows (height p) v (omega arith))
+        (x.enters.least v l);
   };
   leaves = leaves_of p t u e r d z x h;
   denominator = refl;
@@ -148,9 +160,11 @@ trace_start p t start =
       at_end = refl;
     }
 
-trace_next : (p : ProgramDef) (k : ℕ) (t u : Table) (e r : ℕ) → FreeTrace p k t → IsExchangeOver IsFraction p t u e r → FreeTrace p (suc k) u
+trace_next : (p : ProgramDef) (k : ℕ) (t u : Table) (e r : ℕ) → FreeTrace p k t → IsExchangeOver IsFraction p t u e r
+    → FreeTrace p (suc k) u
 trace_next p k t u e r h x =
-    let after : IsShadow p u (h.d *ℤ h.z r e) (exchanged r e h.d h.z) = shadow_after IsFraction p t u e r h.d h.z are_fractions x h.shadow in
+    let after : IsShadow p u (h.d *ℤ h.z r e) (exchanged r e h.d h.z)
+    = shadow_after IsFraction p t u e r h.d h.z are_fractions x h.shadow in
     let next : State = state_at u (h.d *ℤ h.z r e) (exchanged r e h.d h.z) in
     let states : ℕ → State = extended (suc k) h.states next in
     let entering : ℕ → ℕ = extended k h.entering e in
@@ -165,17 +179,22 @@ trace_next p k t u e r h x =
       trace = record {
         good = λ j l. elim (cases_lt j (suc k)) [
           | inl before ↦ subst (IsGood p) (sym (old j before)) (h.trace.good j (omega arith))
-          | inr last ↦ let same : suc k ≡ j = omega arith in subst (λ (i : ℕ). IsGood p (states i)) same (subst (IsGood p) (sym new) (good_of p u (h.d *ℤ h.z r e) (exchanged r e h.d h.z) after))
+          | inr last ↦ let same : suc k ≡ j = omega arith in
+              subst (λ (i : ℕ). IsGood p (states i)) same
+              (subst (IsGood p) (sym new) (good_of p u (h.d *ℤ h.z r e) (exchanged r e h.d h.z) after))
         ];
         step = λ j l. elim (cases_lt j k) [
           | inl before ↦
-              step_same p (states j) (h.states j) (states (suc j)) (h.states (suc j)) (entering j) (h.entering j) (leaving j) (h.leaving j)
-              (old j (omega arith)) (extended-below k h.entering e j before) (extended-below k h.leaving r j before) (old (suc j) (omega arith)) (h.trace.step j before)
+              step_same p (states j) (h.states j) (states (suc j)) (h.states (suc j)) (entering j) (h.entering j) (leaving j)
+              (h.leaving j)
+              (old j (omega arith)) (extended-below k h.entering e j before) (extended-below k h.leaving r j before)
+              (old (suc j) (omega arith)) (h.trace.step j before)
           | inr last ↦
               let same : k ≡ j = omega arith in
               subst (λ (i : ℕ). IsStep p (states i) (entering i) (leaving i) (states (suc i))) same
               (step_same p (states k) (state_at t h.d h.z) (states (suc k)) next (entering k) e (leaving k) r
-              (old k (omega arith) ∙ h.at_end) (extended-behind k h.entering e k (omega arith)) (extended-behind k h.leaving r k (omega arith)) new
+              (old k (omega arith) ∙ h.at_end) (extended-behind k h.entering e k (omega arith))
+              (extended-behind k h.leaving r k (omega arith)) new
               (step_of p t u e r h.d h.z x h.shadow))
         ];
       };
@@ -194,4 +213,5 @@ trace_of p (suc k) t h = trace_next p k h.0 t h.1 h.2 (trace_of p k h.0 h.3) h.4
 
 -- A run makes fewer exchanges than there are sets of variables.
 pub few_exchanges : (p : ProgramDef) (k : ℕ) (t : Table) → FreelyReached p k t → k < 2 ^ variables p
-few_exchanges p k t h = let behind : FreeTrace p k t = trace_of p k t h in trace_ends p k behind.states behind.entering behind.leaving behind.trace
+few_exchanges p k t h = let behind : FreeTrace p k t = trace_of p k t h in
+    trace_ends p k behind.states behind.entering behind.leaving behind.trace

@@ -42,9 +42,11 @@ same_leaving p s u e r q good same h k =
     let pivot_q : pos 0 <ℤ s.z q e = above_same _ _ (same.z q e) k.pivot in
     let pivot_r : pos 0 <ℤ u.z r e = above_same _ _ (sym (same.z r e)) h.pivot in
     let first : s.basic r ≤ s.basic q
-    = h.tie q k.within pivot_q (at_most_same _ _ _ _ _ _ _ _ (same.z q w) (same.z r e) (same.z r w) (same.z q e) (k.ratio r h.within pivot_r)) in
+    = h.tie q k.within pivot_q (at_most_same _ _ _ _ _ _ _ _ (same.z q w) (same.z r e) (same.z r w) (same.z q e)
+    (k.ratio r h.within pivot_r)) in
     let second : u.basic q ≤ u.basic r
-    = k.tie r h.within pivot_r (at_most_same _ _ _ _ _ _ _ _ (sym (same.z r w)) (sym (same.z q e)) (sym (same.z q w)) (sym (same.z r e)) (h.ratio q k.within pivot_q)) in
+    = k.tie r h.within pivot_r (at_most_same _ _ _ _ _ _ _ _ (sym (same.z r w)) (sym (same.z q e)) (sym (same.z q w)) (sym (same.z r e))
+    (h.ratio q k.within pivot_q)) in
     apart p s r q good h.within k.within (both _ _ _ _ first second (same.basic r h.within) (same.basic q k.within))
   where
     both : (a b c k : ℕ) → a ≤ b → c ≤ k → a ≡ k → b ≡ c → a ≡ b
@@ -70,7 +72,8 @@ same_after p s u a b e r same h k = record {
   ];
 }
 
-same_next : (p : ProgramDef) (s u a b : State) (e f r q : ℕ) → IsGood p s → IsSame p s u → IsStep p s e r a → IsStep p u f q b → IsSame p a b
+same_next : (p : ProgramDef) (s u a b : State) (e f r q : ℕ) → IsGood p s → IsSame p s u → IsStep p s e r a → IsStep p u f q b
+    → IsSame p a b
 same_next p s u a b e f r q good same h k =
     let one_enters : f ≡ e = sym (same_entering p s u e f same h.enters k.enters) in
     let enters_so : IsStep p u e q b = subst (λ (v : ℕ). IsStep p u v q b) one_enters k in
@@ -78,7 +81,8 @@ same_next p s u a b e f r q good same h k =
     same_after p s u a b e r same h (subst (λ (v : ℕ). IsStep p u e v b) one_leaves enters_so)
 
 -- Two runs agree as far as both go.
-same_tables : (p : ProgramDef) (k j i : ℕ) (t u : Table) (h : FreeTrace p k t) (g : FreeTrace p j u) → i ≤ k → i ≤ j → IsSame p (h.states i) (g.states i)
+same_tables : (p : ProgramDef) (k j i : ℕ) (t u : Table) (h : FreeTrace p k t) (g : FreeTrace p j u) → i ≤ k → i ≤ j
+    → IsSame p (h.states i) (g.states i)
 same_tables p k j zero t u h g to_k to_j = record {
   d = h.start_d ∙ sym g.start_d;
   z = λ i v. h.start_z i v ∙ sym (g.start_z i v);
@@ -86,7 +90,8 @@ same_tables p k j zero t u h g to_k to_j = record {
 }
 same_tables p k j (suc i) t u h g to_k to_j =
     same_next p (h.states i) (g.states i) (h.states (suc i)) (g.states (suc i)) (h.entering i) (g.entering i) (h.leaving i) (g.leaving i)
-    (h.trace.good i (omega arith)) (same_tables p k j i t u h g (omega arith) (omega arith)) (h.trace.step i (omega arith)) (g.trace.step i (omega arith))
+    (h.trace.good i (omega arith)) (same_tables p k j i t u h g (omega arith) (omega arith)) (h.trace.step i (omega arith))
+    (g.trace.step i (omega arith))
 
 -- Where a table is the last, no run makes more exchanges.
 pub no_later_end : (p : ProgramDef) (k j : ℕ) (t u : Table) → FreelyReached p k t → IsLast p t → FreelyReached p j u → j ≤ k
@@ -99,6 +104,7 @@ no_later_end p k j t u reached last other = elim (cases_lt k j) [
       let enters : Enters p (g.states k) (g.entering k) = (g.trace.step k later).enters in
       let e : ℕ = g.entering k in
       let none : h.z (height p) e ≤ℤ pos 0
-      = shows_at_most_zero h.d (h.z (height p) e) (objective p t e) h.shadow.positive (h.shadow.shows (height p) e (omega arith)) (last.none e enters.within) in
+      = shows_at_most_zero h.d (h.z (height p) e) (objective p t e) h.shadow.positive (h.shadow.shows (height p) e (omega arith))
+      (last.none e enters.within) in
       absurd (not_both _ _ (sym (same.z (height p) e) ∙ ap (λ s. s.z (height p) e) h.at_end) enters.above none)
 ]

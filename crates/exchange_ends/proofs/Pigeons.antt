@@ -44,7 +44,8 @@ instead_below f n i l last away = elim (cases_eq (f i) n) [
       | inr less ↦ omega arith
     ]
 
-same_before : (f : ℕ → ℕ) (n i j : ℕ) → instead f n (f (suc n)) i ≡ instead f n (f (suc n)) j → (f i ≡ f (suc n) → ⊥) → (f j ≡ f (suc n) → ⊥) → f i ≡ f j
+same_before : (f : ℕ → ℕ) (n i j : ℕ) → instead f n (f (suc n)) i ≡ instead f n (f (suc n)) j → (f i ≡ f (suc n) → ⊥)
+    → (f j ≡ f (suc n) → ⊥) → f i ≡ f j
 same_before f n i j e away_i away_j = elim (cases_eq (f i) n) [
   | inl here ↦ elim (cases_eq (f j) n) [
     | inl there ↦ here ∙ sym there
@@ -66,7 +67,8 @@ pigeons (suc n) f h = elim (one_before f (f (suc n)) (suc n)) [
   | inl there ↦ (there.0, suc n, there.1, omega arith, there.2)
   | inr none ↦
       let fewer : HasTwice (instead f n (f (suc n))) n
-      = pigeons n (instead f n (f (suc n))) (λ i l. instead_below f n i (h i (omega arith)) (h (suc n) (omega arith)) (none i (omega arith))) in (
+      = pigeons n (instead f n (f (suc n))) (λ i l. instead_below f n i (h i (omega arith)) (h (suc n) (omega arith))
+      (none i (omega arith))) in (
         fewer.0,
         fewer.1,
         fewer.2,
@@ -86,7 +88,8 @@ flag_at_most false = omega arith
 
 pub code_below : (n : ℕ) (f : ℕ → Bool) → code n f < 2 ^ n
 code_below zero f = omega arith
-code_below (suc n) f = rw (pow-succ' 2 n) (more (flag (f 0)) (code n (λ k. f (suc k))) (2 ^ n) (flag_at_most (f 0)) (code_below n (λ k. f (suc k))))
+code_below (suc n) f = rw (pow-succ' 2 n)
+    (more (flag (f 0)) (code n (λ k. f (suc k))) (2 ^ n) (flag_at_most (f 0)) (code_below n (λ k. f (suc k))))
   where
     more : (a x y : ℕ) → a ≤ 1 → x < y → a + 2 * x < 2 * y
     more a x y h k = omega arith
@@ -102,4 +105,5 @@ pub code_same : (n : ℕ) (f g : ℕ → Bool) → code n f ≡ code n g → (k 
 code_same zero f g e k l = absurd (omega arith)
 code_same (suc n) f g e zero l = (digits (f 0) (g 0) (code n (λ i. f (suc i))) (code n (λ i. g (suc i))) e).0
 code_same (suc n) f g e (suc k) l =
-    code_same n (λ i. f (suc i)) (λ i. g (suc i)) (digits (f 0) (g 0) (code n (λ i. f (suc i))) (code n (λ i. g (suc i))) e).1 k (omega arith)
+    code_same n (λ i. f (suc i)) (λ i. g (suc i)) (digits (f 0) (g 0) (code n (λ i. f (suc i))) (code n (λ i. g (suc i))) e).1 k
+    (omega arith)

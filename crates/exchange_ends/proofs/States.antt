@@ -40,7 +40,8 @@ pub record Leaves (p : ProgramDef) (s : State) (e r : ℕ) : Type 0 where
   pub within : r < height p
   pub pivot : pos 0 <ℤ s.z r e
   pub ratio : (i : ℕ) → i < height p → pos 0 <ℤ s.z i e → (s.z r (variables p) *ℤ s.z i e) ≤ℤ (s.z i (variables p) *ℤ s.z r e)
-  pub tie : (i : ℕ) → i < height p → pos 0 <ℤ s.z i e → (s.z i (variables p) *ℤ s.z r e) ≤ℤ (s.z r (variables p) *ℤ s.z i e) → s.basic r ≤ s.basic i
+  pub tie : (i : ℕ) → i < height p → pos 0 <ℤ s.z i e → (s.z i (variables p) *ℤ s.z r e) ≤ℤ (s.z r (variables p) *ℤ s.z i e)
+      → s.basic r ≤ s.basic i
 
 -- Is u the table after s where e enters and row r leaves?
 pub record IsStep (p : ProgramDef) (s : State) (e r : ℕ) (u : State) : Type 0 where
@@ -66,8 +67,10 @@ mixed_rows m d y f z basic v h =
     ∙ (total_below-agree m (λ r. d *ℤ (y r *ℤ f r v)) (λ r. total_below m (λ i. y r *ℤ (f r (basic i) *ℤ z i v)))
     (λ r l. turn d (y r) (f r v) ∙ (ap (λ x. y r *ℤ x) (h r l) ∙ sym (total_below-times m (y r) (λ i. f r (basic i) *ℤ z i v))))
     ∙ (total_below-swap m m (λ r i. y r *ℤ (f r (basic i) *ℤ z i v))
-    ∙ total_below-agree m (λ i. total_below m (λ r. y r *ℤ (f r (basic i) *ℤ z i v))) (λ i. total_below m (λ r. y r *ℤ f r (basic i)) *ℤ z i v)
-    (λ i l. total_below-agree m (λ r. y r *ℤ (f r (basic i) *ℤ z i v)) (λ r. (y r *ℤ f r (basic i)) *ℤ z i v) (λ r k. grouped (y r) (f r (basic i)) (z i v))
+    ∙ total_below-agree m (λ i. total_below m (λ r. y r *ℤ (f r (basic i) *ℤ z i v)))
+    (λ i. total_below m (λ r. y r *ℤ f r (basic i)) *ℤ z i v)
+    (λ i l. total_below-agree m (λ r. y r *ℤ (f r (basic i) *ℤ z i v)) (λ r. (y r *ℤ f r (basic i)) *ℤ z i v)
+    (λ r k. grouped (y r) (f r (basic i)) (z i v))
     ∙ total_below-times_right m (z i v) (λ r. y r *ℤ f r (basic i)))))
   where
     turn : (a b c : ℤ) → a *ℤ (b *ℤ c) ≡ b *ℤ (a *ℤ c)
@@ -78,7 +81,8 @@ mixed_rows m d y f z basic v h =
 
 mixed_ring : (d w x f s o a : ℤ) → x ≡ (w *ℤ f) +ℤ s → d *ℤ f ≡ o +ℤ a → d *ℤ x ≡ (w *ℤ o) +ℤ ((w *ℤ a) +ℤ (d *ℤ s))
 mixed_ring d w x f s o a h k =
-    by_two d h w k _ _ (rw (as_diff d, as_diff w, as_diff x, as_diff f, as_diff s, as_diff o, as_diff a) (simp diffs (same_diff _ _ _ _ (omega arith))))
+    by_two d h w k _ _ (rw (as_diff d, as_diff w, as_diff x, as_diff f, as_diff s, as_diff o, as_diff a)
+    (simp diffs (same_diff _ _ _ _ (omega arith))))
 
 -- A mix of the first rows can be read off every table off which they can.
 pub mix_read : (m n : ℕ) (first : ℕ → ℕ → ℤ) (d w : ℤ) (x : ℕ → ℤ) (z : ℕ → ℕ → ℤ) (basic : ℕ → ℕ) → IsMix m n first w x
@@ -89,13 +93,15 @@ mix_read m n first d w x z basic mix rows objective = record {
       let others : ℕ → ℤ = λ i. total_below m (λ r. slacks r *ℤ first r (basic i)) in
       let costs : ℤ = total_below m (λ i. first m (basic i) *ℤ z i v) in
       let by_rows : d *ℤ total_below m (λ r. slacks r *ℤ first r v) ≡ total_below m (λ i. others i *ℤ z i v)
-      = mixed_rows m d slacks first z basic v (λ r l. (rows r l).read v ∙ with_none (z m v) (total_below m (λ i. first r (basic i) *ℤ z i v))) in
+      = mixed_rows m d slacks first z basic v (λ r l. (rows r l).read v
+      ∙ with_none (z m v) (total_below m (λ i. first r (basic i) *ℤ z i v))) in
       let sums : (w *ℤ costs) +ℤ total_below m (λ i. others i *ℤ z i v) ≡ total_below m (λ i. x (basic i) *ℤ z i v)
       = ap (λ c. c +ℤ total_below m (λ i. others i *ℤ z i v)) (sym (total_below-times m w (λ i. first m (basic i) *ℤ z i v)))
       ∙ (sym (total_below-plus m (λ i. w *ℤ (first m (basic i) *ℤ z i v)) (λ i. others i *ℤ z i v))
       ∙ total_below-agree m (λ i. (w *ℤ (first m (basic i) *ℤ z i v)) +ℤ (others i *ℤ z i v)) (λ i. x (basic i) *ℤ z i v)
       (λ i l. term_ring w (first m (basic i)) (z i v) (others i) ∙ ap (λ c. c *ℤ z i v) (sym (mix.mixed (basic i))))) in
-      mixed_ring d w (x v) (first m v) (total_below m (λ r. slacks r *ℤ first r v)) (z m v) costs (mix.mixed v) (objective.read v ∙ once (z m v) costs)
+      mixed_ring d w (x v) (first m v) (total_below m (λ r. slacks r *ℤ first r v)) (z m v) costs (mix.mixed v)
+      (objective.read v ∙ once (z m v) costs)
       ∙ ap (λ c. (w *ℤ z m v) +ℤ c) (ap (λ c. (w *ℤ costs) +ℤ c) by_rows ∙ sums);
 }
   where
@@ -112,7 +118,8 @@ mix_read m n first d w x z basic mix rows objective = record {
 pub objective_read : (p : ProgramDef) (s g : State) (v : ℕ) → IsGood p s → IsGood p g
     → g.d *ℤ s.z (height p) v ≡ (s.d *ℤ g.z (height p) v) +ℤ total_below (height p) (λ i. s.z (height p) (g.basic i) *ℤ g.z i v)
 objective_read p s g v hs hg =
-    (mix_read (height p) (columns p) (first_z p) g.d s.d (s.z (height p)) g.z g.basic hs.mixes_objective hg.reads hg.reads_objective).read v
+    (mix_read (height p) (columns p) (first_z p) g.d s.d
+    (s.z (height p)) g.z g.basic hs.mixes_objective hg.reads hg.reads_objective).read v
 
 -- A basic variable has zero in the objective row.
 pub objective_basic : (p : ProgramDef) (s : State) (j : ℕ) → IsGood p s → j < height p → s.z (height p) (s.basic j) ≡ pos 0
@@ -120,7 +127,8 @@ objective_basic p s j h l =
     let m : ℕ = height p in
     let costs : ℕ → ℤ = λ i. first_z p m (s.basic i) in
     let alone : total_below m (λ i. costs i *ℤ s.z i (s.basic j)) ≡ costs j *ℤ s.d
-    = total_below-agree m (λ i. costs i *ℤ s.z i (s.basic j)) (only_at j (costs j *ℤ s.d)) (λ i k. ap (λ c. costs i *ℤ c) (h.unit i j k l) ∙ only_times costs j i s.d)
+    = total_below-agree m (λ i. costs i *ℤ s.z i (s.basic j)) (only_at j (costs j *ℤ s.d))
+    (λ i k. ap (λ c. costs i *ℤ c) (h.unit i j k l) ∙ only_times costs j i s.d)
     ∙ total_below-only m j (costs j *ℤ s.d) l in
     nothing_left _ _ _ _ (h.reads_objective.read (s.basic j)) alone (mul-comm s.d (costs j))
   where
@@ -141,5 +149,6 @@ entering_not_basic p s e h enters b = not_zero _ enters.above (basic_zero p s e 
 pub apart : (p : ProgramDef) (s : State) (i j : ℕ) → IsGood p s → i < height p → j < height p → s.basic i ≡ s.basic j → i ≡ j
 apart p s i j h li lj same = elim (cases_eq i j) [
   | inl one ↦ one
-  | inr two ↦ absurd (not_zero _ h.positive (sym (h.unit i i li li ∙ only_at-here i s.d) ∙ (ap (s.z i) same ∙ (h.unit i j li lj ∙ only_at-away j s.d i two))))
+  | inr two ↦ absurd (not_zero _ h.positive
+      (sym (h.unit i i li li ∙ only_at-here i s.d) ∙ (ap (s.z i) same ∙ (h.unit i j li lj ∙ only_at-away j s.d i two))))
 ]

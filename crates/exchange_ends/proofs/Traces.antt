@@ -30,15 +30,18 @@ no_more_itself p s = itself _
     itself : (x : ℤ) → x ≤ℤ x
     itself x = omega (arith, ints)
 
-no_more_through : (p : ProgramDef) (s u v : State) → IsGood p s → IsGood p u → IsGood p v → IsNoMore p s u → IsNoMore p u v → IsNoMore p s v
+no_more_through : (p : ProgramDef) (s u v : State) → IsGood p s → IsGood p u → IsGood p v → IsNoMore p s u → IsNoMore p u v
+    → IsNoMore p s v
 no_more_through p s u v hs hu hv h k =
-    chained_le (s.z (height p) (variables p)) (u.z (height p) (variables p)) (v.z (height p) (variables p)) s.d u.d v.d hs.positive hu.positive hv.positive h k
+    chained_le (s.z (height p) (variables p)) (u.z (height p) (variables p))
+    (v.z (height p) (variables p)) s.d u.d v.d hs.positive hu.positive hv.positive h k
 
 -- What an exchange takes off the objective's limit.
 taken_off : (p : ProgramDef) (s u : State) (e r : ℕ) → IsStep p s e r u
     → u.z (height p) (variables p) *ℤ s.d ≡ (s.z (height p) (variables p) *ℤ u.d) -ℤ ((s.z (height p) e *ℤ s.z r (variables p)) *ℤ s.d)
 taken_off p s u e r step =
-    ap (λ c. c *ℤ s.d) (step.cells (height p) (variables p) ∙ exchanged-away r e s.d s.z (height p) (variables p) (other step.leaves.within))
+    ap (λ c. c *ℤ s.d) (step.cells (height p) (variables p)
+    ∙ exchanged-away r e s.d s.z (height p) (variables p) (other step.leaves.within))
     ∙ (off_ring (s.z r e) (s.z (height p) (variables p)) (s.z (height p) e) (s.z r (variables p)) s.d
     ∙ ap (λ c. (s.z (height p) (variables p) *ℤ c) -ℤ ((s.z (height p) e *ℤ s.z r (variables p)) *ℤ s.d)) (sym step.denominator))
   where
@@ -67,7 +70,8 @@ step_drops p s u e r good step above back =
     not_back : (x y k : ℤ) → x ≡ y -ℤ k → pos 0 <ℤ k → y ≤ℤ x → ⊥
     not_back x y k q h l = omega (arith, ints)
 
-later_no_more : (p : ProgramDef) (most : ℕ) (T : ℕ → State) (e r : ℕ → ℕ) (j k : ℕ) → IsTrace p most T e r → j ≤ k → k ≤ most → IsNoMore p (T k) (T j)
+later_no_more : (p : ProgramDef) (most : ℕ) (T : ℕ → State) (e r : ℕ → ℕ) (j k : ℕ) → IsTrace p most T e r → j ≤ k → k ≤ most
+    → IsNoMore p (T k) (T j)
 later_no_more p most T e r j zero trace l m =
     let same : 0 ≡ j = omega arith in subst (λ (i : ℕ). IsNoMore p (T 0) (T i)) same (no_more_itself p (T 0))
 later_no_more p most T e r j (suc k) trace l m = elim (cases_lt j (suc k)) [
@@ -82,7 +86,8 @@ later_no_more p most T e r j (suc k) trace l m = elim (cases_lt j (suc k)) [
 one_value : (p : ProgramDef) (s g : State) → IsGood p s → IsGood p g → ((i : ℕ) → i < height p → IsBasic p (g.basic i) s) → IsNoMore p s g
 one_value p s g hs hg basic =
     same_value _ _ _ _ _ (objective_read p s g (variables p) hs hg)
-    (total_below-zero (height p) (λ i. s.z (height p) (g.basic i) *ℤ g.z i (variables p)) (λ i l. zero_times _ _ (basic_zero p s (g.basic i) hs (basic i l))))
+    (total_below-zero (height p) (λ i. s.z (height p) (g.basic i) *ℤ g.z i (variables p))
+    (λ i l. zero_times _ _ (basic_zero p s (g.basic i) hs (basic i l))))
     (mul-comm g.d (s.z (height p) (variables p))) (mul-comm s.d (g.z (height p) (variables p)))
   where
     zero_times : (a b : ℤ) → a ≡ pos 0 → a *ℤ b ≡ pos 0
@@ -102,10 +107,13 @@ all_flat p most T e r a b j trace to from before back =
     let u : State = T (suc j) in
     let good : (i : ℕ) → i ≤ b → IsGood p (T i) = λ i l. trace.good i (omega arith) in
     let a_to_b : IsNoMore p (T a) (T b)
-    = one_value p (T a) (T b) (good a (omega arith)) (good b (omega arith)) (λ i l. back ((T b).basic i) (record { of_row = i; within = l; is = refl })) in
-    let j_to_b : IsNoMore p s (T b) = no_more_through p s (T a) (T b) (good j (omega arith)) (good a (omega arith)) (good b (omega arith)) (later_no_more p most T e r a j trace from (omega arith)) a_to_b in
+    = one_value p (T a) (T b) (good a (omega arith)) (good b (omega arith))
+    (λ i l. back ((T b).basic i) (record { of_row = i; within = l; is = refl })) in
+    let j_to_b : IsNoMore p s (T b) = no_more_through p s (T a) (T b) (good j (omega arith)) (good a (omega arith)) (good b (omega arith))
+    (later_no_more p most T e r a j trace from (omega arith)) a_to_b in
     let j_to_next : IsNoMore p s u
-    = no_more_through p s (T b) u (good j (omega arith)) (good b (omega arith)) (good (suc j) (omega arith)) j_to_b (later_no_more p most T e r (suc j) b trace (omega arith) to) in
+    = no_more_through p s (T b) u (good j (omega arith)) (good b (omega arith)) (good (suc j) (omega arith)) j_to_b
+    (later_no_more p most T e r (suc j) b trace (omega arith) to) in
     by_lt_z (pos 0) (s.z (r j) (variables p))
     (λ above. absurd (step_drops p s u (e j) (r j) (good j (omega arith)) (trace.step j (omega arith)) above j_to_next))
     (λ none. zero_of _ none ((good j (omega arith)).limits (r j) (trace.step j (omega arith)).leaves.within))
@@ -121,32 +129,39 @@ record IsCalm (p : ProgramDef) (most : ℕ) (T : ℕ → State) (e r : ℕ → �
   left : (j : ℕ) → a ≤ j → j < b → (T j).basic (r j) ≤ t
   flat : (j : ℕ) → a ≤ j → j < b → (T j).z (r j) (variables p) ≡ pos 0
 
-firm_to : (p : ProgramDef) (most : ℕ) (T : ℕ → State) (e r : ℕ → ℕ) (t a b i k : ℕ) → IsCalm p most T e r t a b → i < height p → a ≤ k → k ≤ b
+firm_to : (p : ProgramDef) (most : ℕ) (T : ℕ → State) (e r : ℕ → ℕ) (t a b i k : ℕ) → IsCalm p most T e r t a b → i < height p → a ≤ k
+    → k ≤ b
     → IsFirm p t (T a) i → IsFirm p t (T k) i × ((T k).basic i ≡ (T a).basic i)
 firm_to p most T e r t a b i zero calm l from to firm =
     let same : a ≡ 0 = omega arith in subst (λ (k : ℕ). IsFirm p t (T k) i × ((T k).basic i ≡ (T a).basic i)) same (firm, refl)
 firm_to p most T e r t a b i (suc k) calm l from to firm = elim (cases_lt a (suc k)) [
   | inl before ↦
       let last = firm_to p most T e r t a b i k calm l (omega arith) (omega arith) firm in
-      let next = firm_on p t (T k) (T (suc k)) (e k) (r k) i (calm.trace.step k (omega (arith, calm.to))) (calm.left k (omega arith) (omega arith)) (calm.flat k (omega arith) (omega arith)) l last.0 in
+      let next = firm_on p t (T k) (T (suc k)) (e k) (r k) i (calm.trace.step k (omega (arith, calm.to)))
+      (calm.left k (omega arith) (omega arith)) (calm.flat k (omega arith) (omega arith)) l last.0 in
       (next.0, next.1 ∙ last.1)
-  | inr at ↦ let same : a ≡ suc k = omega arith in subst (λ (k : ℕ). IsFirm p t (T k) i × ((T k).basic i ≡ (T a).basic i)) same (firm, refl)
+  | inr at ↦ let same : a ≡ suc k = omega arith in
+      subst (λ (k : ℕ). IsFirm p t (T k) i × ((T k).basic i ≡ (T a).basic i)) same (firm, refl)
 ]
 
-firm_from : (p : ProgramDef) (most : ℕ) (T : ℕ → State) (e r : ℕ → ℕ) (t a b i k : ℕ) → IsCalm p most T e r t a b → i < height p → a ≤ k → k ≤ b
+firm_from : (p : ProgramDef) (most : ℕ) (T : ℕ → State) (e r : ℕ → ℕ) (t a b i k : ℕ) → IsCalm p most T e r t a b → i < height p → a ≤ k
+    → k ≤ b
     → IsFirm p t (T k) i → IsFirm p t (T a) i × ((T k).basic i ≡ (T a).basic i)
 firm_from p most T e r t a b i zero calm l from to firm =
     let same : 0 ≡ a = omega arith in subst (λ (k : ℕ). IsFirm p t (T k) i × ((T 0).basic i ≡ (T k).basic i)) same (firm, refl)
 firm_from p most T e r t a b i (suc k) calm l from to firm = elim (cases_lt a (suc k)) [
   | inl before ↦
-      let next = firm_back p t (T k) (T (suc k)) (e k) (r k) i (calm.trace.step k (omega (arith, calm.to))) (calm.entered k (omega arith) (omega arith)) (calm.flat k (omega arith) (omega arith)) l firm in
+      let next = firm_back p t (T k) (T (suc k)) (e k) (r k) i (calm.trace.step k (omega (arith, calm.to)))
+      (calm.entered k (omega arith) (omega arith)) (calm.flat k (omega arith) (omega arith)) l firm in
       let last = firm_from p most T e r t a b i k calm l (omega arith) (omega arith) next.0 in
       (last.0, next.1 ∙ last.1)
-  | inr at ↦ let same : suc k ≡ a = omega arith in subst (λ (j : ℕ). IsFirm p t (T j) i × ((T (suc k)).basic i ≡ (T j).basic i)) same (firm, refl)
+  | inr at ↦ let same : suc k ≡ a = omega arith in
+      subst (λ (j : ℕ). IsFirm p t (T j) i × ((T (suc k)).basic i ≡ (T j).basic i)) same (firm, refl)
 ]
 
 -- While it is calm t does not both leave and enter.
-not_both_ways : (p : ProgramDef) (most : ℕ) (T : ℕ → State) (e r : ℕ → ℕ) (t a b j k : ℕ) → IsCalm p most T e r t a b → a ≤ j → j < b → a ≤ k → k < b
+not_both_ways : (p : ProgramDef) (most : ℕ) (T : ℕ → State) (e r : ℕ → ℕ) (t a b j k : ℕ) → IsCalm p most T e r t a b → a ≤ j → j < b
+    → a ≤ k → k < b
     → (T j).basic (r j) ≡ t → e k ≡ t → ⊥
 not_both_ways p most T e r t a b j k calm from_j to_j from_k to_k leaves enters =
     no_return p (T j) (T k) (e j) (r j) t (calm.trace.good j (omega (arith, calm.to))) (calm.trace.good k (omega (arith, calm.to)))
@@ -242,26 +257,34 @@ greatest_of f a (suc b) l = elim (cases_lt a b) [
 enters_once : (p : ProgramDef) (most : ℕ) (T : ℕ → State) (e r : ℕ → ℕ) (t a b j : ℕ) → IsCalm p most T e r t a b → a ≤ j → j < b
     → ((v : ℕ) → IsBasic p v (T b) → IsBasic p v (T a)) → e j ≡ t → ⊥
 enters_once p most T e r t a b j calm from to back enters =
-    let never : (l : ℕ) → a ≤ l → l < b → (T l).basic (r l) ≡ t → ⊥ = λ l f g leaves. not_both_ways p most T e r t a b l j calm f g from to leaves enters in
+    let never : (l : ℕ) → a ≤ l → l < b → (T l).basic (r l) ≡ t → ⊥
+    = λ l f g leaves. not_both_ways p most T e r t a b l j calm f g from to leaves enters in
     let step : IsStep p (T j) (e j) (r j) (T (suc j)) = calm.trace.step j (omega (arith, calm.to)) in
     let after : IsBasic p t (T (suc j)) = record { of_row = r j; within = step.leaves.within; is = step.entered ∙ enters } in
-    let at_end : IsBasic p t (T b) = stays p most T e r t (suc j) b calm.trace (λ l f g. never l (omega arith) g) (omega arith) calm.to after in
-    let at_j : IsBasic p t (T j) = stays p most T e r t a j calm.trace (λ l f g. never l f (omega arith)) from (omega (arith, calm.to)) (back t at_end) in
-    entering_not_basic p (T j) t (calm.trace.good j (omega (arith, calm.to))) (subst (λ (v : ℕ). Enters p (T j) v) enters step.enters) at_j
+    let at_end : IsBasic p t (T b) = stays p most T e r t (suc j) b calm.trace (λ l f g. never l (omega arith) g)
+    (omega arith) calm.to after in
+    let at_j : IsBasic p t (T j) = stays p most T e r t a j calm.trace (λ l f g. never l f (omega arith)) from (omega (arith, calm.to))
+    (back t at_end) in
+    entering_not_basic p (T j) t (calm.trace.good j (omega (arith, calm.to)))
+    (subst (λ (v : ℕ). Enters p (T j) v) enters step.enters) at_j
 
 leaves_once : (p : ProgramDef) (most : ℕ) (T : ℕ → State) (e r : ℕ → ℕ) (t a b j : ℕ) → IsCalm p most T e r t a b → a ≤ j → j < b
     → ((v : ℕ) → v < variables p → IsBasic p v (T a) → IsBasic p v (T b)) → (T j).basic (r j) ≡ t → ⊥
 leaves_once p most T e r t a b j calm from to forth leaves =
-    let never : (l : ℕ) → a ≤ l → l < b → e l ≡ t → ⊥ = λ l f g enters. not_both_ways p most T e r t a b j l calm from to f g leaves enters in
+    let never : (l : ℕ) → a ≤ l → l < b → e l ≡ t → ⊥
+    = λ l f g enters. not_both_ways p most T e r t a b j l calm from to f g leaves enters in
     let step : IsStep p (T j) (e j) (r j) (T (suc j)) = calm.trace.step j (omega (arith, calm.to)) in
     let good : IsGood p (T j) = calm.trace.good j (omega (arith, calm.to)) in
     let at_j : IsBasic p t (T j) = record { of_row = r j; within = step.leaves.within; is = leaves } in
     let variable : t < variables p = subst (λ (v : ℕ). v < variables p) leaves (good.basics (r j) step.leaves.within) in
-    let at_start : IsBasic p t (T a) = was_there p most T e r t a j calm.trace (λ l f g. never l f (omega arith)) from (omega (arith, calm.to)) at_j in
-    let after : IsBasic p t (T (suc j)) = was_there p most T e r t (suc j) b calm.trace (λ l f g. never l (omega arith) g) (omega arith) calm.to (forth t variable at_start) in
+    let at_start : IsBasic p t (T a) = was_there p most T e r t a j calm.trace (λ l f g. never l f (omega arith)) from
+    (omega (arith, calm.to)) at_j in
+    let after : IsBasic p t (T (suc j)) = was_there p most T e r t (suc j) b calm.trace (λ l f g. never l (omega arith) g)
+    (omega arith) calm.to (forth t variable at_start) in
     elim (cases_eq after.of_row (r j)) [
       | inl here ↦ never j from to (sym step.entered ∙ (ap (T (suc j)).basic (sym here) ∙ after.is))
-      | inr away ↦ away (apart p (T j) after.of_row (r j) good after.within step.leaves.within (sym (step.stayed after.of_row after.within away) ∙ (after.is ∙ sym leaves)))
+      | inr away ↦ away (apart p (T j) after.of_row (r j) good after.within step.leaves.within
+          (sym (step.stayed after.of_row after.within away) ∙ (after.is ∙ sym leaves)))
     ]
 
 no_repeat : (p : ProgramDef) (most : ℕ) (T : ℕ → State) (e r : ℕ → ℕ) (a b : ℕ) → IsTrace p most T e r → a < b → b ≤ most
@@ -312,7 +335,8 @@ trace_ends p most T e r trace = elim (cases_lt most (2 ^ variables p)) [
   | inl fewer ↦ fewer
   | inr many ↦
       let codes : ℕ → ℕ = λ j. code (variables p) (is_basic p (T j)) in
-      let twice : HasTwice codes (2 ^ variables p) = pigeons (2 ^ variables p) codes (λ i l. code_below (variables p) (is_basic p (T i))) in
+      let twice : HasTwice codes (2 ^ variables p)
+      = pigeons (2 ^ variables p) codes (λ i l. code_below (variables p) (is_basic p (T i))) in
       let same : (v : ℕ) → v < variables p → is_basic p (T twice.0) v ≡ is_basic p (T twice.1) v
       = code_same (variables p) (is_basic p (T twice.0)) (is_basic p (T twice.1)) twice.4 in
       absurd (no_repeat p most T e r twice.0 twice.1 trace twice.2 (omega (arith, twice.3))

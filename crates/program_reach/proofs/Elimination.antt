@@ -63,7 +63,8 @@ with_last-away e y ys k h = rw (ne_eqb k e h) refl
 at_with_last : (e y : ℕ) (x : ℕ → ℤ) (ys : ℕ → ℕ) → at_naturals (suc e) x (with_last e y ys) ≡ at_naturals e x ys +ℤ (x e *ℤ pos y)
 at_with_last e y x ys =
     ap₂ ◌+ℤ◌
-    (total_below-agree e (λ k. x k *ℤ pos (with_last e y ys k)) (λ k. x k *ℤ pos (ys k)) (λ k l. ap (λ v. x k *ℤ pos v) (with_last-away e y ys k (λ q. omega arith))))
+    (total_below-agree e (λ k. x k *ℤ pos (with_last e y ys k)) (λ k. x k *ℤ pos (ys k))
+    (λ k l. ap (λ v. x k *ℤ pos v) (with_last-away e y ys k (λ q. omega arith))))
     (ap (λ v. x e *ℤ pos v) (with_last-here e y ys))
 
 with_last-scale : (n y : ℕ) (ys : ℕ → ℕ) → 0 < ys 0 → 0 < with_last (suc n) y ys 0
@@ -71,7 +72,8 @@ with_last-scale n y ys h = subst (λ (v : ℕ). 0 < v) (sym (with_last-away (suc
 
 solved_here : (n i e : ℕ) (a : ℕ → ℕ → ℤ) (ys : ℕ → ℕ) → at_naturals n (solved_for i e a i) ys ≡ neg_ℤ (at_naturals n (a i) ys)
 solved_here n i e a ys =
-    total_below-agree n (λ k. solved_for i e a i k *ℤ pos (ys k)) (λ k. neg_ℤ (a i k) *ℤ pos (ys k)) (λ k l. ap (λ c. c *ℤ pos (ys k)) (row_here k))
+    total_below-agree n (λ k. solved_for i e a i k *ℤ pos (ys k)) (λ k. neg_ℤ (a i k) *ℤ pos (ys k))
+    (λ k l. ap (λ c. c *ℤ pos (ys k)) (row_here k))
     ∙ at_minus n (a i) ys
   where
     row_here : (k : ℕ) → solved_for i e a i k ≡ neg_ℤ (a i k)
@@ -104,7 +106,8 @@ at_most_same : (s t : ℤ) → s ≡ t → t ≤ℤ pos 0 → s ≤ℤ pos 0
 at_most_same s t p q = omega (arith, ints)
 
 -- Where row i is solved for the last column, what it gives there solves all rows.
-back_solved : (m n : ℕ) (a : ℕ → ℕ → ℤ) (i : ℕ) → i < m → a i (suc n) <ℤ pos 0 → IsSolvable m n (solved_for i (suc n) a) → IsSolvable m (suc n) a
+back_solved : (m n : ℕ) (a : ℕ → ℕ → ℤ) (i : ℕ) → i < m → a i (suc n) <ℤ pos 0 → IsSolvable m n (solved_for i (suc n) a)
+    → IsSolvable m (suc n) a
 back_solved m n a i within below h =
     let e : ℕ = suc n in
     let ys : ℕ → ℕ = h.0 in
@@ -112,7 +115,8 @@ back_solved m n a i within below h =
     let size : ℕ = unsigned_abs (a i e) in
     let size_is : pos size ≡ neg_ℤ (a i e) = size_below (a i e) below in
     let rest_is : pos (unsigned_abs rest) ≡ rest = size_above rest _ (solved_here (suc n) i e a ys) (h.1.kept i within) in
-    let comes_to : (j : ℕ) → at_naturals (suc e) (a j) (with_last e (unsigned_abs rest) (λ k. size * ys k)) ≡ (neg_ℤ (a i e) *ℤ at_naturals (suc n) (a j) ys) +ℤ (a j e *ℤ rest)
+    let comes_to : (j : ℕ) → at_naturals (suc e) (a j) (with_last e (unsigned_abs rest) (λ k. size * ys k))
+    ≡ (neg_ℤ (a i e) *ℤ at_naturals (suc n) (a j) ys) +ℤ (a j e *ℤ rest)
     = λ j.
     at_with_last e (unsigned_abs rest) (a j) (λ k. size * ys k)
     ∙ ap₂ ◌+ℤ◌ (at_scaled (suc n) size (a j) ys ∙ ap (λ c. c *ℤ at_naturals (suc n) (a j) ys) size_is) (ap (λ c. a j e *ℤ c) rest_is) in (
@@ -120,7 +124,8 @@ back_solved m n a i within below h =
       record {
         scale = with_last-scale n (unsigned_abs rest) (λ k. size * ys k) (product_above size (ys 0) (above_size (a i e) below) h.1.scale);
         kept = λ j l. elim (cases_eq j i) [
-          | inl here ↦ at_most_same _ _ (comes_to j ∙ ap (λ (v : ℕ). (neg_ℤ (a i e) *ℤ at_naturals (suc n) (a v) ys) +ℤ (a v e *ℤ rest)) here) (nothing (a i e) rest)
+          | inl here ↦ at_most_same _ _ (comes_to j
+              ∙ ap (λ (v : ℕ). (neg_ℤ (a i e) *ℤ at_naturals (suc n) (a v) ys) +ℤ (a v e *ℤ rest)) here) (nothing (a i e) rest)
           | inr away ↦ at_most_same _ _ (comes_to j ∙ sym (solved_away (suc n) i e j a ys away)) (h.1.kept j l)
         ];
       },
@@ -181,7 +186,8 @@ to_next m A h last j l = elim (cases_lt j m) [
 ]
 
 -- The next row beside the steepest so far.
-steeper : (m : ℕ) (rest cell : ℕ → ℤ) (i : ℕ) → IsSteepest m rest cell i → cell m <ℤ pos 0 → pos 0 <ℤ rest m → (i : ℕ) × IsSteepest (suc m) rest cell i
+steeper : (m : ℕ) (rest cell : ℕ → ℤ) (i : ℕ) → IsSteepest m rest cell i → cell m <ℤ pos 0 → pos 0 <ℤ rest m → (i : ℕ)
+    × IsSteepest (suc m) rest cell i
 steeper m rest cell i h below above = elim (le_either (rest m *ℤ neg_ℤ (cell i)) (rest i *ℤ neg_ℤ (cell m))) [
   | inl keep ↦ (
     i,
@@ -199,7 +205,8 @@ steeper m rest cell i h below above = elim (le_either (rest m *ℤ neg_ℤ (cell
       below = below;
       above = above;
       steepest = to_next m (λ j. cell j <ℤ pos 0 → (rest j *ℤ neg_ℤ (cell m)) ≤ℤ (rest m *ℤ neg_ℤ (cell j)))
-          (λ j l b. chained_le (rest j) (rest i) (rest m) (neg_ℤ (cell j)) (neg_ℤ (cell i)) (neg_ℤ (cell m)) (turned _ b) (turned _ h.below) (turned _ below) (h.steepest j l b) take)
+          (λ j l b. chained_le (rest j) (rest i) (rest m) (neg_ℤ (cell j)) (neg_ℤ (cell i)) (neg_ℤ (cell m)) (turned _ b)
+          (turned _ h.below) (turned _ below) (h.steepest j l b) take)
           (λ b. itself _);
     },
   )
@@ -225,7 +232,8 @@ steepest (suc m) rest cell =
       )
     ])
     (λ least. elim (steepest m rest cell) [
-      | inl there ↦ inl (keep there.0 there.1 (λ b. flat (rest m) (rest there.0) (cell m) (cell there.0) least there.1.above b there.1.below))
+      | inl there ↦ inl (keep there.0 there.1 (λ b. flat (rest m) (rest there.0) (cell m)
+          (cell there.0) least there.1.above b there.1.below))
       | inr none ↦ inr (to_next m (λ j. cell j <ℤ pos 0 → rest j ≤ℤ pos 0) none (λ b. least))
     ]))
     (λ other. elim (steepest m rest cell) [
@@ -233,7 +241,8 @@ steepest (suc m) rest cell =
       | inr none ↦ inr (to_next m (λ j. cell j <ℤ pos 0 → rest j ≤ℤ pos 0) none (λ b. absurd (not_above _ b other)))
     ])
   where
-    keep : (i : ℕ) → IsSteepest m rest cell i → (cell m <ℤ pos 0 → (rest m *ℤ neg_ℤ (cell i)) ≤ℤ (rest i *ℤ neg_ℤ (cell m))) → (i : ℕ) × IsSteepest (suc m) rest cell i
+    keep : (i : ℕ) → IsSteepest m rest cell i → (cell m <ℤ pos 0 → (rest m *ℤ neg_ℤ (cell i)) ≤ℤ (rest i *ℤ neg_ℤ (cell m))) → (i : ℕ)
+        × IsSteepest (suc m) rest cell i
     keep i h last = (
       i,
       record {
@@ -268,9 +277,11 @@ by_steepness ri ci rj cj h = over _ _ _ _ (swap rj ci) (out ri cj) h
     over s t u v p q l = omega (arith, ints)
 
 -- a row whose last cell is not below zero, where both it and row i are met
-by_both : (ri ci rj cj y : ℤ) → ci <ℤ pos 0 → pos 0 ≤ℤ cj → (ri +ℤ (ci *ℤ y)) ≤ℤ pos 0 → (rj +ℤ (cj *ℤ y)) ≤ℤ pos 0 → ((neg_ℤ ci *ℤ rj) +ℤ (cj *ℤ ri)) ≤ℤ pos 0
+by_both : (ri ci rj cj y : ℤ) → ci <ℤ pos 0 → pos 0 ≤ℤ cj → (ri +ℤ (ci *ℤ y)) ≤ℤ pos 0 → (rj +ℤ (cj *ℤ y)) ≤ℤ pos 0
+    → ((neg_ℤ ci *ℤ rj) +ℤ (cj *ℤ ri)) ≤ℤ pos 0
 by_both ri ci rj cj y below above hi hj =
-    over _ _ _ ci cj (both ri ci rj cj y) (times_le (rj +ℤ (cj *ℤ y)) (pos 0) (neg_ℤ ci) (weaker ci below) hj) (times_le (ri +ℤ (ci *ℤ y)) (pos 0) cj above hi)
+    over _ _ _ ci cj (both ri ci rj cj y) (times_le (rj +ℤ (cj *ℤ y)) (pos 0) (neg_ℤ ci) (weaker ci below) hj)
+    (times_le (ri +ℤ (ci *ℤ y)) (pos 0) cj above hi)
   where
     weaker : (a : ℤ) → a <ℤ pos 0 → pos 0 ≤ℤ neg_ℤ a
     weaker a l = omega (arith, ints)
@@ -300,11 +311,13 @@ forward m n a ys h =
               record {
                 scale = h.scale;
                 kept = λ j l. elim (cases_eq j i) [
-                  | inl here ↦ subst (λ (v : ℕ). at_naturals (suc n) (solved_for i e a v) ys ≤ℤ pos 0) (sym here) (at_most_same _ _ (solved_here (suc n) i e a ys) (below_zero (rest i) there.1.above))
+                  | inl here ↦ subst (λ (v : ℕ). at_naturals (suc n) (solved_for i e a v) ys ≤ℤ pos 0) (sym here)
+                      (at_most_same _ _ (solved_here (suc n) i e a ys) (below_zero (rest i) there.1.above))
                   | inr away ↦ at_most_same _ _ (solved_away (suc n) i e j a ys away)
                       (by_lt_z (cell j) (pos 0)
                       (λ below. by_steepness (rest i) (cell i) (rest j) (cell j) (there.1.steepest j l below))
-                      (λ above. by_both (rest i) (cell i) (rest j) (cell j) (pos (ys e)) there.1.below above (h.kept i there.1.within) (h.kept j l)))
+                      (λ above. by_both (rest i) (cell i) (rest j) (cell j) (pos (ys e)) there.1.below above (h.kept i there.1.within)
+                      (h.kept j l)))
                 ];
               },
             ),
@@ -313,7 +326,8 @@ forward m n a ys h =
         ys,
         record {
           scale = h.scale;
-          kept = λ j l. by_lt_z (cell j) (pos 0) (λ below. none j l below) (λ above. rest_below (rest j) (cell j) (ys e) above (h.kept j l));
+          kept = λ j l. by_lt_z (cell j) (pos 0) (λ below. none j l below)
+              (λ above. rest_below (rest j) (cell j) (ys e) above (h.kept j l));
         },
       )
     ]
@@ -334,16 +348,18 @@ some_below P found (suc m) = elim (some_below P found m) [
 
 -- With no column the scale alone decides.
 solvable_scale : (m : ℕ) (a : ℕ → ℕ → ℤ) → IsSolvable m 0 a ⊎ (IsSolvable m 0 a → ⊥)
-solvable_scale m a = elim (some_below (λ i. pos 0 <ℤ a i 0) (λ i. by_lt_z (pos 0) (a i 0) (λ above. inl above) (λ least. inr (λ above. not_both _ above least))) m) [
-  | inl there ↦ inr (λ h. too_great _ (times_positive (a there.0 0) (pos (h.0 0)) there.2 (above_natural (h.0 0) h.1.scale)) (h.1.kept there.0 there.1))
-  | inr none ↦ inl (
-    (λ k. 1),
-    record {
-      scale = omega arith;
-      kept = λ i l. at_one (a i 0) (by_lt_z (pos 0) (a i 0) (λ above. absurd (none i l above)) (λ least. least));
-    },
-  )
-]
+solvable_scale m a = elim (some_below (λ i. pos 0 <ℤ a i 0)
+    (λ i. by_lt_z (pos 0) (a i 0) (λ above. inl above) (λ least. inr (λ above. not_both _ above least))) m) [
+      | inl there ↦ inr (λ h. too_great _ (times_positive (a there.0 0) (pos (h.0 0)) there.2 (above_natural (h.0 0) h.1.scale))
+          (h.1.kept there.0 there.1))
+      | inr none ↦ inl (
+        (λ k. 1),
+        record {
+          scale = omega arith;
+          kept = λ i l. at_one (a i 0) (by_lt_z (pos 0) (a i 0) (λ above. absurd (none i l above)) (λ least. least));
+        },
+      )
+    ]
   where
     not_both : (x : ℤ) → pos 0 <ℤ x → x ≤ℤ pos 0 → ⊥
     not_both x p q = omega (arith, ints)

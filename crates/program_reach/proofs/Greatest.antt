@@ -26,16 +26,19 @@ reach_rows p b i zero = if nat_lt i (height p) then neg_ℤ (pos (limit p i)) el
 reach_rows p b i (suc c) = if nat_lt i (height p) then pos (entry p i c) else neg_ℤ (pos (cost p c))
 
 -- A row at its scale and columns.
-in_parts : (n : ℕ) (x : ℕ → ℤ) (ys : ℕ → ℕ) → at_naturals (suc n) x ys ≡ (x 0 *ℤ pos (ys 0)) +ℤ total_below n (λ c. x (suc c) *ℤ pos (ys (suc c)))
+in_parts : (n : ℕ) (x : ℕ → ℤ) (ys : ℕ → ℕ) → at_naturals (suc n) x ys
+    ≡ (x 0 *ℤ pos (ys 0)) +ℤ total_below n (λ c. x (suc c) *ℤ pos (ys (suc c)))
 in_parts n x ys = total_first n (λ k. x k *ℤ pos (ys k))
 
 row_total : (p : ProgramDef) (b r : ℕ) (ys : ℕ → ℕ) → r < height p
-    → at_naturals (suc (columns p)) (reach_rows p b r) ys ≡ pos (sum_below (columns p) (λ c. entry p r c * ys (suc c))) -ℤ pos (ys 0 * limit p r)
+    → at_naturals (suc (columns p)) (reach_rows p b r) ys
+    ≡ pos (sum_below (columns p) (λ c. entry p r c * ys (suc c))) -ℤ pos (ys 0 * limit p r)
 row_total p b r ys l =
     in_parts (columns p) (reach_rows p b r) ys
     ∙ joined (limit p r) (ys 0) _ _
     (ap (λ x. x *ℤ pos (ys 0)) (scale_is))
-    (total_below-agree (columns p) (λ c. reach_rows p b r (suc c) *ℤ pos (ys (suc c))) (λ c. pos (entry p r c * ys (suc c))) (λ c k. ap (λ x. x *ℤ pos (ys (suc c))) (column_is c))
+    (total_below-agree (columns p) (λ c. reach_rows p b r (suc c) *ℤ pos (ys (suc c))) (λ c. pos (entry p r c * ys (suc c)))
+    (λ c k. ap (λ x. x *ℤ pos (ys (suc c))) (column_is c))
     ∙ total_below-of_sum (columns p) (λ c. entry p r c * ys (suc c)))
   where
     scale_is : reach_rows p b r 0 ≡ neg_ℤ (pos (limit p r))
@@ -51,11 +54,13 @@ row_total p b r ys l =
         over a b u x t e q h = omega (arith, ints)
 
 worth_total : (p : ProgramDef) (b : ℕ) (ys : ℕ → ℕ)
-    → at_naturals (suc (columns p)) (reach_rows p b (height p)) ys ≡ pos (b * ys 0) -ℤ pos (sum_below (columns p) (λ c. cost p c * ys (suc c)))
+    → at_naturals (suc (columns p)) (reach_rows p b (height p)) ys
+    ≡ pos (b * ys 0) -ℤ pos (sum_below (columns p) (λ c. cost p c * ys (suc c)))
 worth_total p b ys =
     in_parts (columns p) (reach_rows p b (height p)) ys
     ∙ ap₂ ◌+ℤ◌ (ap (λ x. x *ℤ pos (ys 0)) scale_is)
-    (total_below-agree (columns p) (λ c. reach_rows p b (height p) (suc c) *ℤ pos (ys (suc c))) (λ c. neg_ℤ (pos (cost p c)) *ℤ pos (ys (suc c)))
+    (total_below-agree (columns p) (λ c. reach_rows p b (height p) (suc c) *ℤ pos (ys (suc c)))
+    (λ c. neg_ℤ (pos (cost p c)) *ℤ pos (ys (suc c)))
     (λ c k. ap (λ x. x *ℤ pos (ys (suc c))) (column_is c))
     ∙ minus_sum (columns p) (cost p) (λ c. ys (suc c)))
     ∙ as_less (b * ys 0) (sum_below (columns p) (λ c. cost p c * ys (suc c)))
@@ -66,9 +71,11 @@ worth_total p b ys =
     column_is : (c : ℕ) → reach_rows p b (height p) (suc c) ≡ neg_ℤ (pos (cost p c))
     column_is c = rw (le-ltb (height p) (height p) (omega arith)) refl
 
-    minus_sum : (n : ℕ) (a zs : ℕ → ℕ) → total_below n (λ c. neg_ℤ (pos (a c)) *ℤ pos (zs c)) ≡ neg_ℤ (pos (sum_below n (λ c. a c * zs c)))
+    minus_sum : (n : ℕ) (a zs : ℕ → ℕ) → total_below n (λ c. neg_ℤ (pos (a c)) *ℤ pos (zs c))
+        ≡ neg_ℤ (pos (sum_below n (λ c. a c * zs c)))
     minus_sum zero a zs = omega (arith, ints)
-    minus_sum (suc n) a zs = more _ _ (sum_below n (λ c. a c * zs c)) (a n * zs n) (minus_sum n a zs) (mul-neg_left (pos (a n)) (pos (zs n)))
+    minus_sum (suc n) a zs = more _ _ (sum_below n (λ c. a c * zs c)) (a n * zs n) (minus_sum n a zs)
+        (mul-neg_left (pos (a n)) (pos (zs n)))
       where
         more : (s t : ℤ) (u v : ℕ) → s ≡ neg_ℤ (pos u) → t ≡ neg_ℤ (pos v) → s +ℤ t ≡ neg_ℤ (pos (u + v))
         more s t u v q h = omega (arith, ints)
@@ -131,4 +138,5 @@ greatest_to p (suc most) bound = elim (reaches p (suc most)) [
 -- Where each column is covered, there is a greatest number that is reached.
 pub greatest_exists : (p : ProgramDef) → ((c : ℕ) → c < columns p → IsCovered p c) → (b : ℕ) × IsGreatestReached p b
 greatest_exists p covered =
-    greatest_to p (dual_value p 1 (λ r. sum_below (columns p) (λ c. cost p c))) (λ c reach. dual_bounds p 1 (λ r. sum_below (columns p) (λ c. cost p c)) c (covered_dual p covered) reach)
+    greatest_to p (dual_value p 1 (λ r. sum_below (columns p) (λ c. cost p c)))
+    (λ c reach. dual_bounds p 1 (λ r. sum_below (columns p) (λ c. cost p c)) c (covered_dual p covered) reach)
