@@ -26,10 +26,10 @@ some_ratio (suc m) t e = elim (some_ratio m t e) [
 ]
 
 -- Some first row stands above zero at each variable: a covered column's, and a slack's own.
-first_above : (p : ProgramDef) (e : ℕ) → IsProgram p → e < variables p → (j : ℕ) × (j < height p) × (pos 0 <ℤ first_z p j e)
-first_above p e accepted l = elim (cases_lt e (columns p)) [
+first_above : (p : ProgramDef) (e : ℕ) → ((c : ℕ) → c < columns p → IsCovered p c) → e < variables p → (j : ℕ) × (j < height p) × (pos 0 <ℤ first_z p j e)
+first_above p e covered l = elim (cases_lt e (columns p)) [
   | inl column ↦
-      let held : IsCovered p e = accepted.covered e column in
+      let held : IsCovered p e = covered e column in
       (held.by_row, held.within, rw (number_at_column p held.by_row e held.within column) (above_zero _ held.above))
   | inr behind ↦
       let k : ℕ = e - columns p in
@@ -41,15 +41,20 @@ first_above p e accepted l = elim (cases_lt e (columns p)) [
     above_zero : (n : ℕ) → 0 < n → pos 0 <ℤ pos n
     above_zero n h = omega (arith, ints)
 
-pub has_ratio : (p : ProgramDef) (k : ℕ) (t : Table) (e : ℕ) → IsProgram p → Reached p k t → e < variables p → (i : ℕ) × (i < height p) × HasRatio t e i
-has_ratio p k t e accepted reached l = elim (some_ratio (height p) t e) [
+pub shadow_has_ratio : (p : ProgramDef) (t : Table) (e : ℕ) (d : ℤ) (z : ℕ → ℕ → ℤ) → ((c : ℕ) → c < columns p → IsCovered p c) → IsShadow p t d z
+    → e < variables p → (i : ℕ) × (i < height p) × HasRatio t e i
+shadow_has_ratio p t e d z covered h l = elim (some_ratio (height p) t e) [
   | inl there ↦ there
   | inr none ↦
-      let behind : (d : ℤ) × (z : ℕ → ℕ → ℤ) × IsShadow p t d z = shadow_reached p k t reached in
-      let row : (j : ℕ) × (j < height p) × (pos 0 <ℤ first_z p j e) = first_above p e accepted l in
-      absurd (never_unbounded (height p) e behind.0 (first_z p row.0) behind.1 t.basic behind.2.positive (λ v. not_negative _) row.2 (behind.2.reads row.0 row.1)
-      (λ i k. shows_at_most_zero behind.0 (behind.1 i e) (t.cell i e) behind.2.positive (behind.2.shows i e (omega arith)) (none i k)))
+      let row : (j : ℕ) × (j < height p) × (pos 0 <ℤ first_z p j e) = first_above p e covered l in
+      absurd (never_unbounded (height p) e d (first_z p row.0) z t.basic h.positive (λ v. not_negative _) row.2 (h.reads row.0 row.1)
+      (λ i k. shows_at_most_zero d (z i e) (t.cell i e) h.positive (h.shows i e (omega arith)) (none i k)))
 ]
   where
     not_negative : (n : ℕ) → pos 0 ≤ℤ pos n
     not_negative n = omega (arith, ints)
+
+pub has_ratio : (p : ProgramDef) (k : ℕ) (t : Table) (e : ℕ) → IsProgram p → Reached p k t → e < variables p → (i : ℕ) × (i < height p) × HasRatio t e i
+has_ratio p k t e accepted reached l =
+    let behind : (d : ℤ) × (z : ℕ → ℕ → ℤ) × IsShadow p t d z = shadow_reached p k t reached in
+    shadow_has_ratio p t e behind.0 behind.1 accepted.covered behind.2 l

@@ -1,5 +1,5 @@
 -- Every run goes on until it ends, is wide or needs more units.
-use Rattle.std.proofs.Common.{◌≡◌, ◌⊎◌, inl, inr, ℕ, zero, suc, ◌+◌, ◌*◌, ◌/◌, ◌^◌, ◌<◌, ◌≤◌, add-one, nat_eq, if◌then◌else◌, List, length, All, ℤ, pos, ◌*ℤ◌, ◌≤ℤ◌, ◌<ℤ◌, unsigned_abs, refl, ap, ◌∙◌, sym, subst, arith}
+use Rattle.std.proofs.Common.{◌≡◌, ◌⊎◌, inl, inr, ℕ, zero, suc, ◌+◌, ◌*◌, ◌/◌, ◌^◌, ◌<◌, ◌≤◌, add-one, nat_eq, if◌then◌else◌, List, length, All, ℤ, pos, ◌≤ℤ◌, ◌<ℤ◌, unsigned_abs, refl, ap, ◌∙◌, sym, subst, arith}
 use Rattle.std.specs.Int.{◌∣◌}
 use Rattle.std.proofs.lemmas.Int.{ints, by_lt_z}
 use Rattle.std.proofs.lemmas.Bool.{cases_lt, cases_eq, eq-eqb, ne_eqb}
@@ -13,7 +13,7 @@ use Rattle.fraction128.proofs.ScalingLemmas.{least_exists, scaled_over}
 use Rattle.program_form.specs.Program.{ProgramDef, IsProgram, columns, height}
 use Rattle.program_form.specs.Certificate.{DualDef}
 use Rattle.exchange_runs.specs.Table.{Table, variables, slack, objective, first_entries, first_limit, first_number}
-use Rattle.exchange_runs.specs.Exchange.{IsEntering, IsLast, HasRatio, IsRatio, IsLeastOf, IsLeaving, IsLess, IsExchange}
+use Rattle.exchange_runs.specs.Exchange.{IsEntering, IsLast, HasRatio, IsRatio, IsLeaving, IsLess, IsExchange}
 use Rattle.exchange_runs.specs.Run.{Reached, IsExchangeRun}
 use Rattle.exchange_runs.specs.WideExchange.{IsWideLess, IsWideRatio, IsWideQuotient, IsWideTaking, IsWideExchange}
 use Rattle.exchange_runs.specs.Readings.{value_of, dual_at, IsValueOf, IsPrimal, AreDuals, IsWrittenDual, IsWideEnd}
@@ -21,7 +21,8 @@ use Rattle.exchange_runs.specs.Outcomes.{HasOutcome}
 use Rattle.exchange_runs.proofs.FirstTable.{first_of-past}
 use Rattle.exchange_runs.proofs.Bounded.{has_ratio}
 use Rattle.exchange_runs.proofs.Once.{forms, one_less}
-use Rattle.exchange_runs.proofs.Loops.{reached_next, least_first, least_skip, least_keep, least_take, less_at_zero, quotient_of_zero, value_none, value_here, value_more, duals_not_below}
+use Rattle.exchange_runs.proofs.Leasts.{least_among}
+use Rattle.exchange_runs.proofs.Loops.{reached_next, less_at_zero, quotient_of_zero, value_none, value_here, value_more, duals_not_below}
 use Rattle.exchange_runs.proofs.Found.{quotient_found, less_found, all_or_some, listed}
 
 zero_form : IsForm (whole (pos 0))
@@ -73,50 +74,8 @@ entering_or_last p t = elim (entering_among p t (variables p)) [
   | inr none ↦ inr (record { none = none })
 ]
 
-weaker : (x y : ℤ) → x <ℤ y → x ≤ℤ y
-weaker x y h = omega (arith, ints)
-
 not_back : (x y : ℤ) → x <ℤ y → y ≤ℤ x → ⊥
 not_back x y h k = omega (arith, ints)
-
--- One more row with a ratio: it takes the place of the least, or does not.
-least_more : (w : ℕ) (t : Table) (e k r : ℕ) (f g : Fraction) → IsLeastOf w t e k r f → HasRatio t e k → IsRatio w t e k g
-    → (s : ℕ) × (m : Fraction) × IsLeastOf w t e (k + 1) s m
-least_more w t e k r f g h has is =
-    by_lt_z (f.num *ℤ g.den) (g.num *ℤ f.den)
-    (λ below. (r, f, least_keep w t e k r f g h is (record { le = weaker _ _ below }) (λ back. absurd (not_back _ _ below back.le))))
-    (λ at_most. by_lt_z (g.num *ℤ f.den) (f.num *ℤ g.den)
-    (λ below. (k, g, least_take w t e k r f g h has is (record { le = at_most }) (λ back. absurd (not_back _ _ below back.le))))
-    (λ equal. elim (cases_lt (t.basic k) (t.basic r)) [
-      | inl first ↦ (k, g, least_take w t e k r f g h has is (record { le = at_most }) (λ back. omega (arith, first)))
-      | inr behind ↦ (r, f, least_keep w t e k r f g h is (record { le = equal }) (λ back. behind))
-    ]))
-
--- Of the first k rows, all of whose ratios have forms, none has a ratio or one has the least.
-least_among : (w : ℕ) (t : Table) (e k : ℕ) → ((i : ℕ) → i < k → HasRatio t e i → (g : Fraction) × IsRatio w t e i g)
-    → ((i : ℕ) → i < k → HasRatio t e i → ⊥) ⊎ ((r : ℕ) × (f : Fraction) × IsLeastOf w t e k r f)
-least_among w t e zero ratios = inl (λ i l has. omega arith)
-least_among w t e (suc k) ratios =
-    by_lt_z (pos 0) (t.cell k e).num
-    (λ above.
-    let has : HasRatio t e k = record { above = above } in
-    let g : (g : Fraction) × IsRatio w t e k g = ratios k (omega arith) has in
-    elim (least_among w t e k (λ i l. ratios i (omega arith))) [
-      | inl none ↦ inr (k, g.0, subst (λ (n : ℕ). IsLeastOf w t e n k g.0) (add-one k) (least_first w t e k g.0 none has g.1))
-      | inr least ↦
-          let more = least_more w t e k least.0 least.1 g.0 least.2 has g.1 in
-          inr (more.0, more.1, subst (λ (n : ℕ). IsLeastOf w t e n more.0 more.1) (add-one k) more.2)
-    ])
-    (λ below.
-    let none_here : HasRatio t e k → ⊥ = λ has. not_back (pos 0) (t.cell k e).num has.above below in
-    elim (least_among w t e k (λ i l. ratios i (omega arith))) [
-      | inl none ↦ inl (λ i l has. elim (cases_lt i k) [
-        | inl earlier ↦ none i earlier has
-        | inr last ↦ let same : i ≡ k = omega arith in none_here (subst (λ (n : ℕ). HasRatio t e n) same has)
-      ])
-      | inr least ↦
-          inr (least.0, least.1, subst (λ (n : ℕ). IsLeastOf w t e n least.0 least.1) (add-one k) (least_skip w t e k least.0 least.1 least.2 none_here))
-    ])
 
 -- A row has no ratio, or one with a form, or one with none.
 ratio_found : (w : ℕ) (t : Table) (e i : ℕ) → IsForm (t.cell i w) → (HasRatio t e i → (g : Fraction) × IsRatio w t e i g) ⊎ (HasRatio t e i × HasNoForm (IsQuotient (t.cell i w) (t.cell i e)))
@@ -135,7 +94,7 @@ leaving_or_wide p k t e accepted reached within =
     elim (all_or_some (λ i. HasRatio t e i → (g : Fraction) × IsRatio (variables p) t e i g) (λ i. HasRatio t e i × HasNoForm (IsQuotient (t.cell i (variables p)) (t.cell i e))) (height p)
     (λ i l. ratio_found (variables p) t e i (forms p k t accepted reached i (variables p) (omega (arith, l))))) [
       | inr wide ↦ inr (record { of_row = wide.0; within = wide.1; has = wide.2.0; wide = wide.2.1 })
-      | inl ratios ↦ elim (least_among (variables p) t e (height p) ratios) [
+      | inl ratios ↦ elim (least_among IsForm (variables p) t e (height p) (λ f form. form.positive) ratios) [
         | inl none ↦ let some = has_ratio p k t e accepted reached within in absurd (none some.0 some.1 some.2)
         | inr least ↦ inl (least.0, record { ratio = least.1; least = least.2 })
       ]

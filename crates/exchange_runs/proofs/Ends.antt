@@ -120,7 +120,7 @@ pub at_variable-none : (m : ℕ) (basic : ℕ → ℕ) (x : ℕ → ℤ) (v : �
 at_variable-none m basic x v h =
     total_below-zero m (λ i. only_at (basic i) (x i) v) (λ i l. only_at-away (basic i) (x i) v (λ e. h i l (sym e)))
 
-only_times : (g : ℕ → ℤ) (b v : ℕ) (y : ℤ) → g v *ℤ only_at b y v ≡ only_at b (g b *ℤ y) v
+pub only_times : (g : ℕ → ℤ) (b v : ℕ) (y : ℤ) → g v *ℤ only_at b y v ≡ only_at b (g b *ℤ y) v
 only_times g b v y = elim (cases_eq v b) [
   | inl here ↦ rw (here, only_at-here b y, only_at-here b (g b *ℤ y)) refl
   | inr away ↦ rw (only_at-away b y v away, only_at-away b (g b *ℤ y) v away) (mul-zero (g v))

@@ -6,82 +6,30 @@ use Rattle.std.proofs.lemmas.List.Elements.{All-from_get_or}
 use Rattle.number_laws.proofs.Ring.{mul-one}
 use Rattle.fraction128.specs.Fraction.{Fraction, IsForm, IsQuotient, IsProduct, IsDifference, IsAtMost, whole}
 use Rattle.fraction128.proofs.Forms.{form_of_whole}
-use Rattle.fraction128.proofs.OrderLemmas.{at_most_trans}
 use Rattle.program_form.specs.Program.{ProgramDef, height}
 use Rattle.exchange_runs.specs.Table.{Table, slack, objective}
 use Rattle.exchange_runs.specs.Exchange.{IsLast, HasRatio, IsRatio, IsLeastOf, IsLess, IsExchange}
 use Rattle.exchange_runs.specs.Run.{Reached}
 use Rattle.exchange_runs.specs.Readings.{IsValueOf, AreDuals}
+use Rattle.exchange_runs.proofs.Leasts.{least_without, least_kept, least_replaced}
 
 -- A run goes on by an exchange.
 pub reached_next : (p : ProgramDef) (k : ℕ) (t u : Table) (e r : ℕ) → Reached p k t → IsExchange p t u e r → Reached p (k + 1) u
 reached_next p k t u e r h x = rw add-one (t, e, r, h, x)
 
--- The first row with a ratio has the least so far.
-pub least_first : (w : ℕ) (t : Table) (e k : ℕ) (f : Fraction) → ((i : ℕ) → i < k → HasRatio t e i → ⊥) → HasRatio t e k → IsRatio w t e k f
-    → IsLeastOf w t e (k + 1) k f
-least_first w t e k f none has is = record {
-  within = omega arith;
-  has = has;
-  ratio = is;
-  least = λ i l h. elim (cases_lt i k) [
-    | inl earlier ↦ absurd (none i earlier h)
-    | inr here ↦ let same : i ≡ k = omega arith in rw same (f, is, record { le = at_most_itself _ }, λ back. omega arith)
-  ];
-}
-  where
-    at_most_itself : (x : ℤ) → x ≤ℤ x
-    at_most_itself x = omega (arith, ints)
-
 -- A row without a ratio changes nothing.
 pub least_skip : (w : ℕ) (t : Table) (e k r : ℕ) (f : Fraction) → IsLeastOf w t e k r f → (HasRatio t e k → ⊥) → IsLeastOf w t e (k + 1) r f
-least_skip w t e k r f h none = record {
-  within = omega (arith, h.within);
-  has = h.has;
-  ratio = h.ratio;
-  least = λ i l has. elim (cases_lt i k) [
-    | inl earlier ↦ h.least i earlier has
-    | inr here ↦ let same : i ≡ k = omega arith in absurd (none (rw (← same) has))
-  ];
-}
+least_skip w t e k r f h none = least_without IsForm w t e k r f h none
 
 -- A row whose ratio does not come before the least changes nothing.
 pub least_keep : (w : ℕ) (t : Table) (e k r : ℕ) (f g : Fraction) → IsLeastOf w t e k r f → IsRatio w t e k g → IsAtMost f g
     → (IsAtMost g f → t.basic r ≤ t.basic k) → IsLeastOf w t e (k + 1) r f
-least_keep w t e k r f g h is at_most tie = record {
-  within = omega (arith, h.within);
-  has = h.has;
-  ratio = h.ratio;
-  least = λ i l has. elim (cases_lt i k) [
-    | inl earlier ↦ h.least i earlier has
-    | inr here ↦ let same : i ≡ k = omega arith in rw same (g, is, at_most, tie)
-  ];
-}
+least_keep w t e k r f g h is at_most tie = least_kept IsForm w t e k r f g h is at_most tie
 
 -- A row whose ratio comes before the least is the least now.
 pub least_take : (w : ℕ) (t : Table) (e k r : ℕ) (f g : Fraction) → IsLeastOf w t e k r f → HasRatio t e k → IsRatio w t e k g → IsAtMost g f
     → (IsAtMost f g → t.basic k ≤ t.basic r) → IsLeastOf w t e (k + 1) k g
-least_take w t e k r f g h has_k is at_most tie = record {
-  within = omega arith;
-  has = has_k;
-  ratio = is;
-  least = λ i l has. elim (cases_lt i k) [
-    | inl earlier ↦
-        let of_i = h.least i earlier has in (
-          of_i.0,
-          of_i.1,
-          at_most_trans g f of_i.0 is.form h.ratio.form of_i.1.form at_most of_i.2,
-          λ back.
-              let f_back : IsAtMost f g = at_most_trans f of_i.0 g h.ratio.form of_i.1.form is.form of_i.2 back in
-              let i_back : IsAtMost of_i.0 f = at_most_trans of_i.0 g f of_i.1.form is.form h.ratio.form back at_most in
-              omega (arith, tie f_back, of_i.3 i_back),
-        )
-    | inr here ↦ let same : i ≡ k = omega arith in rw same (g, is, record { le = at_most_itself _ }, λ back. omega arith)
-  ];
-}
-  where
-    at_most_itself : (x : ℤ) → x ≤ℤ x
-    at_most_itself x = omega (arith, ints)
+least_take w t e k r f g h has is at_most tie = least_replaced IsForm w t e k r f g (λ c form. form.positive) h has is at_most tie
 
 zero_form : IsForm (whole (pos 0))
 zero_form = form_of_whole 0 (omega arith)

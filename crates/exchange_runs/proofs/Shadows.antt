@@ -4,13 +4,14 @@ use Rattle.std.proofs.lemmas.Int.{ints}
 use Rattle.std.proofs.lemmas.Bool.{cases_eq}
 use Rattle.number_laws.proofs.Ring.{mul-comm}
 use Rattle.number_laws.proofs.Order.{times_positive}
-use Rattle.fraction128.specs.Fraction.{Fraction}
+use Rattle.fraction128.specs.Fraction.{Fraction, IsForm}
 use Rattle.bounded_sums.specs.WholeSums.{only_at}
 use Rattle.program_form.specs.Program.{ProgramDef, columns, height}
 use Rattle.exchange_runs.specs.Table.{Table, variables, IsStart, first_number}
-use Rattle.exchange_runs.specs.Exchange.{HasRatio, IsRatio, IsLess, IsExchange}
-use Rattle.exchange_runs.specs.Run.{Reached}
+use Rattle.exchange_runs.specs.Exchange.{HasRatio, IsRatioOver, IsLessOver, IsExchangeOver}
+use Rattle.exchange_runs.specs.Run.{ReachedOver, Reached}
 use Rattle.exchange_runs.proofs.Shown.{Shows, shows_whole, shows_times, shows_at, shows_quotient, shows_product, shows_difference, shows_above, above_shown, shows_at_most}
+use Rattle.exchange_runs.proofs.Leasts.{AreFractions}
 use Rattle.exchange_runs.proofs.Invariants.{IsMix, IsRead, exchanged, exchanged-here, exchanged-away, mix_after, mix_after_itself, mix_agree, read_after, unit_after, limits_after}
 use Rattle.exchange_runs.proofs.Ends.{start_mix, start_mix_objective, start_read, start_read_objective}
 use Rattle.exchange_runs.proofs.FirstTable.{first_z, has_slacks}
@@ -47,28 +48,28 @@ shadow_start p t start = record {
     not_negative n = omega (arith, ints)
 
 -- The ratio of a row is its limit's number over that of its cell at e.
-pub ratio_shows : (p : ProgramDef) (t : Table) (d : ℤ) (z : ℕ → ℕ → ℤ) (e i : ℕ) (f : Fraction) → IsShadow p t d z → i ≤ height p
-    → IsRatio (variables p) t e i f → Shows (z i e) (z i (variables p)) f
-ratio_shows p t d z e i f h l is =
-    shows_quotient d (z i (variables p)) (z i e) (t.cell i (variables p)) (t.cell i e) f (h.shows i (variables p) l) (h.shows i e l) is.form.positive is.quotient
+pub ratio_shows : (IsCell : Fraction → Type 0) (p : ProgramDef) (t : Table) (d : ℤ) (z : ℕ → ℕ → ℤ) (e i : ℕ) (f : Fraction) → AreFractions IsCell
+    → IsShadow p t d z → i ≤ height p → IsRatioOver IsCell (variables p) t e i f → Shows (z i e) (z i (variables p)) f
+ratio_shows IsCell p t d z e i f are h l is =
+    shows_quotient d (z i (variables p)) (z i e) (t.cell i (variables p)) (t.cell i e) f (h.shows i (variables p) l) (h.shows i e l) (are f is.form) is.quotient
 
 -- The numbers that are left of a cell when a product is taken away.
-less_shows : (d q x y c : ℤ) (a f b : Fraction) (g : Fraction) → Shows d x a → Shows d c f → Shows q y g → IsLess a f g b
-    → Shows (d *ℤ q) ((q *ℤ x) -ℤ (c *ℤ y)) b
-less_shows d q x y c a f b g ha hf hg is =
+less_shows : (IsCell : Fraction → Type 0) (d q x y c : ℤ) (a f b : Fraction) (g : Fraction) → AreFractions IsCell → Shows d x a → Shows d c f → Shows q y g
+    → IsLessOver IsCell a f g b → Shows (d *ℤ q) ((q *ℤ x) -ℤ (c *ℤ y)) b
+less_shows IsCell d q x y c a f b g are ha hf hg is =
     shows_difference (d *ℤ q) (q *ℤ x) (c *ℤ y) a is.product b
     (shows_at (q *ℤ d) (d *ℤ q) (q *ℤ x) (q *ℤ x) a (mul-comm q d) refl (shows_times q d x a ha))
-    (shows_product d c q y f g is.product hf hg is.product_form.positive is.is_product)
-    is.form.positive is.is_difference
+    (shows_product d c q y f g is.product hf hg (are is.product is.product_form) is.is_product)
+    (are b is.form) is.is_difference
 
-pub shadow_after : (p : ProgramDef) (t u : Table) (e r : ℕ) (d : ℤ) (z : ℕ → ℕ → ℤ) → IsExchange p t u e r → IsShadow p t d z
-    → IsShadow p u (d *ℤ z r e) (exchanged r e d z)
-shadow_after p t u e r d z x h =
+pub shadow_after : (IsCell : Fraction → Type 0) (p : ProgramDef) (t u : Table) (e r : ℕ) (d : ℤ) (z : ℕ → ℕ → ℤ) → AreFractions IsCell
+    → IsExchangeOver IsCell p t u e r → IsShadow p t d z → IsShadow p u (d *ℤ z r e) (exchanged r e d z)
+shadow_after IsCell p t u e r d z are x h =
     let within : r < height p = x.leaves.least.within in
     let weak : r ≤ height p = omega arith in
     let above : pos 0 <ℤ z r e = shows_above d (z r e) (t.cell r e) h.positive (h.shows r e weak) x.leaves.least.has.above in
     let pivot : (v : ℕ) → Shows (z r e) (z r v) (u.cell r v) = λ v.
-    shows_quotient d (z r v) (z r e) (t.cell r v) (t.cell r e) (u.cell r v) (h.shows r v weak) (h.shows r e weak) (x.divided_form v).positive (x.divided v) in
+    shows_quotient d (z r v) (z r e) (t.cell r v) (t.cell r e) (u.cell r v) (h.shows r v weak) (h.shows r e weak) (are (u.cell r v) (x.divided_form v)) (x.divided v) in
     record {
       positive = times_positive d (z r e) h.positive above;
       shows = λ i v l. elim (cases_eq i r) [
@@ -77,7 +78,7 @@ shadow_after p t u e r d z x h =
             (shows_times d (z r e) (z r v) (u.cell r v) (pivot v)))
         | inr away ↦
             shows_at (d *ℤ z r e) (d *ℤ z r e) ((z r e *ℤ z i v) -ℤ (z i e *ℤ z r v)) (exchanged r e d z i v) (u.cell i v) refl (sym (exchanged-away r e d z i v away))
-            (less_shows d (z r e) (z i v) (z r v) (z i e) (t.cell i v) (t.cell i e) (u.cell i v) (u.cell r v) (h.shows i v l) (h.shows i e l) (pivot v) (x.taken i v l away))
+            (less_shows IsCell d (z r e) (z i v) (z r v) (z i e) (t.cell i v) (t.cell i e) (u.cell i v) (u.cell r v) are (h.shows i v l) (h.shows i e l) (pivot v) (x.taken i v l away))
       ];
       mixes = λ i l. elim (cases_eq i r) [
         | inl here ↦ rw here (mix_after_itself (height p) (columns p) (first_z p) d z r e (h.mixes r within))
@@ -99,8 +100,8 @@ shadow_after p t u e r d z x h =
           let there : HasRatio t e i = record { above = above_shown d (z i e) (t.cell i e) h.positive (h.shows i e (omega arith)) has } in
           let other = x.leaves.least.least i l there in
           shows_at_most (z r e) (z r (variables p)) (z i e) (z i (variables p)) x.leaves.ratio other.0 above has
-          (ratio_shows p t d z e r x.leaves.ratio h weak x.leaves.least.ratio)
-          (ratio_shows p t d z e i other.0 h (omega arith) other.1)
+          (ratio_shows IsCell p t d z e r x.leaves.ratio are h weak x.leaves.least.ratio)
+          (ratio_shows IsCell p t d z e i other.0 are h (omega arith) other.1)
           other.2);
     }
   where
@@ -108,8 +109,12 @@ shadow_after p t u e r d z x h =
     none a = omega (arith, ints)
 
 -- Each table that a run reaches has such numbers.
+pub shadow_over : (IsCell : Fraction → Type 0) (p : ProgramDef) (k : ℕ) (t : Table) → AreFractions IsCell → ReachedOver IsCell p k t
+    → (d : ℤ) × (z : ℕ → ℕ → ℤ) × IsShadow p t d z
+shadow_over IsCell p zero t are h = (pos 1, first_z p, shadow_start p t h)
+shadow_over IsCell p (suc k) t are h =
+    let before : (d : ℤ) × (z : ℕ → ℕ → ℤ) × IsShadow p h.0 d z = shadow_over IsCell p k h.0 are h.3 in
+    (before.0 *ℤ before.1 h.2 h.1, exchanged h.2 h.1 before.0 before.1, shadow_after IsCell p h.0 t h.1 h.2 before.0 before.1 are h.4 before.2)
+
 pub shadow_reached : (p : ProgramDef) (k : ℕ) (t : Table) → Reached p k t → (d : ℤ) × (z : ℕ → ℕ → ℤ) × IsShadow p t d z
-shadow_reached p zero t h = (pos 1, first_z p, shadow_start p t h)
-shadow_reached p (suc k) t h =
-    let before : (d : ℤ) × (z : ℕ → ℕ → ℤ) × IsShadow p h.0 d z = shadow_reached p k h.0 h.3 in
-    (before.0 *ℤ before.1 h.2 h.1, exchanged h.2 h.1 before.0 before.1, shadow_after p h.0 t h.1 h.2 before.0 before.1 h.4 before.2)
+shadow_reached p k t h = shadow_over IsForm p k t (λ f form. form.positive) h

@@ -119,3 +119,11 @@ shows_at_most d x b y f g pd pb hf hg h =
     cancel_le (x *ℤ b) (y *ℤ d) (f.den *ℤ g.den) (times_positive f.den g.den hf.positive hg.positive)
     (at_most_of _ _ _ _ (at_most_left f.num f.den g.den d x b hf.same) (at_most_right f.den g.num g.den d b y hg.same)
     (times_le (f.num *ℤ g.den) (g.num *ℤ f.den) (d *ℤ b) (not_negative _ (times_positive d b pd pb)) h.le))
+
+-- And the other way round.
+pub at_most_shown : (d x b y : ℤ) (f g : Fraction) → pos 0 <ℤ d → pos 0 <ℤ b → Shows d x f → Shows b y g → (x *ℤ b) ≤ℤ (y *ℤ d) → IsAtMost f g
+at_most_shown d x b y f g pd pb hf hg h = record {
+  le = cancel_le (f.num *ℤ g.den) (g.num *ℤ f.den) (d *ℤ b) (times_positive d b pd pb)
+      (at_most_of _ _ _ _ (sym (at_most_left f.num f.den g.den d x b hf.same)) (sym (at_most_right f.den g.num g.den d b y hg.same))
+      (times_le (x *ℤ b) (y *ℤ d) (f.den *ℤ g.den) (not_negative _ (times_positive f.den g.den hf.positive hg.positive)) h));
+}

@@ -1,4 +1,5 @@
--- One exchange: which variable enters the basis, which row's leaves it, and the table after it.
+-- One exchange: which variable enters the basis, which row's leaves it, and the table after it. What a value must be to stand in a
+-- table is a parameter, `IsCell`: in a run that is made with `Frac`s each has a form.
 use Rattle.std.specs.Prelude.{◌≡◌, ◌≢◌, ℕ, ◌<◌, ◌≤◌, pos, ◌≤ℤ◌, ◌<ℤ◌}
 use Rattle.fraction128.specs.Fraction.{Fraction, IsForm, IsQuotient, IsProduct, IsDifference, IsAtMost}
 use Rattle.program_form.specs.Program.{ProgramDef, height}
@@ -19,38 +20,54 @@ pub record HasRatio (t : Table) (e i : ℕ) : Type 0 where
   pub above : pos 0 <ℤ (t.cell i e).num
 
 -- Is f the ratio of row i: its limit, which stands at the given place, over its cell at e?
-pub record IsRatio (place : ℕ) (t : Table) (e i : ℕ) (f : Fraction) : Type 0 where
-  pub form : IsForm f
+pub record IsRatioOver (IsCell : Fraction → Type 0) (place : ℕ) (t : Table) (e i : ℕ) (f : Fraction) : Type 0 where
+  pub form : IsCell f
   pub quotient : IsQuotient (t.cell i place) (t.cell i e) f
 
 -- Has r, of the rows below k, the least ratio, which is f? Among equal ratios its basic variable is the least.
-pub record IsLeastOf (place : ℕ) (t : Table) (e k r : ℕ) (f : Fraction) : Type 0 where
+pub record IsLeastOver (IsCell : Fraction → Type 0) (place : ℕ) (t : Table) (e k r : ℕ) (f : Fraction) : Type 0 where
   pub within : r < k
   pub has : HasRatio t e r
-  pub ratio : IsRatio place t e r f
+  pub ratio : IsRatioOver IsCell place t e r f
   pub least : (i : ℕ) → i < k → HasRatio t e i
-      → (g : Fraction) × (IsRatio place t e i g) × (IsAtMost f g) × (IsAtMost g f → t.basic r ≤ t.basic i)
+      → (g : Fraction) × (IsRatioOver IsCell place t e i g) × (IsAtMost f g) × (IsAtMost g f → t.basic r ≤ t.basic i)
 
 -- Does row r leave where e enters?
-pub record IsLeaving (p : ProgramDef) (t : Table) (e r : ℕ) : Type 0 where
+pub record IsLeavingOver (IsCell : Fraction → Type 0) (p : ProgramDef) (t : Table) (e r : ℕ) : Type 0 where
   pub ratio : Fraction
-  pub least : IsLeastOf (variables p) t e (height p) r ratio
+  pub least : IsLeastOver IsCell (variables p) t e (height p) r ratio
 
--- Is b what is left of a when f times y is taken away, and have both values a form?
-pub record IsLess (a f y b : Fraction) : Type 0 where
+-- Is b what is left of a when f times y is taken away, and may both values stand in a table?
+pub record IsLessOver (IsCell : Fraction → Type 0) (a f y b : Fraction) : Type 0 where
   pub product : Fraction
-  pub product_form : IsForm product
+  pub product_form : IsCell product
   pub is_product : IsProduct f y product
-  pub form : IsForm b
+  pub form : IsCell b
   pub is_difference : IsDifference a product b
 
 -- Is u the table after t where e enters and row r leaves: row r divided by its cell at e, and from each other row and the
 -- objective row its cell at e times the new row r taken away?
-pub record IsExchange (p : ProgramDef) (t u : Table) (e r : ℕ) : Type 0 where
+pub record IsExchangeOver (IsCell : Fraction → Type 0) (p : ProgramDef) (t u : Table) (e r : ℕ) : Type 0 where
   pub enters : IsEntering p t e
-  pub leaves : IsLeaving p t e r
-  pub divided_form : (v : ℕ) → IsForm (u.cell r v)
+  pub leaves : IsLeavingOver IsCell p t e r
+  pub divided_form : (v : ℕ) → IsCell (u.cell r v)
   pub divided : (v : ℕ) → IsQuotient (t.cell r v) (t.cell r e) (u.cell r v)
-  pub taken : (i v : ℕ) → i ≤ height p → i ≢ r → IsLess (t.cell i v) (t.cell i e) (u.cell r v) (u.cell i v)
+  pub taken : (i v : ℕ) → i ≤ height p → i ≢ r → IsLessOver IsCell (t.cell i v) (t.cell i e) (u.cell r v) (u.cell i v)
   pub entered : u.basic r ≡ e
   pub stayed : (i : ℕ) → i < height p → i ≢ r → u.basic i ≡ t.basic i
+
+-- The same where each value has a form.
+abbrev pub IsRatio : ℕ → Table → ℕ → ℕ → Fraction → Type 0
+IsRatio place t e i f = IsRatioOver IsForm place t e i f
+
+abbrev pub IsLeastOf : ℕ → Table → ℕ → ℕ → ℕ → Fraction → Type 0
+IsLeastOf place t e k r f = IsLeastOver IsForm place t e k r f
+
+abbrev pub IsLeaving : ProgramDef → Table → ℕ → ℕ → Type 0
+IsLeaving p t e r = IsLeavingOver IsForm p t e r
+
+abbrev pub IsLess : Fraction → Fraction → Fraction → Fraction → Type 0
+IsLess a f y b = IsLessOver IsForm a f y b
+
+abbrev pub IsExchange : ProgramDef → Table → Table → ℕ → ℕ → Type 0
+IsExchange p t u e r = IsExchangeOver IsForm p t u e r

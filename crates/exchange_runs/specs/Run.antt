@@ -1,13 +1,18 @@
 -- The exchange run of a program.
 use Rattle.std.specs.Prelude.{◌≡◌, ℕ, zero, suc, ◌<◌, ◌≤◌}
+use Rattle.fraction128.specs.Fraction.{Fraction, IsForm}
 use Rattle.program_form.specs.Program.{ProgramDef, height}
 use Rattle.exchange_runs.specs.Table.{Table, IsStart}
-use Rattle.exchange_runs.specs.Exchange.{IsLast, IsExchange}
+use Rattle.exchange_runs.specs.Exchange.{IsLast, IsExchangeOver}
 
--- Does table t stand in the run of p after k exchanges?
+-- Does table t stand in the run of p after k exchanges, each of whose values may stand in a table?
+abbrev pub ReachedOver : (Fraction → Type 0) → ProgramDef → ℕ → Table → Type 0
+ReachedOver IsCell p zero t = IsStart p t
+ReachedOver IsCell p (suc k) t = (s : Table) × (e : ℕ) × (r : ℕ) × (ReachedOver IsCell p k s) × (IsExchangeOver IsCell p s t e r)
+
+-- The same where each value has a form.
 abbrev pub Reached : ProgramDef → ℕ → Table → Type 0
-Reached p zero t = IsStart p t
-Reached p (suc k) t = (s : Table) × (e : ℕ) × (r : ℕ) × (Reached p k s) × (IsExchange p s t e r)
+Reached p k t = ReachedOver IsForm p k t
 
 -- Does the run of p make k exchanges and end at table t?
 pub record IsExchangeRun (p : ProgramDef) (k : ℕ) (t : Table) : Type 0 where

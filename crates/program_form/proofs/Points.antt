@@ -3,7 +3,7 @@ use Rattle.std.proofs.Common.{ℕ, zero, suc, ◌*◌, ◌<◌, ◌≤◌, arith
 use Rattle.std.proofs.Math.Nat.{mul-le-mul_left}
 use Rattle.bounded_sums.specs.Sums.{sum_below}
 use Rattle.bounded_sums.proofs.SumLaws.{sum_below-zero, sum_below-term}
-use Rattle.program_form.specs.Program.{ProgramDef, IsProgram, columns, height, cost, entry, limit}
+use Rattle.program_form.specs.Program.{ProgramDef, IsProgram, IsCovered, columns, height, cost, entry, limit}
 use Rattle.program_form.specs.Points.{IsScaledPoint, worth, Reaches, IsGreatestReached}
 use Rattle.program_form.specs.Duals.{Covers}
 use Rattle.program_form.specs.Limits.{HasLimitsAtMost}
@@ -53,13 +53,17 @@ at_least_once : (x a t : ℕ) → x ≤ t → 0 < a → 1 * x ≤ t * a
 at_least_once x zero t h l = absurd (omega arith)
 at_least_once x (suc a) t h l = omega arith
 
--- The sum of the costs, for each row, covers an accepted program.
-pub sum_covers : (p : ProgramDef) → IsProgram p → Covers p 1 (λ r. sum_below (columns p) (λ c. cost p c))
-sum_covers p accepted = record {
+-- Where each column is covered, the sum of the costs, for each row, is a feasible dual.
+pub covered_dual : (p : ProgramDef) → ((c : ℕ) → c < columns p → IsCovered p c) → Covers p 1 (λ r. sum_below (columns p) (λ c. cost p c))
+covered_dual p covered = record {
   positive = omega arith;
   covered = λ c l.
-      let held = accepted.covered c l in
+      let held = covered c l in
       let once : 1 * cost p c ≤ sum_below (columns p) (λ k. cost p k) * entry p held.by_row c
       = at_least_once (cost p c) (entry p held.by_row c) (sum_below (columns p) (λ k. cost p k)) (sum_below-term (columns p) (λ k. cost p k) c l) held.above in
       omega (arith, once, sum_below-term (height p) (λ r. sum_below (columns p) (λ k. cost p k) * entry p r c) held.by_row held.within);
 }
+
+-- So it is of an accepted program.
+pub sum_covers : (p : ProgramDef) → IsProgram p → Covers p 1 (λ r. sum_below (columns p) (λ c. cost p c))
+sum_covers p accepted = covered_dual p accepted.covered
