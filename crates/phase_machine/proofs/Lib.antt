@@ -1,0 +1,6 @@
+pub mod ScriptPlaces
+pub mod Lawful
+pub mod Facts
+pub mod Columns
+pub mod Placing
+pub mod Taking

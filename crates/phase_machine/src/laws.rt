@@ -12,7 +12,7 @@ pub fn machines_show_the_definitions()
     ensures phase { (m : MachineDef) (rows : ℕ → RowDef) → Shows m rows → (j : ℕ) → j < length m.list.jobs
         → phase_now m j ≡ phase_of (under m rows) m.tick j }
     ensures active { (m : MachineDef) (rows : ℕ → RowDef) → Shows m rows → (j : ℕ) → active_now m j ≡ is_active (under m rows) m.tick j }
-    ensures current { (m : MachineDef) (rows : ℕ → RowDef) → Shows m rows → (x j : ℕ)
+    ensures current { (m : MachineDef) (rows : ℕ → RowDef) → Shows m rows → (x j : ℕ) → x < length m.list.set.tasks
         → (current_now m x ≡ Some j) ↔ ((is_active (under m rows) m.tick j ≡ true) × (task_of (under m rows) j ≡ x)) }
     ensures requester { (m : MachineDef) (rows : ℕ → RowDef) → Shows m rows → (q j : ℕ)
         → requester_now m q j ≡ is_requester (under m rows) m.tick q j }
