@@ -1,7 +1,7 @@
 -- What a machine answers is what the definitions say of each schedule that it shows.
 use Rattle.std.proofs.Common.{◌≡◌, ◌↔◌, ◌⊎◌, ℕ, ◌+◌, ◌<◌, ◌≤◌, ◌&&◌, ◌||◌, not, Bool, true, false, List, length, take, refl, sym, ap, ◌∙◌, arith, inl, inr, Option, Some, None, leb, ltb, cond}
 use Rattle.std.proofs.lemmas.Bool.{cases_lt, cases_order, cases_Bool, both_ways, and_parts, and_from, lt-ltb, le-ltb, ltb-true, leb-true, le-leb, true_from_ne_false, false_from_ne_true}
-use Rattle.schedule_model.specs.JobDef.{JobDef, job_of, total_ticks}
+use Rattle.schedule_model.specs.JobDef.{JobDef, job_of, segment_ticks, total_ticks}
 use Rattle.schedule_model.specs.RowDef.{RowDef, Trace, is_job, held_before}
 use Rattle.schedule_model.specs.Phase.{Phase, is_local, is_finished, is_asking, executed, phase_of}
 use Rattle.schedule_model.specs.Phase.Phase.{Local, Asking, Finished}
@@ -33,14 +33,18 @@ place_kept m rows j shows l = shows.machine.place (task_in m.list.jobs j) (task_
 pub place_shown : (m : MachineDef) (rows : ℕ → RowDef) (j : ℕ) → Shows m rows → j < length m.list.jobs → ShowsPlace (under m rows) m.tick (task_in m.list.jobs j) (place_of m (task_in m.list.jobs j))
 place_shown m rows j shows l = shows.places (task_in m.list.jobs j) (task_listed m.list j shows.machine.lawful l)
 
+-- The phase of a job that has executed the segments before number n, and i ticks of that one.
+pub phase_standing : (w : Trace) (t j n i : ℕ) → executed w t j ≡ total_ticks (take n (job_of w.jobs j).script) + i → n < length (job_of w.jobs j).script
+    → i < segment_ticks (segment_in w.jobs j n) → phase_of w t j ≡ phase_in n (segment_in w.jobs j n) i
+unfolding phase_of
+phase_standing w t j n i stands l h =
+    let number : 0 + n ≡ n = omega arith in
+    rw stands (phase_after 0 (job_of w.jobs j).script n i l h) ∙ ap (λ k. phase_in k (segment_in w.jobs j n) i) number
+
 -- The phase of a place's own job.
 pub own_phase : (w : Trace) (t x : ℕ) (p : Place) → ShowsPlace w t x p → IsPlace w.jobs x p → p.job < length w.jobs
     → phase_of w t p.job ≡ phase_in p.segment (segment_in w.jobs p.job p.segment) p.ticks
-unfolding phase_of
-own_phase w t x p shows place l =
-    let number : 0 + p.segment ≡ p.segment = omega arith in
-    rw (shows.stands l) (phase_after 0 (job_of w.jobs p.job).script p.segment p.ticks (place.segment l) (place.ticks l))
-    ∙ ap (λ n. phase_in n (segment_in w.jobs p.job p.segment) p.ticks) number
+own_phase w t x p shows place l = phase_standing w t p.job p.segment p.ticks (shows.stands l) (place.segment l) (place.ticks l)
 
 -- It isn't finished.
 pub own_unfinished : (w : Trace) (t x : ℕ) (p : Place) → ShowsPlace w t x p → IsPlace w.jobs x p → p.job < length w.jobs → is_finished (phase_of w t p.job) ≡ false
@@ -72,7 +76,7 @@ phase_shown m rows j shows l =
     ]
 
 -- The place's job is the current one where it is listed and released.
-current_some : (jobs : List JobDef) (tick : ℕ) (p : Place) (j : ℕ) → current_in jobs tick p ≡ Some j → (p.job ≡ j) × (p.job < length jobs) × ((job_of jobs p.job).release ≤ tick)
+pub current_some : (jobs : List JobDef) (tick : ℕ) (p : Place) (j : ℕ) → current_in jobs tick p ≡ Some j → (p.job ≡ j) × (p.job < length jobs) × ((job_of jobs p.job).release ≤ tick)
 current_some jobs tick p j h = elim (cases_Bool (ltb p.job (length jobs) && leb (job_of jobs p.job).release tick)) [
   | inl passes ↦
       let parts : (ltb p.job (length jobs) ≡ true) × (leb (job_of jobs p.job).release tick ≡ true) = and_parts _ _ passes in
