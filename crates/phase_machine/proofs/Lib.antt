@@ -4,3 +4,4 @@ pub mod Facts
 pub mod Columns
 pub mod Placing
 pub mod Taking
+pub mod Coming

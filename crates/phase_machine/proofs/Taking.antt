@@ -1,11 +1,11 @@
 -- A machine that takes a row, and one that takes none yet.
-use Rattle.std.proofs.Common.{◌≡◌, ℕ, zero, suc, ◌+◌, ◌<◌, ◌≤◌, true, false, List, length, get_or, take, replicate, refl, sym, ap, subst, ◌∙◌, arith, add-one, inl, inr, Option, Some, None}
+use Rattle.std.proofs.Common.{◌≡◌, ℕ, zero, suc, ◌+◌, ◌<◌, ◌≤◌, true, false, List, length, get_or, take, replicate, length-replicate, refl, sym, ap, subst, ◌∙◌, arith, add-one, inl, inr, Option, Some, None}
 use Rattle.std.specs.List.{list_any}
 use Rattle.std.proofs.lemmas.Bool.{cases_lt, cases_eq, cases_Bool, false_from_ne_true}
 use Rattle.sporadic_model.specs.declared.limits.TheConstants.{MOST_TICKS}
 use Rattle.sporadic_model.specs.SetDef.{task_at}
 use Rattle.sporadic_model.specs.Accepted.{TaskNumbers}
-use Rattle.schedule_model.specs.JobDef.{JobDef, JobsDef, job_of, total_ticks}
+use Rattle.schedule_model.specs.JobDef.{JobDef, JobsDef, job_of, segment_ticks, total_ticks}
 use Rattle.schedule_model.specs.LawfulJobs.{AreLawfulJobs}
 use Rattle.schedule_model.specs.RowDef.{RowDef, Trace, is_job, running_on, holder_in, held_before, runs_in}
 use Rattle.schedule_model.specs.Phase.{executed}
@@ -149,16 +149,50 @@ no_holder zero q = refl
 no_holder (suc n) zero = refl
 no_holder (suc n) (suc q) = no_holder n q
 
+-- At the start of its first job each task has a place.
+place_at_first : (list : JobsDef) (x : ℕ) (p : Place) → AreLawfulJobs list → IsNext list.jobs x 0 p.job → p.segment ≡ 0 → p.ticks ≡ 0 → IsPlace list.jobs x p
+place_at_first list x p lawful next first none = record {
+  most = next.most;
+  own = next.own;
+  segment = λ l. rw first (script_some (job_of list.jobs p.job).script (script_of list p.job lawful l));
+  ticks = λ l. ticks l;
+} where
+  ticks : p.job < length list.jobs → p.ticks < segment_ticks (segment_in list.jobs p.job p.segment)
+  ticks l =
+      let some : 0 < (segment_in list.jobs p.job 0).local = local_some list p.job 0 lawful l (script_some (job_of list.jobs p.job).script (script_of list p.job lawful l)) in
+      let here : segment_ticks (segment_in list.jobs p.job p.segment) ≡ segment_ticks (segment_in list.jobs p.job 0) = ap (λ n. segment_ticks (segment_in list.jobs p.job n)) first in
+      omega arith
+
+-- So a machine is made.
+pub machine_at_first : (m : MachineDef) → m.tick ≡ 0 → AreLawfulJobs m.list → ((x : ℕ) → x < length m.list.set.tasks → TaskNumbers m.list.set x)
+    → length m.places ≡ length m.list.set.tasks → ArePlacesAtFirst m.list.jobs (length m.list.set.tasks) m.places → m.holders ≡ replicate (length m.list.set.resources) None
+    → length m.coming ≡ length m.list.set.tasks → ((x : ℕ) → x < length m.list.set.tasks → IsComing m.list.jobs 0 x (coming_of m x)) → IsMachine m
+machine_at_first m e lawful numbers size places none coming_size coming = record {
+  lawful = lawful;
+  numbers = numbers;
+  places_length = size;
+  holders_length = ap (λ (holders : List (Option ℕ)). length holders) none ∙ length-replicate (length m.list.set.resources) None;
+  coming_length = coming_size;
+  place = λ x l. let first = places x l in place_at_first m.list x (place_of m x) lawful first.0 first.1 first.2;
+  coming = λ x l. rw e (coming x l);
+  named = λ q j h. absurd (nobody q j h);
+  most = omega arith;
+} where
+  nobody : (q j : ℕ) → get_or m.holders q None ≡ Some j → ⊥
+  nobody q j h =
+      let x : None ≡ Some j = sym (ap (λ holders. get_or holders q None) none ∙ no_holder (length m.list.set.resources) q) ∙ h in
+      cc
+
 -- Before any row a machine shows every schedule.
 pub shows_at_first : (m : MachineDef) (rows : ℕ → RowDef) → IsMachine m → m.tick ≡ 0 → ArePlacesAtFirst m.list.jobs (length m.list.set.tasks) m.places
     → m.holders ≡ replicate (length m.list.set.resources) None → Shows m rows
 shows_at_first m rows machine e places none = rebuilt m (λ n. Shows n rows) m.list 0 refl e (record {
   machine = subst (λ t. IsMachine (record { list = m.list; tick = t; places = m.places; holders = m.holders; coming = m.coming })) e machine;
-  places = λ x l. place_at_first x l;
+  places = λ x l. at_first x l;
   holders = λ q. ap (λ holders. get_or holders q None) none ∙ no_holder (length m.list.set.resources) q;
 }) where
-  place_at_first : (x : ℕ) → x < length m.list.set.tasks → ShowsPlace (under m rows) 0 x (place_of m x)
-  place_at_first x l =
+  at_first : (x : ℕ) → x < length m.list.set.tasks → ShowsPlace (under m rows) 0 x (place_of m x)
+  at_first x l =
       let p : Place = place_of m x in
       let first = places x l in
       record {

@@ -11,7 +11,7 @@ ghost use Rattle.phase_machine.specs.Taking.{CanTake};
 use crate::lookup::{current_at, phase_at};
 use crate::phase::Phase;
 use crate::place::Place;
-use crate::script::task_of;
+use crate::script::{list_is_lawful, task_of};
 use crate::starting::{first_coming, first_places, no_holders};
 use crate::stepping::{move_on, step_all};
 use schedule_model::{JobId, JobList, Row};
@@ -49,6 +49,7 @@ impl<'a> Machine<'a> {
         ensures tick { IfOk result (λ m. m.tick ≡ 0) }
         ensures shows { IfOk result (λ m. (rows : ℕ → RowDef) → Shows m rows) }
     {
+        list_is_lawful(jobs);
         let places = first_places(alloc, jobs)?;
         let holders = no_holders(alloc, jobs.set().resources())?;
         let coming = first_coming(alloc, jobs)?;
@@ -88,6 +89,7 @@ impl<'a> Machine<'a> {
     }
 
     /// What the job does next.
+    #[tactic(auto, unfolding(crate::specs::Now::phase_now))]
     pub fn phase(&self, j: JobId) -> Phase
         requires { j.0 < length self.now.list.jobs }
         ensures value { phase_seen result ≡ phase_now self.now j.0 }
@@ -98,6 +100,7 @@ impl<'a> Machine<'a> {
 
     /// The active job of the task: the one that is released and not finished, while the task's earlier jobs are. None
     /// exactly where the task has none.
+    #[tactic(auto, unfolding(crate::specs::Now::current_now))]
     pub fn current(&self, x: TaskId) -> Option<JobId>
         requires { x.0 < length self.now.list.set.tasks }
         ensures value { place_seen result ≡ current_now self.now x.0 }
@@ -107,6 +110,7 @@ impl<'a> Machine<'a> {
     }
 
     /// Is the job active: released and not finished, while the earlier jobs of its task are?
+    #[tactic(auto, unfolding(crate::specs::Now::active_now))]
     pub fn active(&self, j: JobId) -> bool
         requires { j.0 < length self.now.list.jobs }
         ensures { result ≡ active_now self.now j.0 }
@@ -124,6 +128,7 @@ impl<'a> Machine<'a> {
     }
 
     /// Is the job active, and Local or the last row's holder of what it requests?
+    #[tactic(auto, unfolding(crate::specs::Now::ready_now))]
     pub fn ready(&self, j: JobId) -> bool
         requires { j.0 < length self.now.list.jobs }
         ensures { result ≡ ready_now self.now j.0 }
@@ -137,6 +142,7 @@ impl<'a> Machine<'a> {
     }
 
     /// Is the job active and not ready?
+    #[tactic(auto, unfolding(crate::specs::Now::waiting_now))]
     pub fn waiting(&self, j: JobId) -> bool
         requires { j.0 < length self.now.list.jobs }
         ensures { result ≡ waiting_now self.now j.0 }
@@ -145,6 +151,7 @@ impl<'a> Machine<'a> {
     }
 
     /// The tick at which the request was issued that the job is in; none exactly where it is in none.
+    #[tactic(auto, unfolding(crate::specs::Now::issued_now))]
     pub fn issued(&self, j: JobId) -> Option<u64>
         requires { j.0 < length self.now.list.jobs }
         ensures { result ≡ issued_now self.now j.0 }

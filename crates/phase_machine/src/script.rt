@@ -1,13 +1,23 @@
-ghost use Rattle.std.specs.Prelude.{◌≡◌, ◌+◌, ◌<◌, ◌≤◌, true, length, slice_index_or};
+ghost use Rattle.std.specs.Prelude.{◌≡◌, ℕ, ◌+◌, ◌<◌, ◌≤◌, true, length, slice_index_or};
 ghost use Rattle.sporadic_model.specs.declared.limits.TheConstants.{MOST_TICKS};
+ghost use Rattle.sporadic_model.specs.Accepted.{TaskNumbers};
 ghost use Rattle.schedule_model.specs.JobDef.{job_of, segment_ticks};
-ghost use Rattle.schedule_model.specs.LawfulJobs.{is_segment, is_resource_in};
+ghost use Rattle.schedule_model.specs.LawfulJobs.{is_segment, is_resource_in, AreLawfulJobs};
 ghost use Rattle.schedule_model.specs.Seen.{job_seen, segment_seen};
 ghost use Rattle.schedule_laws.specs.Counting.{no_segment};
 ghost use Rattle.phase_machine.specs.MachineDef.{IsNext, segment_in, task_in};
 
 use schedule_model::{Job, JobId, JobList, Segment};
 use sporadic_model::TaskId;
+
+/// Every list of jobs is lawful, and each task of its set has numbers in their ranges. This says so, and does nothing.
+pub(crate) fn list_is_lawful(jobs: &JobList)
+    ensures lawful { AreLawfulJobs jobs.now }
+    ensures numbers { (x : ℕ) → x < length jobs.now.set.tasks → TaskNumbers jobs.now.set x }
+{
+    let _jobs = jobs.len();
+    let _tasks = jobs.set().tasks();
+}
 
 /// The segment of the job's script.
 fn segment_of(job: &Job, n: usize) -> Segment

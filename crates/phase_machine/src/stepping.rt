@@ -1,11 +1,12 @@
 ghost use Rattle.std.specs.Prelude.{◌≡◌, ℕ, ◌+◌, ◌<◌, ◌≤◌, length, map, slice_index_or};
 ghost use Rattle.sporadic_model.specs.declared.limits.TheConstants.{MOST_TICKS};
+ghost use Rattle.sporadic_model.specs.Accepted.{TaskNumbers};
 ghost use Rattle.schedule_model.specs.Seen.{place_seen};
 ghost use Rattle.phase_machine.specs.MachineDef.{IsPlace, IsDue, IsComing, no_place, task_in};
 ghost use Rattle.phase_machine.specs.Steps.{StepsTo, MovesTo, ArePlaces, AreCurrent};
 
 use crate::place::Place;
-use crate::script::{next_of, segment_at, segments_of, task_of, ticks_of};
+use crate::script::{list_is_lawful, next_of, segment_at, segments_of, task_of, ticks_of};
 use schedule_model::{JobId, JobList};
 
 /// The place of task `x` after its job has executed one more tick, at tick `after`.
@@ -14,6 +15,8 @@ fn stepped(jobs: &JobList, after: u64, x: u32, place: &Place) -> Place
     requires place { IsPlace jobs.now.jobs x place.now }
     ensures { StepsTo jobs.now.jobs after x place.now result }
 {
+    list_is_lawful(jobs);
+    let segments = segments_of(jobs, place.job);
     let segment = segment_at(jobs, place.job, place.segment);
     let ticks = place.ticks + 1;
     if ticks < ticks_of(&segment) {
@@ -25,7 +28,7 @@ fn stepped(jobs: &JobList, after: u64, x: u32, place: &Place) -> Place
             issued,
         };
     }
-    if place.segment + 1 < segments_of(jobs, place.job) {
+    if place.segment + 1 < segments {
         return Place {
             job: place.job,
             segment: place.segment + 1,
@@ -77,8 +80,9 @@ pub(crate) fn step_all(
 }
 
 /// The first job of task `x` that is released after the tick, from the first that is released at it or later.
+#[tactic(auto, using(crate::proofs::Coming::coming_here))]
 pub(crate) fn coming_after(jobs: &JobList, tick: u64, x: u32, due: u32) -> u32
-    requires task { x < length jobs.now.set.tasks }
+    requires numbers { TaskNumbers jobs.now.set x }
     requires due { IsDue jobs.now.jobs tick x due }
     ensures { IsComing jobs.now.jobs tick x result }
 {
@@ -91,11 +95,12 @@ pub(crate) fn coming_after(jobs: &JobList, tick: u64, x: u32, due: u32) -> u32
 /// Moves on to the jobs that are released after the tick.
 pub(crate) fn move_on(jobs: &JobList, tick: u64, coming: &mut [u32])
     requires len { length coming.old ≡ length jobs.now.set.tasks }
+    requires numbers { (x : ℕ) → x < length jobs.now.set.tasks → TaskNumbers jobs.now.set x }
     requires due { (x : ℕ) → x < length jobs.now.set.tasks → IsDue jobs.now.jobs tick x (slice_index_or coming.old x 0) }
     ensures len { length coming.new ≡ length coming.old }
     ensures each { (x : ℕ) → x < length jobs.now.set.tasks → IsComing jobs.now.jobs tick x (slice_index_or coming.new x 0) }
 {
-    for x in 0..coming.len() {
-        coming[x] = coming_after(jobs, tick, x as u32, coming[x]);
+    for x in 0..jobs.set().tasks() {
+        coming[x as usize] = coming_after(jobs, tick, x, coming[x as usize]);
     }
 }

@@ -1,4 +1,3 @@
-use Rattle.phase_machine.proofs.Taking.{taken_machine, taken_shows, shows_at_first, row_current}
 use Rattle.phase_machine.proofs.Facts.{phase_shown, active_shown, current_shown, current_from, requester_shown, issued_shown, holder_shown, ready_shown, waiting_shown}
 use Rattle.phase_machine.proofs.laws.machines_show_the_definitions.Goals as goal
 
