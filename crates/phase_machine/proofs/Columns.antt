@@ -2,14 +2,14 @@
 -- that is taken.
 use Rattle.std.proofs.Common.{◌≡◌, ℕ, zero, suc, ◌+◌, ◌<◌, ◌≤◌, ◌||◌, Bool, true, false, List, [], length, get_or, take, refl, sym, ap, ◌∙◌, arith, inl, inr, Option, Some, None}
 use Rattle.std.specs.List.{list_any}
-use Rattle.std.proofs.lemmas.Bool.{cases_lt, cases_eq, cases_Bool, false_from_ne_true, or_left, or_right, or_from, eq-eqb, ne_eqb}
+use Rattle.std.proofs.lemmas.Bool.{cases_lt, cases_eq, false_from_ne_true, or_right, ne_eqb}
 use Rattle.std.proofs.lemmas.List.{get_or-take, get_or_past, length-take}
 use Rattle.std.proofs.lemmas.List.Folds.{list_any_more}
 use Rattle.schedule_model.specs.JobDef.{JobDef, JobsDef}
-use Rattle.schedule_model.specs.RowDef.{RowDef, is_job, running_on, runs_in}
+use Rattle.schedule_model.specs.RowDef.{is_job, running_on, runs_in}
 use Rattle.schedule_laws.proofs.Rows.{runs_from, runs_where, named_job}
 use Rattle.phase_machine.specs.declared.place.Place.{Place}
-use Rattle.phase_machine.specs.MachineDef.{IsPlace, task_in, no_place}
+use Rattle.phase_machine.specs.MachineDef.{task_in, no_place}
 use Rattle.phase_machine.specs.Steps.{StepsTo, MovesTo, ArePlaces, AreCurrent}
 
 -- A list that names a job names it at some place, and the other way round.

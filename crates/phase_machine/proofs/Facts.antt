@@ -1,19 +1,24 @@
 -- What a machine answers is what the definitions say of each schedule that it shows.
-use Rattle.std.proofs.Common.{◌≡◌, ◌↔◌, ◌⊎◌, ℕ, ◌+◌, ◌<◌, ◌≤◌, ◌&&◌, ◌||◌, not, Bool, true, false, List, length, take, refl, sym, ap, ◌∙◌, arith, inl, inr, Option, Some, None, leb, ltb, cond}
-use Rattle.std.proofs.lemmas.Bool.{cases_lt, cases_order, cases_Bool, both_ways, and_parts, and_from, lt-ltb, le-ltb, ltb-true, leb-true, le-leb, true_from_ne_false, false_from_ne_true}
+use Rattle.std.proofs.Common.{◌≡◌, ℕ, ◌+◌, ◌<◌, ◌≤◌, ◌&&◌, ◌||◌, Bool, true, false, List, length, take, refl, sym, ap, ◌∙◌, arith, inl, inr, Option, Some, None, leb, ltb}
+use Rattle.std.proofs.lemmas.Bool.{cases_lt, cases_order, cases_Bool, and_parts, lt-ltb, le-ltb, ltb-true, leb-true, le-leb, false_from_ne_true}
 use Rattle.schedule_model.specs.JobDef.{JobDef, job_of, segment_ticks, total_ticks}
 use Rattle.schedule_model.specs.RowDef.{RowDef, Trace, is_job, held_before}
 use Rattle.schedule_model.specs.Phase.{Phase, is_local, is_finished, is_asking, executed, phase_of}
 use Rattle.schedule_model.specs.Phase.Phase.{Local, Asking, Finished}
-use Rattle.schedule_model.specs.Activity.{task_of, is_active, is_requester, issue_tick_of, holds_by}
-use Rattle.schedule_laws.proofs.Ticks.{phase_at, finished_true, finished_executed}
-use Rattle.schedule_laws.proofs.ActiveJobs.{Active, active_is, active_from, active_listed}
+use Rattle.schedule_model.specs.Activity.{task_of, is_active, active_job_of, is_requester, issue_tick_of, holds_by}
+use Rattle.sporadic_model.specs.declared.limits.TheConstants.{MOST_TICKS}
+use Rattle.schedule_model.specs.TakenRows.{CanBeTaken}
+use Rattle.schedule_laws.specs.Agreement.{AgreeBefore}
+use Rattle.schedule_laws.proofs.Agreement.{executed_agree, phase_agree, issue_agree, held_before_agree}
+use Rattle.schedule_laws.proofs.Ticks.{finished_true, finished_executed}
+use Rattle.schedule_laws.proofs.ActiveJobs.{Active, active_is, active_from, active_listed, active_job_from, active_job_missing}
 use Rattle.schedule_laws.proofs.Rows.{job_named, named_job}
 use Rattle.phase_machine.specs.declared.place.Place.{Place}
-use Rattle.phase_machine.specs.MachineDef.{MachineDef, IsMachine, IsPlace, place_of, task_in, segment_in, under}
-use Rattle.phase_machine.specs.Now.{phase_in, phase_at_place, phase_now, current_in, current_now, active_now, holder_now, is_ready_by, ready_now, waiting_now, requester_now, issued_in, issued_now, is_ready_before, is_waiting_before, issue_of}
+use Rattle.phase_machine.specs.MachineDef.{MachineDef, IsPlace, place_of, task_in, segment_in, under}
+use Rattle.phase_machine.specs.Now.{phase_in, phase_at_place, phase_now, current_in, current_now, active_now, holder_now, ready_now, waiting_now, requester_now, issued_in, issued_now, is_ready_before, is_waiting_before, issue_of}
 use Rattle.phase_machine.specs.Shows.{Shows, ShowsPlace}
-use Rattle.phase_machine.proofs.ScriptPlaces.{phase_after, phase_in_local, phase_in_request, ticks_left}
+use Rattle.phase_machine.specs.Taking.{CanTake}
+use Rattle.phase_machine.proofs.ScriptPlaces.{phase_after, phase_in_local, ticks_left}
 use Rattle.phase_machine.proofs.Lawful.{script_of, task_listed, unstarted_local}
 
 -- The phase of a job by its place in order: before the place's job, after it, or that job itself.
@@ -135,6 +140,18 @@ current_from m rows j shows h =
       ]
     ]
 
+none_active : (m : MachineDef) (rows : ℕ → RowDef) (x j : ℕ) → Shows m rows → current_now m x ≡ None → task_of (under m rows) j ≡ x → is_active (under m rows) m.tick j ≡ false
+none_active m rows x j shows e own = false_from_ne_true (is_active (under m rows) m.tick j) (λ h. absent (current_from m rows j shows h)) where
+  absent : current_now m (task_in m.list.jobs j) ≡ Some j → ⊥
+  absent f = let x : None ≡ Some j = sym e ∙ ap (current_now m) (sym own) ∙ f in cc
+
+-- So the current job is the active job of the task.
+pub current_is : (m : MachineDef) (rows : ℕ → RowDef) (x : ℕ) → Shows m rows → x < length m.list.set.tasks → current_now m x ≡ active_job_of (under m rows) m.tick x
+current_is m rows x shows l = go (current_now m x) refl where
+  go : (o : Option ℕ) → current_now m x ≡ o → current_now m x ≡ active_job_of (under m rows) m.tick x
+  go (Some j) e = let a : (is_active (under m rows) m.tick j ≡ true) × (task_of (under m rows) j ≡ x) = current_shown m rows x j shows l e in e ∙ sym (active_job_from (under m rows) m.tick x j a.0 a.1)
+  go None e = e ∙ sym (active_job_missing (under m rows) m.tick x (λ j own. none_active m rows x j shows e own))
+
 -- A job that the machine calls active is listed, and the current one of its task.
 pub active_current : (m : MachineDef) (j : ℕ) → active_now m j ≡ true → current_now m (task_in m.list.jobs j) ≡ Some j
 unfolding active_now
@@ -230,3 +247,40 @@ unfolding issued_now issue_of
 issued_shown m rows j shows l =
     issued_same (phase_now m j) (place_of m (task_in m.list.jobs j)).issued (issue_tick_of (under m rows) m.tick j) (λ n q h. issue_shown m rows j n q shows l h)
     ∙ ap (λ p. issued_in p (issue_tick_of (under m rows) m.tick j)) (phase_shown m rows j shows l)
+
+-- A row can be taken exactly where it can stand at this tick of the schedule.
+pub can_take : (m : MachineDef) (rows : ℕ → RowDef) → Shows m rows → CanBeTaken (under m rows) m.tick → m.tick < MOST_TICKS → CanTake m (rows m.tick)
+can_take m rows shows can early = record {
+  fits = record { sized = can.fits.sized; running = can.fits.running; holders = can.fits.holders };
+  active = λ k j e. active_shown m rows j shows ∙ can.active k j e;
+  one_column = can.one_column;
+  early = early;
+}
+
+pub took_can : (m : MachineDef) (rows : ℕ → RowDef) → Shows m rows → CanTake m (rows m.tick) → CanBeTaken (under m rows) m.tick
+took_can m rows shows can = record {
+  fits = record { sized = can.fits.sized; running = can.fits.running; holders = can.fits.holders };
+  active = λ k j e. sym (active_shown m rows j shows) ∙ can.active k j e;
+  one_column = can.one_column;
+}
+
+-- What a machine shows reads the rows before its tick alone.
+pub reads_before : (m : MachineDef) (rows more : ℕ → RowDef) → ((t : ℕ) → t < m.tick → rows t ≡ more t) → Shows m rows → Shows m more
+reads_before m rows more same shows = record {
+  machine = shows.machine;
+  places = λ x l. place x (shows.places x l);
+  holders = λ q. shows.holders q ∙ held_before_agree (under m rows) (under m more) m.tick m.tick q agree (omega arith);
+} where
+  agree : AgreeBefore (under m rows) (under m more) m.tick
+  agree = record { set = refl; jobs = refl; rows = same }
+
+  executed_same : (j : ℕ) → executed (under m more) m.tick j ≡ executed (under m rows) m.tick j
+  executed_same j = sym (executed_agree (under m rows) (under m more) m.tick m.tick j agree (omega arith))
+
+  place : (x : ℕ) → ShowsPlace (under m rows) m.tick x (place_of m x) → ShowsPlace (under m more) m.tick x (place_of m x)
+  place x s = record {
+    before = λ e l own. sym (phase_agree (under m rows) (under m more) m.tick m.tick e agree (omega arith)) ∙ s.before e l own;
+    after = λ e l b own. executed_same e ∙ s.after e l b own;
+    stands = λ l. executed_same (place_of m x).job ∙ s.stands l;
+    issued = λ l past. s.issued l past ∙ issue_agree (under m rows) (under m more) m.tick m.tick (place_of m x).job agree (omega arith);
+  }

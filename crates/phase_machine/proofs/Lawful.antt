@@ -1,8 +1,8 @@
 -- What lawful jobs give: scripts with a segment, and segments with a local tick.
-use Rattle.std.proofs.Common.{◌≡◌, ℕ, ◌+◌, ◌<◌, ◌≤◌, ◌==◌, not, true, List, [], ◌∷◌, length, get_or, refl, arith}
+use Rattle.std.proofs.Common.{◌≡◌, ℕ, ◌<◌, ◌==◌, true, List, [], ◌∷◌, length, arith}
 use Rattle.std.specs.List.{list_all}
 use Rattle.std.proofs.lemmas.Bool.{and_parts, not-true, eqb-false}
-use Rattle.schedule_model.specs.JobDef.{SegmentDef, JobDef, JobsDef, job_of, segment_ticks, total_ticks}
+use Rattle.schedule_model.specs.JobDef.{SegmentDef, JobsDef, job_of}
 use Rattle.schedule_model.specs.LawfulJobs.{is_segment, is_script, AreLawfulJobs, IsLawfulJob}
 use Rattle.schedule_model.specs.RowDef.{Trace}
 use Rattle.schedule_model.specs.Phase.{phase_from, executed, phase_of}
@@ -10,7 +10,7 @@ use Rattle.schedule_model.specs.Phase.Phase.{Local}
 use Rattle.schedule_laws.specs.Counting.{no_segment}
 use Rattle.schedule_laws.proofs.Phases.{phase_local, segment_local}
 use Rattle.schedule_laws.proofs.Ticks.{script_segments}
-use Rattle.schedule_laws.proofs.SumLaws.{list_all-place}
+use Rattle.schedule_model.proofs.Scripts.{list_all-each}
 use Rattle.phase_machine.specs.MachineDef.{segment_in, task_in}
 
 pub script_of : (list : JobsDef) (j : ℕ) → AreLawfulJobs list → j < length list.jobs → is_script (job_of list.jobs j).script ≡ true
@@ -29,7 +29,7 @@ script_some script h =
 pub local_some : (list : JobsDef) (j n : ℕ) → AreLawfulJobs list → j < length list.jobs → n < length (job_of list.jobs j).script → 0 < (segment_in list.jobs j n).local
 local_some list j n lawful l h =
     segment_local (segment_in list.jobs j n)
-    (list_all-place is_segment (job_of list.jobs j).script n no_segment (script_segments (job_of list.jobs j).script (script_of list j lawful l)) h)
+    (list_all-each is_segment (job_of list.jobs j).script n no_segment h (script_segments (job_of list.jobs j).script (script_of list j lawful l)))
 
 -- A lawful job that has executed nothing is Local.
 local_at_first : (n : ℕ) (script : List SegmentDef) → list_all is_segment script ≡ true → 0 < length script → phase_from n script 0 ≡ Local

@@ -5,3 +5,4 @@ pub mod Columns
 pub mod Placing
 pub mod Taking
 pub mod Coming
+pub mod Named

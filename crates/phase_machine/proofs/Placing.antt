@@ -1,9 +1,9 @@
 -- How the place of a task moves with a row, and that it still shows the schedule then.
-use Rattle.std.proofs.Common.{◌≡◌, ℕ, suc, ◌+◌, ◌<◌, ◌≤◌, ◌==◌, true, false, List, length, take, refl, sym, ap, ◌∙◌, arith, add-one, inl, inr, cond}
+use Rattle.std.proofs.Common.{◌≡◌, ℕ, suc, ◌+◌, ◌<◌, ◌≤◌, ◌==◌, true, false, length, take, refl, sym, ap, ◌∙◌, arith, add-one, inl, inr, cond}
 use Rattle.std.proofs.lemmas.Bool.{cases_lt, cases_order, cases_eq, eq-eqb, ne_eqb}
-use Rattle.schedule_model.specs.JobDef.{SegmentDef, JobsDef, job_of, segment_ticks, total_ticks}
+use Rattle.schedule_model.specs.JobDef.{JobsDef, job_of, segment_ticks, total_ticks}
 use Rattle.schedule_model.specs.LawfulJobs.{AreLawfulJobs}
-use Rattle.schedule_model.specs.RowDef.{RowDef, Trace, runs_in}
+use Rattle.schedule_model.specs.RowDef.{Trace, runs_in}
 use Rattle.schedule_model.specs.Phase.{is_same_request, executed, phase_of}
 use Rattle.schedule_model.specs.Phase.Phase.{Local, Asking, Finished}
 use Rattle.schedule_model.specs.Activity.{task_of, issue_tick_of}
@@ -13,7 +13,7 @@ use Rattle.phase_machine.specs.declared.place.Place.{Place}
 use Rattle.phase_machine.specs.MachineDef.{IsPlace, IsNext, segment_in}
 use Rattle.phase_machine.specs.Now.{phase_in}
 use Rattle.phase_machine.specs.Shows.{ShowsPlace}
-use Rattle.phase_machine.specs.Steps.{StepsTo, MovesTo}
+use Rattle.phase_machine.specs.Steps.{StepsTo}
 use Rattle.phase_machine.proofs.ScriptPlaces.{segment_more, script_ends, asking_inside, phase_in_local}
 use Rattle.phase_machine.proofs.Lawful.{script_of, script_some, local_some}
 use Rattle.phase_machine.proofs.Facts.{own_phase, phase_standing}

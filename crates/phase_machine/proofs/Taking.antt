@@ -1,25 +1,24 @@
 -- A machine that takes a row, and one that takes none yet.
-use Rattle.std.proofs.Common.{◌≡◌, ℕ, zero, suc, ◌+◌, ◌<◌, ◌≤◌, true, false, List, length, get_or, take, replicate, length-replicate, refl, sym, ap, subst, ◌∙◌, arith, add-one, inl, inr, Option, Some, None}
+use Rattle.std.proofs.Common.{◌≡◌, ℕ, zero, suc, ◌+◌, ◌<◌, ◌≤◌, true, false, List, length, get_or, take, replicate, refl, sym, ap, subst, ◌∙◌, arith, add-one, inl, inr, Option, Some, None}
 use Rattle.std.specs.List.{list_any}
-use Rattle.std.proofs.lemmas.Bool.{cases_lt, cases_eq, cases_Bool, false_from_ne_true}
-use Rattle.sporadic_model.specs.declared.limits.TheConstants.{MOST_TICKS}
-use Rattle.sporadic_model.specs.SetDef.{task_at}
+use Rattle.std.proofs.lemmas.List.{length-replicate}
+use Rattle.std.proofs.lemmas.Bool.{cases_eq, cases_Bool, false_from_ne_true}
 use Rattle.sporadic_model.specs.Accepted.{TaskNumbers}
-use Rattle.schedule_model.specs.JobDef.{JobDef, JobsDef, job_of, segment_ticks, total_ticks}
+use Rattle.schedule_model.specs.JobDef.{JobsDef, job_of, segment_ticks, total_ticks}
 use Rattle.schedule_model.specs.LawfulJobs.{AreLawfulJobs}
-use Rattle.schedule_model.specs.RowDef.{RowDef, Trace, is_job, running_on, holder_in, held_before, runs_in}
+use Rattle.schedule_model.specs.JobLists.{IsJobList}
+use Rattle.schedule_model.specs.RowDef.{RowDef, is_job, running_on, runs_in}
 use Rattle.schedule_model.specs.Phase.{executed}
 use Rattle.schedule_laws.proofs.Rows.{runs_where}
 use Rattle.schedule_laws.proofs.Ticks.{executed_none}
 use Rattle.phase_machine.specs.declared.place.Place.{Place}
-use Rattle.phase_machine.specs.MachineDef.{MachineDef, IsMachine, IsPlace, IsNext, IsComing, IsDue, place_of, coming_of, task_in, segment_in, no_place, under}
-use Rattle.phase_machine.specs.Now.{current_now, active_now, holder_now}
+use Rattle.phase_machine.specs.MachineDef.{MachineDef, IsMachine, IsPlace, IsNext, IsComing, place_of, coming_of, task_in, segment_in, no_place, under}
+use Rattle.phase_machine.specs.Now.{current_now, active_now}
 use Rattle.phase_machine.specs.Shows.{Shows, ShowsPlace, ArePlacesAtFirst}
 use Rattle.phase_machine.specs.Taking.{CanTake}
-use Rattle.phase_machine.specs.Steps.{StepsTo, MovesTo, ArePlaces, AreCurrent}
-use Rattle.phase_machine.proofs.Lawful.{script_of, script_some, task_listed, local_some}
-use Rattle.phase_machine.proofs.Facts.{active_current, active_now_listed, current_some}
-use Rattle.phase_machine.proofs.Columns.{named_from}
+use Rattle.phase_machine.specs.Steps.{MovesTo, ArePlaces, AreCurrent}
+use Rattle.phase_machine.proofs.Lawful.{script_of, script_some, local_some}
+use Rattle.phase_machine.proofs.Facts.{active_current, current_some}
 use Rattle.phase_machine.proofs.Placing.{Turn, stepped_place, stayed_shows, stepped_shows}
 
 -- The places of a machine.
@@ -34,7 +33,7 @@ active_place m j h = (current_some m.list.jobs m.tick (place_of m (task_in m.lis
 -- The running jobs of a row that the machine can take.
 pub row_current : (m : MachineDef) (row : RowDef) → CanTake m row → AreCurrent m.list.jobs m.places row.running
 row_current m row can = record {
-  listed = λ c j e. can.fits.running_listed (suc c) j e;
+  listed = λ c j e. can.fits.running (suc c) j e;
   current = λ c j e. active_place m j (can.active (suc c) j e);
   one_column = λ c d j e f. same c d (can.one_column (suc c) (suc d) j e f);
 } where
@@ -51,11 +50,28 @@ pub record Took (m : MachineDef) (row : RowDef) (n : MachineDef) : Type 0 where
   pub coming_size : length n.coming ≡ length m.coming
   pub coming : (x : ℕ) → x < length m.list.set.tasks → IsComing m.list.jobs (m.tick + 1) x (get_or n.coming x 0)
 
+-- From the parts that the machine's fields were made of.
+pub took_from : (m : MachineDef) (row : RowDef) (old moved kept : List Place) (before come held : List ℕ) (running holders : List (Option ℕ))
+    → kept ≡ moved → old ≡ m.places → running ≡ row.running → holders ≡ row.holders → held ≡ come → before ≡ m.coming
+    → length moved ≡ length old
+    → ((x : ℕ) → x < length m.list.set.tasks → MovesTo m.list.jobs (m.tick + 1) running x (get_or old x no_place) (get_or moved x no_place))
+    → length come ≡ length before → ((x : ℕ) → x < length m.list.set.tasks → IsComing m.list.jobs (m.tick + 1) x (get_or come x 0))
+    → Took m row (record { list = m.list; tick = m.tick + 1; places = kept; holders = holders; coming = held })
+took_from m row old moved kept before come held running holders a b c d e f size moves coming_size coming = record {
+  list = refl;
+  tick = refl;
+  holders = d;
+  size = rw (a, ← b) size;
+  moved = λ x l. rw (a, ← b, ← c) (moves x l);
+  coming_size = rw (e, ← f) coming_size;
+  coming = λ x l. rw e (coming x l);
+}
+
 -- A place whose job runs is one of a listed job.
 runs_listed : (m : MachineDef) (row : RowDef) (j : ℕ) → CanTake m row → runs_in row j ≡ true → (j < length m.list.jobs) × ((place_of m (task_in m.list.jobs j)).job ≡ j)
 runs_listed m row j can h = at (runs_where row j h) where
   at : (k : ℕ) × (running_on row k ≡ Some j) → (j < length m.list.jobs) × ((place_of m (task_in m.list.jobs j)).job ≡ j)
-  at (k, e) = (can.fits.running_listed k j e, active_place m j (can.active k j e))
+  at (k, e) = (can.fits.running k j e, active_place m j (can.active k j e))
 
 -- Its task's place is one.
 taken_place : (m : MachineDef) (row : RowDef) (n : MachineDef) (x : ℕ) → IsMachine m → CanTake m row → Took m row n → x < length m.list.set.tasks → IsPlace m.list.jobs x (get_or n.places x no_place)
@@ -81,13 +97,14 @@ kept_after : (m : MachineDef) (row : RowDef) (n : MachineDef) → IsMachine m �
     → IsMachine (record { list = m.list; tick = m.tick + 1; places = n.places; holders = n.holders; coming = n.coming })
 kept_after m row n machine can took = record {
   lawful = machine.lawful;
+  listed = machine.listed;
   numbers = machine.numbers;
   places_length = took.size ∙ machine.places_length;
   holders_length = ap (λ (holders : List (Option ℕ)). length holders) took.holders ∙ can.fits.sized.resources;
   coming_length = took.coming_size ∙ machine.coming_length;
   place = λ x l. taken_place m row n x machine can took l;
   coming = λ x l. took.coming x l;
-  named = λ q j e. can.fits.holders_listed q j (sym (ap (λ holders. get_or holders q None) took.holders) ∙ e);
+  named = λ q j e. can.fits.holders q j (sym (ap (λ holders. get_or holders q None) took.holders) ∙ e);
   most = omega (arith, can.early);
 }
 
@@ -164,11 +181,12 @@ place_at_first list x p lawful next first none = record {
       omega arith
 
 -- So a machine is made.
-pub machine_at_first : (m : MachineDef) → m.tick ≡ 0 → AreLawfulJobs m.list → ((x : ℕ) → x < length m.list.set.tasks → TaskNumbers m.list.set x)
+pub machine_at_first : (m : MachineDef) → m.tick ≡ 0 → AreLawfulJobs m.list → IsJobList m.list → ((x : ℕ) → x < length m.list.set.tasks → TaskNumbers m.list.set x)
     → length m.places ≡ length m.list.set.tasks → ArePlacesAtFirst m.list.jobs (length m.list.set.tasks) m.places → m.holders ≡ replicate (length m.list.set.resources) None
     → length m.coming ≡ length m.list.set.tasks → ((x : ℕ) → x < length m.list.set.tasks → IsComing m.list.jobs 0 x (coming_of m x)) → IsMachine m
-machine_at_first m e lawful numbers size places none coming_size coming = record {
+machine_at_first m e lawful listed numbers size places none coming_size coming = record {
   lawful = lawful;
+  listed = listed;
   numbers = numbers;
   places_length = size;
   holders_length = ap (λ (holders : List (Option ℕ)). length holders) none ∙ length-replicate (length m.list.set.resources) None;

@@ -3,6 +3,7 @@ use Rattle.std.specs.Prelude.{◌≡◌, ℕ, ◌<◌, ◌≤◌, List, length, 
 use Rattle.sporadic_model.specs.declared.limits.TheConstants.{MOST_TICKS}
 use Rattle.schedule_model.specs.JobDef.{SegmentDef, JobDef, JobsDef, job_of, segment_ticks}
 use Rattle.schedule_model.specs.LawfulJobs.{AreLawfulJobs}
+use Rattle.schedule_model.specs.JobLists.{IsJobList}
 use Rattle.sporadic_model.specs.Accepted.{TaskNumbers}
 use Rattle.schedule_model.specs.RowDef.{RowDef, Trace}
 use Rattle.schedule_laws.specs.Counting.{no_segment}
@@ -72,6 +73,7 @@ pub record IsDue (jobs : List JobDef) (tick x j : ℕ) : Type 0 where
 -- What is true of every machine, whatever rows it took.
 pub record IsMachine (m : MachineDef) : Type 0 where
   pub lawful : AreLawfulJobs m.list
+  pub listed : IsJobList m.list
   pub numbers : (x : ℕ) → x < length m.list.set.tasks → TaskNumbers m.list.set x
   pub places_length : length m.places ≡ length m.list.set.tasks
   pub holders_length : length m.holders ≡ length m.list.set.resources

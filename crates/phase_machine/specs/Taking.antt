@@ -1,17 +1,15 @@
 -- Which rows can a machine take?
-use Rattle.std.specs.Prelude.{◌≡◌, ℕ, ◌<◌, true, length, Some}
+use Rattle.std.specs.Prelude.{◌≡◌, ℕ, ◌<◌, true, Some}
 use Rattle.sporadic_model.specs.declared.limits.TheConstants.{MOST_TICKS}
 use Rattle.schedule_model.specs.JobDef.{JobsDef}
-use Rattle.schedule_model.specs.RowDef.{RowDef, running_on, holder_in}
-use Rattle.schedule_model.specs.Chosen.{IsSized}
+use Rattle.schedule_model.specs.RowDef.{RowDef, running_on}
+use Rattle.schedule_model.specs.TakenRows.{FitsJobs}
 use Rattle.phase_machine.specs.MachineDef.{MachineDef}
 use Rattle.phase_machine.specs.Now.{active_now}
 
 -- Has the row one place per processor and per resource of the jobs' set, and does it name jobs of the list alone?
-pub record IsRowFor (list : JobsDef) (row : RowDef) : Type 0 where
-  pub sized : IsSized list.set row
-  pub running_listed : (k j : ℕ) → running_on row k ≡ Some j → j < length list.jobs
-  pub holders_listed : (q j : ℕ) → holder_in row q ≡ Some j → j < length list.jobs
+abbrev pub IsRowFor : JobsDef → RowDef → Type 0
+IsRowFor list row = FitsJobs (record { set = list.set; jobs = list.jobs; row = λ t. row }) 0
 
 -- Can the machine take the row: is it one for its jobs, is each running job active and in one column only, and has the
 -- machine taken less than 10^9 rows?

@@ -12,7 +12,9 @@ mod starting;
 mod stepping;
 
 pub use judge::Judge;
-pub use laws::{machines_read_earlier_rows, machines_show_the_definitions};
+pub use laws::{
+    machines_read_earlier_rows, machines_show_the_definitions, machines_take_what_can_be_taken,
+};
 pub use machine::Machine;
 pub use phase::Phase;
 pub use schedule_model::Rule;

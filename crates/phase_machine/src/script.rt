@@ -2,7 +2,8 @@ ghost use Rattle.std.specs.Prelude.{◌≡◌, ℕ, ◌+◌, ◌<◌, ◌≤◌,
 ghost use Rattle.sporadic_model.specs.declared.limits.TheConstants.{MOST_TICKS};
 ghost use Rattle.sporadic_model.specs.Accepted.{TaskNumbers};
 ghost use Rattle.schedule_model.specs.JobDef.{job_of, segment_ticks};
-ghost use Rattle.schedule_model.specs.LawfulJobs.{is_segment, is_resource_in, AreLawfulJobs};
+ghost use Rattle.schedule_model.specs.LawfulJobs.{is_resource_in, AreLawfulJobs};
+ghost use Rattle.schedule_model.specs.JobLists.{IsJobList, is_listed_segment};
 ghost use Rattle.schedule_model.specs.Seen.{job_seen, segment_seen};
 ghost use Rattle.schedule_laws.specs.Counting.{no_segment};
 ghost use Rattle.phase_machine.specs.MachineDef.{IsNext, segment_in, task_in};
@@ -13,6 +14,7 @@ use sporadic_model::TaskId;
 /// Every list of jobs is lawful, and each task of its set has numbers in their ranges. This says so, and does nothing.
 pub(crate) fn list_is_lawful(jobs: &JobList)
     ensures lawful { AreLawfulJobs jobs.now }
+    ensures listed { IsJobList jobs.now }
     ensures numbers { (x : ℕ) → x < length jobs.now.set.tasks → TaskNumbers jobs.now.set x }
 {
     let _jobs = jobs.len();
@@ -32,7 +34,7 @@ pub(crate) fn segment_at(jobs: &JobList, j: u32, n: u32) -> Segment
     requires listed { j < length jobs.now.jobs }
     requires within { n < length (job_of jobs.now.jobs j).script }
     ensures value { segment_seen result ≡ segment_in jobs.now.jobs j n }
-    ensures lawful { is_segment (segment_seen result) ≡ true }
+    ensures listed { is_listed_segment (segment_seen result) ≡ true }
     ensures resource { is_resource_in (length jobs.now.set.resources) (segment_seen result) ≡ true }
 {
     segment_of(jobs.job(JobId(j)), n as usize)
@@ -50,7 +52,7 @@ pub(crate) fn segments_of(jobs: &JobList, j: u32) -> u32
 
 /// How many ticks the segment takes, its request among them.
 pub(crate) fn ticks_of(segment: &Segment) -> u64
-    requires { is_segment (segment_seen segment.now) ≡ true }
+    requires { is_listed_segment (segment_seen segment.now) ≡ true }
     ensures value { result ≡ segment_ticks (segment_seen segment.now) }
     ensures some { 1 ≤ result }
 {

@@ -72,6 +72,7 @@ pub(crate) fn step_all(
     ensures moved { (x : ℕ) → x < length jobs.now.set.tasks
         → MovesTo jobs.now.jobs after (map place_seen running.now) x (slice_index_or places.old x no_place) (slice_index_or places.new x no_place) }
 {
+    list_is_lawful(jobs);
     for named in running {
         if let Some(j) = named {
             step_one(jobs, after, *j, places);

@@ -1,4 +1,4 @@
-use Rattle.phase_machine.proofs.Facts.{phase_shown, active_shown, current_shown, current_from, requester_shown, issued_shown, holder_shown, ready_shown, waiting_shown}
+use Rattle.phase_machine.proofs.Facts.{phase_shown, active_shown, current_is, requester_shown, issued_shown, holder_shown, ready_shown, waiting_shown}
 use Rattle.phase_machine.proofs.laws.machines_show_the_definitions.Goals as goal
 
 pub returns-clause-phase : goal.returns-clause-phase
@@ -8,7 +8,7 @@ pub returns-clause-active : goal.returns-clause-active
 returns-clause-active c = λ m rows shows j. active_shown m rows j shows
 
 pub returns-clause-current : goal.returns-clause-current
-returns-clause-current c = λ m rows shows x j l. (λ e. current_shown m rows x j shows l e, λ a. rw (← a.1) (current_from m rows j shows a.0))
+returns-clause-current c = λ m rows shows x l. current_is m rows x shows l
 
 pub returns-clause-requester : goal.returns-clause-requester
 returns-clause-requester c = λ m rows shows q j. requester_shown m rows q j shows

@@ -1,5 +1,5 @@
 use Rattle.std.proofs.Common.{◌≡◌, ℕ, ◌<◌, ◌≤◌, length, get_or}
-use Rattle.phase_machine.specs.MachineDef.{IsComing, IsDue}
+use Rattle.phase_machine.specs.MachineDef.{IsComing}
 use Rattle.phase_machine.proofs.stepping.move_on.Given as goal
 
 abbrev pub invariant-loop-x : goal.invariant-loop-x
