@@ -6,7 +6,6 @@ use Rattle.schedule_model.specs.RowDef.{RowDef, Trace, is_job, held_before}
 use Rattle.schedule_model.specs.Phase.{Phase, is_local, is_finished, is_asking, executed, phase_of}
 use Rattle.schedule_model.specs.Phase.Phase.{Local, Asking, Finished}
 use Rattle.schedule_model.specs.Activity.{task_of, is_active, active_job_of, is_requester, issue_tick_of, holds_by}
-use Rattle.sporadic_model.specs.declared.limits.TheConstants.{MOST_TICKS}
 use Rattle.schedule_model.specs.TakenRows.{CanBeTaken}
 use Rattle.schedule_laws.specs.Agreement.{AgreeBefore}
 use Rattle.schedule_laws.proofs.Agreement.{executed_agree, phase_agree, issue_agree, held_before_agree}
@@ -249,12 +248,11 @@ issued_shown m rows j shows l =
     ∙ ap (λ p. issued_in p (issue_tick_of (under m rows) m.tick j)) (phase_shown m rows j shows l)
 
 -- A row can be taken exactly where it can stand at this tick of the schedule.
-pub can_take : (m : MachineDef) (rows : ℕ → RowDef) → Shows m rows → CanBeTaken (under m rows) m.tick → m.tick < MOST_TICKS → CanTake m (rows m.tick)
-can_take m rows shows can early = record {
+pub can_take : (m : MachineDef) (rows : ℕ → RowDef) → Shows m rows → CanBeTaken (under m rows) m.tick → CanTake m (rows m.tick)
+can_take m rows shows can = record {
   fits = record { sized = can.fits.sized; running = can.fits.running; holders = can.fits.holders };
   active = λ k j e. active_shown m rows j shows ∙ can.active k j e;
   one_column = can.one_column;
-  early = early;
 }
 
 pub took_can : (m : MachineDef) (rows : ℕ → RowDef) → Shows m rows → CanTake m (rows m.tick) → CanBeTaken (under m rows) m.tick

@@ -6,7 +6,6 @@ use Rattle.std.proofs.lemmas.Bool.{cases_eq, cases_Bool, false_from_ne_true}
 use Rattle.sporadic_model.specs.Accepted.{TaskNumbers}
 use Rattle.schedule_model.specs.JobDef.{JobsDef, job_of, segment_ticks, total_ticks}
 use Rattle.schedule_model.specs.LawfulJobs.{AreLawfulJobs}
-use Rattle.schedule_model.specs.JobLists.{IsJobList}
 use Rattle.schedule_model.specs.RowDef.{RowDef, is_job, running_on, runs_in}
 use Rattle.schedule_model.specs.Phase.{executed}
 use Rattle.schedule_laws.proofs.Rows.{runs_where}
@@ -97,7 +96,6 @@ kept_after : (m : MachineDef) (row : RowDef) (n : MachineDef) → IsMachine m �
     → IsMachine (record { list = m.list; tick = m.tick + 1; places = n.places; holders = n.holders; coming = n.coming })
 kept_after m row n machine can took = record {
   lawful = machine.lawful;
-  listed = machine.listed;
   numbers = machine.numbers;
   places_length = took.size ∙ machine.places_length;
   holders_length = ap (λ (holders : List (Option ℕ)). length holders) took.holders ∙ can.fits.sized.resources;
@@ -105,7 +103,6 @@ kept_after m row n machine can took = record {
   place = λ x l. taken_place m row n x machine can took l;
   coming = λ x l. took.coming x l;
   named = λ q j e. can.fits.holders q j (sym (ap (λ holders. get_or holders q None) took.holders) ∙ e);
-  most = omega (arith, can.early);
 }
 
 pub taken_machine : (m : MachineDef) (row : RowDef) (n : MachineDef) → IsMachine m → CanTake m row → Took m row n → IsMachine n
@@ -181,12 +178,11 @@ place_at_first list x p lawful next first none = record {
       omega arith
 
 -- So a machine is made.
-pub machine_at_first : (m : MachineDef) → m.tick ≡ 0 → AreLawfulJobs m.list → IsJobList m.list → ((x : ℕ) → x < length m.list.set.tasks → TaskNumbers m.list.set x)
+pub machine_at_first : (m : MachineDef) → m.tick ≡ 0 → AreLawfulJobs m.list → ((x : ℕ) → x < length m.list.set.tasks → TaskNumbers m.list.set x)
     → length m.places ≡ length m.list.set.tasks → ArePlacesAtFirst m.list.jobs (length m.list.set.tasks) m.places → m.holders ≡ replicate (length m.list.set.resources) None
     → length m.coming ≡ length m.list.set.tasks → ((x : ℕ) → x < length m.list.set.tasks → IsComing m.list.jobs 0 x (coming_of m x)) → IsMachine m
-machine_at_first m e lawful listed numbers size places none coming_size coming = record {
+machine_at_first m e lawful numbers size places none coming_size coming = record {
   lawful = lawful;
-  listed = listed;
   numbers = numbers;
   places_length = size;
   holders_length = ap (λ (holders : List (Option ℕ)). length holders) none ∙ length-replicate (length m.list.set.resources) None;
@@ -194,7 +190,6 @@ machine_at_first m e lawful listed numbers size places none coming_size coming =
   place = λ x l. let first = places x l in place_at_first m.list x (place_of m x) lawful first.0 first.1 first.2;
   coming = λ x l. rw e (coming x l);
   named = λ q j h. absurd (nobody q j h);
-  most = omega arith;
 } where
   nobody : (q j : ℕ) → get_or m.holders q None ≡ Some j → ⊥
   nobody q j h =

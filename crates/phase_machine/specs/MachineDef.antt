@@ -70,10 +70,10 @@ pub record IsDue (jobs : List JobDef) (tick x j : ℕ) : Type 0 where
   pub later : j < length jobs → tick ≤ (job_of jobs j).release
   pub earlier : (e : ℕ) → e < j → task_in jobs e ≡ x → (job_of jobs e).release ≤ tick
 
--- What is true of every machine, whatever rows it took.
+-- What is true of every machine, whatever rows it took: its jobs are lawful and of an accepted set, each task has its
+-- place and its next job to be released, and the holders are listed jobs.
 pub record IsMachine (m : MachineDef) : Type 0 where
   pub lawful : AreLawfulJobs m.list
-  pub listed : IsJobList m.list
   pub numbers : (x : ℕ) → x < length m.list.set.tasks → TaskNumbers m.list.set x
   pub places_length : length m.places ≡ length m.list.set.tasks
   pub holders_length : length m.holders ≡ length m.list.set.resources
@@ -81,4 +81,8 @@ pub record IsMachine (m : MachineDef) : Type 0 where
   pub place : (x : ℕ) → x < length m.list.set.tasks → IsPlace m.list.jobs x (place_of m x)
   pub coming : (x : ℕ) → x < length m.list.set.tasks → IsComing m.list.jobs m.tick x (coming_of m x)
   pub named : (q j : ℕ) → slice_index_or m.holders q None ≡ Some j → j < length m.list.jobs
+
+-- And the limits that every machine keeps: those of its list, and at most 10^9 rows.
+pub record IsWithinLimits (m : MachineDef) : Type 0 where
+  pub list : IsJobList m.list
   pub most : m.tick ≤ MOST_TICKS

@@ -1,6 +1,5 @@
 -- Which rows can a machine take?
-use Rattle.std.specs.Prelude.{◌≡◌, ℕ, ◌<◌, true, Some}
-use Rattle.sporadic_model.specs.declared.limits.TheConstants.{MOST_TICKS}
+use Rattle.std.specs.Prelude.{◌≡◌, ℕ, true, Some}
 use Rattle.schedule_model.specs.JobDef.{JobsDef}
 use Rattle.schedule_model.specs.RowDef.{RowDef, running_on}
 use Rattle.schedule_model.specs.TakenRows.{FitsJobs}
@@ -11,10 +10,8 @@ use Rattle.phase_machine.specs.Now.{active_now}
 abbrev pub IsRowFor : JobsDef → RowDef → Type 0
 IsRowFor list row = FitsJobs (record { set = list.set; jobs = list.jobs; row = λ t. row }) 0
 
--- Can the machine take the row: is it one for its jobs, is each running job active and in one column only, and has the
--- machine taken less than 10^9 rows?
+-- Can the machine take the row: is it one for its jobs, and is each running job active and in one column only?
 pub record CanTake (m : MachineDef) (row : RowDef) : Type 0 where
   pub fits : IsRowFor m.list row
   pub active : (k j : ℕ) → running_on row k ≡ Some j → active_now m j ≡ true
   pub one_column : (k l j : ℕ) → running_on row k ≡ Some j → running_on row l ≡ Some j → k ≡ l
-  pub early : m.tick < MOST_TICKS

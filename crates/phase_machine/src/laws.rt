@@ -1,5 +1,4 @@
 ghost use Rattle.std.specs.Prelude.{◌≡◌, ℕ, ◌<◌, length, ◌↔◌};
-ghost use Rattle.sporadic_model.specs.declared.limits.TheConstants.{MOST_TICKS};
 ghost use Rattle.schedule_model.specs.RowDef.{RowDef, held_before};
 ghost use Rattle.schedule_model.specs.Phase.{phase_of};
 ghost use Rattle.schedule_model.specs.Activity.{active_job_of, is_active, is_requester};
@@ -26,11 +25,11 @@ pub fn machines_show_the_definitions()
     ensures waiting { (m : MachineDef) (rows : ℕ → RowDef) → Shows m rows → (j : ℕ) → waiting_now m j ≡ is_waiting_before (under m rows) m.tick j }
 {}
 
-/// A row can be taken by a machine that has taken less than 10^9 rows exactly where it can stand at that tick of each
-/// schedule that the machine shows and that has it. This says so, and does nothing.
+/// A machine can take a row exactly where the row can stand at that tick of each schedule that the machine shows and that
+/// has it. This says so, and does nothing.
 pub fn machines_take_what_can_be_taken()
     ensures { (m : MachineDef) (rows : ℕ → RowDef) → Shows m rows
-        → CanTake m (rows m.tick) ↔ (CanBeTaken (under m rows) m.tick × (m.tick < MOST_TICKS)) }
+        → CanTake m (rows m.tick) ↔ CanBeTaken (under m rows) m.tick }
 {}
 
 /// Which schedules a machine shows depends on their rows before its tick alone. This says so, and does nothing.

@@ -2,7 +2,7 @@ ghost use Rattle.std.specs.Prelude.{◌≡◌, ℕ, ◌+◌, ◌<◌, ◌≤◌,
 ghost use Rattle.sporadic_model.specs.declared.limits.TheConstants.{MOST_TICKS};
 ghost use Rattle.schedule_model.specs.RowDef.{RowDef};
 ghost use Rattle.schedule_model.specs.Seen.{row_seen, place_seen};
-ghost use Rattle.phase_machine.specs.MachineDef.{IsMachine, IsPlace, place_of, task_in};
+ghost use Rattle.phase_machine.specs.MachineDef.{IsMachine, IsWithinLimits, IsPlace, place_of, task_in};
 ghost use Rattle.phase_machine.specs.Now.{phase_now, current_now, active_now, holder_now, ready_now, waiting_now, issued_now};
 ghost use Rattle.phase_machine.specs.Seen.{phase_seen, NamesResource};
 ghost use Rattle.phase_machine.specs.Shows.{Shows};
@@ -66,6 +66,7 @@ impl<'a> Machine<'a> {
     pub fn tick(&self) -> u64
         ensures value { result ≡ self.now.tick }
         ensures machine { IsMachine self.now }
+        ensures limits { IsWithinLimits self.now }
         ensures most { result ≤ MOST_TICKS }
     {
         self.tick
@@ -75,6 +76,7 @@ impl<'a> Machine<'a> {
     pub fn jobs(&self) -> &'a JobList<'a>
         ensures value { result.now ≡ self.now.list }
         ensures machine { IsMachine self.now }
+        ensures limits { IsWithinLimits self.now }
     {
         self.jobs
     }
@@ -164,7 +166,8 @@ impl<'a> Machine<'a> {
 
     /// Takes the next row.
     pub fn advance(&mut self, row: &Row)
-        requires { CanTake self.old (row_seen row.now) }
+        requires row { CanTake self.old (row_seen row.now) }
+        requires early { self.old.tick < MOST_TICKS }
         ensures list { self.new.list ≡ self.old.list }
         ensures tick { self.new.tick ≡ self.old.tick + 1 }
         ensures shows { (rows : ℕ → RowDef) → Shows self.old rows → rows self.old.tick ≡ row_seen row.now → Shows self.new rows }

@@ -1,6 +1,7 @@
-use Rattle.std.proofs.Common.{◌≡◌, ◌∙◌, ◌+◌, ℕ, map, sym, ap, subst}
+use Rattle.std.proofs.Common.{◌≡◌, ◌<◌, ◌∙◌, ◌+◌, ℕ, map, arith, sym, ap, subst}
 use Rattle.std.specs.Vec.{with_items}
 use Rattle.std.proofs.lemmas.List.{with_items_is}
+use Rattle.sporadic_model.specs.declared.limits.TheConstants.{MOST_TICKS}
 use Rattle.schedule_model.specs.Seen.{place_seen, row_seen}
 use Rattle.phase_machine.specs.MachineDef.{MachineDef}
 use Rattle.phase_machine.specs.MachineView.{machine_view}
@@ -12,12 +13,13 @@ use Rattle.phase_machine.proofs.machine.Machine.advance.Goals as goal
 
 pub step_all-requires-clause-running : goal.step_all-requires-clause-running
 step_all-requires-clause-running c =
-    let can : CanTake (machine_view c.self.inside) (row_seen c.args.row.now) = subst (λ m. CanTake m (row_seen c.args.row.now)) (sym c.self.view_is) c.requires in
+    let can : CanTake (machine_view c.self.inside) (row_seen c.args.row.now) = subst (λ m. CanTake m (row_seen c.args.row.now)) (sym c.self.view_is) c.requires.row in
     rw (c.deref_mut.ensures.value, c.deref.ensures.value) (row_current (machine_view c.self.inside) (row_seen c.args.row.now) can)
 
 pub invariant_of-self : goal.invariant_of-self
 invariant_of-self c =
-    let can : CanTake (machine_view c.self.inside) (row_seen c.args.row.now) = subst (λ m. CanTake m (row_seen c.args.row.now)) (sym c.self.view_is) c.requires in
+    let early : c.self.inside.tick < MOST_TICKS = subst (λ m. m.tick < MOST_TICKS) (sym c.self.view_is) c.requires.early in
+    let can : CanTake (machine_view c.self.inside) (row_seen c.args.row.now) = subst (λ m. CanTake m (row_seen c.args.row.now)) (sym c.self.view_is) c.requires.row in
     let n : MachineDef = record {
       list = c.self.inside.jobs.now;
       tick = c.self.inside.tick + 1;
@@ -32,11 +34,14 @@ invariant_of-self c =
     (ap (map place_seen) c.deref.ensures.value) (ap (map place_seen) (c.copy_from_slice.ensures.items ∙ c.deref-2.ensures.value))
     (with_items_is c.self.inside.coming c.move_on.new.coming (c.move_on.ensures.len ∙ c.deref_mut-2.ensures.len)) c.deref_mut-2.ensures.value
     c.step_all.ensures.len c.step_all.ensures.moved c.move_on.ensures.len c.move_on.ensures.each in
-    taken_machine (machine_view c.self.inside) (row_seen c.args.row.now) n c.self.invariant can took
+    record {
+      machine = taken_machine (machine_view c.self.inside) (row_seen c.args.row.now) n c.self.invariant.machine can took;
+      limits = record { list = c.self.invariant.limits.list; most = omega (arith, early) };
+    }
 
 pub returns-clause-shows : goal.returns-clause-shows
 returns-clause-shows c =
-    let can : CanTake (machine_view c.self.inside) (row_seen c.args.row.now) = subst (λ m. CanTake m (row_seen c.args.row.now)) (sym c.self.view_is) c.requires in
+    let can : CanTake (machine_view c.self.inside) (row_seen c.args.row.now) = subst (λ m. CanTake m (row_seen c.args.row.now)) (sym c.self.view_is) c.requires.row in
     let n : MachineDef = record {
       list = c.self.inside.jobs.now;
       tick = c.self.inside.tick + 1;

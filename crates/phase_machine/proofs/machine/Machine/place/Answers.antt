@@ -6,7 +6,7 @@ use Rattle.phase_machine.proofs.machine.Machine.place.Goals as goal
 
 pub returns-clause-place : goal.returns-clause-place
 returns-clause-place c =
-    let machine : IsMachine (machine_view c.self.inside) = c.self.invariant in
+    let machine : IsMachine (machine_view c.self.inside) = c.self.invariant.machine in
     let same : c.index.result.now ≡ get_or c.self.inside.places.items c.task_of.result.0 no_place =
     c.index.ensures ∙ get_or_default c.self.inside.places.items c.task_of.result.0 c.index.result.now no_place (omega (arith, c.task_of.ensures.within, machine.places_length)) in
     let here : IsPlace c.self.inside.jobs.now.jobs c.task_of.result.0 c.index.result.now = rw same (machine.place c.task_of.result.0 c.task_of.ensures.within) in
