@@ -1,0 +1,61 @@
+use Rattle.std.proofs.Common.{◌≡◌, ◌<◌, ◌∙◌, ◌+◌, ℕ, map, arith, sym, ap, subst}
+use Rattle.std.specs.Vec.{with_items}
+use Rattle.std.proofs.lemmas.List.{with_items_is}
+use Rattle.sporadic_model.specs.declared.limits.TheConstants.{MOST_TICKS}
+use Rattle.schedule_model.specs.Seen.{place_seen, row_seen}
+use Rattle.phase_machine.specs.MachineDef.{MachineDef}
+use Rattle.phase_machine.specs.MachineView.{machine_view}
+use Rattle.schedule_model.specs.RowDef.{RowDef}
+use Rattle.phase_machine.specs.Shows.{Shows}
+use Rattle.phase_machine.specs.Taking.{CanTake}
+use Rattle.phase_machine.proofs.Taking.{Took, took_from, row_current, taken_machine, taken_shows}
+use Rattle.phase_machine.proofs.machine.Machine.advance.Goals as goal
+
+pub step_all-requires-clause-running : goal.step_all-requires-clause-running
+step_all-requires-clause-running c =
+    let can : CanTake (machine_view c.self.inside) (row_seen c.args.row.now) = subst (λ m. CanTake m (row_seen c.args.row.now)) (sym c.self.view_is) c.requires.row in
+    rw (c.deref_mut.ensures.value, c.deref.ensures.value) (row_current (machine_view c.self.inside) (row_seen c.args.row.now) can)
+
+pub invariant_of-self : goal.invariant_of-self
+invariant_of-self c =
+    let early : c.self.inside.tick < MOST_TICKS = subst (λ m. m.tick < MOST_TICKS) (sym c.self.view_is) c.requires.early in
+    let can : CanTake (machine_view c.self.inside) (row_seen c.args.row.now) = subst (λ m. CanTake m (row_seen c.args.row.now)) (sym c.self.view_is) c.requires.row in
+    let n : MachineDef = record {
+      list = c.self.inside.jobs.now;
+      tick = c.self.inside.tick + 1;
+      places = (with_items c.self.inside.places c.step_all.new.places).items;
+      holders = map place_seen c.copy_from_slice.new.self.items;
+      coming = (with_items c.self.inside.coming c.move_on.new.coming).items;
+    } in
+    let took : Took (machine_view c.self.inside) (row_seen c.args.row.now) n =
+    took_from (machine_view c.self.inside) (row_seen c.args.row.now) c.deref_mut.result.now c.step_all.new.places (with_items c.self.inside.places c.step_all.new.places).items
+    c.deref_mut-2.result.now c.move_on.new.coming (with_items c.self.inside.coming c.move_on.new.coming).items (map place_seen c.deref.result.now) (map place_seen c.copy_from_slice.new.self.items)
+    (with_items_is c.self.inside.places c.step_all.new.places (c.step_all.ensures.len ∙ c.deref_mut.ensures.len)) c.deref_mut.ensures.value
+    (ap (map place_seen) c.deref.ensures.value) (ap (map place_seen) (c.copy_from_slice.ensures.items ∙ c.deref-2.ensures.value))
+    (with_items_is c.self.inside.coming c.move_on.new.coming (c.move_on.ensures.len ∙ c.deref_mut-2.ensures.len)) c.deref_mut-2.ensures.value
+    c.step_all.ensures.len c.step_all.ensures.moved c.move_on.ensures.len c.move_on.ensures.each in
+    record {
+      machine = taken_machine (machine_view c.self.inside) (row_seen c.args.row.now) n c.self.invariant.machine can took;
+      limits = record { list = c.self.invariant.limits.list; most = omega (arith, early) };
+    }
+
+pub returns-clause-shows : goal.returns-clause-shows
+returns-clause-shows c =
+    let can : CanTake (machine_view c.self.inside) (row_seen c.args.row.now) = subst (λ m. CanTake m (row_seen c.args.row.now)) (sym c.self.view_is) c.requires.row in
+    let n : MachineDef = record {
+      list = c.self.inside.jobs.now;
+      tick = c.self.inside.tick + 1;
+      places = (with_items c.self.inside.places c.step_all.new.places).items;
+      holders = map place_seen c.copy_from_slice.new.self.items;
+      coming = (with_items c.self.inside.coming c.move_on.new.coming).items;
+    } in
+    let took : Took (machine_view c.self.inside) (row_seen c.args.row.now) n =
+    took_from (machine_view c.self.inside) (row_seen c.args.row.now) c.deref_mut.result.now c.step_all.new.places (with_items c.self.inside.places c.step_all.new.places).items
+    c.deref_mut-2.result.now c.move_on.new.coming (with_items c.self.inside.coming c.move_on.new.coming).items (map place_seen c.deref.result.now) (map place_seen c.copy_from_slice.new.self.items)
+    (with_items_is c.self.inside.places c.step_all.new.places (c.step_all.ensures.len ∙ c.deref_mut.ensures.len)) c.deref_mut.ensures.value
+    (ap (map place_seen) c.deref.ensures.value) (ap (map place_seen) (c.copy_from_slice.ensures.items ∙ c.deref-2.ensures.value))
+    (with_items_is c.self.inside.coming c.move_on.new.coming (c.move_on.ensures.len ∙ c.deref_mut-2.ensures.len)) c.deref_mut-2.ensures.value
+    c.step_all.ensures.len c.step_all.ensures.moved c.move_on.ensures.len c.move_on.ensures.each in
+    let shows : (rows : ℕ → RowDef) → Shows (machine_view c.self.inside) rows → rows c.self.inside.tick ≡ row_seen c.args.row.now → Shows n rows =
+    taken_shows (machine_view c.self.inside) (row_seen c.args.row.now) n can took in
+    subst (λ m. (rows : ℕ → RowDef) → Shows m rows → rows m.tick ≡ row_seen c.args.row.now → Shows n rows) c.self.view_is shows

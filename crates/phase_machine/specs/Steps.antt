@@ -1,0 +1,33 @@
+-- How the places of tasks move when a row is taken.
+use Rattle.std.specs.Prelude.{◌≡◌, ℕ, ◌+◌, ◌<◌, ◌≤◌, ◌==◌, true, false, if◌then◌else◌, length, List, Option, None, Some, slice_index_or}
+use Rattle.std.specs.List.{list_any}
+use Rattle.schedule_model.specs.JobDef.{JobDef, JobsDef, job_of, segment_ticks}
+use Rattle.schedule_model.specs.RowDef.{is_job}
+use Rattle.phase_machine.specs.declared.place.Place.{Place}
+use Rattle.phase_machine.specs.MachineDef.{IsNext, IsPlace, segment_in, task_in, no_place}
+
+-- The place of task x after its job has executed one more tick, at tick `after`: further in the segment (where its
+-- request begins, that is its issue tick), at the next segment, or at the task's next job.
+pub record StepsTo (jobs : List JobDef) (after x : ℕ) (p n : Place) : Type 0 where
+  pub further : p.ticks + 1 < segment_ticks (segment_in jobs p.job p.segment)
+      → n ≡ record { job = p.job; segment = p.segment; ticks = p.ticks + 1; issued = if p.ticks + 1 == (segment_in jobs p.job p.segment).local then after else p.issued }
+  pub next : segment_ticks (segment_in jobs p.job p.segment) ≤ p.ticks + 1 → p.segment + 1 < length (job_of jobs p.job).script
+      → n ≡ record { job = p.job; segment = p.segment + 1; ticks = 0; issued = p.issued }
+  pub over : segment_ticks (segment_in jobs p.job p.segment) ≤ p.ticks + 1 → length (job_of jobs p.job).script ≤ p.segment + 1
+      → IsNext jobs x (p.job + 1) n.job × (n.segment ≡ 0) × (n.ticks ≡ 0)
+
+-- The place of task x after a row with these running jobs: it steps where its job runs, and else stays.
+pub record MovesTo (jobs : List JobDef) (after : ℕ) (running : List (Option ℕ)) (x : ℕ) (p n : Place) : Type 0 where
+  pub runs : list_any (is_job p.job) running ≡ true → StepsTo jobs after x p n
+  pub stays : list_any (is_job p.job) running ≡ false → n ≡ p
+
+-- Has each task a place in the list?
+pub record ArePlaces (list : JobsDef) (places : List Place) : Type 0 where
+  pub size : length places ≡ length list.set.tasks
+  pub each : (x : ℕ) → x < length list.set.tasks → IsPlace list.jobs x (slice_index_or places x no_place)
+
+-- Is each of these running jobs listed, the one at which its task's place is, and in one column only?
+pub record AreCurrent (jobs : List JobDef) (places : List Place) (running : List (Option ℕ)) : Type 0 where
+  pub listed : (c j : ℕ) → slice_index_or running c None ≡ Some j → j < length jobs
+  pub current : (c j : ℕ) → slice_index_or running c None ≡ Some j → (slice_index_or places (task_in jobs j) no_place).job ≡ j
+  pub one_column : (c d j : ℕ) → slice_index_or running c None ≡ Some j → slice_index_or running d None ≡ Some j → c ≡ d

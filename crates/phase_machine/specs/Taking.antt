@@ -1,0 +1,17 @@
+-- Which rows can a machine take?
+use Rattle.std.specs.Prelude.{◌≡◌, ℕ, true, Some}
+use Rattle.schedule_model.specs.JobDef.{JobsDef}
+use Rattle.schedule_model.specs.RowDef.{RowDef, running_on}
+use Rattle.schedule_model.specs.TakenRows.{FitsJobs}
+use Rattle.phase_machine.specs.MachineDef.{MachineDef}
+use Rattle.phase_machine.specs.Now.{active_now}
+
+-- Has the row one place per processor and per resource of the jobs' set, and does it name jobs of the list alone?
+abbrev pub IsRowFor : JobsDef → RowDef → Type 0
+IsRowFor list row = FitsJobs (record { set = list.set; jobs = list.jobs; row = λ t. row }) 0
+
+-- Can the machine take the row: is it one for its jobs, and is each running job active and in one column only?
+pub record CanTake (m : MachineDef) (row : RowDef) : Type 0 where
+  pub fits : IsRowFor m.list row
+  pub active : (k j : ℕ) → running_on row k ≡ Some j → active_now m j ≡ true
+  pub one_column : (k l j : ℕ) → running_on row k ≡ Some j → running_on row l ≡ Some j → k ≡ l

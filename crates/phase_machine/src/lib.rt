@@ -1,0 +1,20 @@
+//! A machine that carries what the rows of a schedule have brought about, and what judges and chooses rows with it.
+#![tactic(auto)]
+
+mod judge;
+mod laws;
+mod lookup;
+mod machine;
+mod phase;
+mod place;
+mod script;
+mod starting;
+mod stepping;
+
+pub use judge::Judge;
+pub use laws::{
+    machines_read_earlier_rows, machines_show_the_definitions, machines_take_what_can_be_taken,
+};
+pub use machine::Machine;
+pub use phase::Phase;
+pub use schedule_model::Rule;

@@ -1,0 +1,181 @@
+ghost use Rattle.std.specs.Prelude.{◌≡◌, ℕ, ◌+◌, ◌<◌, ◌≤◌, length, option_map, IfOk, IfSome};
+ghost use Rattle.sporadic_model.specs.declared.limits.TheConstants.{MOST_TICKS};
+ghost use Rattle.schedule_model.specs.RowDef.{RowDef};
+ghost use Rattle.schedule_model.specs.Seen.{row_seen, place_seen};
+ghost use Rattle.phase_machine.specs.MachineDef.{IsMachine, IsWithinLimits, IsPlace, place_of, task_in};
+ghost use Rattle.phase_machine.specs.Now.{phase_now, current_now, active_now, holder_now, ready_now, waiting_now, issued_now};
+ghost use Rattle.phase_machine.specs.Seen.{phase_seen, NamesResource};
+ghost use Rattle.phase_machine.specs.Shows.{Shows};
+ghost use Rattle.phase_machine.specs.Taking.{CanTake};
+
+use crate::lookup::{current_at, phase_at};
+use crate::phase::Phase;
+use crate::place::Place;
+use crate::script::{list_is_lawful, task_of};
+use crate::starting::{first_coming, first_places, no_holders};
+use crate::stepping::{move_on, step_all};
+use schedule_model::{JobId, JobList, Row};
+use sporadic_model::{ResourceId, TaskId};
+use std::alloc::{AllocError, Global};
+use std::marker::Model;
+
+/// What the rows that were taken so far have brought about: how far each task's jobs have come, and who held which
+/// resource in the last row.
+#[derive(Drop)]
+pub struct Machine<'a> {
+    jobs: &'a JobList<'a>,
+    tick: u64,
+    places: Vec<Place>,
+    holders: Vec<Option<JobId>>,
+    coming: Vec<u32>,
+}
+
+impl<'a> Model for Machine<'a> {
+    ghost use Rattle.phase_machine.specs.MachineDef.{MachineDef};
+
+    ghost Value = { MachineDef };
+
+    ghost use Rattle.phase_machine.specs.MachineView.{machine_view, IsKept};
+
+    ghost view = { machine_view };
+
+    ghost invariant = { IsKept };
+}
+
+impl<'a> Machine<'a> {
+    /// A machine at tick 0, before any row. It takes here all the memory that it will need.
+    pub fn new(alloc: Global, jobs: &'a JobList<'a>) -> Result<Machine<'a>, AllocError>
+        ensures list { IfOk result (λ m. m.list ≡ jobs.now) }
+        ensures tick { IfOk result (λ m. m.tick ≡ 0) }
+        ensures shows { IfOk result (λ m. (rows : ℕ → RowDef) → Shows m rows) }
+    {
+        list_is_lawful(jobs);
+        let places = first_places(alloc, jobs)?;
+        let holders = no_holders(alloc, jobs.set().resources())?;
+        let coming = first_coming(alloc, jobs)?;
+        Ok(Machine {
+            jobs,
+            tick: 0,
+            places,
+            holders,
+            coming,
+        })
+    }
+
+    /// How many rows were taken: the tick of the next row, at most 10^9.
+    pub fn tick(&self) -> u64
+        ensures value { result ≡ self.now.tick }
+        ensures machine { IsMachine self.now }
+        ensures limits { IsWithinLimits self.now }
+        ensures most { result ≤ MOST_TICKS }
+    {
+        self.tick
+    }
+
+    /// The jobs that the machine was made for.
+    pub fn jobs(&self) -> &'a JobList<'a>
+        ensures value { result.now ≡ self.now.list }
+        ensures machine { IsMachine self.now }
+        ensures limits { IsWithinLimits self.now }
+    {
+        self.jobs
+    }
+
+    /// The place of the job's task.
+    fn place(&self, j: JobId) -> &Place
+        requires { j.0 < length self.now.list.jobs }
+        ensures value { result.now ≡ place_of self.now (task_in self.now.list.jobs j.0) }
+        ensures place { IsPlace self.now.list.jobs (task_in self.now.list.jobs j.0) result.now }
+    {
+        &self.places[task_of(self.jobs, j.0).0 as usize]
+    }
+
+    /// What the job does next.
+    #[tactic(auto, unfolding(crate::specs::Now::phase_now))]
+    pub fn phase(&self, j: JobId) -> Phase
+        requires { j.0 < length self.now.list.jobs }
+        ensures value { phase_seen result ≡ phase_now self.now j.0 }
+        ensures within { NamesResource (length self.now.list.set.resources) result }
+    {
+        phase_at(self.jobs, self.place(j), j)
+    }
+
+    /// The active job of the task: the one that is released and not finished, while the task's earlier jobs are. None
+    /// exactly where the task has none.
+    #[tactic(auto, unfolding(crate::specs::Now::current_now))]
+    pub fn current(&self, x: TaskId) -> Option<JobId>
+        requires { x.0 < length self.now.list.set.tasks }
+        ensures value { place_seen result ≡ current_now self.now x.0 }
+        ensures within { IfSome result (λ j. j.0 < length self.now.list.jobs) }
+    {
+        current_at(self.jobs, self.tick, &self.places[x.0 as usize])
+    }
+
+    /// Is the job active: released and not finished, while the earlier jobs of its task are?
+    #[tactic(auto, unfolding(crate::specs::Now::active_now))]
+    pub fn active(&self, j: JobId) -> bool
+        requires { j.0 < length self.now.list.jobs }
+        ensures { result ≡ active_now self.now j.0 }
+    {
+        self.current(task_of(self.jobs, j.0)) == Some(j)
+    }
+
+    /// The resource's holder in the last row; none before the first.
+    pub fn holder(&self, q: ResourceId) -> Option<JobId>
+        requires { q.0 < length self.now.list.set.resources }
+        ensures value { place_seen result ≡ holder_now self.now q.0 }
+        ensures within { IfSome result (λ j. j.0 < length self.now.list.jobs) }
+    {
+        self.holders[q.0 as usize]
+    }
+
+    /// Is the job active, and Local or the last row's holder of what it requests?
+    #[tactic(auto, unfolding(crate::specs::Now::ready_now))]
+    pub fn ready(&self, j: JobId) -> bool
+        requires { j.0 < length self.now.list.jobs }
+        ensures { result ≡ ready_now self.now j.0 }
+    {
+        self.active(j)
+            && match self.phase(j) {
+                Phase::Local => true,
+                Phase::Asking(_, q) => self.holder(q) == Some(j),
+                Phase::Finished => false,
+            }
+    }
+
+    /// Is the job active and not ready?
+    #[tactic(auto, unfolding(crate::specs::Now::waiting_now))]
+    pub fn waiting(&self, j: JobId) -> bool
+        requires { j.0 < length self.now.list.jobs }
+        ensures { result ≡ waiting_now self.now j.0 }
+    {
+        self.active(j) && !self.ready(j)
+    }
+
+    /// The tick at which the request was issued that the job is in; none exactly where it is in none.
+    #[tactic(auto, unfolding(crate::specs::Now::issued_now))]
+    pub fn issued(&self, j: JobId) -> Option<u64>
+        requires { j.0 < length self.now.list.jobs }
+        ensures { result ≡ issued_now self.now j.0 }
+    {
+        match self.phase(j) {
+            Phase::Asking(_, _) => Some(self.place(j).issued),
+            _ => None,
+        }
+    }
+
+    /// Takes the next row.
+    pub fn advance(&mut self, row: &Row)
+        requires row { CanTake self.old (row_seen row.now) }
+        requires early { self.old.tick < MOST_TICKS }
+        ensures list { self.new.list ≡ self.old.list }
+        ensures tick { self.new.tick ≡ self.old.tick + 1 }
+        ensures shows { (rows : ℕ → RowDef) → Shows self.old rows → rows self.old.tick ≡ row_seen row.now → Shows self.new rows }
+    {
+        let after = self.tick + 1;
+        step_all(self.jobs, after, &row.running, &mut self.places);
+        move_on(self.jobs, after, &mut self.coming);
+        self.holders.copy_from_slice(&row.holders);
+        self.tick = after;
+    }
+}

@@ -1,0 +1,85 @@
+ghost use Rattle.std.specs.Prelude.{◌≡◌, ℕ, ◌+◌, ◌<◌, ◌≤◌, true, length, slice_index_or};
+ghost use Rattle.sporadic_model.specs.declared.limits.TheConstants.{MOST_TICKS};
+ghost use Rattle.sporadic_model.specs.Accepted.{TaskNumbers};
+ghost use Rattle.schedule_model.specs.JobDef.{job_of, segment_ticks};
+ghost use Rattle.schedule_model.specs.LawfulJobs.{is_resource_in, AreLawfulJobs};
+ghost use Rattle.schedule_model.specs.JobLists.{IsJobList, is_listed_segment};
+ghost use Rattle.schedule_model.specs.Seen.{job_seen, segment_seen};
+ghost use Rattle.schedule_laws.specs.Counting.{no_segment};
+ghost use Rattle.phase_machine.specs.MachineDef.{IsNext, segment_in, task_in};
+
+use schedule_model::{Job, JobId, JobList, Segment};
+use sporadic_model::TaskId;
+
+/// Every list of jobs is lawful, and each task of its set has numbers in their ranges. This says so, and does nothing.
+pub(crate) fn list_is_lawful(jobs: &JobList)
+    ensures lawful { AreLawfulJobs jobs.now }
+    ensures listed { IsJobList jobs.now }
+    ensures numbers { (x : ℕ) → x < length jobs.now.set.tasks → TaskNumbers jobs.now.set x }
+{
+    let _jobs = jobs.len();
+    let _tasks = jobs.set().tasks();
+}
+
+/// The segment of the job's script.
+fn segment_of(job: &Job, n: usize) -> Segment
+    requires { n < length (job_seen job.now).script }
+    ensures { segment_seen result ≡ slice_index_or (job_seen job.now).script n no_segment }
+{
+    job.script[n]
+}
+
+/// Segment number `n` of a listed job.
+pub(crate) fn segment_at(jobs: &JobList, j: u32, n: u32) -> Segment
+    requires listed { j < length jobs.now.jobs }
+    requires within { n < length (job_of jobs.now.jobs j).script }
+    ensures value { segment_seen result ≡ segment_in jobs.now.jobs j n }
+    ensures listed { is_listed_segment (segment_seen result) ≡ true }
+    ensures resource { is_resource_in (length jobs.now.set.resources) (segment_seen result) ≡ true }
+{
+    segment_of(jobs.job(JobId(j)), n as usize)
+}
+
+/// How many segments a listed job has.
+pub(crate) fn segments_of(jobs: &JobList, j: u32) -> u32
+    requires { j < length jobs.now.jobs }
+    ensures value { result ≡ length (job_of jobs.now.jobs j).script }
+    ensures some { 1 ≤ result }
+    ensures most { result ≤ 1000000 }
+{
+    jobs.job(JobId(j)).script.len() as u32
+}
+
+/// How many ticks the segment takes, its request among them.
+pub(crate) fn ticks_of(segment: &Segment) -> u64
+    requires { is_listed_segment (segment_seen segment.now) ≡ true }
+    ensures value { result ≡ segment_ticks (segment_seen segment.now) }
+    ensures some { 1 ≤ result }
+{
+    match segment.request {
+        Some((_, length)) => segment.local + length,
+        None => segment.local,
+    }
+}
+
+/// The task of a listed job.
+pub(crate) fn task_of(jobs: &JobList, j: u32) -> TaskId
+    requires { j < length jobs.now.jobs }
+    ensures value { result.0 ≡ task_in jobs.now.jobs j }
+    ensures within { result.0 < length jobs.now.set.tasks }
+{
+    jobs.job(JobId(j)).task
+}
+
+/// The task's first job from this one on, or the number of jobs where there is none.
+pub(crate) fn next_of(jobs: &JobList, x: u32, from: u32) -> u32
+    requires { from ≤ length jobs.now.jobs }
+    ensures { IsNext jobs.now.jobs x from result }
+{
+    for j in from..jobs.len() {
+        if task_of(jobs, j).0 == x {
+            return j;
+        }
+    }
+    jobs.len()
+}
