@@ -10,6 +10,8 @@ mod place;
 mod script;
 mod starting;
 mod stepping;
+#[cfg(test)]
+mod tests;
 
 pub use judge::Judge;
 pub use laws::{
