@@ -20,7 +20,11 @@ fn stepped(jobs: &JobList, after: u64, x: u32, place: &Place) -> Place
     let segment = segment_at(jobs, place.job, place.segment);
     let ticks = place.ticks + 1;
     if ticks < ticks_of(&segment) {
-        let issued = if ticks == segment.local { after } else { place.issued };
+        let issued = if ticks == segment.local {
+            after
+        } else {
+            place.issued
+        };
         return Place {
             job: place.job,
             segment: place.segment,
@@ -60,12 +64,7 @@ fn step_one(jobs: &JobList, after: u64, j: JobId, places: &mut [Place])
 }
 
 /// Moves the places of the tasks whose jobs run in the columns.
-pub(crate) fn step_all(
-    jobs: &JobList,
-    after: u64,
-    running: &[Option<JobId>],
-    places: &mut [Place],
-)
+pub(crate) fn step_all(jobs: &JobList, after: u64, running: &[Option<JobId>], places: &mut [Place])
     requires places { ArePlaces jobs.now places.old }
     requires running { AreCurrent jobs.now.jobs places.old (map place_seen running.now) }
     ensures len { length places.new ≡ length places.old }
