@@ -1,23 +1,21 @@
 -- How the recurrence of a source follows its bounds: interference and what programs reach never fall where bounds rise.
-use Rattle.std.proofs.Common.{◌≡◌, ℕ, zero, suc, ◌+◌, ◌-◌, ◌*◌, ◌<◌, ◌≤◌, Bool, true, false, List, length, refl, sym, ◌∙◌, ap, subst, arith, inl, inr}
-use Rattle.std.proofs.Math.Nat.{div-zero, mod-zero, mul-le-mul_right, mul-le-mul_left}
+use Rattle.std.proofs.Common.{◌≡◌, ℕ, zero, suc, ◌+◌, ◌-◌, ◌*◌, ◌<◌, ◌≤◌, Bool, true, false, List, length, refl, arith, inl, inr}
+use Rattle.std.proofs.Math.Nat.{div-zero, mod-zero, mul-le-mul_right}
 use Rattle.std.proofs.lemmas.Bool.{cases_lt}
 use Rattle.std.proofs.lemmas.Grind.{div_ceil_times}
 use Rattle.std.specs.Int.{div_ceil}
 use Rattle.std.specs.Prelude.{slice_index}
-use Rattle.bounded_sums.specs.Sums.{sum_below, only_if}
+use Rattle.bounded_sums.specs.Sums.{only_if}
 use Rattle.bounded_sums.proofs.SumLaws.{sum_below-monotone}
 use Rattle.program_form.specs.Certificate.{CertificateDef}
-use Rattle.program_form.specs.Program.{ProgramDef}
 use Rattle.program_form.specs.Limits.{HasLimitsAtMost}
-use Rattle.program_form.specs.Points.{Reaches, IsGreatestReached}
 use Rattle.program_form.proofs.Points.{zero_reached, greater_limits_reach, greater_limits_greatest}
 use Rattle.program_form.proofs.Duality.{dual_bounds, one_greatest}
 use Rattle.sporadic_model.specs.SetDef.{SetDef, task_at, is_higher_local, jobs_within}
 use Rattle.program_sources.specs.Bounds.{AtMost}
 use Rattle.program_sources.specs.Recurrence.{SourceDef, interference_by, interference_of, response_with, ComesUp, IsResponse}
-use Rattle.program_sources.specs.Fitting.{AreFitting, NeverFalls, ComesUpAbove, tasks_of, deadline_of}
-use Rattle.program_sources.specs.Valid.{IsValid, IsProvedBound, value_at, dual_at}
+use Rattle.program_sources.specs.Fitting.{AreFitting, NeverFalls, ComesUpAbove, tasks_of}
+use Rattle.program_sources.specs.Valid.{IsValid, value_at, dual_at}
 
 -- A quotient that is rounded up doesn't fall where its dividend rises.
 pub div_ceil_rises : (a b n : ℕ) → a ≤ b → div_ceil a n ≤ div_ceil b n
