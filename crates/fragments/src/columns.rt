@@ -4,7 +4,7 @@ ghost use Rattle.bounded_sums.specs.Sums.{collect_below};
 ghost use Rattle.bounded_sums.specs.Tests.{any_below};
 ghost use Rattle.sporadic_model.specs.Users.{is_user};
 ghost use Rattle.fragments.specs.Homes.{Suits, home_of};
-ghost use Rattle.fragments.specs.ColumnDef.{column_seen, classes_of};
+ghost use Rattle.fragments.specs.ColumnDef.{column_seen, classes_of, is_direct, is_indirect, is_preemption};
 ghost use Rattle.fragments.specs.Columns.{have_one_processor, may_run_before, is_path, has_path, requests_beside, blocks_by_sharing, blocks_at_home, may_block, is_column, columns_of};
 
 use crate::places::{boost_place, ceiling_place, home, lower_local, share_processor, uses};
@@ -20,6 +20,38 @@ pub enum Class {
     Indirect,
     /// The job is ready, or under DPCP runs no request, and the request runs on its processor.
     Preemption,
+}
+
+impl Class {
+    /// Is it direct blocking?
+    pub fn is_direct(self) -> bool
+        ensures { result ≡ is_direct self }
+    {
+        match self {
+            Class::Direct => true,
+            Class::Indirect | Class::Preemption => false,
+        }
+    }
+
+    /// Is it indirect blocking?
+    pub fn is_indirect(self) -> bool
+        ensures { result ≡ is_indirect self }
+    {
+        match self {
+            Class::Indirect => true,
+            Class::Direct | Class::Preemption => false,
+        }
+    }
+
+    /// Is it preemption blocking?
+    pub fn is_preemption(self) -> bool
+        ensures { result ≡ is_preemption self }
+    {
+        match self {
+            Class::Preemption => true,
+            Class::Direct | Class::Indirect => false,
+        }
+    }
 }
 
 /// A column of a task's blocking program: the requests of a resource by another task that block in one way.

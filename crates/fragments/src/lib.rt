@@ -9,4 +9,4 @@ mod windows;
 pub use columns::{Class, Fragment, fragments};
 pub use constraints::{Constraint, add_row};
 pub use places::{home, lower_local, share_processor, uses};
-pub use windows::{cnt, jobs};
+pub use windows::{cnt, jobs, requests_of};

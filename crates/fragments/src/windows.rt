@@ -1,6 +1,6 @@
 ghost use Rattle.std.specs.Prelude.{◌≡◌, ◌<◌, ◌≤◌, length, slice_index};
 ghost use Rattle.program_sources.specs.Bounds.{AreWithinDeadlines};
-ghost use Rattle.fragments.specs.Windows.{jobs_in, requests_in};
+ghost use Rattle.fragments.specs.Windows.{jobs_in, requests_in, all_requests};
 
 use sporadic_model::{ResourceId, TaskId, TaskSet};
 
@@ -14,6 +14,19 @@ pub fn jobs(set: &TaskSet, i: TaskId, x: TaskId, bounds: &[u64]) -> u64
 {
     let _tasks = set.tasks();
     sporadic_model::jobs_in(bounds[i.0 as usize], bounds[x.0 as usize], set.period(x))
+}
+
+/// How many requests one job of task `i` can make, over all resources.
+pub fn requests_of(set: &TaskSet, i: TaskId) -> u64
+    requires { i.0 < length set.now.tasks }
+    ensures value { result ≡ all_requests set.now i.0 }
+    ensures most { result ≤ 32000 }
+{
+    let mut total = 0;
+    for q in 0..set.resources() {
+        total += set.count(i, ResourceId(q));
+    }
+    total
 }
 
 /// How many requests of resource `q` the jobs of task `x` can make that run within the bound of a job of task `i`.

@@ -9,7 +9,7 @@ use Rattle.sporadic_model.specs.declared.ids.Protocol.TheVariants as protocol
 use Rattle.fragments.specs.Homes.{home_of}
 use Rattle.fragments.specs.ColumnDef.{ColumnDef, is_indirect, is_preemption}
 use Rattle.fragments.specs.Columns.{have_one_processor}
-use Rattle.fragments.specs.Windows.{requests_in}
+use Rattle.fragments.specs.Windows.{requests_in, all_requests}
 use Rattle.fragments.specs.Constraints.{ConstraintDef, per}
 
 -- Queues: where requests are served in the order of issue, each request of i waits for at most one of x, of whatever
@@ -17,7 +17,7 @@ use Rattle.fragments.specs.Constraints.{ConstraintDef, per}
 abbrev pub queue_row : SetDef → ℕ → ℕ → ConstraintDef
 queue_row set i x = record {
   coefficient = λ c. flag ((c.task == x) && not (is_preemption c.class));
-  limit = λ bounds. sum_below (length set.resources) (λ q. count_of set i q);
+  limit = λ bounds. all_requests set i;
 }
 
 -- Is y another task on x's processor?
