@@ -3,7 +3,7 @@ ghost use Rattle.std.specs.List.{filter};
 ghost use Rattle.bounded_sums.specs.Sums.{collect_below};
 ghost use Rattle.bounded_sums.specs.Tests.{any_below};
 ghost use Rattle.sporadic_model.specs.Users.{is_user};
-ghost use Rattle.fragments.specs.Homes.{Suits, home_of};
+ghost use Rattle.sporadic_model.specs.Homes.{HasHomesFor, home_in};
 ghost use Rattle.fragments.specs.ColumnDef.{column_seen, classes_of, is_direct, is_indirect, is_preemption};
 ghost use Rattle.fragments.specs.Columns.{have_one_processor, may_run_before, is_path, has_path, requests_beside, blocks_by_sharing, blocks_at_home, may_block, is_column, columns_of};
 
@@ -149,7 +149,7 @@ fn asks_for(set: &TaskSet, i: TaskId, q: ResourceId, r: ResourceId) -> bool
     requires task { i.0 < length set.now.tasks }
     requires resource { q.0 < length set.now.resources }
     requires other { r.0 < length set.now.resources }
-    ensures { result ≡ (not (r.0 == q.0) && (is_user set.now r.0 i.0 && (home_of set.now r.0 == home_of set.now q.0))) }
+    ensures { result ≡ (not (r.0 == q.0) && (is_user set.now r.0 i.0 && (home_in set.now r.0 == home_in set.now q.0))) }
 {
     r.0 != q.0 && uses(set, i, r) && home(set, r) == home(set, q)
 }
@@ -322,7 +322,7 @@ pub fn fragments(
     i: TaskId,
 ) -> Result<Vec<Fragment>, AllocError>
     requires task { i.0 < length set.now.tasks }
-    requires suits { Suits protocol set.now }
+    requires suits { HasHomesFor protocol set.now }
     ensures { IfOk result (λ v. map column_seen v.items ≡ columns_of protocol set.now i.0) }
 {
     let mut columns = Vec::new(alloc);

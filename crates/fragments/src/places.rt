@@ -1,6 +1,7 @@
 ghost use Rattle.std.specs.Prelude.{◌≡◌, ◌<◌, ◌≤◌, length};
 ghost use Rattle.sporadic_model.specs.Users.{is_user};
-ghost use Rattle.fragments.specs.Homes.{home_of, ceiling_rank, remote_ceiling_rank};
+ghost use Rattle.sporadic_model.specs.Homes.{home_in};
+ghost use Rattle.fragments.specs.Ceilings.{ceiling_rank, remote_ceiling_rank};
 ghost use Rattle.fragments.specs.Columns.{have_one_processor, is_lower_local};
 
 use sporadic_model::{ResourceId, TaskId, TaskSet};
@@ -35,7 +36,7 @@ pub fn lower_local(set: &TaskSet, i: TaskId, x: TaskId) -> bool
 /// The processor at which the resource's requests run; 0, which is no processor, where it has no home.
 pub fn home(set: &TaskSet, q: ResourceId) -> u32
     requires { q.0 < length set.now.resources }
-    ensures { result ≡ home_of set.now q.0 }
+    ensures { result ≡ home_in set.now q.0 }
 {
     match set.home(q) {
         Some(processor) => processor,

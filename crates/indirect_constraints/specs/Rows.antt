@@ -6,7 +6,7 @@ use Rattle.sporadic_model.specs.SetDef.{SetDef, task_at}
 use Rattle.sporadic_model.specs.Users.{count_of, is_user}
 use Rattle.sporadic_model.specs.declared.ids.Protocol.{Protocol}
 use Rattle.sporadic_model.specs.declared.ids.Protocol.TheVariants as protocol
-use Rattle.fragments.specs.Homes.{home_of}
+use Rattle.sporadic_model.specs.Homes.{home_in}
 use Rattle.fragments.specs.ColumnDef.{ColumnDef, is_indirect, is_preemption}
 use Rattle.fragments.specs.Columns.{have_one_processor}
 use Rattle.fragments.specs.Windows.{requests_in, all_requests}
@@ -46,8 +46,8 @@ holding_row set i x = record {
 -- Homes: each request of i that runs on processor k waits for at most one request of lower tasks there.
 abbrev pub home_row : SetDef → ℕ → ℕ → ConstraintDef
 home_row set i k = record {
-  coefficient = λ c. flag ((not (is_preemption c.class) && nat_lt i c.task) && (home_of set c.resource == k));
-  limit = λ bounds. sum_below (length set.resources) (λ q. only_if (home_of set q == k) (count_of set i q));
+  coefficient = λ c. flag ((not (is_preemption c.class) && nat_lt i c.task) && (home_in set c.resource == k));
+  limit = λ bounds. sum_below (length set.resources) (λ q. only_if (home_in set q == k) (count_of set i q));
 }
 
 -- Queues and holdings for each task, homes for each processor, which are numbered from 1.

@@ -4,7 +4,7 @@
 ghost use Rattle.std.specs.Prelude.{◌≡◌, ◌<◌, ◌+◌, map, length, IfOk, OnOk};
 ghost use Rattle.program_form.specs.RowBlock.{block_seen};
 ghost use Rattle.program_sources.specs.Bounds.{AreWithinDeadlines};
-ghost use Rattle.fragments.specs.Homes.{Suits};
+ghost use Rattle.sporadic_model.specs.Homes.{HasHomesFor};
 ghost use Rattle.fragments.specs.ColumnDef.{column_seen, AreKnown};
 ghost use Rattle.fragments.specs.Columns.{columns_of};
 ghost use Rattle.fragments.specs.Constraints.{per, block_of, with_rows};
@@ -94,7 +94,7 @@ pub fn rows(
     columns: &[Fragment],
 ) -> Result<RowBlock, AllocError>
     requires task { i.0 < length set.now.tasks }
-    requires suits { Suits protocol set.now }
+    requires suits { HasHomesFor protocol set.now }
     requires within { AreWithinDeadlines set.now bounds.now }
     requires columns { map column_seen columns.now ≡ columns_of protocol set.now i.0 }
     ensures { IfOk result (λ b. block_seen b ≡ block_of (columns_of protocol set.now i.0) (indirect_rows protocol set.now i.0) bounds.now) }
