@@ -10,3 +10,8 @@ pub use programs::program;
 pub use program_sources::ProgramSource;
 pub use written::Written;
 
+#[cfg(test)]
+mod cases;
+#[cfg(test)]
+mod tests;
+
