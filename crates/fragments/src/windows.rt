@@ -13,7 +13,9 @@ pub fn jobs(set: &TaskSet, i: TaskId, x: TaskId, bounds: &[u64]) -> u64
     ensures most { result ≤ 2000000000 }
 {
     let _tasks = set.tasks();
-    sporadic_model::jobs_in(bounds[i.0 as usize], bounds[x.0 as usize], set.period(x))
+    let window = bounds[i.0 as usize];
+    let bound = bounds[x.0 as usize];
+    jobs_in(window, bound, set.period(x))
 }
 
 /// How many requests one job of task `i` can make, over all resources.

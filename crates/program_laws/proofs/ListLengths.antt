@@ -87,5 +87,15 @@ rows_few p set i accepted =
     let own = own_rows p set i in
     let indirect = indirect_rows p set i in
     let preemption = preemption_rows set i in
-    omega (arith, filter_shorter (holds_some (columns_of p set i)) (rows_of p set i), length-append (common_rows set i) (preemption ++ (own ++ indirect)), length-append preemption (own ++ indirect),
-        length-append own indirect, common_few set i f, where_at_most (is_lower_local set i) (length set.tasks) (interval_row set i), f.tasks, own_few p set i f, indirect_few p set i f)
+    omega (
+      arith,
+      filter_shorter (holds_some (columns_of p set i)) (rows_of p set i),
+      length-append (common_rows set i) (preemption ++ (own ++ indirect)),
+      length-append preemption (own ++ indirect),
+      length-append own indirect,
+      common_few set i f,
+      where_at_most (is_lower_local set i) (length set.tasks) (interval_row set i),
+      f.tasks,
+      own_few p set i f,
+      indirect_few p set i f,
+    )

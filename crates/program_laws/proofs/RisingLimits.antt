@@ -36,7 +36,7 @@ holdings_rise : (set : SetDef) (r s : List ℕ) (i x : ℕ) → i < length set.t
     → holdings set (slice_index r) i x ≤ holdings set (slice_index s) i x
 holdings_rise set r s i x here h = sum_below-monotone (length set.resources) _ _ (λ q l.
     let higher : higher_holdings set (slice_index r) i x q ≤ higher_holdings set (slice_index s) i x q =
-        sum_below-monotone i _ _ (λ y a. only_if_rises (is_beside set x y) _ _ (requests_rise set r s i y q (h i here) (h y (omega arith)))) in
+    sum_below-monotone i _ _ (λ y a. only_if_rises (is_beside set x y) _ _ (requests_rise set r s i y q (h i here) (h y (omega arith)))) in
     only_if_rises (is_user set q i) (higher_holdings set (slice_index r) i x q + lower_holdings set i x q) (higher_holdings set (slice_index s) i x q + lower_holdings set i x q) (omega arith))
 
 pub limits_rise : (p : Protocol) (set : SetDef) (i : ℕ) (r s : List ℕ) → i < length set.tasks → AtMost (length set.tasks) r s → EachKind (Rises r s) p set i

@@ -93,7 +93,7 @@ home_small : (set : SetDef) (i : ℕ) (at : ℕ → Bool) → IsAccepted set →
 home_small set i at accepted here =
     let sizes = sizes_of_accepted set accepted in
     let sum = sum_at_most (length set.resources) 1000 (λ q. only_if (at q) (count_of set i q)) (λ q l.
-        omega (arith, only_if-at_most (at q) (count_of set i q), count_small set i q accepted here)) in
+    omega (arith, only_if-at_most (at q) (count_of set i q), count_small set i q accepted here)) in
     omega (arith, sum, sizes.resources_to)
 
 higher_small : (set : SetDef) (r : List ℕ) (i x q : ℕ) → IsAccepted set → AreWithinDeadlines set r → i < length set.tasks
@@ -101,7 +101,7 @@ higher_small : (set : SetDef) (r : List ℕ) (i x q : ℕ) → IsAccepted set �
 higher_small set r i x q accepted within here =
     let sizes = sizes_of_accepted set accepted in
     let sum = sum_at_most i 2000000000000 (λ y. only_if (is_beside set x y) (requests_in set (slice_index r) i y q)) (λ y l.
-        omega (arith, only_if-at_most (is_beside set x y) (requests_in set (slice_index r) i y q), requests_small set r i y q accepted within here (omega arith))) in
+    omega (arith, only_if-at_most (is_beside set x y) (requests_in set (slice_index r) i y q), requests_small set r i y q accepted within here (omega arith))) in
     omega (arith, sum, sizes.tasks_to)
 
 only_if_small : (b : Bool) (n m : ℕ) → n ≤ m → only_if b n ≤ m
@@ -115,8 +115,12 @@ holdings_small : (set : SetDef) (r : List ℕ) (i x : ℕ) → IsAccepted set �
 holdings_small set r i x accepted within here =
     let sizes = sizes_of_accepted set accepted in
     let sum = sum_at_most (length set.resources) 128000000001000 (λ q. only_if (is_user set q i) (higher_holdings set (slice_index r) i x q + lower_holdings set i x q)) (λ q l.
-        omega (arith, only_if-at_most (is_user set q i) (higher_holdings set (slice_index r) i x q + lower_holdings set i x q),
-            higher_small set r i x q accepted within here, lower_small set i x q accepted here)) in
+    omega (
+      arith,
+      only_if-at_most (is_user set q i) (higher_holdings set (slice_index r) i x q + lower_holdings set i x q),
+      higher_small set r i x q accepted within here,
+      lower_small set i x q accepted here,
+    )) in
     omega (arith, sum, sizes.resources_to)
 
 -- Are the row's coefficients and its limit at these bounds small?

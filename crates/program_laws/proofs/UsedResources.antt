@@ -48,18 +48,18 @@ named_few : (m : ℕ) (name : ℕ → List ℕ) → ((p q : ℕ) → p < m → q
 named_few m name apart [] = omega (arith, count_below-none m (λ q. false) (λ k l. refl))
 named_few m name apart (e ∷ es) =
     let first : count_below m (λ q. names e (name q)) ≤ 1 = count_below-one m (λ q. names e (name q)) (λ p q a b here there.
-        apart p q a b (sym ((bytes_eq-Decides e.resource (name p)).0 here) ∙ (bytes_eq-Decides e.resource (name q)).0 there)) in
+    apart p q a b (sym ((bytes_eq-Decides e.resource (name p)).0 here) ∙ (bytes_eq-Decides e.resource (name q)).0 there)) in
     omega (arith, count_below-either m (λ q. names e (name q)) (λ q. named es (name q)), first, named_few m name apart es)
 
 names_apart : (set : SetDef) → AreNamed set → (p q : ℕ) → p < length set.resources → q < length set.resources
     → (resource_at set p).name ≡ (resource_at set q).name → p ≡ q
 names_apart set all p q a b same = elim (cases_lt p q) [
-    | inl below ↦ absurd (all.resources_apart p q below b same)
-    | inr rest ↦ elim (cases_lt q p) [
-        | inl above ↦ absurd (all.resources_apart q p above a (sym same))
-        | inr level ↦ omega arith
-      ]
+  | inl below ↦ absurd (all.resources_apart p q below b same)
+  | inr rest ↦ elim (cases_lt q p) [
+    | inl above ↦ absurd (all.resources_apart q p above a (sym same))
+    | inr level ↦ omega arith
   ]
+]
 
 -- A task uses at most as many resources as it has entries.
 pub used_few : (set : SetDef) (x : ℕ) → IsAccepted set → count_below (length set.resources) (λ q. is_user set q x) ≤ length (task_at set x).requests
@@ -94,8 +94,8 @@ class_apart p set i x q none =
     let indirect : ColumnDef = record { task = x; resource = q; class = class.Indirect } in
     let preemption : ColumnDef = record { task = x; resource = q; class = class.Preemption } in
     All-cons P direct (indirect ∷ preemption ∷ []) (column_apart p set i x q none direct refl refl)
-        (All-cons P indirect (preemption ∷ []) (column_apart p set i x q none indirect refl refl)
-        (All-cons P preemption [] (column_apart p set i x q none preemption refl refl) (All-nil P)))
+    (All-cons P indirect (preemption ∷ []) (column_apart p set i x q none indirect refl refl)
+    (All-cons P preemption [] (column_apart p set i x q none preemption refl refl) (All-nil P)))
 
 by_user : (p : Protocol) (set : SetDef) (i x q : ℕ) (b : Bool) → is_user set q x ≡ b → length (filter (is_column p set i) (classes_of x q)) ≤ 3 * flag b
 by_user p set i x q true user = omega (arith, filter_shorter (is_column p set i) (classes_of x q))
