@@ -1,0 +1,31 @@
+-- The text of rows in CSV.
+use Rattle.std.specs.Prelude.{ℕ, ◌+◌, Bool, decimal, List, [], ◌∷◌, ◌++◌, map, length, Option, None, Some}
+use Rattle.std.specs.List.{list_all}
+use Rattle.csv.specs.Writing.{default_writer, row_text}
+use Rattle.sporadic_model.specs.SetDef.{SetDef}
+use Rattle.schedule_model.specs.RowDef.{RunDef}
+use Rattle.schedule_model.specs.Fitting.{is_sized}
+use Rattle.trace_csv.specs.Records.{Fields}
+use Rattle.trace_csv.specs.RowsFile.{rows_header}
+
+-- The cell that names a job, numbered from 1, or none.
+abbrev pub cell_of : Option ℕ → List ℕ
+cell_of None = []
+cell_of (Some j) = decimal (j + 1)
+
+-- The line of a run: its ticks, per processor the job that runs, per resource the job that holds it.
+abbrev pub line_of : RunDef → Fields
+line_of run = decimal run.ticks ∷ (map cell_of run.row.running ++ map cell_of run.row.holders)
+
+-- The text of records, each ended by a line feed, as `csv` writes it.
+abbrev pub text_of : List Fields → List ℕ
+text_of [] = []
+text_of (record_ ∷ records) = row_text default_writer record_ ++ text_of records
+
+-- The text of runs for a task set: the header, and a line for each run.
+abbrev pub rows_text : SetDef → List RunDef → List ℕ
+rows_text set runs = text_of (rows_header set ∷ map line_of runs)
+
+-- Has each row one place per processor and per resource of the set?
+abbrev pub are_sized : SetDef → List RunDef → Bool
+are_sized set runs = list_all (λ run. is_sized set.processors (length set.resources) run.row) runs

@@ -1,0 +1,7 @@
+//! Jobs and rows in CSV: reading them with the number of the first line that is refused, and writing rows.
+#![tactic(auto)]
+
+mod number;
+mod refusal;
+
+pub use refusal::{JobsRefusal, RowsRefusal};
