@@ -1,6 +1,7 @@
 pub mod Numbers
 pub mod Records
 pub mod Scripts
+pub mod PartsSeen
 pub mod JobLines
 pub mod JobsFile
 pub mod RowLines

@@ -3,5 +3,7 @@
 
 mod number;
 mod refusal;
+mod script;
+mod table;
 
 pub use refusal::{JobsRefusal, RowsRefusal};
