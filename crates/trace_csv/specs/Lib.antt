@@ -3,6 +3,7 @@ pub mod Records
 pub mod Scripts
 pub mod PartsSeen
 pub mod JobLines
+pub mod JobAnswers
 pub mod JobsFile
 pub mod RowLines
 pub mod RowsFile

@@ -2,6 +2,7 @@
 #![tactic(auto)]
 
 mod number;
+mod jobs;
 mod refusal;
 mod script;
 mod table;

@@ -1,5 +1,4 @@
-ghost use Rattle.std.specs.Prelude.{◌≡◌, ◌<◌, ◌==◌, map, option_map, length, MatchOption, None, true, false};
-ghost use Rattle.std.specs.List.{before_first, after_first, list_any};
+ghost use Rattle.std.specs.Prelude.{◌≡◌, ◌==◌, option_map, position};
 ghost use Rattle.trace_csv.specs.Scripts.{request_in, script_in};
 ghost use Rattle.trace_csv.specs.PartsSeen.{request_seen, part_seen, Divides, IsFirstToken, IsFirstPart, PartsRead};
 
@@ -30,12 +29,21 @@ pub(crate) enum ScriptFault {
     Memory,
 }
 
+/// Where is the first such byte?
+fn place_of(text: &[u8], byte: u8) -> Option<usize>
+    ensures { result ≡ position (λ b. b == byte) text.now }
+{
+    text.iter().position(|b| *b == byte)
+}
+
 /// What stands before the first such byte, and what stands after it.
 fn divided(text: &[u8], byte: u8) -> Option<(&[u8], &[u8])>
     ensures { Divides result text.now byte }
 {
-    let i = text.iter().position(|b| *b == byte)?;
-    Some((&text[..i], &text[i + 1..]))
+    match place_of(text, byte) {
+        Some(i) => Some((&text[..i], &text[i + 1..])),
+        None => None,
+    }
 }
 
 /// The text up to its first space, and what stands after the space.
@@ -52,7 +60,9 @@ fn first_token(text: &[u8]) -> (&[u8], Option<&[u8]>)
 fn request_of(token: &[u8]) -> Option<Request<'_>>
     ensures { option_map request_seen result ≡ request_in token.now }
 {
-    let (resource, ticks) = divided(token, b':')?;
+    let Some((resource, ticks)) = divided(token, b':') else {
+        return None;
+    };
     if resource.is_empty() || resource.len() as u64 > MOST_NAME {
         return None;
     }
