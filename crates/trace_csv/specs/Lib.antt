@@ -7,4 +7,5 @@ pub mod JobAnswers
 pub mod JobsFile
 pub mod RowLines
 pub mod RowsFile
+pub mod RowAnswers
 pub mod Written

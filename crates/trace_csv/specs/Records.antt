@@ -1,5 +1,5 @@
 -- The records of a text in CSV, and the lines of a file that begins with a header.
-use Rattle.std.specs.Prelude.{ℕ, List, [], length, drop, slice_index_or}
+use Rattle.std.specs.Prelude.{ℕ, List, [], slice_index_or}
 use Rattle.csv.specs.Reading.{default_config, records, strip_bom}
 
 -- A record: its fields, each the list of its bytes.
@@ -10,10 +10,6 @@ Fields = List (List ℕ)
 -- trimmed. A blank line is no record.
 abbrev pub records_in : List ℕ → List Fields
 records_in bytes = records default_config (strip_bom bytes)
-
--- The records after the first one, which is the header.
-abbrev pub lines_in : List ℕ → List Fields
-lines_in bytes = drop 1 (records_in bytes)
 
 -- Line i, counted from 0.
 abbrev pub line_at : List Fields → ℕ → Fields

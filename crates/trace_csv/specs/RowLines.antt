@@ -36,10 +36,11 @@ abbrev pub resource_count : JobsDef → ℕ
 resource_count jobs = length jobs.set.resources
 
 -- The row that cells write: per processor the job that runs, and then per resource the job that holds it.
+abbrev pub row_of_cells : ℕ → ℕ → List (List ℕ) → RowDef
+row_of_cells processors n cells = record { running = map (job_in n) (take processors cells); holders = map (job_in n) (drop processors cells) }
+
 abbrev pub row_written : JobsDef → List (List ℕ) → RowDef
-row_written jobs cells = record {
-    running = map (job_in (job_count jobs)) (take (processor_count jobs) cells);
-    holders = map (job_in (job_count jobs)) (drop (processor_count jobs) cells) }
+row_written jobs cells = row_of_cells (processor_count jobs) (job_count jobs) cells
 
 -- The run that a line writes: how many ticks, and the row.
 abbrev pub run_written : JobsDef → Fields → RunDef

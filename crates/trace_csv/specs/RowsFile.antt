@@ -1,5 +1,5 @@
 -- Files of rows in CSV, and what the answer of reading one says.
-use Rattle.std.specs.Prelude.{◌≡◌, ℕ, ◌+◌, ◌<◌, ◌⊎◌, codes, decimal, List, [], ◌∷◌, ◌++◌, map, length, slice_get, None, Some, Result, Ok, Err}
+use Rattle.std.specs.Prelude.{◌≡◌, ℕ, ◌+◌, ◌<◌, ◌⊎◌, codes, decimal, List, [], ◌∷◌, ◌++◌, map, length, drop, slice_get, None, Some, Result, Ok, Err}
 use Rattle.std.specs.List.{range_with_len}
 use Rattle.sporadic_model.specs.SetDef.{SetDef}
 use Rattle.schedule_model.specs.JobDef.{JobsDef}
@@ -7,7 +7,7 @@ use Rattle.schedule_model.specs.RowDef.{RunDef}
 use Rattle.schedule_model.specs.Fitting.{RowsDef}
 use Rattle.trace_csv.specs.declared.refusal.RowsRefusal.{RowsRefusal}
 use Rattle.trace_csv.specs.declared.refusal.RowsRefusal.TheVariants as refusal
-use Rattle.trace_csv.specs.Records.{Fields, records_in, lines_in}
+use Rattle.trace_csv.specs.Records.{Fields, records_in}
 use Rattle.trace_csv.specs.RowLines.{runs_written, refusal_at}
 
 -- The header of a file of rows: `ticks`, the processors from `P1` on, and the names of the resources in order.
@@ -17,14 +17,19 @@ processor_field k = codes "P" ++ decimal k
 abbrev pub rows_header : SetDef → Fields
 rows_header set = codes "ticks" ∷ (map processor_field (range_with_len 1 set.processors) ++ map (λ r. r.name) set.resources)
 
--- Does the text begin with the header?
-abbrev pub HasRowsHeader : SetDef → List ℕ → Type 0
-HasRowsHeader set bytes = slice_get (records_in bytes) 0 ≡ Some (rows_header set)
+-- Do the records begin with the header?
+abbrev pub HasRowsHeader : SetDef → List Fields → Type 0
+HasRowsHeader set records = slice_get records 0 ≡ Some (rows_header set)
 
--- A file of rows of the jobs: the header, and lines of which none is refused after those before it.
-pub record IsRowsFile (jobs : JobsDef) (bytes : List ℕ) : Type 0 where
-  pub header : HasRowsHeader jobs.set bytes
-  pub lines : (i : ℕ) → i < length (lines_in bytes) → refusal_at jobs (lines_in bytes) i ≡ None
+-- The records of a file of rows of the jobs: the header, and lines of which none is refused after those
+-- before it.
+pub record AreRowsRecords (jobs : JobsDef) (records : List Fields) : Type 0 where
+  pub header : HasRowsHeader jobs.set records
+  pub lines : (i : ℕ) → i < length (drop 1 records) → refusal_at jobs (drop 1 records) i ≡ None
+
+-- Is the text a file of rows of the jobs?
+abbrev pub IsRowsFile : JobsDef → List ℕ → Type 0
+IsRowsFile jobs bytes = AreRowsRecords jobs (records_in bytes)
 
 -- Line i is the first one that is refused, and this is why.
 pub record IsFirstRefused (jobs : JobsDef) (lines : List Fields) (i : ℕ) (r : RowsRefusal) : Type 0 where
@@ -43,10 +48,20 @@ LinesRead (Ok rows) jobs lines = ((i : ℕ) → i < length lines → refusal_at 
 LinesRead (Err refusal.Memory) jobs lines = Unit {0}
 LinesRead (Err r) jobs lines = (i : ℕ) × IsFirstRefused jobs lines i r
 
--- What the answer of reading says of the text: it is a file of rows, and these are the runs that it writes;
--- or its header is missing; or what is said of its lines.
+-- What the answer of reading says of the records: they are those of a file of rows, and these are the runs
+-- that they write; or the header is missing; or what is said of the lines.
+abbrev pub RecordsRead : Result RowsDef RowsRefusal → JobsDef → List Fields → Type 0
+RecordsRead (Ok rows) jobs records = AreRowsRecords jobs records × (rows ≡ rows_with jobs (runs_written jobs (drop 1 records)))
+RecordsRead (Err refusal.Memory) jobs records = Unit {0}
+RecordsRead (Err r) jobs records =
+    ((r ≡ refusal.Fields 0) × (HasRowsHeader jobs.set records → ⊥)) ⊎ (HasRowsHeader jobs.set records × ((i : ℕ) × IsFirstRefused jobs (drop 1 records) i r))
+
+-- What it says of the text: the same of its records.
 abbrev pub RowsRead : Result RowsDef RowsRefusal → JobsDef → List ℕ → Type 0
-RowsRead (Ok rows) jobs bytes = IsRowsFile jobs bytes × (rows ≡ rows_with jobs (runs_written jobs (lines_in bytes)))
-RowsRead (Err refusal.Memory) jobs bytes = Unit {0}
-RowsRead (Err r) jobs bytes =
-    ((r ≡ refusal.Fields 0) × (HasRowsHeader jobs.set bytes → ⊥)) ⊎ (HasRowsHeader jobs.set bytes × ((i : ℕ) × IsFirstRefused jobs (lines_in bytes) i r))
+RowsRead answer jobs bytes = RecordsRead answer jobs (records_in bytes)
+
+-- The answer is the rows, or want of memory.
+abbrev pub IsUnrefused : Result RowsDef RowsRefusal → Type 0
+IsUnrefused (Ok rows) = Unit {0}
+IsUnrefused (Err refusal.Memory) = Unit {0}
+IsUnrefused (Err _) = ⊥

@@ -1,10 +1,11 @@
-ghost use Rattle.std.specs.Prelude.{◌≡◌, map};
+ghost use Rattle.std.specs.Prelude.{◌≡◌, ◌↔◌, map, IfOk, IsTrue};
 ghost use Rattle.csv.specs.Records.{fields_of};
 ghost use Rattle.trace_csv.specs.PartsSeen.{part_seen};
 ghost use Rattle.trace_csv.specs.JobLines.{at_line};
-ghost use Rattle.trace_csv.specs.JobsFile.{LinesRead};
+ghost use Rattle.trace_csv.specs.JobsFile.{jobs_header, IsJobsFile, LinesRead, RecordsRead, JobsRead, IsUnrefused};
 ghost use Rattle.trace_csv.specs.JobAnswers.{SegmentOf, SegmentsRead, ScriptRead, FieldsRead, LineRead, LineTaken};
 
+use crate::header::are_same;
 use crate::number::number_between;
 use crate::refusal::JobsRefusal;
 use crate::script::{Part, Request, ScriptFault, parts_in};
@@ -171,4 +172,50 @@ fn jobs_of<'a>(
         }
     }
     Ok(jobs)
+}
+
+/// Is the record the header of a file of jobs?
+fn is_jobs_header(alloc: Global, row: &ByteRecord) -> Result<bool, AllocError>
+    ensures { IfOk result (λ same. IsTrue same ↔ (fields_of row.now ≡ jobs_header)) }
+{
+    let fields = fields_in(alloc, row)?;
+    let header: [&[u8]; 3] = [b"task", b"release", b"script"];
+    Ok(are_same(&fields, &header))
+}
+
+/// The jobs that a file's records write, or why it is refused.
+fn jobs_under_header<'a>(
+    alloc: Global,
+    set: &'a TaskSet,
+    rows: &[ByteRecord],
+) -> Result<JobList<'a>, JobsRefusal>
+    ensures { RecordsRead result set.now (map fields_of rows.now) }
+{
+    let [header, lines @ ..] = rows else {
+        return Err(JobsRefusal::Fields(0));
+    };
+    match is_jobs_header(alloc, header) {
+        Ok(true) => jobs_of(alloc, set, lines),
+        Ok(false) => Err(JobsRefusal::Fields(0)),
+        Err(AllocError) => Err(JobsRefusal::Memory),
+    }
+}
+
+/// Reads jobs of a task set from CSV: the header `task,release,script`, and then a line for each job, with
+/// the name of its task, its release and its script. A line is a record as `csv` gives it, so that blank
+/// lines are none. The answer is the list of the jobs exactly where the text is such a file whose jobs are
+/// taken, each after those before it, by [`JobList::push`]; else it names the first line that is refused
+/// and the first reason on it, in the order of [`JobsRefusal`].
+pub fn read_jobs<'a>(
+    alloc: Global,
+    set: &'a TaskSet,
+    bytes: &[u8],
+) -> Result<JobList<'a>, JobsRefusal>
+    ensures read { JobsRead result set.now bytes.now }
+    ensures accepts { IsJobsFile set.now bytes.now → IsUnrefused result }
+{
+    match records_of(alloc, bytes) {
+        Ok(rows) => jobs_under_header(alloc, set, &rows),
+        Err(AllocError) => Err(JobsRefusal::Memory),
+    }
 }

@@ -2,9 +2,12 @@
 #![tactic(auto)]
 
 mod number;
+mod header;
 mod jobs;
 mod refusal;
+mod rows;
 mod script;
 mod table;
 
+pub use jobs::read_jobs;
 pub use refusal::{JobsRefusal, RowsRefusal};
