@@ -5,3 +5,5 @@ pub mod Reading
 pub mod Dividing
 pub mod Tokens
 pub mod JobsTaken
+pub mod RowsTaken
+pub mod Runs
