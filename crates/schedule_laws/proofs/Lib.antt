@@ -6,8 +6,9 @@ pub mod Agreement
 pub mod Rows
 pub mod Holders
 pub mod SharedLaws
+pub mod Interferers
+pub mod TakenRows
 pub mod DpcpLaws
-pub mod SumLaws
 pub mod Segments
 pub mod Counts
 pub mod Begun

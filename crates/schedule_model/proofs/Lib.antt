@@ -1,6 +1,7 @@
 pub mod Scripts
 pub mod Releases
 pub mod JobListLaws
+pub mod JobRefusalLaws
 pub mod RowListLaws
 pub mod RuleTests
 pub mod KeepingTests

@@ -1,6 +1,8 @@
 pub mod SetDef
+pub mod Names
 pub mod Seen
 pub mod Users
+pub mod Homes
 pub mod Refusals
 pub mod Faults
 pub mod Accepted

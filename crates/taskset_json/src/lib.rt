@@ -13,5 +13,5 @@ mod tests;
 mod written;
 
 pub use homes::home_check;
-pub use reading::{MOST_BYTES, read};
+pub use reading::read;
 pub use refusal::SetRefusal;

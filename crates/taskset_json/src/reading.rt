@@ -1,4 +1,4 @@
-ghost use Rattle.std.specs.Prelude.{◌≡◌, ◌≤◌, ◌<◌, ◌^◌, length, IfOk};
+ghost use Rattle.std.specs.Prelude.{◌≡◌, ◌<◌, ◌^◌, length, IfOk};
 ghost use Rattle.serde_json.specs.View.{view};
 ghost use Rattle.taskset_json.specs.Size.{size};
 ghost use Rattle.taskset_json.specs.Answers.{Reads, JudgesValue};
@@ -9,9 +9,6 @@ use crate::written::parts_of;
 use serde_json::Value;
 use sporadic_model::{ModelRefusal, TaskSet};
 use std::alloc::{AllocError, Global};
-
-/// The most bytes that are read.
-pub const MOST_BYTES: usize = 67_108_864;
 
 fn set_of(alloc: Global, value: &Value) -> Result<TaskSet, SetRefusal>
     requires { size (view value.now) < 2 ^ 32 }
@@ -31,13 +28,13 @@ fn set_of(alloc: Global, value: &Value) -> Result<TaskSet, SetRefusal>
     }
 }
 
-/// Reads a task set from at most [`MOST_BYTES`] bytes of JSON, or says what is wrong first: the bytes
+/// Reads a task set from fewer than 2^32 bytes of JSON, or says what is wrong first: the bytes
 /// are no JSON text ([`SetRefusal::NotJson`]); an object does not have the members that it must have
 /// ([`SetRefusal::Shape`], with the first such place over the whole value); the set that the value
 /// writes is not accepted ([`SetRefusal::Model`], as `TaskSet::new` answers). Never answers
 /// [`SetRefusal::NoHome`].
 pub fn read(alloc: Global, bytes: &[u8]) -> Result<TaskSet, SetRefusal>
-    requires { length bytes.now ≤ MOST_BYTES }
+    requires { length bytes.now < 2 ^ 32 }
     ensures { Reads result bytes.now }
 {
     match Value::from_slice(alloc, bytes) {

@@ -51,7 +51,7 @@ fn reads_each_member(rt: HostRuntime) -> Result<(), Fail> {
              "requests": [{"resource": "r", "count": 2, "length": 1}, {"resource": "q", "count": 1, "length": 4}]},
             {"cost": 4, "period": 20, "processor": 2, "name": "t2"}]}
     "#;
-    assert!(rt; text.len() <= MOST_BYTES);
+    assert!(rt; text.len() <= MOST_TEXT);
     match read(rt.alloc(), text.as_bytes()) {
         Ok(set) => {
             let described = described(rt.alloc(), &set)?;
@@ -67,7 +67,7 @@ fn reads_each_member(rt: HostRuntime) -> Result<(), Fail> {
 #[test]
 fn reads_the_least_set(rt: HostRuntime) -> Result<(), Fail> {
     let text = r#"{"processors":1,"tasks":[{"name":"t","processor":1,"period":8,"cost":3}]}"#;
-    assert!(rt; text.len() <= MOST_BYTES);
+    assert!(rt; text.len() <= MOST_TEXT);
     match read(rt.alloc(), text.as_bytes()) {
         Ok(set) => {
             let described = described(rt.alloc(), &set)?;
@@ -86,7 +86,7 @@ fn homes_of(
     let text = format!(in alloc;
         r#"{{"processors":2,"tasks":[{{"name":"t","processor":1,"period":8,"cost":3}}],"resources":[{resources}]}}"#
     )?;
-    if text.len() > MOST_BYTES {
+    if text.len() > MOST_TEXT {
         return Ok(Err(SetRefusal::NotJson));
     }
     match read(alloc, text.as_bytes()) {
@@ -116,7 +116,7 @@ fn asks_for_homes_under_dpcp_alone(rt: HostRuntime) -> Result<(), Fail> {
 }
 
 fn refusal_of(alloc: Global, bytes: &[u8]) -> Option<SetRefusal> {
-    if bytes.len() > MOST_BYTES {
+    if bytes.len() > MOST_TEXT {
         return None;
     }
     read(alloc, bytes).err()
