@@ -3,7 +3,7 @@ use Rattle.std.proofs.Common.{◌≡◌, ◌<◌, ◌+◌, ℕ, List, [], ◌∷
 use Rattle.std.proofs.lemmas.List.{map-append, take_more}
 use Rattle.sporadic_model.specs.SetDef.{SetDef}
 use Rattle.schedule_model.specs.JobDef.{JobsDef}
-use Rattle.schedule_model.specs.LawfulJobs.{with_job}
+use Rattle.schedule_model.specs.JobLists.{with_job}
 use Rattle.trace_csv.specs.Records.{Fields, line_at}
 use Rattle.trace_csv.specs.JobLines.{job_written, jobs_written, line_refusal, refusal_at}
 

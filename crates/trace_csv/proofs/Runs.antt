@@ -22,7 +22,7 @@ both false b e = absurd (false≢true e)
 pub in_range : (least most n : ℕ) (o : Option ℕ) → option_and_then (if_in_range least most) o ≡ Some n → is_in_range least most n ≡ true
 in_range least most n None e = cc
 in_range least most n (Some m) e = elim (cases_Bool (is_in_range least most m)) [
-  | inl yes ↦ subst (λ k. is_in_range least most k ≡ true) (same m (rw yes at e)) yes
+  | inl inside ↦ subst (λ k. is_in_range least most k ≡ true) (same m (rw inside at e)) inside
   | inr outside ↦ absurd (none_some (rw outside at e))
 ]
   where
@@ -35,11 +35,11 @@ in_range least most n (Some m) e = elim (cases_Bool (is_in_range least most m)) 
 below_of : (n : ℕ) (o : Option ℕ) → is_below n (option_map (λ m. m - 1) (option_and_then (if_in_range 1 n) o)) ≡ true
 below_of n None = refl
 below_of n (Some m) = elim (cases_Bool (is_in_range 1 n m)) [
-  | inl yes ↦
-      let range = both (nat_le 1 m) (nat_le m n) yes in
+  | inl inside ↦
+      let range = both (nat_le 1 m) (nat_le m n) inside in
       let low : 1 ≤ m = leb-true 1 m range.0 in
       let high : m ≤ n = leb-true m n range.1 in
-      rw yes (lt-ltb (m - 1) n (omega arith))
+      rw inside (lt-ltb (m - 1) n (omega arith))
   | inr outside ↦ rw outside refl
 ]
 

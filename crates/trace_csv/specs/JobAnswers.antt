@@ -5,7 +5,8 @@ use Rattle.std.specs.declared.vec.Vec.{Vec}
 use Rattle.std.specs.Global.{Global}
 use Rattle.sporadic_model.specs.SetDef.{SetDef}
 use Rattle.schedule_model.specs.JobDef.{JobDef, JobsDef}
-use Rattle.schedule_model.specs.LawfulJobs.{is_resource_in, are_resources_in, with_job}
+use Rattle.schedule_model.specs.LawfulJobs.{is_resource_in, are_resources_in}
+use Rattle.schedule_model.specs.JobLists.{with_job}
 use Rattle.schedule_model.specs.Seen.{segment_seen, job_seen}
 use Rattle.schedule_model.specs.declared.job.Segment.{Segment}
 use Rattle.schedule_model.specs.declared.job.Job.{Job}

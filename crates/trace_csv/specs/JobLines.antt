@@ -6,7 +6,7 @@ use Rattle.sporadic_model.specs.SetDef.{SetDef}
 use Rattle.sporadic_model.specs.Users.{task_with_name, resource_with_name}
 use Rattle.sporadic_model.specs.declared.limits.TheConstants.{MOST_TICKS}
 use Rattle.schedule_model.specs.JobDef.{SegmentDef, JobDef, JobsDef, no_job}
-use Rattle.schedule_model.specs.LawfulJobs.{first_refusal}
+use Rattle.schedule_model.specs.JobLists.{first_refusal}
 use Rattle.schedule_model.specs.declared.refusal.JobRefusal.{JobRefusal}
 use Rattle.schedule_model.specs.declared.refusal.JobRefusal.TheVariants as push
 use Rattle.trace_csv.specs.declared.refusal.JobsRefusal.{JobsRefusal}
