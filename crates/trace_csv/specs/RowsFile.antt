@@ -14,8 +14,14 @@ use Rattle.trace_csv.specs.RowLines.{runs_written, refusal_at}
 abbrev pub processor_field : ℕ → List ℕ
 processor_field k = codes "P" ++ decimal k
 
+abbrev pub processor_fields : ℕ → List (List ℕ)
+processor_fields processors = map processor_field (range_with_len 1 processors)
+
+abbrev pub resource_fields : SetDef → List (List ℕ)
+resource_fields set = map (λ r. r.name) set.resources
+
 abbrev pub rows_header : SetDef → Fields
-rows_header set = codes "ticks" ∷ (map processor_field (range_with_len 1 set.processors) ++ map (λ r. r.name) set.resources)
+rows_header set = codes "ticks" ∷ (processor_fields set.processors ++ resource_fields set)
 
 -- Do the records begin with the header?
 abbrev pub HasRowsHeader : SetDef → List Fields → Type 0

@@ -1,7 +1,10 @@
 -- The text of rows in CSV.
-use Rattle.std.specs.Prelude.{ℕ, ◌+◌, Bool, decimal, List, [], ◌∷◌, ◌++◌, map, length, Option, None, Some}
+use Rattle.std.specs.Prelude.{◌≡◌, ℕ, ◌+◌, Bool, false, decimal, List, [], ◌∷◌, ◌++◌, map, length, Option, None, Some}
 use Rattle.std.specs.List.{list_all}
-use Rattle.csv.specs.Writing.{default_writer, row_text}
+use Rattle.std.specs.declared.vec.Vec.{Vec}
+use Rattle.std.specs.Global.{Global}
+use Rattle.csv.specs.Writing.{default_writer, row_text, writer_setup, fields_written, has_written, text_written}
+use Rattle.csv.specs.declared.writer.Writer.{Writer}
 use Rattle.sporadic_model.specs.SetDef.{SetDef}
 use Rattle.schedule_model.specs.RowDef.{RunDef}
 use Rattle.schedule_model.specs.Fitting.{is_sized}
@@ -29,3 +32,18 @@ rows_text set runs = text_of (rows_header set ∷ map line_of runs)
 -- Has each row one place per processor and per resource of the set?
 abbrev pub are_sized : SetDef → List RunDef → Bool
 are_sized set runs = list_all (λ run. is_sized set.processors (length set.resources) run.row) runs
+
+-- A writer that stands between two records.
+pub record IsBetween (w : Writer (Vec ℕ Global)) : Type 0 where
+  pub setup : writer_setup w ≡ default_writer
+  pub fields : fields_written w ≡ 0
+  pub clean : has_written w ≡ false
+
+-- The text that a writer holds.
+abbrev pub held : Writer (Vec ℕ Global) → Option (List ℕ)
+held w = text_written (λ v. Some v.items) w
+
+-- The record stands at the end of the text, and the writer between two records.
+pub record IsPut (before after : Writer (Vec ℕ Global)) (fields : Fields) : Type 0 where
+  pub between : IsBetween after
+  pub text : (done : List ℕ) → held before ≡ Some done → held after ≡ Some (done ++ row_text default_writer fields)

@@ -8,6 +8,9 @@ mod refusal;
 mod rows;
 mod script;
 mod table;
+mod writing;
 
 pub use jobs::read_jobs;
 pub use refusal::{JobsRefusal, RowsRefusal};
+pub use rows::read_rows;
+pub use writing::write_rows;

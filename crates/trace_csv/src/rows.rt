@@ -3,12 +3,13 @@ ghost use Rattle.std.specs.List.{list_all};
 ghost use Rattle.csv.specs.Records.{fields_of};
 ghost use Rattle.schedule_model.specs.Seen.{place_seen, row_seen};
 ghost use Rattle.trace_csv.specs.RowLines.{is_cell, is_listed, job_in, row_of_cells};
-ghost use Rattle.trace_csv.specs.RowsFile.{LinesRead};
+ghost use Rattle.trace_csv.specs.RowsFile.{IsRowsFile, LinesRead, RecordsRead, RowsRead, IsUnrefused};
 ghost use Rattle.trace_csv.specs.RowAnswers.{CellsRead, LineRead, LineTaken, at_line, IsMade};
 
+use crate::header::is_rows_header;
 use crate::number::{is_number, number_between};
 use crate::refusal::RowsRefusal;
-use crate::table::fields_in;
+use crate::table::{fields_in, records_of};
 use csv::ByteRecord;
 use schedule_model::{JobId, JobList, Row, RowList, RowRefusal, RowRun};
 use sporadic_model::MOST_TICKS;
@@ -187,4 +188,37 @@ fn rows_of(alloc: Global, jobs: &JobList, lines: &[ByteRecord]) -> Result<RowLis
         }
     }
     Ok(rows)
+}
+
+/// The rows that a file's records write, or why it is refused.
+fn rows_under_header(
+    alloc: Global,
+    jobs: &JobList,
+    records: &[ByteRecord],
+) -> Result<RowList, RowsRefusal>
+    ensures { RecordsRead result jobs.now (map fields_of records.now) }
+{
+    let [header, lines @ ..] = records else {
+        return Err(RowsRefusal::Fields(0));
+    };
+    match is_rows_header(alloc, jobs.set(), header) {
+        Ok(true) => rows_of(alloc, jobs, lines),
+        Ok(false) => Err(RowsRefusal::Fields(0)),
+        Err(AllocError) => Err(RowsRefusal::Memory),
+    }
+}
+
+/// Reads rows of jobs from CSV: the header, and then a line for each run of equal rows, with its number of
+/// ticks, per processor the job that runs and per resource the job that holds it. A job is named by its
+/// number in the list, counted from 1, and an empty cell names none. A line is a record as `csv` gives it,
+/// so that blank lines are none. The answer is the list of the runs exactly where the text is such a file;
+/// else it names the first line that is refused and the first reason on it, in the order of [`RowsRefusal`].
+pub fn read_rows(alloc: Global, jobs: &JobList, bytes: &[u8]) -> Result<RowList, RowsRefusal>
+    ensures read { RowsRead result jobs.now bytes.now }
+    ensures accepts { IsRowsFile jobs.now bytes.now → IsUnrefused result }
+{
+    match records_of(alloc, bytes) {
+        Ok(records) => rows_under_header(alloc, jobs, &records),
+        Err(AllocError) => Err(RowsRefusal::Memory),
+    }
 }
