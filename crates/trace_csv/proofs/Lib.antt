@@ -7,3 +7,5 @@ pub mod Tokens
 pub mod JobsTaken
 pub mod RowsTaken
 pub mod Runs
+pub mod Decimals
+pub mod RoundTrip

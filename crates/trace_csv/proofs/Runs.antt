@@ -4,7 +4,7 @@ use Rattle.std.specs.Prelude.{nat_lt, nat_le, option_map}
 use Rattle.std.specs.Option.{option_and_then}
 use Rattle.std.specs.Int.{is_in_range}
 use Rattle.std.specs.List.{list_all}
-use Rattle.std.proofs.lemmas.Bool.{cases_Bool, false≢true, lt-ltb, leb-true, eq-eqb}
+use Rattle.std.proofs.lemmas.Bool.{and_parts, cases_Bool, false≢true, lt-ltb, leb-true, eq-eqb}
 use Rattle.std.proofs.lemmas.List.{length-take, length-drop}
 use Rattle.sporadic_model.proofs.Mapped.{length-map}
 use Rattle.sporadic_model.specs.declared.limits.TheConstants.{MOST_TICKS}
@@ -13,10 +13,6 @@ use Rattle.schedule_model.specs.Fitting.{is_below, names_below, names_jobs, is_s
 use Rattle.trace_csv.specs.Numbers.{if_in_range, number_in, number_between}
 use Rattle.trace_csv.specs.RowLines.{is_cell, is_listed, job_in, job_count, processor_count, resource_count, row_of_cells, run_written, ticks_in, cells_refusal}
 use Rattle.trace_csv.specs.RowAnswers.{IsRunOf}
-
-both : (a b : Bool) → (a && b) ≡ true → (a ≡ true) × (b ≡ true)
-both true b e = (refl, e)
-both false b e = absurd (false≢true e)
 
 -- A number that was found in a range is in it.
 pub in_range : (least most n : ℕ) (o : Option ℕ) → option_and_then (if_in_range least most) o ≡ Some n → is_in_range least most n ≡ true
@@ -36,7 +32,7 @@ below_of : (n : ℕ) (o : Option ℕ) → is_below n (option_map (λ m. m - 1) (
 below_of n None = refl
 below_of n (Some m) = elim (cases_Bool (is_in_range 1 n m)) [
   | inl inside ↦
-      let range = both (nat_le 1 m) (nat_le m n) inside in
+      let range = and_parts (nat_le 1 m) (nat_le m n) inside in
       let low : 1 ≤ m = leb-true 1 m range.0 in
       let high : m ≤ n = leb-true m n range.1 in
       rw inside (lt-ltb (m - 1) n (omega arith))

@@ -33,9 +33,12 @@ pub record AreRowsRecords (jobs : JobsDef) (records : List Fields) : Type 0 wher
   pub header : HasRowsHeader jobs.set records
   pub lines : (i : ℕ) → i < length (drop 1 records) → refusal_at jobs (drop 1 records) i ≡ None
 
--- Is the text a file of rows of the jobs?
+-- Is the text a file of rows of the jobs, and which runs do its lines write?
 abbrev pub IsRowsFile : JobsDef → List ℕ → Type 0
 IsRowsFile jobs bytes = AreRowsRecords jobs (records_in bytes)
+
+abbrev pub runs_in : JobsDef → List ℕ → List RunDef
+runs_in jobs bytes = runs_written jobs (drop 1 (records_in bytes))
 
 -- Line i is the first one that is refused, and this is why.
 pub record IsFirstRefused (jobs : JobsDef) (lines : List Fields) (i : ℕ) (r : RowsRefusal) : Type 0 where

@@ -1,5 +1,5 @@
 -- The text of rows in CSV.
-use Rattle.std.specs.Prelude.{◌≡◌, ℕ, ◌+◌, Bool, false, decimal, List, [], ◌∷◌, ◌++◌, map, length, Option, None, Some}
+use Rattle.std.specs.Prelude.{◌≡◌, ◌≤◌, ℕ, ◌+◌, Bool, true, false, decimal, List, [], ◌∷◌, ◌++◌, map, length, Option, None, Some}
 use Rattle.std.specs.List.{list_all}
 use Rattle.std.specs.declared.vec.Vec.{Vec}
 use Rattle.std.specs.Global.{Global}
@@ -7,9 +7,11 @@ use Rattle.csv.specs.Writing.{default_writer, row_text, writer_setup, fields_wri
 use Rattle.csv.specs.declared.writer.Writer.{Writer}
 use Rattle.sporadic_model.specs.SetDef.{SetDef}
 use Rattle.schedule_model.specs.RowDef.{RunDef}
-use Rattle.schedule_model.specs.Fitting.{is_sized}
+use Rattle.schedule_model.specs.JobDef.{JobsDef}
+use Rattle.schedule_model.specs.Fitting.{RowsDef, is_sized, is_fitting}
+use Rattle.schedule_model.specs.declared.limits.TheConstants.{MOST_JOBS}
 use Rattle.trace_csv.specs.Records.{Fields}
-use Rattle.trace_csv.specs.RowsFile.{rows_header}
+use Rattle.trace_csv.specs.RowsFile.{rows_header, IsRowsFile, runs_in}
 
 -- The cell that names a job, numbered from 1, or none.
 abbrev pub cell_of : Option ℕ → List ℕ
@@ -32,6 +34,14 @@ rows_text set runs = text_of (rows_header set ∷ map line_of runs)
 -- Has each row one place per processor and per resource of the set?
 abbrev pub are_sized : SetDef → List RunDef → Bool
 are_sized set runs = list_all (λ run. is_sized set.processors (length set.resources) run.row) runs
+
+-- Jobs of the set that the rows fit read the text as the same runs.
+pub record ReadsBack (rows : RowsDef) (text : List ℕ) (jobs : JobsDef) : Type 0 where
+  pub file : IsRowsFile jobs text
+  pub runs : runs_in jobs text ≡ rows.runs
+
+abbrev pub ReadsBackIfFitting : SetDef → RowsDef → List ℕ → Type 0
+ReadsBackIfFitting set rows text = (jobs : JobsDef) → jobs.set ≡ set → length jobs.jobs ≤ MOST_JOBS → is_fitting rows jobs ≡ true → ReadsBack rows text jobs
 
 -- A writer that stands between two records.
 pub record IsBetween (w : Writer (Vec ℕ Global)) : Type 0 where

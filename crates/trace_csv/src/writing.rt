@@ -1,7 +1,8 @@
 ghost use Rattle.std.specs.Prelude.{◌≡◌, ◌≤◌, ◌++◌, ◌∷◌, [], map, length, IfOk, OnOk, IsTrue};
 ghost use Rattle.csv.specs.Records.{fields_of, partial_of};
+ghost use Rattle.schedule_model.specs.Fitting.{IsRowList};
 ghost use Rattle.schedule_model.specs.Seen.{place_seen, run_seen};
-ghost use Rattle.trace_csv.specs.Written.{cell_of, line_of, rows_text, are_sized, IsBetween, IsPut};
+ghost use Rattle.trace_csv.specs.Written.{cell_of, line_of, rows_text, are_sized, IsBetween, IsPut, ReadsBackIfFitting};
 
 use crate::header::rows_header;
 use csv::{ByteRecord, Writer, WriterBuilder};
@@ -60,11 +61,11 @@ fn put(writer: &mut Writer<Vec<u8>>, row: &ByteRecord) -> Result<(), AllocError>
     }
 }
 
-/// Writes rows of a task set as CSV: the header, and a line for each run. The text ends with a line feed,
-/// as does each line. Reading it with jobs of the set that the rows fit gives the same runs again.
-pub fn write_rows(alloc: Global, set: &TaskSet, rows: &RowList) -> Result<Vec<u8>, AllocError>
+/// The text of rows of a task set.
+fn text_of_rows(alloc: Global, set: &TaskSet, rows: &RowList) -> Result<Vec<u8>, AllocError>
     requires { IsTrue (are_sized set.now rows.now.runs) }
-    ensures { IfOk result (λ text. text.items ≡ rows_text set.now rows.now.runs) }
+    ensures text { IfOk result (λ text. text.items ≡ rows_text set.now rows.now.runs) }
+    ensures listed { OnOk result (IsRowList rows.now) }
 {
     let mut writer = WriterBuilder::new().from_writer(Vec::new(alloc));
     put(&mut writer, &rows_header(alloc, set)?)?;
@@ -75,4 +76,15 @@ pub fn write_rows(alloc: Global, set: &TaskSet, rows: &RowList) -> Result<Vec<u8
         Ok(text) => Ok(text),
         Err(_) => Err(AllocError),
     }
+}
+
+/// Writes rows of a task set as CSV: the header, and a line for each run, each ended by one line feed.
+/// Reading the text with jobs of the set that the rows fit gives the same runs again.
+pub fn write_rows(alloc: Global, set: &TaskSet, rows: &RowList) -> Result<Vec<u8>, AllocError>
+    requires { IsTrue (are_sized set.now rows.now.runs) }
+    ensures text { IfOk result (λ text. text.items ≡ rows_text set.now rows.now.runs) }
+    ensures reads_back { IfOk result (λ text. ReadsBackIfFitting set.now rows.now text.items) }
+{
+    let text = text_of_rows(alloc, set, rows)?;
+    Ok(text)
 }

@@ -1,7 +1,7 @@
 use Rattle.std.proofs.Common.{◌≡◌, ◌++◌, ℕ, List, Some, map, drop}
 use Rattle.schedule_model.specs.Seen.{run_seen}
 use Rattle.trace_csv.specs.Written.{line_of, text_of, rows_text, IsBetween, held}
-use Rattle.trace_csv.proofs.writing.write_rows.Given as goal
+use Rattle.trace_csv.proofs.writing.text_of_rows.Given as goal
 
 abbrev pub invariant-loop-run : goal.invariant-loop-run
 invariant-loop-run l = record {
