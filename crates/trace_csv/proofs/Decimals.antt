@@ -19,7 +19,8 @@ tells : IsDigitsTest AreDigits
 tells = record {
   empty = refl;
   parts = λ c cs e. let k = and_parts (is_digit c) (list_all is_digit cs) e in let m = and_parts (nat_le 48 c) (nat_le c 57) k.0 in ((leb-true 48 c m.0, leb-true c 57 m.1), k.1);
-  more = λ c cs k e i. (le-leb 48 c k.0 i && le-leb c 57 k.1 i) && e i }
+  more = λ c cs k e i. (le-leb 48 c k.0 i && le-leb c 57 k.1 i) && e i;
+}
 
 own : IsNumeralModel AreDigits (value_after 0)
 own = numerals_by_fold AreDigits tells value_after (record { empty = λ n. refl; more = λ n c cs k. refl })

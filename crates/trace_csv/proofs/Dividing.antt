@@ -42,12 +42,14 @@ first_passes p xs i e = elim (cases_Bool (nat_lt (position_or_len p xs) (length 
       record {
         place = place;
         within = omega arith;
-        any = elim (found p xs) [ inl h ↦ h.0 | inr h ↦ absurd (omega (arith, h.1)) ] }
+        any = elim (found p xs) [ inl h ↦ h.0 | inr h ↦ absurd (omega (arith, h.1)) ];
+      }
   | inr past ↦ absurd (none_some (rw past at e))
 ]
   where
     some_same : (n : ℕ) → Some n ≡ Some i → n ≡ i
     some_same n e = cc
+
     none_some : None ≡ Some i → ⊥
     none_some e = cc
 

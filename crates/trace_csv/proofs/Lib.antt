@@ -1,6 +1,7 @@
 pub mod Numbers
 pub mod Fields
 pub mod Rests
+pub mod Sized
 pub mod Reading
 pub mod Dividing
 pub mod Tokens

@@ -91,7 +91,8 @@ takes s fields field [] p e = elim (cases_Bool (ends_at_end s)) [
       record {
         between = sym (ap (λ (r : Read). ends_at_end r.1) q);
         some = λ stays. absurd (false≢true (sym stays ∙ ends));
-        most = omega (arith, ap (λ (r : Read). length r.2) q) }
+        most = omega (arith, ap (λ (r : Read). length r.2) q);
+      }
   | inr goes ↦ absurd (no_read p (rw goes at e))
 ]
   where
@@ -103,7 +104,8 @@ takes s fields field (c ∷ rest) p e = elim (cases_Bool (is_end (step default_c
       record {
         between = sym (ap (λ (r : Read). ends_at_end r.1) q) ∙ ends_between s c ends;
         some = λ stays. omega (arith, ap (λ (r : Read). length r.2) q);
-        most = omega (arith, ap (λ (r : Read). length r.2) q) }
+        most = omega (arith, ap (λ (r : Read). length r.2) q);
+      }
   | inr goes ↦
       let more = takes (step default_config s c).0 (fields_after (step default_config s c).1 fields field) (field_after (step default_config s c).1 c field) rest p (rw goes at e) in
       record { between = more.between; some = λ stays. omega (arith, more.most); most = omega (arith, more.most) }

@@ -78,7 +78,8 @@ is_fit jobs run fits lasts =
       holders = eqb-true (length run.row.holders) (resource_count jobs) sizes.1;
       runs = names.0;
       holds = names.1;
-      lasts = lasts }
+      lasts = lasts;
+    }
 
 module _ (jobs : JobsDef) (small : job_count jobs < 2 ^ 64) where
   abbrev cells : RunDef → List (List ℕ)
@@ -99,9 +100,9 @@ module _ (jobs : JobsDef) (small : job_count jobs < 2 ^ 64) where
       let ys = map cell_of run.row.holders in
       let e : length xs ≡ processor_count jobs = length-map cell_of run.row.running ∙ fit.running in
       let running : map (job_in (job_count jobs)) (take (processor_count jobs) (cells run)) ≡ run.row.running =
-          ap (λ p. map (job_in (job_count jobs)) (take p (cells run))) (sym e) ∙ ap (map (job_in (job_count jobs))) (take_front xs ys) ∙ jobs_of_cells (job_count jobs) run.row.running small fit.runs in
+      ap (λ p. map (job_in (job_count jobs)) (take p (cells run))) (sym e) ∙ ap (map (job_in (job_count jobs))) (take_front xs ys) ∙ jobs_of_cells (job_count jobs) run.row.running small fit.runs in
       let holders : map (job_in (job_count jobs)) (drop (processor_count jobs) (cells run)) ≡ run.row.holders =
-          ap (λ p. map (job_in (job_count jobs)) (drop p (cells run))) (sym e) ∙ ap (map (job_in (job_count jobs))) (drop_front xs ys) ∙ jobs_of_cells (job_count jobs) run.row.holders small fit.holds in
+      ap (λ p. map (job_in (job_count jobs)) (drop p (cells run))) (sym e) ∙ ap (map (job_in (job_count jobs))) (drop_front xs ys) ∙ jobs_of_cells (job_count jobs) run.row.holders small fit.holds in
       λ i. record { running = running i; holders = holders i }
 
   run_again : (run : RunDef) → IsFit jobs run → run_written jobs (line_of run) ≡ run
@@ -165,11 +166,11 @@ line_none jobs runs small all most i h =
     ap (λ (b : List RunDef). line_refusal jobs b (line_at lines i) (i + 1)) before
     ∙ ap (λ (l : Fields). line_refusal jobs (take i runs) l (i + 1)) (element-map line_of runs i none [] h)
     ∙ neither (form_refusal jobs (line_of run) (i + 1)) (length_refusal (take i runs) (run_written jobs (line_of run)) (i + 1)) (form_again jobs small run fit (i + 1))
-        (ap (λ (r : RunDef). length_refusal (take i runs) r (i + 1)) (run_again jobs small run fit) ∙ no_length (take i runs) run (i + 1) room)
+    (ap (λ (r : RunDef). length_refusal (take i runs) r (i + 1)) (run_again jobs small run fit) ∙ no_length (take i runs) run (i + 1) room)
 
 pub reads_back : (jobs : JobsDef) (runs : List RunDef) → job_count jobs < 2 ^ 64 → AllFit jobs runs → ticks_of runs ≤ MOST_TICKS
     → AreRowsRecords jobs (records_in (rows_text jobs.set runs)) × (runs_written jobs (drop 1 (records_in (rows_text jobs.set runs))) ≡ runs)
 reads_back jobs runs small all most =
     let P : List Fields → Type 0 = λ records. AreRowsRecords jobs records × (runs_written jobs (drop 1 records) ≡ runs) in
     subst P (sym (records_written jobs.set runs))
-      (record { header = refl; lines = λ i h. line_none jobs runs small all most i (omega (arith, length-map line_of runs)) }, runs_again jobs runs small all)
+    (record { header = refl; lines = λ i h. line_none jobs runs small all most i (omega (arith, length-map line_of runs)) }, runs_again jobs runs small all)

@@ -24,6 +24,7 @@ in_range least most n (Some m) e = elim (cases_Bool (is_in_range least most m)) 
   where
     same : (m : ℕ) → Some m ≡ Some n → m ≡ n
     same m e = cc
+
     none_some : None ≡ Some n → ⊥
     none_some e = cc
 
@@ -53,9 +54,10 @@ sized_row processors resources n cells e =
 pub is_run : (jobs : JobsDef) (ticks : List ℕ) (cells : List (List ℕ)) (n : ℕ) → length cells ≡ processor_count jobs + resource_count jobs → ticks_in ticks ≡ Some n
     → IsRunOf jobs (run_written jobs (ticks ∷ cells))
 is_run jobs ticks cells n size e = record {
-    sized = sized_row (processor_count jobs) (resource_count jobs) (job_count jobs) cells size;
-    named = rw (all_below_of (job_count jobs) (take (processor_count jobs) cells), all_below_of (job_count jobs) (drop (processor_count jobs) cells)) refl;
-    ticks = rw e (in_range 1 MOST_TICKS n (number_in ticks) e) }
+  sized = sized_row (processor_count jobs) (resource_count jobs) (job_count jobs) cells size;
+  named = rw (all_below_of (job_count jobs) (take (processor_count jobs) cells), all_below_of (job_count jobs) (drop (processor_count jobs) cells)) refl;
+  ticks = rw e (in_range 1 MOST_TICKS n (number_in ticks) e);
+}
 
 -- No reason stands on such a line.
 pub none_due : (jobs : JobsDef) (ticks : List ℕ) (cells : List (List ℕ)) (k n : ℕ) → length cells ≡ processor_count jobs + resource_count jobs → ticks_in ticks ≡ Some n

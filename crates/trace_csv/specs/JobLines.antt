@@ -33,9 +33,10 @@ has_known_resource set part = option_map_or (λ r. is_some (resource_with_name s
 -- The job that a line writes: the name of its task, its release and its script.
 abbrev pub job_of_fields : SetDef → List ℕ → List ℕ → List ℕ → JobDef
 job_of_fields set name release script = record {
-    task = unwrap_or (task_with_name set name) 0;
-    release = unwrap_or (release_in release) 0;
-    script = map (segment_written set) (unwrap_or (script_in script) []) }
+  task = unwrap_or (task_with_name set name) 0;
+  release = unwrap_or (release_in release) 0;
+  script = map (segment_written set) (unwrap_or (script_in script) []);
+}
 
 abbrev pub job_written : SetDef → Fields → JobDef
 job_written set (name ∷ release ∷ script ∷ []) = job_of_fields set name release script

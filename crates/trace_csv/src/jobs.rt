@@ -45,11 +45,7 @@ fn segment_of(set: &TaskSet, part: &Part) -> Option<Segment>
 }
 
 /// The segments that the parts of a script write.
-fn segments_of(
-    alloc: Global,
-    set: &TaskSet,
-    parts: &[Part],
-) -> Result<Vec<Segment>, SegmentFault>
+fn segments_of(alloc: Global, set: &TaskSet, parts: &[Part]) -> Result<Vec<Segment>, SegmentFault>
     ensures { SegmentsRead result set.now (map part_seen parts.now) }
 {
     let mut segments = Vec::new(alloc);
@@ -106,12 +102,7 @@ fn job_of_fields(
 }
 
 /// The job that a line writes, or why the line, which has this number, is refused for its form and names.
-fn job_of(
-    alloc: Global,
-    set: &TaskSet,
-    row: &ByteRecord,
-    line: u64,
-) -> Result<Job, JobsRefusal>
+fn job_of(alloc: Global, set: &TaskSet, row: &ByteRecord, line: u64) -> Result<Job, JobsRefusal>
     ensures { LineRead result set.now (fields_of row.now) line }
 {
     let fields = match fields_in(alloc, row) {

@@ -1,13 +1,15 @@
 //! Jobs and rows in CSV: reading them with the number of the first line that is refused, and writing rows.
 #![tactic(auto)]
 
-mod number;
 mod header;
 mod jobs;
+mod number;
 mod refusal;
 mod rows;
 mod script;
 mod table;
+#[cfg(test)]
+mod tests;
 mod writing;
 
 pub use jobs::read_jobs;

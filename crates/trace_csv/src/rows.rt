@@ -66,11 +66,7 @@ fn are_listed(cells: &[&[u8]], jobs: u32) -> bool
 }
 
 /// The jobs that cells name among the first ones.
-fn places_of(
-    alloc: Global,
-    cells: &[&[u8]],
-    jobs: u32,
-) -> Result<Vec<Option<JobId>>, AllocError>
+fn places_of(alloc: Global, cells: &[&[u8]], jobs: u32) -> Result<Vec<Option<JobId>>, AllocError>
     ensures { IfOk result (λ places. map place_seen places.items ≡ map (job_in jobs) (map (λ c. c.now) cells.now)) }
 {
     let mut places = Vec::new(alloc);
@@ -81,12 +77,7 @@ fn places_of(
 }
 
 /// The row that cells write: per processor the job that runs, and then per resource the job that holds it.
-fn row_of(
-    alloc: Global,
-    cells: &[&[u8]],
-    processors: usize,
-    jobs: u32,
-) -> Result<Row, AllocError>
+fn row_of(alloc: Global, cells: &[&[u8]], processors: usize, jobs: u32) -> Result<Row, AllocError>
     requires { processors ≤ length cells.now }
     ensures { IfOk result (λ row. row_seen row ≡ row_of_cells processors jobs (map (λ c. c.now) cells.now)) }
 {
@@ -125,12 +116,7 @@ fn run_of_cells(
 }
 
 /// The run that a line writes, or why the line, which has this number, is refused for what stands on it.
-fn run_of(
-    alloc: Global,
-    jobs: &JobList,
-    row: &ByteRecord,
-    line: u64,
-) -> Result<RowRun, RowsRefusal>
+fn run_of(alloc: Global, jobs: &JobList, row: &ByteRecord, line: u64) -> Result<RowRun, RowsRefusal>
     ensures { LineRead result jobs.now (fields_of row.now) line }
 {
     let fields = match fields_in(alloc, row) {

@@ -12,4 +12,5 @@ loop-k-preserved c =
     record {
       fields = here.fields ∙ ap (λ (fs : List (List ℕ)). fs ++ (field ∷ [])) c.loop-k.invariant.fields
           ∙ ap (λ (fs : List (List ℕ)). codes "ticks" ∷ fs) (sym (map-range_with_len_more processor_field 1 k (k + 1) (omega arith)));
-      partial = here.partial }
+      partial = here.partial;
+    }

@@ -7,4 +7,5 @@ use Rattle.trace_csv.proofs.header.processors_header.Given as goal
 abbrev pub invariant-loop-k : goal.invariant-loop-k
 invariant-loop-k l = record {
   fields : fields_of l.header ≡ codes "ticks" ∷ processor_fields l.k;
-  partial : partial_of l.header ≡ [] }
+  partial : partial_of l.header ≡ [];
+}

@@ -15,12 +15,13 @@ loop-q-preserved c =
     let within : q < length rs = omega (arith, c.resources-q-end.ensures.value) in
     let inside : q < length (resource_fields set) = omega (arith, length-map (λ (r : ResourceDef). r.name) rs) in
     let field : c.as_bytes.result.now ≡ get_or (resource_fields set) q [] =
-        c.as_bytes.ensures.value ∙ c.resource_name.ensures ∙ sym (element-map (λ (r : ResourceDef). r.name) rs q no_resource [] within) in
+    c.as_bytes.ensures.value ∙ c.resource_name.ensures ∙ sym (element-map (λ (r : ResourceDef). r.name) rs q no_resource [] within) in
     record {
       fields = rw c.loop-q.invariant.partial at here.fields
           ∙ ap (λ (fs : List (List ℕ)). fs ++ (c.as_bytes.result.now ∷ [])) c.loop-q.invariant.fields
           ∙ ap (λ (fs : List (List ℕ)). codes "ticks" ∷ fs)
-              (append_assoc (processor_fields set.processors) (take q (resource_fields set)) (c.as_bytes.result.now ∷ [])
-              ∙ ap (λ (fs : List (List ℕ)). processor_fields set.processors ++ fs)
-                  (ap (λ (f : List ℕ). take q (resource_fields set) ++ (f ∷ [])) field ∙ sym (take_more (resource_fields set) q [] inside)));
-      partial = here.partial }
+          (append_assoc (processor_fields set.processors) (take q (resource_fields set)) (c.as_bytes.result.now ∷ [])
+          ∙ ap (λ (fs : List (List ℕ)). processor_fields set.processors ++ fs)
+          (ap (λ (f : List ℕ). take q (resource_fields set) ++ (f ∷ [])) field ∙ sym (take_more (resource_fields set) q [] inside)));
+      partial = here.partial;
+    }

@@ -7,4 +7,5 @@ use Rattle.trace_csv.proofs.header.rows_header.Given as goal
 abbrev pub invariant-loop-q : goal.invariant-loop-q
 invariant-loop-q l = record {
   fields : fields_of l.header ≡ codes "ticks" ∷ (processor_fields l.set.processors ++ take l.q (resource_fields l.set));
-  partial : partial_of l.header ≡ [] }
+  partial : partial_of l.header ≡ [];
+}

@@ -6,4 +6,5 @@ use Rattle.trace_csv.proofs.jobs.jobs_of.Given as goal
 abbrev pub invariant-loop-i : goal.invariant-loop-i
 invariant-loop-i l = record {
   list : l.jobs ≡ jobs_written l.set (take l.i (map fields_of l.lines));
-  earlier : (j : ℕ) → j < l.i → refusal_at l.set (map fields_of l.lines) j ≡ None }
+  earlier : (j : ℕ) → j < l.i → refusal_at l.set (map fields_of l.lines) j ≡ None;
+}

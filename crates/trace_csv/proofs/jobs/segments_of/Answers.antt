@@ -34,8 +34,14 @@ loop-part-preserved c =
       known = next_known (has_known_resource set) c.args.parts.now c.loop-part.part-index _ here c.in-Some.ensures.0 ∙ inv.known;
       written = rw (c.in-Ok.ensures.items, map-append segment_seen old (segment ∷ []))
           (next_written (segment_written set) (map segment_seen old) (segment_seen segment) c.args.parts.now c.loop-part.part-index _ here c.in-Some.ensures.1) ∙ inv.written;
-      inside = rw (c.in-Ok.ensures.items, map-append segment_seen old (segment ∷ []),
-          list_all-append (is_resource_in (length set.resources)) (map segment_seen old) (segment_seen segment ∷ []), inv.inside, c.in-Some.ensures.2) refl }
+      inside = rw (
+        c.in-Ok.ensures.items,
+        map-append segment_seen old (segment ∷ []),
+        list_all-append (is_resource_in (length set.resources)) (map segment_seen old) (segment_seen segment ∷ []),
+        inv.inside,
+        c.in-Some.ensures.2,
+      ) refl;
+    }
 
 pub returns-in_default : goal.returns-in_default
 returns-in_default c =

@@ -12,7 +12,8 @@ loop-digit-preserved c =
     record {
       small = omega (arith, c.saturating_add-value.ensures);
       left = one_more (2 ^ 64 - 1) c.loop-digit.value c.saturating_add-value.result ds i here
-          (omega (arith, c.saturating_add-value.ensures, c.saturating_mul.ensures, c.saturating_sub.ensures)) ∙ c.loop-digit.invariant.left }
+          (omega (arith, c.saturating_add-value.ensures, c.saturating_mul.ensures, c.saturating_sub.ensures)) ∙ c.loop-digit.invariant.left;
+    }
 
 pub returns : goal.returns
 returns c =

@@ -11,7 +11,7 @@ returns c =
     let cells = c.args.cells.now in
     let p = c.args.processors in
     let running : map place_seen c.in_ok-running.running.items ≡ map (job_in c.args.jobs) (take p (map now cells)) =
-        c.in_ok-running.ensures ∙ ap (map (job_in c.args.jobs)) (sym (take-map now p cells)) in
+    c.in_ok-running.ensures ∙ ap (map (job_in c.args.jobs)) (sym (take-map now p cells)) in
     let holders : map place_seen c.in_ok-holders.holders.items ≡ map (job_in c.args.jobs) (drop p (map now cells)) =
-        c.in_ok-holders.ensures ∙ ap (map (job_in c.args.jobs)) (ap (map now) (take_rest cells p) ∙ sym (drop-map now p cells)) in
+    c.in_ok-holders.ensures ∙ ap (map (job_in c.args.jobs)) (ap (map now) (take_rest cells p) ∙ sym (drop-map now p cells)) in
     λ i. record { running = running i; holders = holders i }

@@ -7,4 +7,5 @@ use Rattle.trace_csv.proofs.rows.rows_of.Given as goal
 abbrev pub invariant-loop-i : goal.invariant-loop-i
 invariant-loop-i l = record {
   list : l.rows ≡ rows_with l.jobs (runs_written l.jobs (take l.i (map fields_of l.lines)));
-  earlier : (j : ℕ) → j < l.i → refusal_at l.jobs (map fields_of l.lines) j ≡ None }
+  earlier : (j : ℕ) → j < l.i → refusal_at l.jobs (map fields_of l.lines) j ≡ None;
+}

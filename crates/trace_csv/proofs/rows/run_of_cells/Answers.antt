@@ -22,12 +22,12 @@ returns-in-Ok c =
     let count : c.len.result ≡ job_count jobs = c.len.ensures.value in
     let again : c.len-2.result ≡ job_count jobs = c.len-2.ensures.value in
     let size : length cells ≡ processor_count jobs + resource_count jobs =
-        length-map (λ (f : Bor (List ℕ)). f.now) c.args.cells.now ∙ omega (arith, c.if-cells-processors.false) in
+    length-map (λ (f : Bor (List ℕ)). f.now) c.args.cells.now ∙ omega (arith, c.if-cells-processors.false) in
     let some : ticks_in ticks ≡ Some n = sym c.in-Some.ensures in
     let form : list_all is_cell cells ≡ true = sym c.if-not-are_cells.ensures in
     let listed : list_all (is_listed (job_count jobs)) cells ≡ true = ap (λ m. list_all (is_listed m) cells) (sym count) ∙ sym c.if-not-are_listed.ensures in
     let row : row_seen c.in-Ok.row ≡ row_written jobs cells =
-        c.in-Ok.ensures ∙ ap (λ p. row_of_cells p c.len-2.result cells) processors ∙ ap (λ m. row_of_cells (processor_count jobs) m cells) again in
+    c.in-Ok.ensures ∙ ap (λ p. row_of_cells p c.len-2.result cells) processors ∙ ap (λ m. row_of_cells (processor_count jobs) m cells) again in
     let run : run_seen (record { ticks = n; row = c.in-Ok.row }) ≡ run_written jobs (ticks ∷ cells) =
-        λ i. record { ticks = unwrap_or (sym some i) 0; row = row i } in
+    λ i. record { ticks = unwrap_or (sym some i) 0; row = row i } in
     (none_due jobs ticks cells c.args.line n size some form listed, run, subst (IsRunOf jobs) (sym run) (is_run jobs ticks cells n size some))

@@ -8,7 +8,8 @@ returns-in-Some c =
     let h = c.in-Some.ensures in
     record {
       tokens = rw (h.0, h.1) (more_tokens c.args.text.now h.3);
-      smaller = omega (arith, h.2) }
+      smaller = omega (arith, h.2);
+    }
 
 pub returns-in-None : goal.returns-in-None
 returns-in-None c = record { tokens = one_token c.args.text.now c.in-None.ensures; smaller = omega arith }

@@ -39,5 +39,5 @@ returns c =
     let inv = c.loop-record.invariant in
     let s = rw c.in-None.is at ((c.next.ensures.steps inv.2 inv.0).0 inv.1) in
     let all : AreRecords default_config st.StartRecord (strip_bom c.args.text.now) (map fields_of c.loop-record.records.items) =
-        (c.loop-record.record-iterator.rdr.state, inv.4, inv.6, rows-end (λ (s : Bor (List ℕ)). Some s.now) c.loop-record.record-iterator.rdr c.next.new.self.rdr [] default_config inv.4 inv.3 inv.5 s) in
+    (c.loop-record.record-iterator.rdr.state, inv.4, inv.6, rows-end (λ (s : Bor (List ℕ)). Some s.now) c.loop-record.record-iterator.rdr c.next.new.self.rdr [] default_config inv.4 inv.3 inv.5 s) in
     sym (records_are (strip_bom c.args.text.now) (map fields_of c.loop-record.records.items) all)

@@ -22,5 +22,9 @@ loop-run-preserved c =
     let line = fields_of c.in_ok-line_of.field-0 in
     record {
       between = c.in_ok-put-2.ensures.between;
-      text = (inv.text.0 ++ row_text default_writer line, c.in_ok-put-2.ensures.text inv.text.0 inv.text.1,
-          text_more c.runs-run-items.result.now c.loop-run.run-index c.run-item.result inv.text.0 _ line c.loop-run-test.true c.run-item.is c.in_ok-line_of.ensures inv.text.2) }
+      text = (
+        inv.text.0 ++ row_text default_writer line,
+        c.in_ok-put-2.ensures.text inv.text.0 inv.text.1,
+        text_more c.runs-run-items.result.now c.loop-run.run-index c.run-item.result inv.text.0 _ line c.loop-run-test.true c.run-item.is c.in_ok-line_of.ensures inv.text.2,
+      );
+    }
