@@ -1,0 +1,83 @@
+-- Who interferes with whom, and for how many ticks a job does at most.
+use Rattle.std.proofs.Common.{◌≡◌, ℕ, ◌+◌, ◌<◌, ◌≤◌, ◌==◌, ◌&&◌, Bool, true, false, length, refl, sym, ◌∙◌, arith, inl, inr, Option, Some, None}
+use Rattle.std.specs.Option.{option_map_or}
+use Rattle.std.proofs.lemmas.Bool.{cases_Bool, and_parts, and_from, eqb-true, eq-eqb}
+use Rattle.bounded_sums.specs.Sums.{flag}
+use Rattle.bounded_sums.specs.Tests.{count_below, any_below}
+use Rattle.bounded_sums.proofs.CountLaws.{count_below-monotone, flag-of_true, flag-of_false}
+use Rattle.bounded_sums.proofs.TestLaws.{any_below-some}
+use Rattle.sporadic_model.specs.SetDef.{task_at}
+use Rattle.schedule_model.specs.JobDef.{job_of, total_ticks, local_ticks}
+use Rattle.schedule_model.specs.LawfulJobs.{IsLawfulJob}
+use Rattle.schedule_model.specs.RowDef.{Trace, is_job, running_on, runs_in}
+use Rattle.schedule_model.specs.Phase.{is_local, phase_of, executed}
+use Rattle.schedule_model.specs.Activity.{task_of, processor_of, is_active}
+use Rattle.schedule_model.specs.BlockedTicks.{is_executing, is_blocked, is_shared_interference, is_dpcp_interference}
+use Rattle.schedule_model.specs.ProtocolLaws.{IsOneOfThree, HasHigherRunner}
+use Rattle.schedule_laws.specs.Agreement.{RunsActiveBefore}
+use Rattle.schedule_laws.specs.Counting.{executed_in}
+use Rattle.schedule_laws.proofs.Rows.{job_named, named_job, runs_from}
+use Rattle.schedule_laws.proofs.Counts.{local_at_most, executed_within}
+use Rattle.schedule_laws.proofs.DpcpLaws.{HigherLocalRunner, dpcp_interfering}
+use Rattle.charge_model.specs.Interferers.{is_interferer, interferes_with_some, is_interference_of, shared_interfering_cost, dpcp_interfering_cost}
+
+-- What it is to interfere.
+pub record Interferer (interferes : Trace → ℕ → ℕ → Bool) (w : Trace) (t j y : ℕ) : Type 0 where
+  pub interference : interferes w t j ≡ true
+  pub runs : running_on (w.row t) (processor_of w j) ≡ Some y
+
+pub interferer_is : (interferes : Trace → ℕ → ℕ → Bool) (w : Trace) (t j y : ℕ) → is_interferer interferes w t j y ≡ true → Interferer interferes w t j y
+unfolding is_interferer
+interferer_is interferes w t j y h =
+    let parts : (interferes w t j ≡ true) × (is_job y (running_on (w.row t) (processor_of w j)) ≡ true) = and_parts _ _ h in
+    record { interference = parts.0; runs = job_named y _ parts.1 }
+
+pub interferer_from : (interferes : Trace → ℕ → ℕ → Bool) (w : Trace) (t j y : ℕ) → Interferer interferes w t j y → is_interferer interferes w t j y ≡ true
+unfolding is_interferer
+interferer_from interferes w t j y i = and_from _ _ i.interference (named_job y _ i.runs)
+
+-- Who interferes with some job runs.
+pub interferer_runs : (interferes : Trace → ℕ → ℕ → Bool) (w : Trace) (t y : ℕ) → interferes_with_some interferes w t y ≡ true → runs_in (w.row t) y ≡ true
+unfolding interferes_with_some
+interferer_runs interferes w t y h =
+    let some : (j : ℕ) × (j < length w.jobs) × (is_interferer interferes w t j y ≡ true) = any_below-some (length w.jobs) (λ j. is_interferer interferes w t j y) h in
+    let i : Interferer interferes w t some.0 y = interferer_is interferes w t some.0 y some.2 in
+    runs_from (w.row t) (processor_of w some.0) y i.runs
+
+-- Under DPCP it is Local.
+pub dpcp_interferer_local : (w : Trace) (t y : ℕ) → interferes_with_some is_dpcp_interference w t y ≡ true → is_local (phase_of w t y) ≡ true
+unfolding interferes_with_some
+dpcp_interferer_local w t y h =
+    let some : (j : ℕ) × (j < length w.jobs) × (is_interferer is_dpcp_interference w t j y ≡ true) = any_below-some (length w.jobs) (λ j. is_interferer is_dpcp_interference w t j y) h in
+    let i : Interferer is_dpcp_interference w t some.0 y = interferer_is is_dpcp_interference w t some.0 y some.2 in
+    let r : HigherLocalRunner w t some.0 = dpcp_interfering w t some.0 i.interference in
+    let x : Some r.runner ≡ Some y = sym r.runs ∙ i.runs in
+    let same : r.runner ≡ y = cc in
+    rw (← same) r.local
+
+-- A lawful job interferes for at most its task's cost, whatever interference is.
+pub interferes_within_cost : (interferes : Trace → ℕ → ℕ → Bool) (w : Trace) (n y : ℕ) → RunsActiveBefore w n → IsLawfulJob w.set (job_of w.jobs y)
+    → count_below n (λ t. interferes_with_some interferes w t y) ≤ shared_interfering_cost w.set (task_of w y)
+unfolding executed
+interferes_within_cost interferes w n y active lawful =
+    let runs : count_below n (λ t. interferes_with_some interferes w t y) ≤ executed w n y =
+    count_below-monotone n (λ t. interferes_with_some interferes w t y) (λ t. runs_in (w.row t) y) (λ t l h. interferer_runs interferes w t y h) in
+    let most : executed w n y ≤ total_ticks (job_of w.jobs y).script = executed_within w n n y active (omega arith) in
+    omega (arith, runs, most, lawful.cost)
+
+-- Under DPCP for at most its local limit.
+pub interferes_within_local : (w : Trace) (n y : ℕ) → IsLawfulJob w.set (job_of w.jobs y)
+    → count_below n (λ t. interferes_with_some is_dpcp_interference w t y) ≤ dpcp_interfering_cost w.set (task_of w y)
+unfolding executed_in
+interferes_within_local w n y lawful =
+    let runs : count_below n (λ t. interferes_with_some is_dpcp_interference w t y) ≤ executed_in is_local w n y =
+    count_below-monotone n (λ t. interferes_with_some is_dpcp_interference w t y) (λ t. runs_in (w.row t) y && is_local (phase_of w t y))
+    (λ t l h. and_from _ _ (interferer_runs is_dpcp_interference w t y h) (dpcp_interferer_local w t y h)) in
+    omega (arith, runs, local_at_most w n y, lawful.local)
+
+-- A tick that is interference for a job is one at which it is active.
+pub interference_active : (interferes : Trace → ℕ → ℕ → Bool) (w : Trace) (t j : ℕ) → IsOneOfThree interferes w t j → interferes w t j ≡ true → is_active w t j ≡ true
+interference_active interferes w t j three h = elim (cases_Bool (is_active w t j)) [
+  | inl active ↦ active
+  | inr off ↦ absurd (omega (arith, three, flag-of_true (interferes w t j) h, flag-of_false (is_active w t j) off))
+]

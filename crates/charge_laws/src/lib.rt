@@ -1,0 +1,2 @@
+//! Laws of charging.
+#![tactic(auto)]
