@@ -1,0 +1,2 @@
+//! direct_constraints.
+#![tactic(auto)]

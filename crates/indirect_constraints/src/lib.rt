@@ -1,0 +1,2 @@
+//! indirect_constraints.
+#![tactic(auto)]

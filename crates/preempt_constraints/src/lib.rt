@@ -1,0 +1,2 @@
+//! preempt_constraints.
+#![tactic(auto)]

@@ -1,0 +1,2 @@
+//! protocol_programs.
+#![tactic(auto)]
