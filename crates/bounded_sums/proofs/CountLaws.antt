@@ -1,9 +1,9 @@
 -- The laws of counting the numbers below a bound that pass a test.
-use Rattle.std.proofs.Common.{◌≡◌, ℕ, zero, suc, ◌+◌, ◌*◌, ◌<◌, ◌≤◌, refl, ap, ◌∙◌, arith, inl, inr, Bool, true, false, not, ◌&&◌, ◌||◌}
-use Rattle.std.proofs.lemmas.Bool.{cases_Bool}
-use Rattle.bounded_sums.specs.Sums.{sum_below, flag}
+use Rattle.std.proofs.Common.{◌≡◌, ℕ, zero, suc, ◌+◌, ◌*◌, ◌<◌, ◌≤◌, ◌==◌, refl, sym, ap, ◌∙◌, arith, inl, inr, Bool, true, false, not, ◌&&◌, ◌||◌}
+use Rattle.std.proofs.lemmas.Bool.{cases_Bool, eq-eqb, ne_eqb}
+use Rattle.bounded_sums.specs.Sums.{sum_below, flag, only_if}
 use Rattle.bounded_sums.specs.Tests.{count_below}
-use Rattle.bounded_sums.proofs.SumLaws.{sum_below-agree, sum_below-monotone, sum_below-some, sum_below-plus, sum_below-split, sum_below-longer, sum_below-constant, sum_below-times_right, sum_below-zero, sum_below-term}
+use Rattle.bounded_sums.proofs.SumLaws.{sum_below-agree, sum_below-monotone, sum_below-some, sum_below-plus, sum_below-split, sum_below-longer, sum_below-constant, sum_below-times_right, sum_below-zero, sum_below-term, sum_below-one}
 
 pub flag-at_most : (b : Bool) → flag b ≤ 1
 flag-at_most true = omega arith
@@ -96,3 +96,17 @@ count_below-one (suc n) p h = elim (cases_Bool (p n)) [
 pub sum_below-counted : (n c : ℕ) (p : ℕ → Bool) (f : ℕ → ℕ) → ((k : ℕ) → k < n → f k ≤ flag (p k) * c) → sum_below n f ≤ count_below n p * c
 sum_below-counted n c p f h =
     omega (arith, sum_below-monotone n f (λ k. flag (p k) * c) h, sum_below-times_right n c (λ k. flag (p k)))
+
+-- A count of numbers that all give the one answer.
+pub count_below-same : (n : ℕ) (p : ℕ → Bool) (b : Bool) → ((k : ℕ) → k < n → p k ≡ b) → count_below n p ≡ only_if b n
+count_below-same n p true h = count_below-all n p h
+count_below-same n p false h = count_below-none n p h
+
+-- One number below n is a given one that is below n.
+pub count_below-equal : (n i : ℕ) → i < n → count_below n (λ k. i == k) ≡ 1
+count_below-equal n i l = sum_below-one n (λ k. flag (i == k)) i l (λ k b other. away k other) ∙ here where
+  away : (k : ℕ) → (k ≡ i → ⊥) → flag (i == k) ≡ 0
+  away k other = rw (ne_eqb i k (λ e. other (sym e))) refl
+
+  here : flag (i == i) ≡ 1
+  here = rw (eq-eqb i i refl) refl

@@ -133,3 +133,18 @@ only_if-times false n = omega arith
 pub only_if-at_most : (b : Bool) (n : ℕ) → only_if b n ≤ n
 only_if-at_most true n = omega arith
 only_if-at_most false n = omega arith
+
+-- What counts only where the test passes: all of it, or nothing.
+pub only_if-true : (b : Bool) (n : ℕ) → b ≡ true → only_if b n ≡ n
+only_if-true b n h = rw h refl
+
+-- Nothing, where the test fails.
+pub only_if-false : (b : Bool) (n : ℕ) → b ≡ false → only_if b n ≡ 0
+only_if-false b n h = rw h refl
+
+-- A sum that is at most c where some term isn't 0 is at most c.
+pub sum_below-none_or_some : (n c : ℕ) (f : ℕ → ℕ) → ((u : ℕ) → u < n → 0 < f u → sum_below n f ≤ c) → sum_below n f ≤ c
+sum_below-none_or_some n c f h = elim (cases_lt 0 (sum_below n f)) [
+  | inl some ↦ let a : (u : ℕ) × (u < n) × (0 < f u) = sum_below-some n f some in h a.0 a.1 a.2
+  | inr none ↦ omega arith
+]

@@ -1,7 +1,7 @@
 -- The laws of tests of the numbers below a bound: all of them, some of them, the first of them.
-use Rattle.std.proofs.Common.{◌≡◌, ℕ, zero, suc, ◌<◌, ◌≤◌, refl, ◌∙◌, arith, inl, inr, Bool, true, false, ◌||◌, ltb}
-use Rattle.std.proofs.lemmas.Bool.{and_parts, and_from, and_cases, or_cases, cases_Bool, both_ways, ltb-true, ltb-false, cases_lt}
-use Rattle.bounded_sums.specs.Tests.{all_below, any_below, first_below}
+use Rattle.std.proofs.Common.{◌≡◌, ℕ, zero, suc, ◌<◌, ◌≤◌, refl, ap, ◌∙◌, arith, inl, inr, Bool, true, false, ◌||◌, ltb, cond, Some, None}
+use Rattle.std.proofs.lemmas.Bool.{and_parts, and_from, and_cases, or_cases, cases_Bool, both_ways, ltb-true, ltb-false, lt-ltb, cases_lt}
+use Rattle.bounded_sums.specs.Tests.{all_below, any_below, first_below, found_below}
 
 or_none : (x y : Bool) → (x || y) ≡ false → (x ≡ false) × (y ≡ false)
 or_none true y h = cc
@@ -152,3 +152,33 @@ first_below-agree n p q h =
     first_below-is n p (first_below n q) most
     (λ k l. h k (omega arith) ∙ first_below-before n q k l)
     (λ l. h (first_below n q) l ∙ first_below-passes n q l)
+
+-- What is found is below n and passes.
+pub found_below-is : (n : ℕ) (p : ℕ → Bool) (k : ℕ) → found_below n p ≡ Some k → (k < n) × (p k ≡ true)
+found_below-is n p k h = elim (cases_Bool (ltb (first_below n p) n)) [
+  | inl below ↦
+      let found : Some (first_below n p) ≡ Some k = rw below at h in
+      let e : first_below n p ≡ k = cc in
+      let l : first_below n p < n = ltb-true _ _ below in
+      rw (← e) (l, first_below-passes n p l)
+  | inr none ↦ let x : None ≡ Some k = rw none at h in absurd (cc)
+]
+
+-- Where nothing is found, each fails.
+pub found_below-none : (n : ℕ) (p : ℕ → Bool) → found_below n p ≡ None → (k : ℕ) → k < n → p k ≡ false
+found_below-none n p h k l = elim (cases_Bool (ltb (first_below n p) n)) [
+  | inl below ↦ let x : Some (first_below n p) ≡ None = rw below at h in absurd (cc)
+  | inr none ↦ first_below-before n p k (omega (arith, ltb-false _ _ none))
+]
+
+-- Where one alone passes, it is what is found.
+pub found_below-one : (n : ℕ) (p : ℕ → Bool) (k : ℕ) → k < n → p k ≡ true → ((i : ℕ) → i < n → p i ≡ true → i ≡ k) → found_below n p ≡ Some k
+found_below-one n p k l h one =
+    let below : first_below n p < n = first_below-found n p k l h in
+    let e : first_below n p ≡ k = one (first_below n p) below (first_below-passes n p below) in
+    let t : ltb (first_below n p) n ≡ true = lt-ltb _ _ below in
+    rw t (ap (λ i. Some i) e)
+
+-- Tests that agree below n find the same.
+pub found_below-agree : (n : ℕ) (p q : ℕ → Bool) → ((k : ℕ) → k < n → p k ≡ q k) → found_below n p ≡ found_below n q
+found_below-agree n p q h = ap (λ i. cond (ltb i n) (Some i) None) (first_below-agree n p q h)

@@ -1,5 +1,5 @@
 -- Tests of the whole numbers below a bound: how many pass, whether all do, whether one does, and which does first.
-use Rattle.std.specs.Prelude.{◌≡◌, refl, ℕ, zero, suc, Bool, true, false, ◌&&◌, ◌||◌, nat_lt, if◌then◌else◌}
+use Rattle.std.specs.Prelude.{◌≡◌, refl, ℕ, zero, suc, Bool, true, false, ◌&&◌, ◌||◌, nat_lt, if◌then◌else◌, Option, None, Some}
 use Rattle.bounded_sums.specs.Sums.{sum_below, flag}
 
 -- How many numbers below n pass the test p?
@@ -21,6 +21,10 @@ abbrev pub first_below : ℕ → (ℕ → Bool) → ℕ
 first_below zero p = 0
 first_below (suc n) p = if nat_lt (first_below n p) n || p n then first_below n p else suc n
 
+-- The least number below n that passes p, where there is one.
+abbrev pub found_below : ℕ → (ℕ → Bool) → Option ℕ
+found_below n p = if nat_lt (first_below n p) n then Some (first_below n p) else None
+
 pub two_of_nine : count_below 9 (λ k. nat_lt k 2) ≡ 2
 two_of_nine = refl
 
@@ -35,3 +39,9 @@ six_is_first = refl
 
 pub none_is_first : first_below 4 (λ k. nat_lt 5 k) ≡ 4
 none_is_first = refl
+
+pub six_is_found : found_below 9 (λ k. nat_lt 5 k) ≡ Some 6
+six_is_found = refl
+
+pub none_is_found : found_below 4 (λ k. nat_lt 5 k) ≡ None
+none_is_found = refl

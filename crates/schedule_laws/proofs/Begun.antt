@@ -9,7 +9,7 @@ use Rattle.schedule_model.specs.Phase.Phase.{Local, Asking, Finished}
 use Rattle.schedule_laws.specs.Counting.{requests_in, begun_after, requests_begun}
 use Rattle.schedule_laws.proofs.Phases.{phase_of_none, phase_local, phase_request, phase_later, asking_at, asking_from}
 use Rattle.schedule_laws.proofs.Ticks.{executed_up}
-use Rattle.schedule_laws.proofs.SumLaws.{count_by-first}
+use Rattle.bounded_sums.proofs.ListCounts.{count_by-first}
 
 -- The three places in the first segment.
 begun_local : (s : SegmentDef) (script : List SegmentDef) (d : ℕ) → d < s.local → begun_after (s ∷ script) d ≡ 0

@@ -7,7 +7,8 @@ use Rattle.std.proofs.lemmas.Bool.{cases_Bool, cases_lt, and_parts, leb-true, eq
 use Rattle.std.proofs.lemmas.List.Sums.{sum_by-cons}
 use Rattle.bounded_sums.specs.Sums.{flag, only_if}
 use Rattle.bounded_sums.specs.Tests.{count_below}
-use Rattle.bounded_sums.proofs.CountLaws.{count_below-split, count_below-longer, count_below-none, count_below-agree}
+use Rattle.bounded_sums.proofs.CountLaws.{count_below-split, count_below-longer, count_below-none, count_below-agree, count_below-same}
+use Rattle.bounded_sums.proofs.ListCounts.{count_by-first}
 use Rattle.sporadic_model.specs.SetDef.{SetDef}
 use Rattle.sporadic_model.specs.Users.{length_of}
 use Rattle.schedule_model.specs.JobDef.{SegmentDef, job_of, request_ticks, segment_ticks, asks_for, total_ticks, local_ticks, number_of_requests}
@@ -21,7 +22,6 @@ use Rattle.schedule_laws.proofs.Phases.{phase_local, phase_request, phase_later,
 use Rattle.schedule_laws.proofs.Ticks.{executed_none, executed_runs, executed_waits, finished_at, finished_executed}
 use Rattle.schedule_laws.proofs.ActiveJobs.{Active, active_is}
 use Rattle.schedule_laws.proofs.Rows.{runs_where}
-use Rattle.schedule_laws.proofs.SumLaws.{count_below-same, count_by-first}
 
 -- Ticks at which the job ran in a kind of phase are numbers of executed ticks with that phase.
 pub executed_where : (p : Phase → Bool) (w : Trace) (t j : ℕ) → executed_in p w t j ≡ count_below (executed w t j) (λ d. p (phase_from 0 (job_of w.jobs j).script d))

@@ -7,7 +7,6 @@ pub mod Rows
 pub mod Holders
 pub mod SharedLaws
 pub mod DpcpLaws
-pub mod SumLaws
 pub mod Segments
 pub mod Counts
 pub mod Begun

@@ -5,13 +5,13 @@ use Rattle.std.proofs.lemmas.Bool.{and_parts, ltb-true}
 use Rattle.bounded_sums.specs.Sums.{sum_below, flag}
 use Rattle.bounded_sums.specs.Tests.{count_below}
 use Rattle.bounded_sums.proofs.SumLaws.{sum_below-zero, sum_below-agree, sum_below-plus, sum_below-monotone}
-use Rattle.bounded_sums.proofs.CountLaws.{count_below-none}
+use Rattle.bounded_sums.proofs.CountLaws.{count_below-none, count_below-equal}
+use Rattle.bounded_sums.proofs.ListCounts.{count_by-first, count_by-places}
 use Rattle.sporadic_model.specs.SetDef.{SetDef}
 use Rattle.sporadic_model.specs.Users.{count_of}
 use Rattle.schedule_model.specs.JobDef.{SegmentDef, JobDef, asks_for, number_of_requests}
 use Rattle.schedule_model.specs.LawfulJobs.{is_resource_in, are_resources_in, IsLawfulJob}
 use Rattle.schedule_laws.specs.Counting.{no_segment, requests_in}
-use Rattle.schedule_laws.proofs.SumLaws.{count_by-first, count_by-places, count_below-equal}
 
 -- The segments that ask for q, counted by their numbers, are as many as the requests of q.
 pub requests_by_number : (script : List SegmentDef) (q : ℕ) → count_below (length script) (λ m. asks_for q (get_or script m no_segment)) ≡ number_of_requests script q

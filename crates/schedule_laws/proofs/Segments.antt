@@ -2,17 +2,18 @@
 use Rattle.std.proofs.Common.{◌≡◌, ℕ, suc, ◌+◌, ◌-◌, ◌<◌, ◌==◌, true, false, List, [], ◌∷◌, length, get_or, refl, sym, ap, ◌∙◌, arith, inl, inr, Option, Some, None, nat_lt}
 use Rattle.std.specs.Option.{option_map_or}
 use Rattle.std.proofs.lemmas.Bool.{cases_lt, lt-ltb, ltb-true, eqb-true}
+use Rattle.bounded_sums.proofs.ListCounts.{count_by-some}
 use Rattle.sporadic_model.specs.SetDef.{SetDef}
 use Rattle.sporadic_model.specs.Users.{count_of, is_user}
 use Rattle.schedule_model.specs.JobDef.{SegmentDef, job_of, segment_ticks, asks_for, number_of_requests}
 use Rattle.schedule_model.specs.LawfulJobs.{is_resource_in, IsLawfulJob}
+use Rattle.schedule_model.proofs.Scripts.{list_all-each}
 use Rattle.schedule_model.specs.RowDef.{Trace}
 use Rattle.schedule_model.specs.Phase.{phase_from, executed, phase_of}
 use Rattle.schedule_model.specs.Phase.Phase.{Local, Asking, Finished}
 use Rattle.schedule_laws.specs.Counting.{no_segment}
 use Rattle.schedule_laws.proofs.Phases.{phase_of_none, phase_local, phase_request, phase_later, asking_at}
 use Rattle.schedule_laws.proofs.Ticks.{unfinished_listed}
-use Rattle.schedule_laws.proofs.SumLaws.{list_all-place, count_by-some}
 
 -- The segment at a place of a script, whose request is of resource q.
 pub record RequestAt (script : List SegmentDef) (i q : ℕ) : Type 0 where
@@ -64,7 +65,7 @@ pub open_resource : (set : SetDef) (w : Trace) (t j m q : ℕ) → IsLawfulJob s
 open_resource set w t j m q lawful h =
     let r : RequestAt (job_of w.jobs j).script m q = open_segment w t j m q h in
     resource_below (length set.resources) q (get_or (job_of w.jobs j).script m no_segment)
-    (list_all-place (is_resource_in (length set.resources)) (job_of w.jobs j).script m no_segment lawful.resources r.within) r.asks
+    (list_all-each (is_resource_in (length set.resources)) (job_of w.jobs j).script m no_segment r.within lawful.resources) r.asks
 
 -- A lawful job's task is a user of what the job requests.
 pub open_user : (set : SetDef) (w : Trace) (t j m q : ℕ) → IsLawfulJob set (job_of w.jobs j) → phase_of w t j ≡ Asking m q → is_user set q (job_of w.jobs j).task ≡ true

@@ -11,16 +11,17 @@ use Rattle.bounded_sums.proofs.TestLaws.{all_below-each}
 use Rattle.sporadic_model.specs.SetDef.{SetDef, task_at}
 use Rattle.sporadic_model.specs.Users.{count_of}
 use Rattle.schedule_model.specs.JobDef.{JobDef, JobsDef, job_of, total_ticks, local_ticks, number_of_requests}
-use Rattle.schedule_model.specs.LawfulJobs.{is_script, is_length_kept, is_within_budget, are_resources_in, last_release, is_too_close, is_too_many, segment_count, first_refusal, with_job, IsLawfulJob, AreLawfulJobs}
+use Rattle.schedule_model.specs.LawfulJobs.{is_length_kept, are_resources_in, IsLawfulJob, AreLawfulJobs}
+use Rattle.schedule_model.specs.JobLists.{is_listed_script, is_within_budget, last_release, is_too_close, is_too_many, segment_count, first_refusal, with_job, IsJobList}
 use Rattle.schedule_model.specs.declared.limits.TheConstants.{MOST_JOBS, MOST_SEGMENTS}
 use Rattle.sporadic_model.specs.declared.limits.TheConstants.{MOST_TICKS}
 use Rattle.schedule_model.specs.declared.refusal.JobRefusal.TheVariants as refusal
-use Rattle.schedule_model.proofs.Scripts.{number_of_requests-past}
+use Rattle.schedule_model.proofs.Scripts.{number_of_requests-past, script_from}
 use Rattle.schedule_model.proofs.Releases.{IsLastAt, last_release-at, last_release-none}
 
 -- A job for which no refusal is due.
 pub record IsAccepted (jobs : JobsDef) (job : JobDef) : Type 0 where
-  pub script : is_script job.script ≡ true
+  pub script : is_listed_script job.script ≡ true
   pub budget : is_within_budget jobs.set job ≡ true
   pub apart : is_too_close jobs job ≡ false
   pub room : is_too_many jobs.jobs job ≡ false
@@ -35,7 +36,7 @@ none_due true true false false h = (refl, refl, refl, refl)
 
 pub accepted_from : (jobs : JobsDef) (job : JobDef) → first_refusal jobs job ≡ None → IsAccepted jobs job
 accepted_from jobs job h =
-    let parts : (is_script job.script ≡ true) × (is_within_budget jobs.set job ≡ true) × (is_too_close jobs job ≡ false) × (is_too_many jobs.jobs job ≡ false) = none_due (is_script job.script) (is_within_budget jobs.set job) (is_too_close jobs job) (is_too_many jobs.jobs job) h in
+    let parts : (is_listed_script job.script ≡ true) × (is_within_budget jobs.set job ≡ true) × (is_too_close jobs job ≡ false) × (is_too_many jobs.jobs job ≡ false) = none_due (is_listed_script job.script) (is_within_budget jobs.set job) (is_too_close jobs job) (is_too_many jobs.jobs job) h in
     record { script = parts.0; budget = parts.1; apart = parts.2; room = parts.3 }
 
 -- What staying within the budget says.
@@ -67,7 +68,7 @@ lawful_from jobs job task resources accepted =
     let within = within_from jobs.set job accepted.budget in
     record {
       task = task;
-      script = accepted.script;
+      script = script_from job.script accepted.script;
       resources = resources;
       cost = within.cost;
       local = within.local;
@@ -153,17 +154,25 @@ apart_more jobs job lawful apart a b l w = elim (cases_lt b (length jobs.jobs)) 
 -- The list stays lawful with the job at its end.
 pub lawful_more : (jobs : JobsDef) (job : JobDef) → AreLawfulJobs jobs → job.task < length jobs.set.tasks → are_resources_in (length jobs.set.resources) job.script ≡ true
     → first_refusal jobs job ≡ None → AreLawfulJobs (with_job jobs job)
-unfolding is_too_many
 lawful_more jobs job lawful task resources none =
+    let accepted = accepted_from jobs job none in
+    record {
+      each = each_more (IsLawfulJob jobs.set) jobs.jobs job lawful.each (lawful_from jobs job task resources accepted);
+      apart = apart_more jobs job lawful (apart_from jobs job accepted.apart);
+    }
+
+-- And it stays within the limits.
+pub listed_more : (jobs : JobsDef) (job : JobDef) → IsJobList jobs → first_refusal jobs job ≡ None → IsJobList (with_job jobs job)
+unfolding is_too_many
+listed_more jobs job listed none =
     let accepted = accepted_from jobs job none in
     let apart = apart_from jobs job accepted.apart in
     let room : (leb MOST_JOBS (length jobs.jobs) ≡ false) × (ltb MOST_SEGMENTS (segment_count jobs.jobs + length job.script) ≡ false) = or_none (leb MOST_JOBS (length jobs.jobs)) (ltb MOST_SEGMENTS (segment_count jobs.jobs + length job.script)) accepted.room in
     let fewer : length jobs.jobs < MOST_JOBS = leb-false _ _ room.0 in
     let shorter : segment_count jobs.jobs + length job.script ≤ MOST_SEGMENTS = ltb-false _ _ room.1 in
     record {
-      each = each_more (IsLawfulJob jobs.set) jobs.jobs job lawful.each (lawful_from jobs job task resources accepted);
-      apart = apart_more jobs job lawful apart;
-      release = each_more (λ j. j.release ≤ MOST_TICKS) jobs.jobs job lawful.release apart.release;
+      scripts = each_more (λ j. is_listed_script j.script ≡ true) jobs.jobs job listed.scripts accepted.script;
+      release = each_more (λ j. j.release ≤ MOST_TICKS) jobs.jobs job listed.release apart.release;
       most = omega (arith, length-append jobs.jobs (job ∷ []));
       segments = omega (arith, segments_more jobs.jobs job);
     }

@@ -3,7 +3,7 @@ use Rattle.std.proofs.Common.{◌≡◌, ℕ, zero, suc, ◌<◌, ◌==◌, true
 use Rattle.std.specs.Option.{option_or}
 use Rattle.std.proofs.lemmas.Bool.{cases_Bool, eqb-true, eq-eqb}
 use Rattle.schedule_model.specs.JobDef.{JobDef, job_of}
-use Rattle.schedule_model.specs.LawfulJobs.{last_release}
+use Rattle.schedule_model.specs.JobLists.{last_release}
 use Rattle.schedule_model.specs.Seen.{job_seen}
 use Rattle.schedule_model.specs.declared.job.Job.{Job}
 

@@ -1,6 +1,6 @@
 -- Which jobs may run, which wait, and since when.
-use Rattle.std.specs.Prelude.{ℕ, ◌==◌, ◌&&◌, ◌||◌, not, Bool, false, nat_le, Option}
-use Rattle.bounded_sums.specs.Tests.{all_below, first_below}
+use Rattle.std.specs.Prelude.{ℕ, ◌==◌, ◌&&◌, ◌||◌, not, Bool, false, nat_le, Option, length}
+use Rattle.bounded_sums.specs.Tests.{all_below, first_below, found_below}
 use Rattle.sporadic_model.specs.SetDef.{task_at}
 use Rattle.schedule_model.specs.JobDef.{job_of}
 use Rattle.schedule_model.specs.RowDef.{Trace, is_job, holder_in}
@@ -26,6 +26,14 @@ is_next w t j = all_below j (λ e. not (task_of w e == task_of w j) || is_finish
 -- Is job j active at tick t: pending, with each earlier job of its task finished?
 unfoldable pub is_active : Trace → ℕ → ℕ → Bool
 is_active w t j = is_pending w t j && is_next w t j
+
+-- Is job j the active job of task x at tick t?
+unfoldable pub is_active_job_of : Trace → ℕ → ℕ → ℕ → Bool
+is_active_job_of w t x j = is_active w t j && (task_of w j == x)
+
+-- Which job of task x is active at tick t, where one is? No two are.
+unfoldable pub active_job_of : Trace → ℕ → ℕ → Option ℕ
+active_job_of w t x = found_below (length w.jobs) (is_active_job_of w t x)
 
 -- Is job j a requester of resource q at tick t: active, and in a request of q?
 unfoldable pub is_requester : Trace → ℕ → ℕ → ℕ → Bool

@@ -3,7 +3,7 @@
 use Rattle.std.specs.Prelude.{ℕ, ◌&&◌, not, Bool, false}
 use Rattle.std.specs.Option.{option_map_or}
 use Rattle.sporadic_model.specs.SetDef.{is_higher_local}
-use Rattle.schedule_model.specs.RowDef.{Trace, runs_in, running_on}
+use Rattle.schedule_model.specs.RowDef.{Trace, is_job, runs_in, running_on}
 use Rattle.schedule_model.specs.Phase.{is_local, phase_of}
 use Rattle.schedule_model.specs.Activity.{task_of, processor_of, is_active}
 
@@ -30,6 +30,11 @@ is_shared_interference w t j = is_delayed w t j && runs_higher w t j
 
 unfoldable pub is_dpcp_interference : Trace → ℕ → ℕ → Bool
 is_dpcp_interference w t j = is_delayed w t j && runs_higher_local w t j
+
+-- Does job y make tick t interference for job j, where these ticks are interference: is the tick, and does y run on
+-- j's processor?
+unfoldable pub is_interferer : (Trace → ℕ → ℕ → Bool) → Trace → ℕ → ℕ → ℕ → Bool
+is_interferer interferes w t j y = interferes w t j && is_job y (running_on (w.row t) (processor_of w j))
 
 -- Is job j blocked at tick t, where these ticks are interference: active, not running, and not interfered with?
 unfoldable pub is_blocked : (Trace → ℕ → ℕ → Bool) → Trace → ℕ → ℕ → Bool

@@ -3,16 +3,17 @@
 use Rattle.std.specs.Prelude.{◌≡◌, ◌≢◌, ℕ, ◌<◌, ◌≤◌, ◌==◌, ◌&&◌, ◌||◌, not, Bool, true, false, nat_le, length, None, Some, unwrap_or}
 use Rattle.std.specs.Option.{option_map_or}
 use Rattle.bounded_sums.specs.Tests.{all_below, any_below}
-use Rattle.sporadic_model.specs.SetDef.{resource_at}
+use Rattle.sporadic_model.specs.Homes.{home_in}
 use Rattle.sporadic_model.specs.Users.{ceiling_of}
 use Rattle.schedule_model.specs.RowDef.{Trace, running_on, holder_in, held_before}
 use Rattle.schedule_model.specs.Phase.{Phase, is_local, is_asking, phase_of}
 use Rattle.schedule_model.specs.Phase.Phase.{Asking}
 use Rattle.schedule_model.specs.Activity.{task_of, processor_of, is_active, is_requester, is_active_local, holds_by}
 
--- The processor at which requests of resource q run; 0, which is no processor, where q has no home.
+-- The processor at which requests of resource q run; 0, which is no processor, where q has no home. A set suits these
+-- rules where each resource has one (`EachHasHome`).
 abbrev pub home_of : Trace → ℕ → ℕ
-home_of w q = unwrap_or (resource_at w.set q).home 0
+home_of w q = home_in w.set q
 
 -- The highest task that uses resource q; the number of tasks, which is below all, where none does.
 abbrev pub ceiling_rank : Trace → ℕ → ℕ

@@ -9,12 +9,17 @@ use Rattle.sporadic_model.specs.declared.limits.TheConstants.{MOST_TICKS}
 use Rattle.schedule_model.specs.declared.refusal.RowRefusal.{RowRefusal}
 use Rattle.schedule_model.specs.declared.refusal.RowRefusal.TheVariants as refusal
 
--- A list of runs of equal rows, made for so many processors, resources and jobs.
+-- A list of runs of equal rows. Its first three numbers say for how many processors, resources and jobs it was made:
+-- they bound what may be pushed, and are no part of the schedule.
 pub record RowsDef : Type 0 where
   pub processors : ℕ
   pub resources : ℕ
   pub jobs : ℕ
   pub runs : List RunDef
+
+-- Are they the same rows? They are where the runs are the same, whatever the lists were made for.
+abbrev pub AreSameRows : RowsDef → RowsDef → Type 0
+AreSameRows a b = a.runs ≡ b.runs
 
 -- The empty list that is made for a list of jobs.
 abbrev pub rows_for : JobsDef → RowsDef

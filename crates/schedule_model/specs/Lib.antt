@@ -6,12 +6,14 @@ pub mod SharedRules
 pub mod Ranks
 pub mod DpcpRules
 pub mod LawfulJobs
+pub mod JobLists
 pub mod Fitting
 pub mod Seen
 pub mod ListViews
 pub mod Protocols
 pub mod Keeping
 pub mod Chosen
+pub mod TakenRows
 pub mod BlockedTicks
 pub mod Measures
 pub mod ProtocolLaws

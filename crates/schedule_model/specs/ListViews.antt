@@ -2,7 +2,8 @@
 use Rattle.std.specs.Prelude.{◌≡◌, map}
 use Rattle.schedule_model.specs.JobDef.{JobsDef}
 use Rattle.schedule_model.specs.Seen.{job_seen, run_seen}
-use Rattle.schedule_model.specs.LawfulJobs.{AreLawfulJobs, segment_count}
+use Rattle.schedule_model.specs.LawfulJobs.{AreLawfulJobs}
+use Rattle.schedule_model.specs.JobLists.{IsJobList, segment_count}
 use Rattle.schedule_model.specs.RowDef.{ticks_of}
 use Rattle.schedule_model.specs.Fitting.{RowsDef, IsRowList}
 use Rattle.schedule_model.specs.declared.job_list.JobList.TheInside.{Inside as JobsInside}
@@ -13,6 +14,7 @@ jobs_view l = record { set = l.set.now; jobs = map job_seen l.jobs.items }
 
 pub record IsJobsKept (l : JobsInside) : Type 0 where
   pub lawful : AreLawfulJobs (jobs_view l)
+  pub listed : IsJobList (jobs_view l)
   pub counted : l.segments ≡ segment_count (map job_seen l.jobs.items)
 
 abbrev pub rows_view : RowsInside → RowsDef

@@ -1,6 +1,6 @@
 -- The rules of the three protocols, by the name of the rule.
-use Rattle.std.specs.Prelude.{◌≢◌, ℕ, ◌<◌, None, length}
-use Rattle.sporadic_model.specs.SetDef.{SetDef, resource_at}
+use Rattle.std.specs.Prelude.{ℕ}
+use Rattle.sporadic_model.specs.SetDef.{SetDef}
 use Rattle.schedule_model.specs.RowDef.{Trace}
 use Rattle.schedule_model.specs.SharedRules as shared
 use Rattle.schedule_model.specs.SharedRules.{Ranks}
@@ -24,10 +24,7 @@ dpcp_rule rule.Grant w t = distributed.KeepsGrant w t
 dpcp_rule rule.Idle w t = distributed.KeepsIdle w t
 dpcp_rule rule.Priority w t = distributed.KeepsPriority w t
 
--- Which sets suit a protocol whose requests run on homes? Those whose resources all have one. Every set
--- suits the others.
-abbrev pub EachHasHome : SetDef → Type 0
-EachHasHome set = (q : ℕ) → q < length set.resources → (resource_at set q).home ≢ None
-
+-- Which sets suit a protocol that asks for no homes? All of them. DPCP suits those whose resources each have a home
+-- (`EachHasHome`).
 abbrev pub EachSetSuits : SetDef → Type 0
 EachSetSuits set = Unit {0}

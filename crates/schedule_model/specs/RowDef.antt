@@ -1,5 +1,5 @@
 -- Schedules: what runs and what is held at each tick.
-use Rattle.std.specs.Prelude.{ℕ, zero, suc, ◌-◌, ◌==◌, Bool, false, nat_lt, if◌then◌else◌, List, [], ◌∷◌, Option, None, slice_index_or, sum_by}
+use Rattle.std.specs.Prelude.{◌≡◌, refl, ℕ, zero, suc, ◌-◌, ◌==◌, Bool, false, nat_lt, if◌then◌else◌, List, [], ◌∷◌, Option, None, slice_index_or, sum_by}
 use Rattle.std.specs.Option.{option_map_or}
 use Rattle.std.specs.List.{list_any}
 use Rattle.sporadic_model.specs.SetDef.{SetDef}
@@ -56,12 +56,19 @@ pub record Trace : Type 0 where
   pub jobs : List JobDef
   pub row : ℕ → RowDef
 
+-- The jobs of a trace, as the list that they are.
+abbrev pub jobs_of : Trace → JobsDef
+jobs_of w = record { set = w.set; jobs = w.jobs }
+
 -- The jobs under a list of rows, and under a list of runs.
 abbrev pub trace_of : JobsDef → List RowDef → Trace
 trace_of jobs rows = record { set = jobs.set; jobs = jobs.jobs; row = row_at rows }
 
 abbrev pub trace_in : JobsDef → List RunDef → Trace
 trace_in jobs runs = record { set = jobs.set; jobs = jobs.jobs; row = row_in runs }
+
+pub jobs_of_rows : (jobs : JobsDef) (rows : List RowDef) → jobs_of (trace_of jobs rows) ≡ jobs
+jobs_of_rows jobs rows = refl
 
 -- Which job holds resource q in the row before tick t? None at tick 0.
 abbrev pub held_before : Trace → ℕ → ℕ → Option ℕ

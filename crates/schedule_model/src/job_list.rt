@@ -1,6 +1,7 @@
 ghost use Rattle.std.specs.Prelude.{◌≡◌, ◌<◌, ◌≤◌, [], length, IsTrue, option_map, map};
 ghost use Rattle.schedule_model.specs.JobDef.{job_of};
-ghost use Rattle.schedule_model.specs.LawfulJobs.{JobJudged, AreLawfulJobs, are_resources_in, first_refusal};
+ghost use Rattle.schedule_model.specs.LawfulJobs.{AreLawfulJobs, are_resources_in};
+ghost use Rattle.schedule_model.specs.JobLists.{JobJudged, IsJobList};
 ghost use Rattle.schedule_model.specs.Seen.{job_seen};
 
 use crate::job::{Job, JobId};
@@ -69,6 +70,7 @@ impl<'a> JobList<'a> {
     pub fn len(&self) -> u32
         ensures value { result ≡ length self.now.jobs }
         ensures lawful { AreLawfulJobs self.now }
+        ensures listed { IsJobList self.now }
         ensures most { result ≤ MOST_JOBS }
     {
         self.jobs.len() as u32
@@ -79,6 +81,7 @@ impl<'a> JobList<'a> {
         requires { j.0 < length self.now.jobs }
         ensures value { job_seen result.now ≡ job_of self.now.jobs j.0 }
         ensures lawful { AreLawfulJobs self.now }
+        ensures listed { IsJobList self.now }
     {
         &self.jobs[j.0 as usize]
     }

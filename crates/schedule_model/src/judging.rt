@@ -1,12 +1,13 @@
 ghost use Rattle.std.specs.Prelude.{◌≡◌, ◌<◌, ◌≤◌, ◌+◌, false, IsTrue, nat_lt, map, length};
 ghost use Rattle.std.specs.Option.{option_map_or};
-ghost use Rattle.schedule_model.specs.LawfulJobs.{are_resources_in, last_release, segment_count, is_too_close, is_too_many, first_refusal};
+ghost use Rattle.schedule_model.specs.LawfulJobs.{are_resources_in};
+ghost use Rattle.schedule_model.specs.JobLists.{last_release, segment_count, is_too_close, is_too_many, first_refusal};
 ghost use Rattle.schedule_model.specs.Seen.{job_seen};
 
 use crate::job::Job;
 use crate::limits::{MOST_JOBS, MOST_SEGMENTS};
 use crate::refusal::JobRefusal;
-use crate::script::{is_lawful_script, stays_within_budget};
+use crate::script::{is_listed_script, stays_within_budget};
 use sporadic_model::{MOST_TICKS, TaskId, TaskSet};
 
 /// When was the task's last listed job released, if it has one?
@@ -25,7 +26,7 @@ fn last_release_of(jobs: &[Job], x: TaskId) -> Option<u64>
 }
 
 /// Is the job released less than a period after the last listed job of its task, or after tick 10^9?
-#[tactic(auto, unfolding(crate::specs::LawfulJobs::is_too_close))]
+#[tactic(auto, unfolding(crate::specs::JobLists::is_too_close))]
 fn follows_too_closely(set: &TaskSet, jobs: &[Job], job: &Job) -> bool
     requires { job.now.task.0 < length set.now.tasks }
     ensures { result ≡ is_too_close (record { set = set.now; jobs = map job_seen jobs.now }) (job_seen job.now) }
@@ -51,7 +52,7 @@ fn is_within(last: Option<u64>, period: u64, tick: u64) -> bool
 }
 
 /// Is there no room for the job, where the listed ones have so many segments?
-#[tactic(auto, unfolding(crate::specs::LawfulJobs::is_too_many))]
+#[tactic(auto, unfolding(crate::specs::JobLists::is_too_many))]
 fn passes_limits(jobs: &[Job], segments: u64, job: &Job) -> bool
     requires most { segments ≤ MOST_SEGMENTS }
     requires counted { segments ≡ segment_count (map job_seen jobs.now) }
@@ -76,7 +77,7 @@ pub(crate) fn refusal_of(
     requires counted { segments ≡ segment_count (map job_seen jobs.now) }
     ensures { result ≡ first_refusal (record { set = set.now; jobs = map job_seen jobs.now }) (job_seen job.now) }
 {
-    if !is_lawful_script(&job.script) {
+    if !is_listed_script(&job.script) {
         return Some(JobRefusal::Script);
     }
     if !stays_within_budget(set, job) {

@@ -4,7 +4,8 @@ ghost use Rattle.std.specs.List.{list_all};
 ghost use Rattle.bounded_sums.specs.Tests.{all_below};
 ghost use Rattle.sporadic_model.specs.Users.{count_of};
 ghost use Rattle.schedule_model.specs.JobDef.{total_ticks, local_ticks, number_of_requests, request_ticks, asks_for};
-ghost use Rattle.schedule_model.specs.LawfulJobs.{is_segment, is_script, is_length_kept, is_within_budget, is_resource_in, are_resources_in};
+ghost use Rattle.schedule_model.specs.LawfulJobs.{is_length_kept, is_resource_in, are_resources_in};
+ghost use Rattle.schedule_model.specs.JobLists.{is_listed_segment, is_listed_script, is_within_budget};
 ghost use Rattle.schedule_model.specs.Seen.{segment_seen, job_seen};
 
 use crate::job::{Job, Segment};
@@ -16,8 +17,8 @@ fn is_in_ticks(ticks: u64) -> bool
     1 <= ticks && ticks <= MOST_TICKS
 }
 
-fn is_lawful_segment(segment: &Segment) -> bool
-    ensures { result ≡ is_segment (segment_seen segment.now) }
+fn is_listed_segment(segment: &Segment) -> bool
+    ensures { result ≡ is_listed_segment (segment_seen segment.now) }
 {
     let keeps_length = match segment.request {
         Some((_, length)) => is_in_ticks(length),
@@ -27,9 +28,9 @@ fn is_lawful_segment(segment: &Segment) -> bool
 }
 
 fn are_segments(script: &[Segment]) -> bool
-    ensures { result ≡ list_all (λ s. is_segment (segment_seen s)) script.now }
+    ensures { result ≡ list_all (λ s. is_listed_segment (segment_seen s)) script.now }
 {
-    script.iter().all(is_lawful_segment)
+    script.iter().all(is_listed_segment)
 }
 
 fn are_requests(script: &[Segment]) -> bool
@@ -38,10 +39,10 @@ fn are_requests(script: &[Segment]) -> bool
     script.iter().all(|segment| segment.request.is_some())
 }
 
-/// Is it a script: one or more segments, each with its numbers from 1 to 10^9, and only the last may lack
+/// Is it a script that a list takes: one or more segments, each with its numbers from 1 to 10^9, and only the last may lack
 /// a request?
-pub(crate) fn is_lawful_script(script: &[Segment]) -> bool
-    ensures { result ≡ is_script (map segment_seen script.now) }
+pub(crate) fn is_listed_script(script: &[Segment]) -> bool
+    ensures { result ≡ is_listed_script (map segment_seen script.now) }
 {
     if script.is_empty() {
         return false;
@@ -153,7 +154,7 @@ fn keeps_lengths(set: &TaskSet, x: TaskId, script: &[Segment]) -> bool
 }
 
 /// Does the job stay within what its task may execute and request?
-#[tactic(auto, unfolding(crate::specs::LawfulJobs::is_within_budget))]
+#[tactic(auto, unfolding(crate::specs::JobLists::is_within_budget))]
 pub(crate) fn stays_within_budget(set: &TaskSet, job: &Job) -> bool
     requires task { job.now.task.0 < length set.now.tasks }
     requires resources { IsTrue (are_resources_in (length set.now.resources) (job_seen job.now).script) }

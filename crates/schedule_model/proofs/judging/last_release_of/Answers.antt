@@ -1,5 +1,5 @@
 use Rattle.std.proofs.Common.{◌≡◌, ◌∙◌, ◌-◌, ◌==◌, ℕ, suc, Some, None, map, drop, get_or, true, sym, ap, subst, arith}
-use Rattle.schedule_model.specs.LawfulJobs.{last_release}
+use Rattle.schedule_model.specs.JobLists.{last_release}
 use Rattle.schedule_model.specs.Seen.{job_seen}
 use Rattle.schedule_model.specs.declared.job.Job.{Job}
 use Rattle.schedule_model.proofs.Releases.{last_release-found}

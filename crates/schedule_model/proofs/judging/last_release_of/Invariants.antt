@@ -1,5 +1,5 @@
 use Rattle.std.proofs.Common.{◌≡◌, ◌≤◌, map, drop, length, None}
-use Rattle.schedule_model.specs.LawfulJobs.{last_release}
+use Rattle.schedule_model.specs.JobLists.{last_release}
 use Rattle.schedule_model.specs.Seen.{job_seen}
 use Rattle.schedule_model.proofs.judging.last_release_of.Given as goal
 

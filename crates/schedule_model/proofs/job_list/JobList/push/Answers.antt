@@ -2,11 +2,12 @@ use Rattle.std.proofs.Common.{◌≡◌, ◌<◌, ◌∙◌, ◌++◌, [], ◌�
 use Rattle.std.proofs.lemmas.List.{map-append}
 use Rattle.sporadic_model.proofs.Mapped.{length-map}
 use Rattle.schedule_model.specs.JobDef.{JobDef, JobsDef}
-use Rattle.schedule_model.specs.LawfulJobs.{AreLawfulJobs, first_refusal, with_job, segment_count, are_resources_in}
+use Rattle.schedule_model.specs.LawfulJobs.{AreLawfulJobs, are_resources_in}
+use Rattle.schedule_model.specs.JobLists.{IsJobList, first_refusal, with_job, segment_count}
 use Rattle.schedule_model.specs.declared.job.Job.{Job}
 use Rattle.schedule_model.specs.ListViews.{jobs_view}
 use Rattle.schedule_model.specs.Seen.{job_seen, segment_seen}
-use Rattle.schedule_model.proofs.JobListLaws.{lawful_more, segments_more}
+use Rattle.schedule_model.proofs.JobListLaws.{lawful_more, listed_more, segments_more}
 use Rattle.schedule_model.proofs.job_list.JobList.push.Goals as goal
 
 pub invariant_of-self-2 : goal.invariant_of-self-2
@@ -18,7 +19,9 @@ invariant_of-self-2 c =
     let task : job.task < length (jobs_view old).set.tasks = subst (λ (js : JobsDef). job.task < length js.set.tasks) (sym c.self.view_is) c.requires.task in
     let resources : are_resources_in (length (jobs_view old).set.resources) job.script ≡ true = subst (λ (js : JobsDef). are_resources_in (length js.set.resources) job.script ≡ true) (sym c.self.view_is) c.requires.resources in
     let more : AreLawfulJobs (with_job (jobs_view old) job) = lawful_more (jobs_view old) job c.self.invariant.lawful task resources none in
+    let within : IsJobList (with_job (jobs_view old) job) = listed_more (jobs_view old) job c.self.invariant.listed none in
     record {
       lawful = subst (λ (js : List JobDef). AreLawfulJobs (record { set = old.set.now; jobs = js })) (sym seen) more;
+      listed = subst (λ (js : List JobDef). IsJobList (record { set = old.set.now; jobs = js })) (sym seen) within;
       counted = omega (arith, ap segment_count seen, segments_more (map job_seen old.jobs.items) job, c.self.invariant.counted, c.len.ensures, length-map segment_seen c.args.job.script.items);
     }
