@@ -14,12 +14,13 @@ use Rattle.bounded_sums.proofs.CountLaws.{flag-of_true, flag-of_false, count_bel
 use Rattle.sporadic_model.specs.SetDef.{task_at, jobs_within}
 use Rattle.schedule_model.specs.JobDef.{JobsDef, job_of}
 use Rattle.schedule_model.specs.LawfulJobs.{AreLawfulJobs}
-use Rattle.schedule_model.specs.RowDef.{Trace, running_on}
+use Rattle.schedule_model.specs.RowDef.{Trace, jobs_of, running_on}
 use Rattle.schedule_model.specs.Activity.{task_of, processor_of, is_active}
+use Rattle.schedule_model.specs.BlockedTicks.{is_interferer}
 use Rattle.schedule_model.specs.ProtocolLaws.{IsOneOfThree, IsSoundRow}
 use Rattle.schedule_laws.proofs.ActiveJobs.{Active, active_is}
-use Rattle.charge_model.specs.Windows.{jobs_of, bound_end, window_end, EndedBefore}
-use Rattle.charge_model.specs.Interferers.{is_interferer, is_interference_of}
+use Rattle.charge_model.specs.Windows.{bound_end, window_end, EndedBefore}
+use Rattle.charge_model.specs.Interferers.{is_interference_of}
 use Rattle.charge_laws.proofs.Windows.{count_below-between, active_within}
 use Rattle.charge_laws.proofs.Interference.{Interferer, interferer_is, interferer_from, interference_active}
 
@@ -187,10 +188,10 @@ by_jobs interferes w e j h sound =
     omega (arith, each, swap, inner)
 
 -- What the rules give at the ticks of a schedule of n rows, and what a job of h may interfere for.
-pub record Interfering (interferes : Trace → ℕ → ℕ → Bool) (w : Trace) (n : ℕ) (g : ℕ → ℕ) : Type 0 where
-  pub three : (t j : ℕ) → t < n → IsOneOfThree interferes w t j
+pub record Interfering (interferes : Trace → ℕ → ℕ → Bool) (w : Trace) (n : ℕ) (g : ℕ → ℕ) (j : ℕ) : Type 0 where
+  pub three : (t : ℕ) → t < n → IsOneOfThree interferes w t j
   pub sound : (t : ℕ) → t < n → IsSoundRow interferes w t
-  pub cost : (m j y : ℕ) → m ≤ n → y < length w.jobs → count_below m (λ t. is_interferer interferes w t j y) ≤ g (task_of w y)
+  pub cost : (m y : ℕ) → m ≤ n → y < length w.jobs → count_below m (λ t. is_interferer interferes w t j y) ≤ g (task_of w y)
 
 -- Where a tick of the window lies at which job y interferes with job j.
 record TickPlace (w : Trace) (bound : ℕ → ℕ) (t j y : ℕ) : Type 0 where
@@ -199,17 +200,17 @@ record TickPlace (w : Trace) (bound : ℕ → ℕ) (t j y : ℕ) : Type 0 where
   before : t < bound_end w bound j
   ends : t < bound_end w bound y
 
-tick_place : (interferes : Trace → ℕ → ℕ → Bool) (w : Trace) (bound g : ℕ → ℕ) (n t j y : ℕ) → Interfering interferes w n g → EndedBefore w bound (bound_end w bound j) → t < window_end w bound n j
+tick_place : (interferes : Trace → ℕ → ℕ → Bool) (w : Trace) (bound g : ℕ → ℕ) (n t j y : ℕ) → Interfering interferes w n g j → EndedBefore w bound (bound_end w bound j) → t < window_end w bound n j
     → is_interferer interferes w t j y ≡ true → TickPlace w bound t j y
 tick_place interferes w bound g n t j y laws ended l h =
     let i : Interferer interferes w t j y = interferer_is interferes w t j y h in
-    let own : Active w t j = active_is w t j (interference_active interferes w t j (laws.three t j (omega arith)) i.interference) in
+    let own : Active w t j = active_is w t j (interference_active interferes w t j (laws.three t (omega arith)) i.interference) in
     let runs : is_active w t y ≡ true = (laws.sound t (omega arith)).active (processor_of w j) y i.runs in
     let other : Active w t y = active_is w t y runs in
     record { released = own.released; from = other.released; before = omega arith; ends = active_within w bound (bound_end w bound j) t y ended runs (omega arith) }
 
 -- What is known of the ticks of one job of h.
-in_window : (interferes : Trace → ℕ → ℕ → Bool) (w : Trace) (bound g : ℕ → ℕ) (n j h y : ℕ) → Interfering interferes w n g → EndedBefore w bound (bound_end w bound j) → y < length w.jobs
+in_window : (interferes : Trace → ℕ → ℕ → Bool) (w : Trace) (bound g : ℕ → ℕ) (n j h y : ℕ) → Interfering interferes w n g j → EndedBefore w bound (bound_end w bound j) → y < length w.jobs
     → 0 < ticks_by interferes w (window_end w bound n j) j h y
     → InWindow (jobs_of w) h (job_of w.jobs j).release (bound (task_of w j)) (bound h) (g h) (λ z. ticks_by interferes w (window_end w bound n j) j h z) y
 in_window interferes w bound g n j h y laws ended l some = elim (cases_Bool (task_of w y == h)) [
@@ -229,7 +230,7 @@ in_window interferes w bound g n j h y laws ended l some = elim (cases_Bool (tas
       → InWindow (jobs_of w) h (job_of w.jobs j).release (bound (task_of w j)) (bound h) (g h) (λ z. ticks_by interferes w (window_end w bound n j) j h z) y
   facts same task =
       let is : ticks_by interferes w e j h y ≡ c = rw same refl in
-      let cost : c ≤ g (task_of w y) = laws.cost e j y (omega arith) l in
+      let cost : c ≤ g (task_of w y) = laws.cost e y (omega arith) l in
       let costs : g (task_of w y) ≡ g h = ap g task in
       let bounds : bound (task_of w y) ≡ bound h = ap bound task in
       let after : c + (job_of w.jobs j).release ≤ bound_end w bound y =
@@ -241,7 +242,7 @@ in_window interferes w bound g n j h y laws ended l some = elim (cases_Bool (tas
       record { task = task; cost = omega arith; after = omega arith; before = omega arith; within = omega arith }
 
 -- The ticks of a job's window that are interference by jobs of h are as few as the analysis counts.
-pub interference_counted : (interferes : Trace → ℕ → ℕ → Bool) (w : Trace) (bound g : ℕ → ℕ) (n j h : ℕ) → Interfering interferes w n g → AreLawfulJobs (jobs_of w)
+pub interference_counted : (interferes : Trace → ℕ → ℕ → Bool) (w : Trace) (bound g : ℕ → ℕ) (n j h : ℕ) → Interfering interferes w n g j → AreLawfulJobs (jobs_of w)
     → EndedBefore w bound (bound_end w bound j) → 0 < (task_at w.set h).period → g h ≤ (task_at w.set h).period → g h ≤ bound h
     → count_below (window_end w bound n j) (λ t. is_interference_of interferes w t j h) ≤ jobs_within (bound (task_of w j)) (bound h - g h) (task_at w.set h).period * g h
 interference_counted interferes w bound g n j h laws lawful ended some short less =

@@ -18,8 +18,9 @@ use Rattle.schedule_laws.proofs.ActiveJobs.{Active, active_is, active_listed, on
 use Rattle.schedule_laws.proofs.Rows.{runs_from}
 use Rattle.schedule_laws.proofs.RuleUses.{locals_busy, requests_busy, request_among}
 use Rattle.schedule_laws.proofs.KindsOfTicks.{Blocked, blocked_is, delayed_from, higher_local_from}
-use Rattle.charge_model.specs.Charges.{Class, Charge, charge_to, class_at_home, charge_by_phase, dpcp_charge, Executes}
-use Rattle.charge_model.specs.Charges.Class.{Direct, Indirect, Preemption}
+use Rattle.fragments.specs.declared.columns.Class.{Class}
+use Rattle.charge_model.specs.Charges.{Charge, charge_to, class_at_home, charge_by_phase, dpcp_charge, Executes}
+use Rattle.fragments.specs.declared.columns.Class.TheVariants.{Direct, Indirect, Preemption}
 
 -- Job r runs on processor k, in a request of a resource that has its home there, and holds it.
 pub record RunsRequest (w : Trace) (t k r : ℕ) : Type 0 where

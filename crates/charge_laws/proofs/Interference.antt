@@ -5,21 +5,21 @@ use Rattle.std.proofs.lemmas.Bool.{cases_Bool, and_parts, and_from, eqb-true, eq
 use Rattle.bounded_sums.specs.Sums.{flag}
 use Rattle.bounded_sums.specs.Tests.{count_below, any_below}
 use Rattle.bounded_sums.proofs.CountLaws.{count_below-monotone, flag-of_true, flag-of_false}
-use Rattle.bounded_sums.proofs.TestLaws.{any_below-some}
+use Rattle.bounded_sums.proofs.TestLaws.{any_below-some, any_below-from}
 use Rattle.sporadic_model.specs.SetDef.{task_at}
 use Rattle.schedule_model.specs.JobDef.{job_of, total_ticks, local_ticks}
 use Rattle.schedule_model.specs.LawfulJobs.{IsLawfulJob}
 use Rattle.schedule_model.specs.RowDef.{Trace, is_job, running_on, runs_in}
 use Rattle.schedule_model.specs.Phase.{is_local, phase_of, executed}
 use Rattle.schedule_model.specs.Activity.{task_of, processor_of, is_active}
-use Rattle.schedule_model.specs.BlockedTicks.{is_executing, is_blocked, is_shared_interference, is_dpcp_interference}
+use Rattle.schedule_model.specs.BlockedTicks.{is_executing, is_blocked, is_interferer, is_dpcp_interference}
 use Rattle.schedule_model.specs.ProtocolLaws.{IsOneOfThree, HasHigherRunner}
 use Rattle.schedule_laws.specs.Agreement.{RunsActiveBefore}
 use Rattle.schedule_laws.specs.Counting.{executed_in}
 use Rattle.schedule_laws.proofs.Rows.{job_named, named_job, runs_from}
 use Rattle.schedule_laws.proofs.Counts.{local_at_most, executed_within}
 use Rattle.schedule_laws.proofs.DpcpLaws.{HigherLocalRunner, dpcp_interfering}
-use Rattle.charge_model.specs.Interferers.{is_interferer, interferes_with_some, is_interference_of, shared_interfering_cost, dpcp_interfering_cost}
+use Rattle.charge_model.specs.Interferers.{interferes_with_some}
 
 -- What it is to interfere.
 pub record Interferer (interferes : Trace → ℕ → ℕ → Bool) (w : Trace) (t j y : ℕ) : Type 0 where
@@ -57,7 +57,7 @@ dpcp_interferer_local w t y h =
 
 -- A lawful job interferes for at most its task's cost, whatever interference is.
 pub interferes_within_cost : (interferes : Trace → ℕ → ℕ → Bool) (w : Trace) (n y : ℕ) → RunsActiveBefore w n → IsLawfulJob w.set (job_of w.jobs y)
-    → count_below n (λ t. interferes_with_some interferes w t y) ≤ shared_interfering_cost w.set (task_of w y)
+    → count_below n (λ t. interferes_with_some interferes w t y) ≤ (task_at w.set (task_of w y)).cost
 unfolding executed
 interferes_within_cost interferes w n y active lawful =
     let runs : count_below n (λ t. interferes_with_some interferes w t y) ≤ executed w n y =
@@ -67,7 +67,7 @@ interferes_within_cost interferes w n y active lawful =
 
 -- Under DPCP for at most its local limit.
 pub interferes_within_local : (w : Trace) (n y : ℕ) → IsLawfulJob w.set (job_of w.jobs y)
-    → count_below n (λ t. interferes_with_some is_dpcp_interference w t y) ≤ dpcp_interfering_cost w.set (task_of w y)
+    → count_below n (λ t. interferes_with_some is_dpcp_interference w t y) ≤ (task_at w.set (task_of w y)).local
 unfolding executed_in
 interferes_within_local w n y lawful =
     let runs : count_below n (λ t. interferes_with_some is_dpcp_interference w t y) ≤ executed_in is_local w n y =
@@ -81,3 +81,11 @@ interference_active interferes w t j three h = elim (cases_Bool (is_active w t j
   | inl active ↦ active
   | inr off ↦ absurd (omega (arith, three, flag-of_true (interferes w t j) h, flag-of_false (is_active w t j) off))
 ]
+
+-- A job that interferes with job j interferes with some job.
+pub interferer_some : (interferes : Trace → ℕ → ℕ → Bool) (w : Trace) (m j y : ℕ) → j < length w.jobs
+    → count_below m (λ t. is_interferer interferes w t j y) ≤ count_below m (λ t. interferes_with_some interferes w t y)
+unfolding interferes_with_some
+interferer_some interferes w m j y l =
+    count_below-monotone m (λ t. is_interferer interferes w t j y) (λ t. any_below (length w.jobs) (λ i. is_interferer interferes w t i y))
+    (λ t b h. any_below-from (length w.jobs) (λ i. is_interferer interferes w t i y) j l h)

@@ -18,8 +18,9 @@ use Rattle.schedule_laws.proofs.ActiveJobs.{Active, active_is, active_listed, on
 use Rattle.schedule_laws.proofs.Rows.{runs_from, ReadyHolder, ready_holder_is, ready_holder_from, ready_is, ready_local, ready_holding, ready_active, ready_listed}
 use Rattle.schedule_laws.proofs.RuleUses.{ready_busy, requested_held}
 use Rattle.schedule_laws.proofs.KindsOfTicks.{Blocked, blocked_is, delayed_from, higher_local_from}
-use Rattle.charge_model.specs.Charges.{Class, Charge, charge_to, charge_by_holder, charge_of_waiting, shared_charge, Executes}
-use Rattle.charge_model.specs.Charges.Class.{Direct, Indirect, Preemption}
+use Rattle.fragments.specs.declared.columns.Class.{Class}
+use Rattle.charge_model.specs.Charges.{Charge, charge_to, charge_by_holder, charge_of_waiting, shared_charge, Executes}
+use Rattle.fragments.specs.declared.columns.Class.TheVariants.{Direct, Indirect, Preemption}
 
 -- Job j is ready, and job r, a ready holder of a lower task, runs on its processor.
 pub record PreemptedBy (w : Trace) (t j r : ℕ) : Type 0 where

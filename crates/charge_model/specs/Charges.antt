@@ -8,15 +8,10 @@ use Rattle.schedule_model.specs.Phase.Phase.{Local, Asking, Finished}
 use Rattle.schedule_model.specs.Activity.{processor_of, is_ready}
 use Rattle.schedule_model.specs.BlockedTicks.{is_shared_interference, is_dpcp_interference, is_blocked}
 use Rattle.schedule_model.specs.DpcpRules.{home_of}
+use Rattle.fragments.specs.declared.columns.Class.{Class}
+use Rattle.fragments.specs.declared.columns.Class.TheVariants.{Direct, Indirect, Preemption}
 
--- Why does the request keep the blocked job waiting? It holds what the job waits for; it delays such a holder, or
--- another request that goes first; or it runs in the blocked job's place.
-pub data Class : Type 0 where
-  Direct : Class
-  Indirect : Class
-  Preemption : Class
-
--- A charge: the job whose request executes, and the class.
+-- A charge: the job whose request executes, and the way in which it blocks.
 pub record Charge : Type 0 where
   pub job : ℕ
   pub class : Class

@@ -1,14 +1,11 @@
 -- In which window the ticks of a job are counted, and which jobs have ended within theirs.
 use Rattle.std.specs.Prelude.{◌≡◌, ℕ, ◌+◌, ◌<◌, ◌≤◌, length, min}
-use Rattle.schedule_model.specs.JobDef.{JobsDef, job_of}
+use Rattle.sporadic_model.specs.SetDef.{SetDef, task_at}
+use Rattle.schedule_model.specs.JobDef.{job_of}
 use Rattle.schedule_model.specs.RowDef.{Trace}
 use Rattle.schedule_model.specs.Phase.{phase_of}
 use Rattle.schedule_model.specs.Phase.Phase.{Finished}
 use Rattle.schedule_model.specs.Activity.{task_of}
-
--- The jobs of a trace, as the list that they are.
-abbrev pub jobs_of : Trace → JobsDef
-jobs_of w = record { set = w.set; jobs = w.jobs }
 
 -- By when is job j to be finished, where each task has this bound: its release plus the bound of its task.
 abbrev pub bound_end : Trace → (ℕ → ℕ) → ℕ → ℕ
@@ -26,3 +23,8 @@ EndedBy w bound r = (l : ℕ) → l < length w.jobs → bound_end w bound l ≤ 
 -- And each whose release plus bound is less than e?
 abbrev pub EndedBefore : Trace → (ℕ → ℕ) → ℕ → Type 0
 EndedBefore w bound e = (l : ℕ) → l < length w.jobs → bound_end w bound l < e → phase_of w (bound_end w bound l) l ≡ Finished
+
+-- Are these bounds ones that an analysis gives: for each task of the set from 1 to its deadline?
+pub record AreBounds (set : SetDef) (bound : ℕ → ℕ) : Type 0 where
+  pub from : (x : ℕ) → x < length set.tasks → 1 ≤ bound x
+  pub deadline : (x : ℕ) → x < length set.tasks → bound x ≤ (task_at set x).deadline
