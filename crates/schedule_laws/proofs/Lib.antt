@@ -6,6 +6,8 @@ pub mod Agreement
 pub mod Rows
 pub mod Holders
 pub mod SharedLaws
+pub mod Interferers
+pub mod TakenRows
 pub mod DpcpLaws
 pub mod Segments
 pub mod Counts

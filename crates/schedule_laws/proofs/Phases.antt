@@ -1,12 +1,10 @@
 -- The phase of a script after so many executed ticks: it moves forward along the script, and before each request
 -- stands a Local tick.
-use Rattle.std.proofs.Common.{◌≡◌, ℕ, suc, ◌+◌, ◌-◌, ◌<◌, ◌≤◌, ◌==◌, true, false, List, [], ◌∷◌, refl, sym, ◌∙◌, arith, inl, inr, Option, Some, None, leb}
+use Rattle.std.proofs.Common.{◌≡◌, ℕ, suc, ◌+◌, ◌-◌, ◌<◌, ◌≤◌, ◌==◌, true, false, List, [], ◌∷◌, refl, sym, ◌∙◌, arith, inl, inr, Option, Some, None, nat_lt}
 use Rattle.std.specs.Option.{option_map_or}
 use Rattle.std.specs.List.{list_all}
-use Rattle.std.specs.Int.{is_in_range}
-use Rattle.std.proofs.lemmas.Bool.{cases_lt, and_parts, lt-ltb, le-ltb, leb-true, eq-eqb}
+use Rattle.std.proofs.lemmas.Bool.{cases_lt, and_parts, lt-ltb, le-ltb, ltb-true, eq-eqb}
 use Rattle.std.proofs.lemmas.List.Sums.{sum_by-cons}
-use Rattle.sporadic_model.specs.declared.limits.TheConstants.{MOST_TICKS}
 use Rattle.schedule_model.specs.JobDef.{SegmentDef, segment_ticks, request_ticks, total_ticks}
 use Rattle.schedule_model.specs.LawfulJobs.{is_segment}
 use Rattle.schedule_model.specs.Phase.{is_same_request, asking, phase_from}
@@ -37,10 +35,8 @@ phase_of_none n d = refl
 -- A segment of a script has a local tick.
 pub segment_local : (s : SegmentDef) → is_segment s ≡ true → 0 < s.local
 segment_local s h =
-    let parts : (is_in_range 1 MOST_TICKS s.local ≡ true) × (option_map_or (λ r. is_in_range 1 MOST_TICKS r.1) s.request true ≡ true) = and_parts _ _ h in
-    let low : leb 1 s.local ≡ true = (and_parts (leb 1 s.local) (leb s.local MOST_TICKS) parts.0).0 in
-    let least : 1 ≤ s.local = leb-true 1 s.local low in
-    omega arith
+    let parts : (nat_lt 0 s.local ≡ true) × (option_map_or (λ r. nat_lt 0 r.1) s.request true ≡ true) = and_parts _ _ h in
+    ltb-true 0 s.local parts.0
 
 -- The phase of a segment's request has the segment's number and the resource that it asks for.
 pub asking_at : (n m q : ℕ) (o : Option (ℕ × ℕ)) → asking n o ≡ Asking m q → (m ≡ n) × (option_map_or (λ r. r.0 == q) o false ≡ true)

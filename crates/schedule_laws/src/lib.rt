@@ -21,8 +21,9 @@ pub use count_laws::{
 };
 pub use measure_laws::{measures_are_kept, releases_are_spaced};
 pub use protocol_laws::{
-    chosen_rows_are_unique, dpcp_keeps_its_laws, jobs_end_in_time, running_jobs_are_active,
-    shared_memory_keeps_its_laws,
+    chosen_rows_are_unique, dpcp_keeps_its_laws, interference_comes_from_higher_tasks,
+    interference_has_one_cause, jobs_end_in_time, lawful_rows_can_be_taken,
+    running_jobs_are_active, shared_memory_keeps_its_laws, taken_rows_run_active_jobs,
 };
 pub use request_laws::{holders_stay, issue_ticks_are_first, requests_follow_local_ticks};
 pub use tick_laws::{

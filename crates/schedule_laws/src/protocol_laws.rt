@@ -1,8 +1,9 @@
-ghost use Rattle.std.specs.Prelude.{◌≡◌, ℕ, ◌+◌, ◌<◌, ◌≤◌, true};
+ghost use Rattle.std.specs.Prelude.{◌≡◌, ℕ, ◌+◌, ◌<◌, ◌≤◌, ◌↔◌, Bool, true, length};
 ghost use Rattle.bounded_sums.specs.Tests.{count_below};
+ghost use Rattle.sporadic_model.specs.SetDef.{is_higher_local};
 ghost use Rattle.schedule_model.specs.JobDef.{job_of, total_ticks};
 ghost use Rattle.schedule_model.specs.RowDef.{Trace};
-ghost use Rattle.schedule_model.specs.Phase.{is_finished, phase_of};
+ghost use Rattle.schedule_model.specs.Phase.{is_local, is_finished, phase_of};
 ghost use Rattle.schedule_model.specs.Phase.Phase.{Finished};
 ghost use Rattle.schedule_model.specs.Activity.{task_of};
 ghost use Rattle.schedule_model.specs.Measures.{blocking_of};
@@ -10,8 +11,10 @@ ghost use Rattle.schedule_model.specs.SharedRules.{Ranks};
 ghost use Rattle.schedule_model.specs.Ranks.{mpcp, fmlp_plus};
 ghost use Rattle.schedule_model.specs.Protocols.{shared_rule, dpcp_rule};
 ghost use Rattle.schedule_model.specs.Keeping.{KeepsRow, KeepsBefore};
-ghost use Rattle.schedule_model.specs.Chosen.{IsSharedChoice, IsDpcpChoice};
-ghost use Rattle.schedule_model.specs.BlockedTicks.{is_shared_interference, is_dpcp_interference};
+ghost use Rattle.schedule_model.specs.Chosen.{IsSized, IsSharedChoice, IsDpcpChoice};
+ghost use Rattle.schedule_model.specs.Fitting.{fits_row};
+ghost use Rattle.schedule_model.specs.TakenRows.{FitsJobs, CanBeTaken, CanBeTakenBefore};
+ghost use Rattle.schedule_model.specs.BlockedTicks.{is_shared_interference, is_dpcp_interference, is_interferer};
 ghost use Rattle.schedule_model.specs.ProtocolLaws.{IsOneOfThree, IsSoundRow};
 ghost use Rattle.schedule_laws.specs.Agreement.{AgreeBefore, RunsActiveBefore};
 
@@ -53,4 +56,42 @@ pub fn jobs_end_in_time<P: BlockingProtocol>()
         → (job_of w.jobs j).release ≡ r → ((e : ℕ) → e < j → task_of w e ≡ task_of w j → phase_of w r e ≡ Finished)
         → total_ticks (job_of w.jobs j).script + count_below (r + b) (λ t. P.interferes p w t j) + blocking_of (P.interferes p) w (r + b) j ≤ b
         → is_finished (phase_of w (r + b) j) ≡ true }
+{}
+
+/// A tick is interference for a job exactly where some job makes it so. One alone does: it is of a higher task of the
+/// job's processor, and under DPCP it is Local.
+pub fn interference_has_one_cause()
+    ensures shared { (w : Trace) (t j : ℕ)
+        → (is_shared_interference w t j ≡ true) ↔ ((y : ℕ) × (is_interferer is_shared_interference w t j y ≡ true)) }
+    ensures dpcp { (w : Trace) (t j : ℕ)
+        → (is_dpcp_interference w t j ≡ true) ↔ ((y : ℕ) × (is_interferer is_dpcp_interference w t j y ≡ true)) }
+    ensures one { (interferes : Trace → ℕ → ℕ → Bool) (w : Trace) (t j y z : ℕ) → is_interferer interferes w t j y ≡ true
+        → is_interferer interferes w t j z ≡ true → y ≡ z }
+    ensures shared_higher { (w : Trace) (t j y : ℕ) → is_interferer is_shared_interference w t j y ≡ true
+        → is_higher_local w.set (task_of w j) (task_of w y) ≡ true }
+    ensures dpcp_higher { (w : Trace) (t j y : ℕ) → is_interferer is_dpcp_interference w t j y ≡ true
+        → is_higher_local w.set (task_of w j) (task_of w y) ≡ true }
+    ensures dpcp_local { (w : Trace) (t j y : ℕ) → is_interferer is_dpcp_interference w t j y ≡ true
+        → is_local (phase_of w t y) ≡ true }
+{}
+
+/// In a row that keeps the rules of a protocol, whichever it is, a tick is interference for a job exactly where a job
+/// of a higher task of its processor makes it so.
+pub fn interference_comes_from_higher_tasks<P: BlockingProtocol>()
+    ensures { (p : P) (w : Trace) (t j : ℕ) → P.suits p w.set → KeepsRow (P.keeps p) w t
+        → (P.interferes p w t j ≡ true)
+        ↔ ((y : ℕ) × (is_interferer (P.interferes p) w t j y ≡ true) × (is_higher_local w.set (task_of w j) (task_of w y) ≡ true)) }
+{}
+
+/// A row that keeps the rules of a protocol, whichever it is, can be taken after the rows before it, if it has the set's
+/// sizes.
+pub fn lawful_rows_can_be_taken<P: BlockingProtocol>()
+    ensures { (p : P) (w : Trace) (t : ℕ) → P.suits p w.set → IsSized w.set (w.row t) → KeepsRow (P.keeps p) w t → CanBeTaken w t }
+{}
+
+/// In rows that can be taken running jobs are active; and the test of a row's sizes and names says that it fits.
+pub fn taken_rows_run_active_jobs()
+    ensures active { (w : Trace) (n : ℕ) → CanBeTakenBefore w n → RunsActiveBefore w n }
+    ensures fits { (w : Trace) (t : ℕ)
+        → (fits_row w.set.processors (length w.set.resources) (length w.jobs) (w.row t) ≡ true) ↔ FitsJobs w t }
 {}

@@ -1,11 +1,11 @@
-ghost use Rattle.std.specs.Prelude.{◌≡◌, ℕ, ◌+◌, ◌<◌, ◌≤◌, true, false, length};
+ghost use Rattle.std.specs.Prelude.{◌≡◌, ℕ, ◌+◌, ◌<◌, ◌≤◌, ◌↔◌, true, false, length, None, Some};
 ghost use Rattle.bounded_sums.specs.Sums.{flag};
 ghost use Rattle.schedule_model.specs.JobDef.{job_of};
 ghost use Rattle.schedule_model.specs.LawfulJobs.{is_script};
 ghost use Rattle.schedule_model.specs.RowDef.{Trace, runs_in};
 ghost use Rattle.schedule_model.specs.Phase.{is_finished, executed, phase_of};
 ghost use Rattle.schedule_model.specs.Phase.Phase.{Asking, Finished};
-ghost use Rattle.schedule_model.specs.Activity.{task_of, is_active};
+ghost use Rattle.schedule_model.specs.Activity.{task_of, is_active, active_job_of};
 ghost use Rattle.schedule_laws.specs.Agreement.{RunsActiveBefore};
 
 /// A job's executed ticks begin with none, rise by one at a tick at which it runs, and else stay.
@@ -25,12 +25,15 @@ pub fn phases_move_forward()
     ensures resource { (w : Trace) (u v j m q r : ℕ) → phase_of w u j ≡ Asking m q → phase_of w v j ≡ Asking m r → q ≡ r }
 {}
 
-/// An active job is in the list, is the only active one of its task, and stays active until it is finished.
+/// An active job is in the list, is the only active one of its task, and so the task's active job, and stays active
+/// until it is finished.
 pub fn tasks_have_one_active_job()
     ensures listed { (w : Trace) (t j : ℕ) → is_active w t j ≡ true → j < length w.jobs }
     ensures one { (w : Trace) (t i j : ℕ) → is_active w t i ≡ true → is_active w t j ≡ true → task_of w i ≡ task_of w j → i ≡ j }
     ensures stays { (w : Trace) (u t j : ℕ) → is_active w u j ≡ true → u ≤ t → is_finished (phase_of w t j) ≡ false
         → is_active w t j ≡ true }
+    ensures some { (w : Trace) (t x j : ℕ) → (active_job_of w t x ≡ Some j) ↔ ((is_active w t j ≡ true) × (task_of w j ≡ x)) }
+    ensures none { (w : Trace) (t x : ℕ) → (active_job_of w t x ≡ None) ↔ ((j : ℕ) → task_of w j ≡ x → is_active w t j ≡ false) }
 {}
 
 /// The jobs of a task finish in their order, where running jobs are active. So a job is active once it is released and

@@ -1,8 +1,8 @@
 -- What the answers of this crate's calls say.
-use Rattle.std.specs.Prelude.{◌≡◌, ℕ, ◌<◌, List, length, IsSome, Option, None, Some, Result, Ok, Err, IsUtf8, is_none, position}
+use Rattle.std.specs.Prelude.{◌≡◌, ℕ, List, Option, None, Some, Result, Ok, Err, IsUtf8, is_none, position}
 use Rattle.serde_json.specs.Data.{Data}
 use Rattle.serde_json.specs.Read.{read}
-use Rattle.sporadic_model.specs.SetDef.{SetDef, resource_at}
+use Rattle.sporadic_model.specs.SetDef.{SetDef}
 use Rattle.sporadic_model.specs.Refusals.{first_refusal}
 use Rattle.sporadic_model.specs.Accepted.{IsAccepted}
 use Rattle.sporadic_model.specs.declared.ids.Protocol.{Protocol}
@@ -47,7 +47,3 @@ abbrev pub JudgesHomes : {T : Type 0} → Result T SetRefusal → SetDef → Pro
 JudgesHomes (Ok done) set protocol = first_homeless set protocol ≡ None
 JudgesHomes (Err (refusal.NoHome q)) set protocol = first_homeless set protocol ≡ Some q.0
 JudgesHomes (Err _) set protocol = ⊥
-
--- Has each resource a home?
-abbrev pub HaveHomes : SetDef → Type 0
-HaveHomes set = (q : ℕ) → q < length set.resources → IsSome (resource_at set q).home

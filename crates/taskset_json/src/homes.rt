@@ -1,13 +1,15 @@
-ghost use Rattle.std.specs.Prelude.{◌≡◌, option_map, position, IfNone, OnOk};
+ghost use Rattle.std.specs.Prelude.{◌≡◌, option_map, position, IfNone, IfSome, OnOk, OnErr};
 ghost use Rattle.std.specs.Option.{is_none};
-ghost use Rattle.taskset_json.specs.Answers.{HaveHomes, JudgesHomes};
+ghost use Rattle.sporadic_model.specs.Homes.{EachHasHome, HasHomesFor};
+ghost use Rattle.taskset_json.specs.Answers.{JudgesHomes};
 
 use crate::refusal::SetRefusal;
 use sporadic_model::{Protocol, ResourceId, TaskSet};
 
 fn first_homeless(set: &TaskSet) -> Option<ResourceId>
     ensures first { option_map (λ q. q.0) result ≡ position (λ r. is_none r.home) set.now.resources }
-    ensures none { IfNone result (HaveHomes set.now) }
+    ensures none { IfNone result (EachHasHome set.now) }
+    ensures some { IfSome result (λ q. EachHasHome set.now → ⊥) }
 {
     for q in 0..set.resources() {
         if set.home(ResourceId(q)).is_none() {
@@ -21,7 +23,8 @@ fn first_homeless(set: &TaskSet) -> Option<ResourceId>
 /// refuses as [`SetRefusal::NoHome`] alone, with the first resource that has none.
 pub fn home_check(set: &TaskSet, protocol: Protocol) -> Result<(), SetRefusal>
     ensures homes { JudgesHomes result set.now protocol }
-    ensures each { OnOk result (protocol ≡ Protocol.Dpcp → HaveHomes set.now) }
+    ensures suits { OnOk result (HasHomesFor protocol set.now) }
+    ensures lacks { OnErr result (HasHomesFor protocol set.now → ⊥) }
 {
     match protocol {
         Protocol::Dpcp => match first_homeless(set) {
