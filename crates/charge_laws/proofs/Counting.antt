@@ -22,7 +22,8 @@ use Rattle.schedule_laws.proofs.ActiveJobs.{Active, active_is}
 use Rattle.charge_model.specs.Windows.{bound_end, window_end, EndedBefore}
 use Rattle.charge_model.specs.Interferers.{is_interference_of}
 use Rattle.charge_laws.proofs.Windows.{count_below-between, active_within}
-use Rattle.charge_laws.proofs.Interference.{Interferer, interferer_is, interferer_from, interference_active}
+use Rattle.schedule_laws.proofs.Interferers.{Interferer, interferer_is, interferer_from}
+use Rattle.charge_laws.proofs.Interference.{interference_active}
 
 -- What is known of the ticks f y that job y of task h runs in a window of bi ticks from r on, where a job of h may run
 -- for g ticks and its bound is bh.
@@ -151,7 +152,7 @@ record InterfererOf (interferes : Trace → ℕ → ℕ → Bool) (w : Trace) (t
 named_interferer : (interferes : Trace → ℕ → ℕ → Bool) (w : Trace) (t j h : ℕ) → interferes w t j ≡ true → (o : Option ℕ) → running_on (w.row t) (processor_of w j) ≡ o
     → option_map_or (λ y. task_of w y == h) o false ≡ true → InterfererOf interferes w t j h
 named_interferer interferes w t j h a None e b = absurd (cc)
-named_interferer interferes w t j h a (Some y) e b = record { job = y; interferer = record { interference = a; runs = e }; task = b }
+named_interferer interferes w t j h a (Some y) e b = record { job = y; interferer = record { tick = a; runs = e }; task = b }
 
 interference_of_is : (interferes : Trace → ℕ → ℕ → Bool) (w : Trace) (t j h : ℕ) → is_interference_of interferes w t j h ≡ true → InterfererOf interferes w t j h
 unfolding is_interference_of
@@ -166,7 +167,7 @@ interference_of_job interferes w t j h sound = elim (cases_Bool (is_interference
   | inr off ↦ omega (arith, flag-of_false (is_interference_of interferes w t j h) off)
   | inl on ↦
       let i : InterfererOf interferes w t j h = interference_of_is interferes w t j h on in
-      let one : flag (is_interferer interferes w t j i.job) ≡ 1 = flag-of_true _ (interferer_from interferes w t j i.job i.interferer) in
+      let one : flag (is_interferer interferes w t j i.job) ≡ 1 = flag-of_true _ (interferer_from interferes w t j i.job i.interferer.tick i.interferer.runs) in
       let term : only_if (task_of w i.job == h) (flag (is_interferer interferes w t j i.job)) ≡ 1 = rw i.task one in
       omega (arith, flag-of_true (is_interference_of interferes w t j h) on, term,
       sum_below-term (length w.jobs) (λ y. only_if (task_of w y == h) (flag (is_interferer interferes w t j y))) i.job (sound.running_listed (processor_of w j) i.job i.interferer.runs))
@@ -204,7 +205,7 @@ tick_place : (interferes : Trace → ℕ → ℕ → Bool) (w : Trace) (bound g 
     → is_interferer interferes w t j y ≡ true → TickPlace w bound t j y
 tick_place interferes w bound g n t j y laws ended l h =
     let i : Interferer interferes w t j y = interferer_is interferes w t j y h in
-    let own : Active w t j = active_is w t j (interference_active interferes w t j (laws.three t (omega arith)) i.interference) in
+    let own : Active w t j = active_is w t j (interference_active interferes w t j (laws.three t (omega arith)) i.tick) in
     let runs : is_active w t y ≡ true = (laws.sound t (omega arith)).active (processor_of w j) y i.runs in
     let other : Active w t y = active_is w t y runs in
     record { released = own.released; from = other.released; before = omega arith; ends = active_within w bound (bound_end w bound j) t y ended runs (omega arith) }

@@ -16,25 +16,10 @@ use Rattle.schedule_model.specs.BlockedTicks.{is_executing, is_blocked, is_inter
 use Rattle.schedule_model.specs.ProtocolLaws.{IsOneOfThree, HasHigherRunner}
 use Rattle.schedule_laws.specs.Agreement.{RunsActiveBefore}
 use Rattle.schedule_laws.specs.Counting.{executed_in}
-use Rattle.schedule_laws.proofs.Rows.{job_named, named_job, runs_from}
+use Rattle.schedule_laws.proofs.Rows.{runs_from}
 use Rattle.schedule_laws.proofs.Counts.{local_at_most, executed_within}
-use Rattle.schedule_laws.proofs.DpcpLaws.{HigherLocalRunner, dpcp_interfering}
+use Rattle.schedule_laws.proofs.Interferers.{Interferer, interferer_is, dpcp_interferer_higher}
 use Rattle.charge_model.specs.Interferers.{interferes_with_some}
-
--- What it is to interfere.
-pub record Interferer (interferes : Trace → ℕ → ℕ → Bool) (w : Trace) (t j y : ℕ) : Type 0 where
-  pub interference : interferes w t j ≡ true
-  pub runs : running_on (w.row t) (processor_of w j) ≡ Some y
-
-pub interferer_is : (interferes : Trace → ℕ → ℕ → Bool) (w : Trace) (t j y : ℕ) → is_interferer interferes w t j y ≡ true → Interferer interferes w t j y
-unfolding is_interferer
-interferer_is interferes w t j y h =
-    let parts : (interferes w t j ≡ true) × (is_job y (running_on (w.row t) (processor_of w j)) ≡ true) = and_parts _ _ h in
-    record { interference = parts.0; runs = job_named y _ parts.1 }
-
-pub interferer_from : (interferes : Trace → ℕ → ℕ → Bool) (w : Trace) (t j y : ℕ) → Interferer interferes w t j y → is_interferer interferes w t j y ≡ true
-unfolding is_interferer
-interferer_from interferes w t j y i = and_from _ _ i.interference (named_job y _ i.runs)
 
 -- Who interferes with some job runs.
 pub interferer_runs : (interferes : Trace → ℕ → ℕ → Bool) (w : Trace) (t y : ℕ) → interferes_with_some interferes w t y ≡ true → runs_in (w.row t) y ≡ true
@@ -49,11 +34,7 @@ pub dpcp_interferer_local : (w : Trace) (t y : ℕ) → interferes_with_some is_
 unfolding interferes_with_some
 dpcp_interferer_local w t y h =
     let some : (j : ℕ) × (j < length w.jobs) × (is_interferer is_dpcp_interference w t j y ≡ true) = any_below-some (length w.jobs) (λ j. is_interferer is_dpcp_interference w t j y) h in
-    let i : Interferer is_dpcp_interference w t some.0 y = interferer_is is_dpcp_interference w t some.0 y some.2 in
-    let r : HigherLocalRunner w t some.0 = dpcp_interfering w t some.0 i.interference in
-    let x : Some r.runner ≡ Some y = sym r.runs ∙ i.runs in
-    let same : r.runner ≡ y = cc in
-    rw (← same) r.local
+    (dpcp_interferer_higher w t some.0 y some.2).1
 
 -- A lawful job interferes for at most its task's cost, whatever interference is.
 pub interferes_within_cost : (interferes : Trace → ℕ → ℕ → Bool) (w : Trace) (n y : ℕ) → RunsActiveBefore w n → IsLawfulJob w.set (job_of w.jobs y)

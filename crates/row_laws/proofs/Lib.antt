@@ -1,3 +1,5 @@
 pub mod Brings
 pub mod JobRows
-pub mod SlotRows
+pub mod SlotRow
+pub mod Requests
+pub mod Intervals
