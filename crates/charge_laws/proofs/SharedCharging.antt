@@ -38,6 +38,8 @@ pub record WaitsFor (w : Trace) (t j y : ℕ) : Type 0 where
   pub request : phase_of w t j ≡ Asking number resource
   pub holder : holder_in (w.row t) resource ≡ Some y
   pub holds : is_ready_holder w t y ≡ true
+  pub holding : ℕ
+  pub held : phase_of w t y ≡ Asking holding resource
 
 -- It waits for job y, which runs.
 pub record DirectBy (w : Trace) (t j y : ℕ) : Type 0 where
@@ -133,6 +135,8 @@ waits_for o w t j grant active off = go (phase_of w t j) refl where
         request = e;
         holder = held.1;
         holds = ready_holder_from w t held.0 asks.number q asks.active asks.phase held.1;
+        holding = asks.number;
+        held = asks.phase;
       })
 
 -- What a waiting job is charged to is read from its holder.

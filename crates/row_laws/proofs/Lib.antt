@@ -3,3 +3,5 @@ pub mod JobRows
 pub mod SlotRow
 pub mod Requests
 pub mod Intervals
+pub mod Numbers
+pub mod Fifo

@@ -1,5 +1,7 @@
 -- When two ticks are charged to one request: where the later one's request was open at the earlier tick.
-use Rattle.std.proofs.Common.{◌≡◌, ℕ, ◌<◌, ◌≤◌, Bool, true, false, refl, sym, ap, ◌∙◌, arith, inl, inr}
+use Rattle.std.proofs.Common.{◌≡◌, ℕ, ◌*◌, ◌<◌, ◌≤◌, ◌==◌, ◌&&◌, Bool, true, false, refl, sym, ap, subst, ◌∙◌}
+use Rattle.std.proofs.lemmas.Bool.{and_parts, eqb-true}
+use Rattle.bounded_sums.specs.Sums.{flag}
 use Rattle.schedule_model.specs.JobDef.{job_of}
 use Rattle.schedule_model.specs.LawfulJobs.{is_script}
 use Rattle.schedule_model.specs.RowDef.{Trace, runs_in}
@@ -12,6 +14,10 @@ use Rattle.schedule_laws.proofs.Holders.{open_active, open_at}
 use Rattle.fragments.specs.declared.columns.Class.{Class}
 use Rattle.fragments.specs.declared.columns.Class.TheVariants.{Direct, Indirect, Preemption}
 use Rattle.fragments.specs.ColumnDef.{is_direct, is_indirect, is_preemption}
+use Rattle.schedule_model.specs.SharedRules.{Ranks}
+use Rattle.charge_model.specs.Charges.{Charge}
+use Rattle.charge_laws.proofs.SharedCharging.{WaitsFor, DirectBy, IndirectBy, SharedReason}
+use Rattle.row_laws.proofs.Brings.{flag_times-passes}
 use Rattle.row_laws.proofs.SlotRow.{OneRequest}
 
 pub direct_is : (c : Class) → is_direct c ≡ true → c ≡ Direct
@@ -41,3 +47,26 @@ pub one_request : (w : Trace) (n u v i k m q : ℕ) → RunsActiveBefore w n →
     → phase_of w v k ≡ Asking m q → ((t : ℕ) → u ≤ t → t < v → phase_of w t k ≡ Local → runs_in (w.row t) k ≡ true → ⊥) → OneRequest w u v i k
 one_request w n u v i k m q runs l order script active same late none =
     one_open w n u v i k m q runs l script active same (open_at w u v k m q script order late none) late
+
+-- A charge whose column is of x and q, and direct.
+pub record DirectColumn (w : Trace) (x q : ℕ) (charge : Charge) (resource : ℕ) : Type 0 where
+  pub task : task_of w charge.job ≡ x
+  pub same : resource ≡ q
+  pub class : charge.class ≡ Direct
+
+pub direct_column : (w : Trace) (x q : ℕ) (charge : Charge) (resource n : ℕ) → 0 < flag (((task_of w charge.job == x) && (resource == q)) && is_direct charge.class) * n → DirectColumn w x q charge resource
+direct_column w x q charge resource n some =
+    let parts : (((task_of w charge.job == x) && (resource == q)) ≡ true) × (is_direct charge.class ≡ true) = and_parts _ _ (flag_times-passes (((task_of w charge.job == x) && (resource == q)) && is_direct charge.class) n some) in
+    let both : ((task_of w charge.job == x) ≡ true) × ((resource == q) ≡ true) = and_parts _ _ parts.0 in
+    record { task = eqb-true _ _ both.0; same = eqb-true _ _ both.1; class = direct_is charge.class parts.1 }
+
+-- Why ticks of these classes are charged.
+pub direct_by : (o : Ranks) (w : Trace) (t j y : ℕ) (c : Class) → c ≡ Direct → SharedReason o w t j c y → DirectBy w t j y
+direct_by o w t j y c e why = subst (λ (d : Class). SharedReason o w t j d y) e why
+
+pub indirect_by : (o : Ranks) (w : Trace) (t j y : ℕ) (c : Class) → c ≡ Indirect → SharedReason o w t j c y → IndirectBy o w t j y
+indirect_by o w t j y c e why = subst (λ (d : Class). SharedReason o w t j d y) e why
+
+-- What a job waits for is what the holder's request is of.
+pub held_resource : (w : Trace) (t j y m q : ℕ) → (a : WaitsFor w t j y) → phase_of w t y ≡ Asking m q → a.resource ≡ q
+held_resource w t j y m q a e = let x : Asking a.holding a.resource ≡ Asking m q = sym a.held ∙ e in cc
