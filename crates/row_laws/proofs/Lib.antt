@@ -5,3 +5,4 @@ pub mod Requests
 pub mod Intervals
 pub mod Numbers
 pub mod Fifo
+pub mod LowerHolders
