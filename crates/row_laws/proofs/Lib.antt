@@ -6,3 +6,5 @@ pub mod Intervals
 pub mod Numbers
 pub mod Fifo
 pub mod LowerHolders
+pub mod Holdings
+pub mod HoldingParts
