@@ -37,7 +37,7 @@ pub record Near (w : Trace) (bound : ℕ → ℕ) (j x y : ℕ) : Type 0 where
   pub after : (job_of w.jobs j).release < bound_end w bound y
   pub before : (job_of w.jobs y).release < bound_end w bound j
 
-near_is : (w : Trace) (bound : ℕ → ℕ) (j x y : ℕ) → is_near w bound j x y ≡ true → Near w bound j x y
+pub near_is : (w : Trace) (bound : ℕ → ℕ) (j x y : ℕ) → is_near w bound j x y ≡ true → Near w bound j x y
 near_is w bound j x y h =
     let parts : ((task_of w y == x) ≡ true) × _ = and_parts _ _ h in
     let rest : (nat_lt (job_of w.jobs j).release (bound_end w bound y) ≡ true) × (nat_lt (job_of w.jobs y).release (bound_end w bound j) ≡ true) = and_parts _ _ parts.1 in

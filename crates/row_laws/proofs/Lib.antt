@@ -8,3 +8,4 @@ pub mod Fifo
 pub mod LowerHolders
 pub mod Holdings
 pub mod HoldingParts
+pub mod HoldingRow
