@@ -9,3 +9,5 @@ pub mod LowerHolders
 pub mod Holdings
 pub mod HoldingParts
 pub mod HoldingRow
+pub mod Ordered
+pub mod HomeRow
