@@ -68,7 +68,7 @@ pub holder_facts : (w : Trace) (n t q y : ℕ) → AreLawfulJobs (jobs_of w) →
 holder_facts w n t q y lawful keeps l holds = let grant : KeepsGrant w t = keeps t l rule.Grant in requester_facts w t q y lawful (grant.requests q y holds)
 
 -- A resource is kept where the holder before still requests it.
-kept_from : (w : Trace) (t q y : ℕ) → held_before w t q ≡ Some y → is_requester w t q y ≡ true → is_kept w t q ≡ true
+pub kept_from : (w : Trace) (t q y : ℕ) → held_before w t q ≡ Some y → is_requester w t q y ≡ true → is_kept w t q ≡ true
 unfolding is_kept
 kept_from w t q y e asks = rw e asks
 
@@ -80,10 +80,10 @@ kept_is w t q h = go (held_before w t q) refl h where
   go (Some y) e g = (y, e, g)
 
 -- A new holder is granted: it is the first that waits, and higher than the ceiling of each resource kept there.
-record Granted (w : Trace) (t k y : ℕ) : Type 0 where
-  waits : waits_at w t k y ≡ true
-  first : (i : ℕ) → i < length w.jobs → waits_at w t k i ≡ true → task_of w y ≤ task_of w i
-  above : (r : ℕ) → r < length w.set.resources → home_of w r ≡ k → is_kept w t r ≡ true → task_of w y < ceiling_rank w r
+pub record Granted (w : Trace) (t k y : ℕ) : Type 0 where
+  pub waits : waits_at w t k y ≡ true
+  pub first : (i : ℕ) → i < length w.jobs → waits_at w t k i ≡ true → task_of w y ≤ task_of w i
+  pub above : (r : ℕ) → r < length w.set.resources → home_of w r ≡ k → is_kept w t r ≡ true → task_of w y < ceiling_rank w r
 
 passes_first : (a b : Bool) → (not a || b) ≡ true → a ≡ true → b ≡ true
 passes_first true b h e = h
@@ -109,7 +109,7 @@ granted_is w t k y h = record { waits = first.0; first = λ i l waits. leb-true 
   ]
 
 -- A new holder was granted at its resource's home.
-new_granted : (w : Trace) (t q y : ℕ) → KeepsGrant w t → holder_in (w.row t) q ≡ Some y → is_job y (held_before w t q) ≡ false → Granted w t (home_of w q) y
+pub new_granted : (w : Trace) (t q y : ℕ) → KeepsGrant w t → holder_in (w.row t) q ≡ Some y → is_job y (held_before w t q) ≡ false → Granted w t (home_of w q) y
 new_granted w t q y grant holds new = granted_is w t (home_of w q) y (grant.new q y holds (λ e. both_ways (is_job y (held_before w t q)) new (named_job y (held_before w t q) e)))
 
 -- The order of holders at one processor.
