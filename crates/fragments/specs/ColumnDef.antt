@@ -1,5 +1,6 @@
 -- A column of a blocking program, as plain numbers: the requests of a resource by a task, and how they block.
-use Rattle.std.specs.Prelude.{ℕ, List, [], ◌∷◌, Bool, true, false}
+use Rattle.std.specs.Prelude.{ℕ, ◌<◌, List, [], ◌∷◌, Bool, true, false}
+use Rattle.std.specs.List.{All}
 use Rattle.bounded_sums.specs.Sums.{collect_below}
 use Rattle.fragments.specs.declared.columns.Class.{Class}
 use Rattle.fragments.specs.declared.columns.Class.TheVariants as class
@@ -37,3 +38,7 @@ classes_of x q = record { task = x; resource = q; class = class.Direct }
 -- Every task below n, every resource below m and every class, in order of the task, then the resource, then the class.
 abbrev pub all_columns : ℕ → ℕ → List ColumnDef
 all_columns n m = collect_below n (λ x. collect_below m (λ q. classes_of x q))
+
+-- Are the columns' tasks and resources ones of the set, which has n tasks and m resources?
+abbrev pub AreKnown : ℕ → ℕ → List Fragment → Type 0
+AreKnown n m columns = All (λ c. (c.task.0 < n) × (c.resource.0 < m)) columns

@@ -8,7 +8,8 @@ use Rattle.sporadic_model.specs.declared.ids.Protocol.{Protocol}
 use Rattle.sporadic_model.specs.declared.ids.Protocol.TheVariants as protocol
 use Rattle.fragments.specs.declared.columns.Class.{Class}
 use Rattle.fragments.specs.declared.columns.Class.TheVariants as class
-use Rattle.fragments.specs.Homes.{home_of, ceiling_rank, remote_ceiling_rank}
+use Rattle.sporadic_model.specs.Homes.{home_in}
+use Rattle.fragments.specs.Ceilings.{ceiling_rank, remote_ceiling_rank}
 use Rattle.fragments.specs.ColumnDef.{ColumnDef, all_columns}
 
 -- Do two tasks share a processor?
@@ -37,7 +38,7 @@ has_path p set i x q = any_below (length set.tasks) (λ y. any_below (length set
 
 -- Does i request another resource of q's home?
 abbrev pub requests_beside : SetDef → ℕ → ℕ → Bool
-requests_beside set i q = any_below (length set.resources) (λ r. not (r == q) && (is_user set r i && (home_of set r == home_of set q)))
+requests_beside set i q = any_below (length set.resources) (λ r. not (r == q) && (is_user set r i && (home_in set r == home_in set q)))
 
 -- Under MPCP and FMLP+, which run requests on their task's processor: may requests of q by x block i in this way?
 -- Directly where i requests q, indirectly where there is a path, and by preemption where x is a lower task beside i.
@@ -52,7 +53,7 @@ blocks_by_sharing p set i x q class.Preemption = is_lower_local set i x
 abbrev pub blocks_at_home : SetDef → ℕ → ℕ → ℕ → Class → Bool
 blocks_at_home set i x q class.Direct = is_user set q i
 blocks_at_home set i x q class.Indirect = requests_beside set i q && (not (nat_lt i x) || nat_le (ceiling_rank set q) i)
-blocks_at_home set i x q class.Preemption = home_of set q == (task_at set i).processor
+blocks_at_home set i x q class.Preemption = home_in set q == (task_at set i).processor
 
 -- May requests of q by x block i in this way? Under MPCP and FMLP+ those of higher tasks beside i never do.
 abbrev pub may_block : Protocol → SetDef → ℕ → ℕ → ℕ → Class → Bool

@@ -1,5 +1,5 @@
 -- Rows of a blocking program as data: a row is a coefficient for each column, and a limit that the bounds give.
-use Rattle.std.specs.Prelude.{ℕ, Bool, nat_lt, List, [], ◌∷◌, map, if◌then◌else◌, slice_index}
+use Rattle.std.specs.Prelude.{ℕ, Bool, nat_lt, List, [], ◌∷◌, ◌++◌, map, if◌then◌else◌, slice_index}
 use Rattle.std.specs.List.{filter, list_any}
 use Rattle.bounded_sums.specs.Sums.{collect_below}
 use Rattle.program_form.specs.RowBlock.{RowBlockDef}
@@ -38,3 +38,15 @@ limits_of columns rows bounds = map (λ row. row.limit (slice_index bounds)) (ro
 -- The block of the rows that are there.
 abbrev pub block_of : List ColumnDef → List ConstraintDef → List ℕ → RowBlockDef
 block_of columns rows bounds = record { rows = coefficients_of columns rows; limits = limits_of columns rows bounds }
+
+-- A block with these rows behind its own.
+abbrev pub with_rows : RowBlockDef → List ColumnDef → List ConstraintDef → List ℕ → RowBlockDef
+with_rows block columns rows bounds = record { rows = block.rows ++ coefficients_of columns rows; limits = block.limits ++ limits_of columns rows bounds }
+
+-- A block without rows.
+abbrev pub no_rows : RowBlockDef
+no_rows = record { rows = []; limits = [] }
+
+-- A block with one more row, of these coefficients and this limit.
+abbrev pub pushed_row : RowBlockDef → List ℕ → ℕ → RowBlockDef
+pushed_row block coefficients limit = record { rows = block.rows ++ coefficients ∷ []; limits = block.limits ++ limit ∷ [] }

@@ -1,4 +1,4 @@
-pub mod Homes
+pub mod Ceilings
 pub mod ColumnDef
 pub mod Columns
 pub mod Windows

@@ -2,5 +2,11 @@
 #![tactic(auto)]
 
 mod columns;
+mod constraints;
+mod places;
+mod windows;
 
-pub use columns::{Class, Fragment};
+pub use columns::{Class, Fragment, fragments};
+pub use constraints::{Constraint, add_row};
+pub use places::{home, lower_local, share_processor, uses};
+pub use windows::{cnt, jobs, requests_of};

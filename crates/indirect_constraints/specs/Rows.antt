@@ -6,10 +6,10 @@ use Rattle.sporadic_model.specs.SetDef.{SetDef, task_at}
 use Rattle.sporadic_model.specs.Users.{count_of, is_user}
 use Rattle.sporadic_model.specs.declared.ids.Protocol.{Protocol}
 use Rattle.sporadic_model.specs.declared.ids.Protocol.TheVariants as protocol
-use Rattle.fragments.specs.Homes.{home_of}
+use Rattle.sporadic_model.specs.Homes.{home_in}
 use Rattle.fragments.specs.ColumnDef.{ColumnDef, is_indirect, is_preemption}
 use Rattle.fragments.specs.Columns.{have_one_processor}
-use Rattle.fragments.specs.Windows.{requests_in}
+use Rattle.fragments.specs.Windows.{requests_in, all_requests}
 use Rattle.fragments.specs.Constraints.{ConstraintDef, per}
 
 -- Queues: where requests are served in the order of issue, each request of i waits for at most one of x, of whatever
@@ -17,7 +17,7 @@ use Rattle.fragments.specs.Constraints.{ConstraintDef, per}
 abbrev pub queue_row : SetDef → ℕ → ℕ → ConstraintDef
 queue_row set i x = record {
   coefficient = λ c. flag ((c.task == x) && not (is_preemption c.class));
-  limit = λ bounds. sum_below (length set.resources) (λ q. count_of set i q);
+  limit = λ bounds. all_requests set i;
 }
 
 -- Is y another task on x's processor?
@@ -46,8 +46,8 @@ holding_row set i x = record {
 -- Homes: each request of i that runs on processor k waits for at most one request of lower tasks there.
 abbrev pub home_row : SetDef → ℕ → ℕ → ConstraintDef
 home_row set i k = record {
-  coefficient = λ c. flag ((not (is_preemption c.class) && nat_lt i c.task) && (home_of set c.resource == k));
-  limit = λ bounds. sum_below (length set.resources) (λ q. only_if (home_of set q == k) (count_of set i q));
+  coefficient = λ c. flag ((not (is_preemption c.class) && nat_lt i c.task) && (home_in set c.resource == k));
+  limit = λ bounds. sum_below (length set.resources) (λ q. only_if (home_in set q == k) (count_of set i q));
 }
 
 -- Queues and holdings for each task, homes for each processor, which are numbered from 1.

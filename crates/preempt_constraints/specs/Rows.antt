@@ -1,15 +1,11 @@
 -- The rows of preemption blocking, the same under every protocol. In each, i is the analysed task.
 use Rattle.std.specs.Prelude.{ℕ, ◌+◌, ◌==◌, ◌&&◌, List, length}
-use Rattle.bounded_sums.specs.Sums.{flag, sum_below}
+use Rattle.bounded_sums.specs.Sums.{flag}
 use Rattle.sporadic_model.specs.SetDef.{SetDef}
-use Rattle.sporadic_model.specs.Users.{count_of}
 use Rattle.fragments.specs.ColumnDef.{ColumnDef, is_preemption}
 use Rattle.fragments.specs.Columns.{is_lower_local}
+use Rattle.fragments.specs.Windows.{all_requests}
 use Rattle.fragments.specs.Constraints.{ConstraintDef, per_where}
-
--- How many requests can one job of task i make, over all resources?
-abbrev pub all_requests : SetDef → ℕ → ℕ
-all_requests set i = sum_below (length set.resources) (λ q. count_of set i q)
 
 -- Intervals: a job of i can be preempted from its release on and after each of its requests, each time by at most one
 -- request of x.
