@@ -19,7 +19,7 @@ use Rattle.schedule_laws.proofs.Rows.{job_named}
 use Rattle.fragments.specs.declared.columns.Class.{Class}
 use Rattle.fragments.specs.declared.columns.Class.TheVariants.{Direct, Indirect, Preemption}
 use Rattle.fragments.specs.ColumnDef.{ColumnDef, is_preemption}
-use Rattle.fragments.specs.Homes as homes
+use Rattle.sporadic_model.specs.Homes.{home_in}
 use Rattle.indirect_constraints.specs.Rows.{home_row}
 use Rattle.charge_model.specs.Charges.{dpcp_charge}
 use Rattle.charge_model.specs.Windows.{window_end}
@@ -37,13 +37,15 @@ no_low_grant : (w : Trace) (t k q y j : ℕ) → AreLawfulJobs (jobs_of w) → G
 unfolding waits_at
 no_low_grant w t k q y j lawful granted asks home lower = elim (cases_Bool (is_job j (held_before w t q))) [
   | inl held ↦ omega (arith, granted.above q a.within home (kept_from w t q j (job_named j _ held) asks), a.ceiling)
-  | inr free ↦
-      let off : holds_by (held_before w t) j (phase_of w t j) ≡ false = rw a.request free in
-      let waits : waits_at w t k j ≡ true = and_from _ _ (rw (← home) (request_at_from w t j a.number q a.active a.request)) (not_from_false _ off) in
-      omega (arith, granted.first j (requester_listed w t q j asks) waits)
+  | inr free ↦ omega (arith, granted.first j (requester_listed w t q j asks) (waits free))
 ] where
   a : HoldsAt w t q j
   a = requester_facts w t q j lawful asks
+
+  waits : is_job j (held_before w t q) ≡ false → waits_at w t k j ≡ true
+  waits free =
+      let off : holds_by (held_before w t) j (phase_of w t j) ≡ false = rw a.request free in
+      and_from _ _ (rw (← home) (request_at_from w t j a.number q a.active a.request)) (not_from_false _ off)
 
 -- A lower job that holds a resource there at v held it since u, where j was in its request since then.
 held_since : (w : Trace) (n u v q r y j : ℕ) → AreLawfulJobs (jobs_of w) → KeepsBefore dpcp_rule w n → v < n → Asks w u v q j → home_of w q ≡ home_of w r → task_of w j < task_of w y → holder_in (w.row v) r ≡ Some y
@@ -112,18 +114,18 @@ record HomeColumn (w : Trace) (i k y r : ℕ) (c : Class) : Type 0 where
 -- The row of homes.
 pub home_row_met : (w : Trace) (bound : ℕ → ℕ) (n j k : ℕ) → Window dpcp_charge w bound n j → KeepsBefore dpcp_rule w n → TicksMeet dpcp_charge w bound n j (home_row w.set (task_of w j) k)
 home_row_met w bound n j k window keeps s share fair =
-    by_number dpcp_charge w bound n j s share f (λ q. homes.home_of w.set q == k) window
-    (record { fair = fair; small = λ c. flag_times-at_most ((not (is_preemption c.class) && nat_lt (task_of w j) c.task) && (homes.home_of w.set c.resource == k)) (share c.task c.resource) })
+    by_number dpcp_charge w bound n j s share f (λ q. home_in w.set q == k) window
+    (record { fair = fair; small = λ c. flag_times-at_most ((not (is_preemption c.class) && nat_lt (task_of w j) c.task) && (home_in w.set c.resource == k)) (share c.task c.resource) })
     (λ t l h. let b : HomeBlocked w t j h.charge.job = blocked t (omega arith) h in
     record { number = b.number; resource = b.resource; request = b.request; passes = eq-eqb (home_of w b.resource) k (sym b.runner.home ∙ ap (home_of w) (same_resource t h b) ∙ (column t h).home) })
     one where
   f : ColumnDef → ℕ
-  f = λ c. flag ((not (is_preemption c.class) && nat_lt (task_of w j) c.task) && (homes.home_of w.set c.resource == k)) * share c.task c.resource
+  f = λ c. flag ((not (is_preemption c.class) && nat_lt (task_of w j) c.task) && (home_in w.set c.resource == k)) * share c.task c.resource
 
   column : (t : ℕ) → (h : Hit dpcp_charge w f j t) → HomeColumn w (task_of w j) k h.charge.job h.resource h.charge.class
   column t h =
-      let parts : ((not (is_preemption h.charge.class) && nat_lt (task_of w j) (task_of w h.charge.job)) ≡ true) × ((homes.home_of w.set h.resource == k) ≡ true) =
-      and_parts _ _ (flag_times-passes ((not (is_preemption h.charge.class) && nat_lt (task_of w j) (task_of w h.charge.job)) && (homes.home_of w.set h.resource == k)) (share (task_of w h.charge.job) h.resource) h.some) in
+      let parts : ((not (is_preemption h.charge.class) && nat_lt (task_of w j) (task_of w h.charge.job)) ≡ true) × ((home_in w.set h.resource == k) ≡ true) =
+      and_parts _ _ (flag_times-passes ((not (is_preemption h.charge.class) && nat_lt (task_of w j) (task_of w h.charge.job)) && (home_in w.set h.resource == k)) (share (task_of w h.charge.job) h.resource) h.some) in
       let both : (not (is_preemption h.charge.class) ≡ true) × (nat_lt (task_of w j) (task_of w h.charge.job) ≡ true) = and_parts _ _ parts.0 in
       record { class = not-true _ both.0; lower = ltb-true _ _ both.1; home = eqb-true _ _ parts.1 }
 

@@ -11,3 +11,5 @@ pub mod HoldingParts
 pub mod HoldingRow
 pub mod Ordered
 pub mod HomeRow
+pub mod SharedPlacement
+pub mod DpcpPlacement
