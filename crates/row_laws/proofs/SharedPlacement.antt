@@ -42,7 +42,7 @@ pub record OtherRunner (w : Trace) (t j y : ℕ) : Type 0 where
   pub other : (task_of w y ≡ task_of w j) → ⊥
   pub not_higher : is_higher_local w.set (task_of w j) (task_of w y) ≡ false
 
-other_task : (w : Trace) (t j y : ℕ) → is_active w t j ≡ true → runs_in (w.row t) j ≡ false → is_active w t y ≡ true → runs_in (w.row t) y ≡ true → (task_of w y ≡ task_of w j) → ⊥
+pub other_task : (w : Trace) (t j y : ℕ) → is_active w t j ≡ true → runs_in (w.row t) j ≡ false → is_active w t y ≡ true → runs_in (w.row t) y ≡ true → (task_of w y ≡ task_of w j) → ⊥
 other_task w t j y active waits other runs e =
     let same : y ≡ j = one_active w t y j other active e in
     let here : runs_in (w.row t) j ≡ true = rw (← same) runs in
@@ -94,7 +94,7 @@ mpcp_shares = record { runs = mpcp_runs; blocks = λ set i x q c. refl }
 pub fmlp_shares : Sharing protocol.FmlpPlus fmlp_plus
 fmlp_shares = record { runs = fmlp_runs; blocks = λ set i x q c. refl }
 
-passes_not : (a b : ℕ) → ((a ≡ b) → ⊥) → not (a == b) ≡ true
+pub passes_not : (a b : ℕ) → ((a ≡ b) → ⊥) → not (a == b) ≡ true
 passes_not a b h = not_from_false (a == b) (ne_eqb a b h)
 
 -- A path from what j waits for to what runs.
