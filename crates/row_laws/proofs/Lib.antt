@@ -13,3 +13,6 @@ pub mod Ordered
 pub mod HomeRow
 pub mod SharedPlacement
 pub mod DpcpPlacement
+pub mod ColumnSums
+pub mod Fractions
+pub mod EachRow

@@ -74,7 +74,7 @@ own_passing set ok job lawful =
     omega (arith, each, count_by-places (asks_passing ok) no_segment job.script, passing_requests (length set.resources) ok job.script lawful.resources)
 
 -- Of one resource.
-sum_below-only : (n q : ℕ) (f : ℕ → ℕ) → sum_below n (λ k. only_if (k == q) (f k)) ≤ f q
+pub sum_below-only : (n q : ℕ) (f : ℕ → ℕ) → sum_below n (λ k. only_if (k == q) (f k)) ≤ f q
 sum_below-only zero q f = omega arith
 sum_below-only (suc n) q f = elim (cases_Bool (n == q)) [
   | inr other ↦ omega (arith, sum_below-only n q f, only_if-false (n == q) (f n) other)
