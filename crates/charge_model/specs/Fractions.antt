@@ -1,5 +1,5 @@
 -- In which column of a blocking program a charged tick lies, and which fractions of its columns a job's window fills.
-use Rattle.std.specs.Prelude.{ℕ, ◌*◌, ◌/◌, ◌==◌, ◌&&◌, Bool, true, false, List, [], ◌∷◌, Option, None, Some}
+use Rattle.std.specs.Prelude.{ℕ, ◌*◌, ◌/◌, ◌==◌, ◌&&◌, Bool, true, false, List, [], ◌∷◌, Option, None, Some, slice_index_or}
 use Rattle.std.specs.Option.{option_and_then, option_map_or}
 use Rattle.bounded_sums.specs.Tests.{count_below}
 use Rattle.sporadic_model.specs.SetDef.{SetDef}
@@ -50,3 +50,11 @@ product_of_lengths set (c ∷ columns) = length_of set c.task c.resource * produ
 abbrev pub fraction_of : (Trace → ℕ → ℕ → Option Charge) → Trace → (ℕ → ℕ) → ℕ → ℕ → List ColumnDef → ColumnDef → ℕ
 fraction_of charges w bound n j columns c =
     (ticks_in charges w bound n j c * product_of_lengths w.set columns) / length_of w.set c.task c.resource
+
+-- A look-up past the end gives the first column that could be.
+abbrev pub no_column : ColumnDef
+no_column = record { task = 0; resource = 0; class = Direct }
+
+-- The fractions of all these columns, by their places.
+abbrev pub fractions_of : (Trace → ℕ → ℕ → Option Charge) → Trace → (ℕ → ℕ) → ℕ → ℕ → List ColumnDef → ℕ → ℕ
+fractions_of charges w bound n j columns k = fraction_of charges w bound n j columns (slice_index_or columns k no_column)

@@ -16,3 +16,4 @@ pub mod DpcpPlacement
 pub mod ColumnSums
 pub mod Fractions
 pub mod EachRow
+pub mod Joined
