@@ -1,7 +1,7 @@
 -- How many ticks of a job's window are interference by jobs of one task. A job that was released before the window and
 -- runs z ticks in it was released no earlier than z less its bound before it; so where one job too many runs, the first and
 -- the last together run no longer than one.
-use Rattle.std.proofs.Common.{◌≡◌, ◌⊎◌, ℕ, zero, suc, ◌+◌, ◌-◌, ◌*◌, ◌<◌, ◌≤◌, ◌==◌, Bool, true, false, length, refl, sym, ap, ◌∙◌, arith, inl, inr, suc-mul, min, Option, Some, None}
+use Rattle.std.proofs.Common.{◌≡◌, ◌⊎◌, ℕ, zero, suc, ◌+◌, ◌-◌, ◌*◌, ◌<◌, ◌≤◌, ◌==◌, Bool, true, false, length, refl, sym, ap, ◌∙◌, arith, inl, inr, suc-mul, Option, Some, None}
 use Rattle.std.specs.Int.{div_ceil}
 use Rattle.std.specs.Option.{option_map_or}
 use Rattle.std.proofs.Math.Nat.{add-mul}
@@ -10,7 +10,7 @@ use Rattle.std.proofs.lemmas.Bool.{cases_lt, cases_Bool, and_parts, eqb-true}
 use Rattle.bounded_sums.specs.Sums.{sum_below, flag, only_if}
 use Rattle.bounded_sums.specs.Tests.{count_below}
 use Rattle.bounded_sums.proofs.SumLaws.{sum_below-agree, sum_below-monotone, sum_below-swap, sum_below-term, sum_below-zero}
-use Rattle.bounded_sums.proofs.CountLaws.{flag-of_true, flag-of_false, count_below-some, count_below-at_most}
+use Rattle.bounded_sums.proofs.CountLaws.{flag-of_true, flag-of_false}
 use Rattle.sporadic_model.specs.SetDef.{task_at, jobs_within}
 use Rattle.schedule_model.specs.JobDef.{JobsDef, job_of}
 use Rattle.schedule_model.specs.LawfulJobs.{AreLawfulJobs}
@@ -169,8 +169,12 @@ interference_of_job interferes w t j h sound = elim (cases_Bool (is_interference
       let i : InterfererOf interferes w t j h = interference_of_is interferes w t j h on in
       let one : flag (is_interferer interferes w t j i.job) ≡ 1 = flag-of_true _ (interferer_from interferes w t j i.job i.interferer.tick i.interferer.runs) in
       let term : only_if (task_of w i.job == h) (flag (is_interferer interferes w t j i.job)) ≡ 1 = rw i.task one in
-      omega (arith, flag-of_true (is_interference_of interferes w t j h) on, term,
-      sum_below-term (length w.jobs) (λ y. only_if (task_of w y == h) (flag (is_interferer interferes w t j y))) i.job (sound.running_listed (processor_of w j) i.job i.interferer.runs))
+      omega (
+        arith,
+        flag-of_true (is_interference_of interferes w t j h) on,
+        term,
+        sum_below-term (length w.jobs) (λ y. only_if (task_of w y == h) (flag (is_interferer interferes w t j y))) i.job (sound.running_listed (processor_of w j) i.job i.interferer.runs),
+      )
 ]
 
 -- The ticks of interference by task h are those by its jobs, together.

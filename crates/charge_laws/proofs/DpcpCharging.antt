@@ -1,15 +1,14 @@
 -- Charging under DPCP: each blocked tick is charged to a request that runs where the blocked job would.
-use Rattle.std.proofs.Common.{◌≡◌, ℕ, ◌<◌, ◌≤◌, ◌==◌, ◌&&◌, not, Bool, true, false, length, refl, sym, ap, subst, ◌∙◌, arith, inl, inr, Option, Some, None}
-use Rattle.std.specs.Prelude.{if◌then◌else◌, option_map}
+use Rattle.std.proofs.Common.{◌≡◌, ℕ, ◌<◌, ◌≤◌, ◌==◌, ◌&&◌, true, false, refl, sym, subst, ◌∙◌, arith, inl, inr, Some, None}
 use Rattle.std.specs.Option.{option_map_or}
 use Rattle.std.proofs.lemmas.Bool.{cases_lt, cases_Bool, both_ways, and_parts, and_from, eq-eqb, eqb-true}
 use Rattle.sporadic_model.specs.SetDef.{is_higher_local}
 use Rattle.schedule_model.specs.declared.rule.Rule.TheVariants as rule
 use Rattle.schedule_model.specs.RowDef.{Trace, running_on, holder_in, runs_in}
-use Rattle.schedule_model.specs.Phase.{Phase, is_local, is_finished, is_asking, phase_of}
+use Rattle.schedule_model.specs.Phase.{Phase, is_local, is_finished, phase_of}
 use Rattle.schedule_model.specs.Phase.Phase.{Local, Asking, Finished}
 use Rattle.schedule_model.specs.Activity.{task_of, processor_of, is_active}
-use Rattle.schedule_model.specs.DpcpRules.{home_of, is_at, has_request_at, has_requests, holds_at, KeepsRun, KeepsIdle, RunsFirstHolder, KeepsPriority}
+use Rattle.schedule_model.specs.DpcpRules.{home_of, is_at, has_request_at, has_requests, holds_at, KeepsRun, RunsFirstHolder, KeepsPriority}
 use Rattle.schedule_model.specs.Protocols.{dpcp_rule}
 use Rattle.schedule_model.specs.Keeping.{KeepsRow}
 use Rattle.schedule_model.specs.BlockedTicks.{is_delayed, runs_higher_local, is_dpcp_interference, is_blocked}
@@ -19,7 +18,7 @@ use Rattle.schedule_laws.proofs.Rows.{runs_from}
 use Rattle.schedule_laws.proofs.RuleUses.{locals_busy, requests_busy, request_among}
 use Rattle.schedule_laws.proofs.KindsOfTicks.{Blocked, blocked_is, delayed_from, higher_local_from}
 use Rattle.fragments.specs.declared.columns.Class.{Class}
-use Rattle.charge_model.specs.Charges.{Charge, charge_to, class_at_home, charge_by_phase, dpcp_charge, Executes}
+use Rattle.charge_model.specs.Charges.{Charge, class_at_home, dpcp_charge, Executes}
 use Rattle.fragments.specs.declared.columns.Class.TheVariants.{Direct, Indirect, Preemption}
 
 -- Job r runs on processor k, in a request of a resource that has its home there, and holds it.

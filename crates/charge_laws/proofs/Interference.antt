@@ -1,19 +1,17 @@
 -- Who interferes with whom, and for how many ticks a job does at most.
-use Rattle.std.proofs.Common.{◌≡◌, ℕ, ◌+◌, ◌<◌, ◌≤◌, ◌==◌, ◌&&◌, Bool, true, false, length, refl, sym, ◌∙◌, arith, inl, inr, Option, Some, None}
-use Rattle.std.specs.Option.{option_map_or}
-use Rattle.std.proofs.lemmas.Bool.{cases_Bool, and_parts, and_from, eqb-true, eq-eqb}
-use Rattle.bounded_sums.specs.Sums.{flag}
+use Rattle.std.proofs.Common.{◌≡◌, ℕ, ◌<◌, ◌≤◌, ◌&&◌, Bool, true, length, arith, inl, inr}
+use Rattle.std.proofs.lemmas.Bool.{cases_Bool, and_from}
 use Rattle.bounded_sums.specs.Tests.{count_below, any_below}
 use Rattle.bounded_sums.proofs.CountLaws.{count_below-monotone, flag-of_true, flag-of_false}
 use Rattle.bounded_sums.proofs.TestLaws.{any_below-some, any_below-from}
 use Rattle.sporadic_model.specs.SetDef.{task_at}
-use Rattle.schedule_model.specs.JobDef.{job_of, total_ticks, local_ticks}
+use Rattle.schedule_model.specs.JobDef.{job_of, total_ticks}
 use Rattle.schedule_model.specs.LawfulJobs.{IsLawfulJob}
-use Rattle.schedule_model.specs.RowDef.{Trace, is_job, running_on, runs_in}
+use Rattle.schedule_model.specs.RowDef.{Trace, runs_in}
 use Rattle.schedule_model.specs.Phase.{is_local, phase_of, executed}
 use Rattle.schedule_model.specs.Activity.{task_of, processor_of, is_active}
-use Rattle.schedule_model.specs.BlockedTicks.{is_executing, is_blocked, is_interferer, is_dpcp_interference}
-use Rattle.schedule_model.specs.ProtocolLaws.{IsOneOfThree, HasHigherRunner}
+use Rattle.schedule_model.specs.BlockedTicks.{is_interferer, is_dpcp_interference}
+use Rattle.schedule_model.specs.ProtocolLaws.{IsOneOfThree}
 use Rattle.schedule_laws.specs.Agreement.{RunsActiveBefore}
 use Rattle.schedule_laws.specs.Counting.{executed_in}
 use Rattle.schedule_laws.proofs.Rows.{runs_from}

@@ -1,25 +1,24 @@
 -- Charging under shared memory, whatever the order of grants and runs: each blocked tick is charged to a request that
 -- executes, for one of three reasons.
-use Rattle.std.proofs.Common.{◌≡◌, ℕ, ◌<◌, ◌≤◌, ◌&&◌, not, Bool, true, false, length, refl, sym, ap, subst, ◌∙◌, arith, inl, inr, Option, Some, None}
-use Rattle.std.specs.Prelude.{if◌then◌else◌, option_map}
-use Rattle.std.specs.Option.{option_and_then, option_map_or}
+use Rattle.std.proofs.Common.{◌≡◌, ℕ, ◌<◌, ◌≤◌, true, false, length, refl, sym, subst, ◌∙◌, arith, inl, inr, Some, None}
+use Rattle.std.specs.Option.{option_map_or}
 use Rattle.std.proofs.lemmas.Bool.{cases_lt, cases_Bool, both_ways, and_from}
-use Rattle.sporadic_model.specs.SetDef.{task_at, is_higher_local}
+use Rattle.sporadic_model.specs.SetDef.{is_higher_local}
 use Rattle.schedule_model.specs.declared.rule.Rule.TheVariants as rule
 use Rattle.schedule_model.specs.RowDef.{Trace, running_on, holder_in, runs_in}
 use Rattle.schedule_model.specs.Phase.{Phase, is_finished, phase_of}
 use Rattle.schedule_model.specs.Phase.Phase.{Local, Asking, Finished}
-use Rattle.schedule_model.specs.Activity.{task_of, processor_of, is_active, is_requester, is_active_local, is_ready_holder, is_ready}
-use Rattle.schedule_model.specs.SharedRules.{Ranks, KeepsRun, KeepsGrant, KeepsIdle, KeepsPriority}
+use Rattle.schedule_model.specs.Activity.{task_of, processor_of, is_active, is_ready_holder, is_ready}
+use Rattle.schedule_model.specs.SharedRules.{Ranks, KeepsRun, KeepsGrant, KeepsPriority}
 use Rattle.schedule_model.specs.Protocols.{shared_rule}
 use Rattle.schedule_model.specs.Keeping.{KeepsRow}
 use Rattle.schedule_model.specs.BlockedTicks.{is_delayed, runs_higher, is_shared_interference, is_blocked}
-use Rattle.schedule_laws.proofs.ActiveJobs.{Active, active_is, active_listed, one_active, Requester, requester_is, requester_from, requester_listed, ActiveLocal, active_local_is, active_local_from}
+use Rattle.schedule_laws.proofs.ActiveJobs.{Active, active_is, one_active, Requester, requester_is, requester_from, active_local_from}
 use Rattle.schedule_laws.proofs.Rows.{runs_from, ReadyHolder, ready_holder_is, ready_holder_from, ready_is, ready_local, ready_holding, ready_active, ready_listed}
 use Rattle.schedule_laws.proofs.RuleUses.{ready_busy, requested_held}
 use Rattle.schedule_laws.proofs.KindsOfTicks.{Blocked, blocked_is, delayed_from, higher_local_from}
 use Rattle.fragments.specs.declared.columns.Class.{Class}
-use Rattle.charge_model.specs.Charges.{Charge, charge_to, charge_by_holder, charge_of_waiting, shared_charge, Executes}
+use Rattle.charge_model.specs.Charges.{Charge, charge_by_holder, shared_charge, Executes}
 use Rattle.fragments.specs.declared.columns.Class.TheVariants.{Direct, Indirect, Preemption}
 
 -- Job j is ready, and job r, a ready holder of a lower task, runs on its processor.
@@ -126,18 +125,20 @@ waits_for o w t j grant active off = go (phase_of w t j) refl where
       absurd (both_ways _ a.unfinished x)
   go (Asking n q) e =
       let held : (y : ℕ) × (holder_in (w.row t) q ≡ Some y) = requested_held o w t q j grant (requester_from w t q j n active e) in
-      let asks : Requester w t q held.0 = requester_is w t q held.0 (grant.requests q held.0 held.1) in
-      (held.0, record {
-        active = active;
-        other = off;
-        number = n;
-        resource = q;
-        request = e;
-        holder = held.1;
-        holds = ready_holder_from w t held.0 asks.number q asks.active asks.phase held.1;
-        holding = asks.number;
-        held = asks.phase;
-      })
+      let asks : Requester w t q held.0 = requester_is w t q held.0 (grant.requests q held.0 held.1) in (
+        held.0,
+        record {
+          active = active;
+          other = off;
+          number = n;
+          resource = q;
+          request = e;
+          holder = held.1;
+          holds = ready_holder_from w t held.0 asks.number q asks.active asks.phase held.1;
+          holding = asks.number;
+          held = asks.phase;
+        },
+      )
 
 -- What a waiting job is charged to is read from its holder.
 waiting_charge : (w : Trace) (t j y : ℕ) → is_blocked is_shared_interference w t j ≡ true → WaitsFor w t j y → shared_charge w t j ≡ charge_by_holder w t y

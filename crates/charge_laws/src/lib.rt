@@ -10,6 +10,6 @@ mod interference_laws;
 
 pub use charge_laws::{dpcp_charges_blocked_ticks, shared_memory_charges_blocked_ticks};
 pub use interference_laws::{
-    dpcp_interferes_within_the_local_limit, interference_is_counted, jobs_are_active_until_they_end,
-    jobs_interfere_within_the_cost,
+    dpcp_interferes_within_the_local_limit, interference_is_counted,
+    jobs_are_active_until_they_end, jobs_interfere_within_the_cost,
 };

@@ -1,6 +1,6 @@
 -- To which request a blocked tick is charged: to one that executes at that tick. It is told by its job, whose phase
 -- tells the request.
-use Rattle.std.specs.Prelude.{◌≡◌, ℕ, Bool, true, Option, None, Some, if◌then◌else◌, option_map}
+use Rattle.std.specs.Prelude.{◌≡◌, ℕ, true, Option, None, Some, if◌then◌else◌, option_map}
 use Rattle.std.specs.Option.{option_and_then}
 use Rattle.schedule_model.specs.RowDef.{Trace, running_on, holder_in, runs_in}
 use Rattle.schedule_model.specs.Phase.{Phase, is_asking, phase_of}

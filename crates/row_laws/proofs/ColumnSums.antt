@@ -1,18 +1,18 @@
 -- Sums over the columns of a program, as sums over ticks: each tick lies in one column at most.
-use Rattle.std.proofs.Common.{◌≡◌, ℕ, zero, suc, ◌+◌, ◌*◌, ◌<◌, ◌≤◌, ◌==◌, ◌&&◌, Bool, true, false, List, [], ◌∷◌, ◌++◌, length, get_or, refl, sym, ap, ◌∙◌, arith, inl, inr, Option, Some, None, cond, sum_by}
+use Rattle.std.proofs.Common.{◌≡◌, ℕ, zero, suc, ◌+◌, ◌*◌, ◌<◌, ◌≤◌, ◌==◌, ◌&&◌, Bool, true, false, List, [], ◌∷◌, length, get_or, refl, sym, ap, ◌∙◌, arith, inl, inr, Option, Some, None, cond, sum_by}
 use Rattle.std.specs.List.{filter, Contains}
 use Rattle.std.specs.Option.{option_map_or}
 use Rattle.std.proofs.lemmas.Bool.{cases_Bool, eqb-true, eq-eqb, and_from}
 use Rattle.std.proofs.lemmas.List.Sums.{sum_by-cons, sum_by-append}
 use Rattle.bounded_sums.specs.Sums.{sum_below, flag, only_if, collect_below}
 use Rattle.bounded_sums.specs.Tests.{count_below}
-use Rattle.bounded_sums.proofs.SumLaws.{sum_below-agree, sum_below-plus, sum_below-monotone, sum_below-zero, sum_below-times, sum_below-times_right, sum_below-list_by, sum_below-term}
+use Rattle.bounded_sums.proofs.SumLaws.{sum_below-agree, sum_below-plus, sum_below-monotone, sum_below-zero, sum_below-times_right, sum_below-list_by, sum_below-term}
 use Rattle.bounded_sums.proofs.CountLaws.{flag-at_most}
 use Rattle.fragments.specs.declared.columns.Class.{Class}
 use Rattle.fragments.specs.declared.columns.Class.TheVariants.{Direct, Indirect, Preemption}
 use Rattle.fragments.specs.ColumnDef.{ColumnDef, classes_of, all_columns}
 use Rattle.charge_model.specs.Fractions.{is_same_class, is_same_column, is_in}
-use Rattle.row_laws.proofs.Brings.{brought, flag_times-at_most}
+use Rattle.row_laws.proofs.Brings.{brought}
 use Rattle.row_laws.proofs.Numbers.{sum_below-only}
 
 -- What a filter keeps sums to no more.
@@ -94,20 +94,20 @@ all_sum f d n m =
     let each : sum_below n (λ x. sum_by h (collect_below m (λ q. classes_of x q))) ≤ sum_below n (λ x. only_if (x == d.task) (f d)) =
     sum_below-monotone n (λ x. sum_by h (collect_below m (λ q. classes_of x q))) (λ x. only_if (x == d.task) (f d)) (λ x l. of_task x) in
     omega (arith, tasks, each, sum_below-only n d.task (λ x. f d)) where
-  h : ColumnDef → ℕ
-  h = λ c. flag (is_same_column c d) * f c
+      h : ColumnDef → ℕ
+      h = λ c. flag (is_same_column c d) * f c
 
-  swapped : (a b : Bool) (k : ℕ) → only_if a (only_if b k) ≡ only_if b (only_if a k)
-  swapped true b k = refl
-  swapped false true k = refl
-  swapped false false k = refl
+      swapped : (a b : Bool) (k : ℕ) → only_if a (only_if b k) ≡ only_if b (only_if a k)
+      swapped true b k = refl
+      swapped false true k = refl
+      swapped false false k = refl
 
-  of_task : (x : ℕ) → sum_by h (collect_below m (λ q. classes_of x q)) ≤ only_if (x == d.task) (f d)
-  of_task x =
-      let resources : sum_by h (collect_below m (λ q. classes_of x q)) ≡ sum_below m (λ q. sum_by h (classes_of x q)) = sum_by-collected h m (λ q. classes_of x q) in
-      let each : sum_below m (λ q. sum_by h (classes_of x q)) ≤ sum_below m (λ q. only_if (q == d.resource) (only_if (x == d.task) (f d))) =
-      sum_below-monotone m (λ q. sum_by h (classes_of x q)) (λ q. only_if (q == d.resource) (only_if (x == d.task) (f d))) (λ q l. omega (arith, classes_sum f d x q, swapped (x == d.task) (q == d.resource) (f d))) in
-      omega (arith, resources, each, sum_below-only m d.resource (λ q. only_if (x == d.task) (f d)))
+      of_task : (x : ℕ) → sum_by h (collect_below m (λ q. classes_of x q)) ≤ only_if (x == d.task) (f d)
+      of_task x =
+          let resources : sum_by h (collect_below m (λ q. classes_of x q)) ≡ sum_below m (λ q. sum_by h (classes_of x q)) = sum_by-collected h m (λ q. classes_of x q) in
+          let each : sum_below m (λ q. sum_by h (classes_of x q)) ≤ sum_below m (λ q. only_if (q == d.resource) (only_if (x == d.task) (f d))) =
+          sum_below-monotone m (λ q. sum_by h (classes_of x q)) (λ q. only_if (q == d.resource) (only_if (x == d.task) (f d))) (λ q l. omega (arith, classes_sum f d x q, swapped (x == d.task) (q == d.resource) (f d))) in
+          omega (arith, resources, each, sum_below-only m d.resource (λ q. only_if (x == d.task) (f d)))
 
 -- What the columns of a program are worth, each by the ticks that lie in it, is at most what the ticks bring.
 pub columns_bring : (f : ColumnDef → ℕ) (named : ℕ → Option ColumnDef) (e n m : ℕ) (p : ColumnDef → Bool)
@@ -120,13 +120,13 @@ columns_bring f named e n m p =
     let each : sum_below e (λ t. sum_by (λ c. flag (is_in c (named t)) * f c) cs) ≤ sum_below e (λ t. brought f (named t)) =
     sum_below-monotone e (λ t. sum_by (λ c. flag (is_in c (named t)) * f c) cs) (λ t. brought f (named t)) (λ t l. at_tick (named t)) in
     omega (arith, times, swap, each) where
-  nothing : (xs : List ColumnDef) → sum_by (λ c. 0 * f c) xs ≡ 0
-  nothing [] = refl
-  nothing (x ∷ xs) = omega (arith, sum_by-cons (λ c. 0 * f c) x xs, nothing xs)
+      nothing : (xs : List ColumnDef) → sum_by (λ c. 0 * f c) xs ≡ 0
+      nothing [] = refl
+      nothing (x ∷ xs) = omega (arith, sum_by-cons (λ c. 0 * f c) x xs, nothing xs)
 
-  at_tick : (o : Option ColumnDef) → sum_by (λ c. flag (is_in c o) * f c) (filter p (all_columns n m)) ≤ brought f o
-  at_tick None = omega (arith, nothing (filter p (all_columns n m)))
-  at_tick (Some d) = omega (arith, sum_by-kept p (λ c. flag (is_same_column c d) * f c) (all_columns n m), all_sum f d n m)
+      at_tick : (o : Option ColumnDef) → sum_by (λ c. flag (is_in c o) * f c) (filter p (all_columns n m)) ≤ brought f o
+      at_tick None = omega (arith, nothing (filter p (all_columns n m)))
+      at_tick (Some d) = omega (arith, sum_by-kept p (λ c. flag (is_same_column c d) * f c) (all_columns n m), all_sum f d n m)
 
 -- Where each tick that counts lies in one of the columns, there are no more such ticks than lie in the columns.
 pub columns_hold : (named : ℕ → Option ColumnDef) (counts : ℕ → Bool) (e : ℕ) (cs : List ColumnDef) → ((t : ℕ) → t < e → counts t ≡ true → (d : ColumnDef) × (named t ≡ Some d) × Contains cs d)
@@ -136,12 +136,12 @@ columns_hold named counts e cs placed =
     let each : sum_below e (λ t. flag (counts t)) ≤ sum_below e (λ t. sum_by (λ c. flag (is_in c (named t))) cs) =
     sum_below-monotone e (λ t. flag (counts t)) (λ t. sum_by (λ c. flag (is_in c (named t))) cs) (λ t l. at_tick t l) in
     omega (arith, swap, each) where
-  at_tick : (t : ℕ) → t < e → flag (counts t) ≤ sum_by (λ c. flag (is_in c (named t))) cs
-  at_tick t l = elim (cases_Bool (counts t)) [
-    | inr off ↦ rw off (omega arith)
-    | inl on ↦
-        let a : (d : ColumnDef) × (named t ≡ Some d) × Contains cs d = placed t l on in
-        let here : is_in a.0 (named t) ≡ true = ap (λ o. option_map_or (is_same_column a.0) o false) a.1 ∙ same_column_itself a.0 in
-        let one : flag (is_in a.0 (named t)) ≡ 1 = rw here refl in
-        omega (arith, one, flag-at_most (counts t), sum_by-element (λ c. flag (is_in c (named t))) cs a.0 a.2)
-  ]
+      at_tick : (t : ℕ) → t < e → flag (counts t) ≤ sum_by (λ c. flag (is_in c (named t))) cs
+      at_tick t l = elim (cases_Bool (counts t)) [
+        | inr off ↦ rw off (omega arith)
+        | inl on ↦
+            let a : (d : ColumnDef) × (named t ≡ Some d) × Contains cs d = placed t l on in
+            let here : is_in a.0 (named t) ≡ true = ap (λ o. option_map_or (is_same_column a.0) o false) a.1 ∙ same_column_itself a.0 in
+            let one : flag (is_in a.0 (named t)) ≡ 1 = rw here refl in
+            omega (arith, one, flag-at_most (counts t), sum_by-element (λ c. flag (is_in c (named t))) cs a.0 a.2)
+      ]

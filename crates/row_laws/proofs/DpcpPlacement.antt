@@ -1,13 +1,10 @@
 -- Under DPCP the column in which a charged tick lies is one of the blocked job's program.
-use Rattle.std.proofs.Common.{◌≡◌, ℕ, ◌<◌, ◌≤◌, ◌==◌, ◌&&◌, ◌||◌, not, Bool, true, false, length, refl, sym, ap, ◌∙◌, arith, inl, inr, Some, nat_le, nat_lt}
-use Rattle.std.proofs.lemmas.Bool.{cases_lt, cases_Bool, both_ways, and_from, or_left, or_right, eqb-true, eq-eqb, ne_eqb, lt-ltb, le-leb, le-ltb, not_from_false}
-use Rattle.bounded_sums.specs.Tests.{any_below}
+use Rattle.std.proofs.Common.{◌≡◌, ℕ, ◌<◌, ◌≤◌, ◌==◌, ◌&&◌, ◌||◌, not, true, length, sym, ap, ◌∙◌, inl, inr, nat_le, nat_lt}
+use Rattle.std.proofs.lemmas.Bool.{cases_lt, and_from, or_left, or_right, eq-eqb, le-leb, le-ltb, not_from_false}
 use Rattle.bounded_sums.proofs.TestLaws.{any_below-from}
-use Rattle.sporadic_model.specs.SetDef.{task_at}
 use Rattle.sporadic_model.specs.Homes.{home_in}
 use Rattle.sporadic_model.specs.Users.{is_user}
 use Rattle.sporadic_model.specs.declared.ids.Protocol.TheVariants as protocol
-use Rattle.schedule_model.specs.JobDef.{job_of}
 use Rattle.schedule_model.specs.LawfulJobs.{AreLawfulJobs}
 use Rattle.schedule_model.specs.RowDef.{Trace, jobs_of, runs_in}
 use Rattle.schedule_model.specs.Phase.{phase_of}
@@ -24,7 +21,7 @@ use Rattle.fragments.specs.declared.columns.Class.{Class}
 use Rattle.fragments.specs.declared.columns.Class.TheVariants.{Direct, Indirect, Preemption}
 use Rattle.fragments.specs.Ceilings.{ceiling_rank}
 use Rattle.fragments.specs.Columns.{requests_beside, blocks_at_home}
-use Rattle.charge_laws.proofs.DpcpCharging.{RunsRequest, LocalBlocked, HomeBlocked, DpcpReason}
+use Rattle.charge_laws.proofs.DpcpCharging.{RunsRequest, HomeBlocked, DpcpReason}
 use Rattle.row_laws.proofs.SharedPlacement.{IsPlaced, other_task, passes_not}
 use Rattle.row_laws.proofs.HomeRow.{low_runner}
 use Rattle.row_laws.proofs.Ordered.{LowRunner, low_ceiling}
@@ -41,8 +38,8 @@ beside_there w t j r m q lawful listed e b other =
     (open_resource w.set w t j b.number b.resource (lawful.each j listed) b.request)
     (and_from _ _ (passes_not b.resource q (λ x. other (same ∙ sym x)))
     (and_from _ _ (open_user w.set w t j b.number b.resource (lawful.each j listed) b.request) (eq-eqb (home_of w b.resource) (home_of w q) (sym b.runner.home ∙ ap (home_of w) same)))) where
-  same : b.runner.resource ≡ q
-  same = runner_resource w t (home_of w b.resource) r m q b.runner e
+      same : b.runner.resource ≡ q
+      same = runner_resource w t (home_of w b.resource) r m q b.runner e
 
 -- A lower request runs only where its resource's ceiling is no lower than j.
 lower_only : (w : Trace) (n t j r m q : ℕ) → AreLawfulJobs (jobs_of w) → KeepsBefore dpcp_rule w n → t < n → phase_of w t r ≡ Asking m q → HomeBlocked w t j r

@@ -1,6 +1,5 @@
 -- Each row of each protocol's programs is met.
-use Rattle.std.proofs.Common.{◌≡◌, ℕ, ◌+◌}
-use Rattle.sporadic_model.specs.declared.ids.Protocol.{Protocol}
+use Rattle.std.proofs.Common.{ℕ, ◌+◌}
 use Rattle.sporadic_model.specs.declared.ids.Protocol.TheVariants as protocol
 use Rattle.schedule_model.specs.RowDef.{Trace}
 use Rattle.schedule_model.specs.Activity.{task_of}

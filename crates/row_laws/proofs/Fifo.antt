@@ -1,16 +1,16 @@
 -- Rows of FMLP+, which serves requests in the order of issue: what holds or runs while a job waits was issued no later than
 -- the job's own request, and so was open whenever that was.
-use Rattle.std.proofs.Common.{◌≡◌, ℕ, zero, suc, ◌<◌, ◌≤◌, ◌*◌, ◌==◌, ◌&&◌, not, Bool, true, false, length, refl, sym, ap, subst, ◌∙◌, arith, inl, inr, Some}
+use Rattle.std.proofs.Common.{◌≡◌, ℕ, zero, suc, ◌<◌, ◌≤◌, ◌*◌, ◌==◌, ◌&&◌, not, true, false, refl, sym, ap, ◌∙◌, arith, inl, inr, Some}
 use Rattle.std.proofs.lemmas.Bool.{cases_Bool, both_ways, and_parts, eqb-true, eq-eqb, not-true}
 use Rattle.bounded_sums.specs.Sums.{flag}
 use Rattle.schedule_model.specs.declared.rule.Rule.TheVariants as rule
 use Rattle.schedule_model.specs.JobDef.{job_of}
 use Rattle.schedule_model.specs.LawfulJobs.{is_script, IsLawfulJob, AreLawfulJobs}
 use Rattle.schedule_model.specs.RowDef.{Trace, jobs_of, is_job, holder_in, held_before}
-use Rattle.schedule_model.specs.Phase.{Phase, is_same_request, phase_of}
-use Rattle.schedule_model.specs.Phase.Phase.{Local, Asking, Finished}
+use Rattle.schedule_model.specs.Phase.{is_same_request, phase_of}
+use Rattle.schedule_model.specs.Phase.Phase.{Local, Asking}
 use Rattle.schedule_model.specs.Activity.{task_of, is_active, is_requester, issue_tick_of}
-use Rattle.schedule_model.specs.SharedRules.{Ranks, KeepsGrant}
+use Rattle.schedule_model.specs.SharedRules.{KeepsGrant}
 use Rattle.schedule_model.specs.Ranks.{fmlp_plus}
 use Rattle.schedule_model.specs.Protocols.{shared_rule}
 use Rattle.schedule_model.specs.Keeping.{KeepsBefore}
@@ -24,12 +24,12 @@ use Rattle.charge_model.specs.Windows.{window_end}
 use Rattle.charge_laws.proofs.SharedCharging.{WaitsFor, DirectBy, IndirectBy, SharedReason, shared_reason}
 use Rattle.row_laws.proofs.Brings.{Window, Hit, TicksMeet, flag_times-at_most, flag_times-passes}
 use Rattle.row_laws.proofs.JobRows.{HitJob, hit_job}
-use Rattle.row_laws.proofs.SlotRow.{OneRequest, Shares}
+use Rattle.row_laws.proofs.SlotRow.{OneRequest}
 use Rattle.row_laws.proofs.Requests.{DirectColumn, direct_column, direct_by, held_resource, one_open}
 use Rattle.row_laws.proofs.Numbers.{OwnRequest, by_number, by_number_of}
 use Rattle.schedule_laws.proofs.Ticks.{same_true, one_resource}
 use Rattle.schedule_laws.proofs.ActiveJobs.{Requester, requester_is, requester_from, requester_listed}
-use Rattle.schedule_laws.proofs.Rows.{job_named, named_job, ReadyHolder, ready_holder_is}
+use Rattle.schedule_laws.proofs.Rows.{job_named, named_job}
 use Rattle.schedule_laws.proofs.Holders.{open_at, open_active}
 use Rattle.schedule_laws.proofs.SharedLaws.{shared_runs_active}
 use Rattle.schedule_laws.proofs.Issues.{issue_at_most, issue_no_later, issue_stays, issue_new, open_since}
@@ -122,35 +122,35 @@ pub turn_row_met : (w : Trace) (bound : ℕ → ℕ) (n j x q : ℕ) → Window 
 turn_row_met w bound n j x q window keeps s share fair =
     by_number_of shared_charge w bound n j q s share f window (record { fair = fair; small = λ c. flag_times-at_most (((c.task == x) && (c.resource == q)) && is_direct c.class) (share c.task c.resource) }) own
     (λ u v k a b order l g h early late. fifo_one w bound n j x u v k a b f window keeps order l g h (column u g).task (column v h).task (other v h) early late) where
-  f : ColumnDef → ℕ
-  f = λ c. flag (((c.task == x) && (c.resource == q)) && is_direct c.class) * share c.task c.resource
+      f : ColumnDef → ℕ
+      f = λ c. flag (((c.task == x) && (c.resource == q)) && is_direct c.class) * share c.task c.resource
 
-  column : (t : ℕ) → (h : Hit shared_charge w f j t) → DirectColumn w x q h.charge h.resource
-  column t h = direct_column w x q h.charge h.resource (share (task_of w h.charge.job) h.resource) h.some
+      column : (t : ℕ) → (h : Hit shared_charge w f j t) → DirectColumn w x q h.charge h.resource
+      column t h = direct_column w x q h.charge h.resource (share (task_of w h.charge.job) h.resource) h.some
 
-  other : (t : ℕ) → (h : Hit shared_charge w f j t) → is_preemption h.charge.class ≡ false
-  other t h = rw (column t h).class refl
+      other : (t : ℕ) → (h : Hit shared_charge w f j t) → is_preemption h.charge.class ≡ false
+      other t h = rw (column t h).class refl
 
-  own : (t : ℕ) → t < window_end w bound n j → (h : Hit shared_charge w f j t) → OwnRequest w t j (λ r. r == q)
-  own t l h =
-      let why : DirectBy w t j h.charge.job = direct_by fmlp_plus w t j h.charge.job h.charge.class (column t h).class (shared_reason fmlp_plus w t j h.charge (keeps t (omega arith)) h.is_it) in
-      record { number = why.waits.number; resource = why.waits.resource; request = why.waits.request; passes = eq-eqb why.waits.resource q (held_resource w t j h.charge.job h.number h.resource why.waits h.request ∙ (column t h).same) }
+      own : (t : ℕ) → t < window_end w bound n j → (h : Hit shared_charge w f j t) → OwnRequest w t j (λ r. r == q)
+      own t l h =
+          let why : DirectBy w t j h.charge.job = direct_by fmlp_plus w t j h.charge.job h.charge.class (column t h).class (shared_reason fmlp_plus w t j h.charge (keeps t (omega arith)) h.is_it) in
+          record { number = why.waits.number; resource = why.waits.resource; request = why.waits.request; passes = eq-eqb why.waits.resource q (held_resource w t j h.charge.job h.number h.resource why.waits h.request ∙ (column t h).same) }
 
 -- The row of queues.
 pub queue_row_met : (w : Trace) (bound : ℕ → ℕ) (n j x : ℕ) → Window shared_charge w bound n j → KeepsBefore (shared_rule fmlp_plus) w n → TicksMeet shared_charge w bound n j (queue_row w.set (task_of w j) x)
 queue_row_met w bound n j x window keeps s share fair =
     by_number shared_charge w bound n j s share f (λ r. true) window (record { fair = fair; small = λ c. flag_times-at_most ((c.task == x) && not (is_preemption c.class)) (share c.task c.resource) }) own
     (λ u v k a b order l g h early late. fifo_one w bound n j x u v k a b f window keeps order l g h (column u g).0 (column v h).0 (column v h).1 early late) where
-  f : ColumnDef → ℕ
-  f = λ c. flag ((c.task == x) && not (is_preemption c.class)) * share c.task c.resource
+      f : ColumnDef → ℕ
+      f = λ c. flag ((c.task == x) && not (is_preemption c.class)) * share c.task c.resource
 
-  column : (t : ℕ) → (h : Hit shared_charge w f j t) → (task_of w h.charge.job ≡ x) × (is_preemption h.charge.class ≡ false)
-  column t h =
-      let both : ((task_of w h.charge.job == x) ≡ true) × (not (is_preemption h.charge.class) ≡ true) =
-      and_parts _ _ (flag_times-passes ((task_of w h.charge.job == x) && not (is_preemption h.charge.class)) (share (task_of w h.charge.job) h.resource) h.some) in
-      (eqb-true _ _ both.0, not-true _ both.1)
+      column : (t : ℕ) → (h : Hit shared_charge w f j t) → (task_of w h.charge.job ≡ x) × (is_preemption h.charge.class ≡ false)
+      column t h =
+          let both : ((task_of w h.charge.job == x) ≡ true) × (not (is_preemption h.charge.class) ≡ true) =
+          and_parts _ _ (flag_times-passes ((task_of w h.charge.job == x) && not (is_preemption h.charge.class)) (share (task_of w h.charge.job) h.resource) h.some) in
+          (eqb-true _ _ both.0, not-true _ both.1)
 
-  own : (t : ℕ) → t < window_end w bound n j → (h : Hit shared_charge w f j t) → OwnRequest w t j (λ r. true)
-  own t l h =
-      let waits : Queued w t j h.charge.job = queued w n t j h.charge.job h.charge.class window.lawful keeps (omega arith) (column t h).1 (shared_reason fmlp_plus w t j h.charge (keeps t (omega arith)) h.is_it) in
-      record { number = waits.number; resource = waits.resource; request = waits.request; passes = refl }
+      own : (t : ℕ) → t < window_end w bound n j → (h : Hit shared_charge w f j t) → OwnRequest w t j (λ r. true)
+      own t l h =
+          let waits : Queued w t j h.charge.job = queued w n t j h.charge.job h.charge.class window.lawful keeps (omega arith) (column t h).1 (shared_reason fmlp_plus w t j h.charge (keeps t (omega arith)) h.is_it) in
+          record { number = waits.number; resource = waits.resource; request = waits.request; passes = refl }

@@ -1,9 +1,8 @@
 -- From ticks to fractions: where the ticks of a window meet each row, the fractions are a scaled point of the program.
-use Rattle.std.proofs.Common.{◌≡◌, ℕ, zero, suc, ◌+◌, ◌*◌, ◌/◌, ◌<◌, ◌≤◌, Bool, true, false, List, [], ◌∷◌, length, get_or, map, refl, sym, ap, ◌∙◌, arith, inl, inr, suc-mul, Option, Some, sum_by}
-use Rattle.std.specs.Prelude.{slice_index, slice_index_or}
-use Rattle.std.specs.List.{All, Contains, filter}
+use Rattle.std.proofs.Common.{◌≡◌, ℕ, zero, suc, ◌*◌, ◌/◌, ◌<◌, ◌≤◌, Bool, true, List, [], ◌∷◌, length, get_or, map, refl, sym, ap, ◌∙◌, arith, suc-mul, Some, sum_by}
+use Rattle.std.specs.Prelude.{slice_index}
+use Rattle.std.specs.List.{All, Contains}
 use Rattle.std.proofs.Math.Nat.{mul_comm, mul_assoc, mul-div_cancel_left, div-mul-le_self, mul-le-mul_right}
-use Rattle.std.proofs.lemmas.Bool.{cases_lt}
 use Rattle.std.proofs.lemmas.List.{get_or-map, length-map}
 use Rattle.std.proofs.lemmas.List.Elements.{All-filter, All-get_or, All-head, All-tail}
 use Rattle.bounded_sums.specs.Sums.{sum_below}
@@ -16,16 +15,15 @@ use Rattle.sporadic_model.specs.Users.{length_of}
 use Rattle.sporadic_model.specs.declared.ids.Protocol.{Protocol}
 use Rattle.schedule_model.specs.RowDef.{Trace}
 use Rattle.schedule_model.specs.Activity.{task_of}
-use Rattle.fragments.specs.ColumnDef.{ColumnDef, all_columns}
+use Rattle.fragments.specs.ColumnDef.{ColumnDef}
 use Rattle.fragments.specs.Columns.{is_column, columns_of}
-use Rattle.fragments.specs.Constraints.{ConstraintDef, holds_some, rows_there, coefficients_of}
+use Rattle.fragments.specs.Constraints.{ConstraintDef, holds_some, rows_there}
 use Rattle.program_laws.specs.Programs.{cost_of, rows_of, program_of}
 use Rattle.program_laws.proofs.RowKinds.{EachKind, each_row}
-use Rattle.charge_model.specs.Charges.{Charge}
 use Rattle.charge_model.specs.Windows.{window_end}
-use Rattle.charge_model.specs.Fractions.{charged_column, is_in, ticks_in, product_of_lengths, fraction_of, fractions_of, no_column}
+use Rattle.charge_model.specs.Fractions.{charged_column, is_in, ticks_in, product_of_lengths, fractions_of, no_column}
 use Rattle.row_laws.proofs.Brings.{Charges, brings, TicksMeet}
-use Rattle.row_laws.proofs.ColumnSums.{sum_by-agree, columns_bring, columns_hold}
+use Rattle.row_laws.proofs.ColumnSums.{columns_bring, columns_hold}
 
 -- Has each of these columns requests of some length?
 abbrev pub HaveLengths : SetDef → List ColumnDef → Type 0
@@ -50,8 +48,8 @@ factor_of set (c ∷ cs) zero d l = (product_of_lengths set cs, refl)
 factor_of set (c ∷ cs) (suc k) d l =
     let back : (m : ℕ) × (product_of_lengths set cs ≡ length_of set (get_or cs k d).task (get_or cs k d).resource * m) = factor_of set cs k d (omega arith) in
     (length_of set c.task c.resource * back.0, turned (length_of set c.task c.resource) (product_of_lengths set cs) (length_of set (get_or cs k d).task (get_or cs k d).resource) back.0 back.1) where
-  turned : (a s l m : ℕ) → s ≡ l * m → a * s ≡ l * (a * m)
-  turned a s l m e = ap (λ z. a * z) e ∙ sym (mul_assoc a l m) ∙ ap (λ z. z * m) (mul_comm a l) ∙ mul_assoc l a m
+      turned : (a s l m : ℕ) → s ≡ l * m → a * s ≡ l * (a * m)
+      turned a s l m e = ap (λ z. a * z) e ∙ sym (mul_assoc a l m) ∙ ap (λ z. z * m) (mul_comm a l) ∙ mul_assoc l a m
 
 -- A whole of scale s, shared out over a length: what each tick is worth.
 abbrev pub share_of : SetDef → ℕ → ℕ → ℕ → ℕ
@@ -85,8 +83,8 @@ column_share : (p : Protocol) (set : SetDef) (i k ticks : ℕ) → HaveLengths s
 column_share p set i k ticks have l =
     let f : (m : ℕ) × (product_of_lengths set cs ≡ length_of set (get_or cs k no_column).task (get_or cs k no_column).resource * m) = factor_of set cs k no_column l in
     whole_share set (scale_of p set i) ticks (get_or cs k no_column) f.0 (All-get_or (λ (c : ColumnDef). 0 < length_of set c.task c.resource) cs k no_column l have) f.1 where
-  cs : List ColumnDef
-  cs = columns_of p set i
+      cs : List ColumnDef
+      cs = columns_of p set i
 
 -- A row of the program that is there.
 no_row : ConstraintDef
@@ -100,25 +98,29 @@ unfolding ticks_in
 row_ticks charges p w bound n j k have =
     let parts : sum_below (length cs) (λ c. k.coefficient (get_or cs c no_column) * fractions_of charges w bound n j cs c) ≡ sum_below (length cs) (λ c. part (get_or cs c no_column)) =
     sum_below-agree (length cs) (λ c. k.coefficient (get_or cs c no_column) * fractions_of charges w bound n j cs c) (λ c. part (get_or cs c no_column)) (λ c l. of_column c l) in
-    omega (arith, parts, sum_below-list_by part no_column cs,
-    columns_bring (λ c. k.coefficient c * share c) (λ t. charged_column charges w t j) (window_end w bound n j) (length w.set.tasks) (length w.set.resources) (is_column p w.set (task_of w j))) where
-  cs : List ColumnDef
-  cs = columns_of p w.set (task_of w j)
+    omega (
+      arith,
+      parts,
+      sum_below-list_by part no_column cs,
+      columns_bring (λ c. k.coefficient c * share c) (λ t. charged_column charges w t j) (window_end w bound n j) (length w.set.tasks) (length w.set.resources) (is_column p w.set (task_of w j)),
+    ) where
+      cs : List ColumnDef
+      cs = columns_of p w.set (task_of w j)
 
-  share : ColumnDef → ℕ
-  share = λ c. share_of w.set (scale_of p w.set (task_of w j)) c.task c.resource
+      share : ColumnDef → ℕ
+      share = λ c. share_of w.set (scale_of p w.set (task_of w j)) c.task c.resource
 
-  ticks : ColumnDef → ℕ
-  ticks = λ c. count_below (window_end w bound n j) (λ t. is_in c (charged_column charges w t j))
+      ticks : ColumnDef → ℕ
+      ticks = λ c. count_below (window_end w bound n j) (λ t. is_in c (charged_column charges w t j))
 
-  part : ColumnDef → ℕ
-  part = λ c. ticks c * (k.coefficient c * share c)
+      part : ColumnDef → ℕ
+      part = λ c. ticks c * (k.coefficient c * share c)
 
-  of_column : (c : ℕ) → c < length cs → k.coefficient (get_or cs c no_column) * fractions_of charges w bound n j cs c ≡ part (get_or cs c no_column)
-  of_column c l =
-      let d : ColumnDef = get_or cs c no_column in
-      let a : WholeShare w.set (scale_of p w.set (task_of w j)) (ticks d) d = column_share p w.set (task_of w j) c (ticks d) have l in
-      ap (λ z. k.coefficient d * z) a.fraction ∙ turned (k.coefficient d) (ticks d) (share d)
+      of_column : (c : ℕ) → c < length cs → k.coefficient (get_or cs c no_column) * fractions_of charges w bound n j cs c ≡ part (get_or cs c no_column)
+      of_column c l =
+          let d : ColumnDef = get_or cs c no_column in
+          let a : WholeShare w.set (scale_of p w.set (task_of w j)) (ticks d) d = column_share p w.set (task_of w j) c (ticks d) have l in
+          ap (λ z. k.coefficient d * z) a.fraction ∙ turned (k.coefficient d) (ticks d) (share d)
 
 -- So where the ticks meet each kind of row, the fractions are a scaled point.
 pub fractions_are_point : (charges : Charges) (p : Protocol) (w : Trace) (bounds : List ℕ) (n j : ℕ) → HaveLengths w.set (columns_of p w.set (task_of w j))
@@ -172,31 +174,31 @@ fractions_worth charges p w bounds n j counts have placed =
     let list : sum_below (length cs) (λ c. ticks (get_or cs c no_column)) * scale ≡ sum_by ticks cs * scale = ap (λ z. z * scale) (sum_below-list_by ticks no_column cs) in
     let most : count_below e counts ≤ sum_by ticks cs = columns_hold (λ t. charged_column charges w t j) counts e cs placed in
     omega (arith, number, same, times, list, mul-le-mul_right scale most) where
-  i : ℕ
-  i = task_of w j
+      i : ℕ
+      i = task_of w j
 
-  cs : List ColumnDef
-  cs = columns_of p w.set i
+      cs : List ColumnDef
+      cs = columns_of p w.set i
 
-  program : ProgramDef
-  program = program_of p w.set i bounds
+      program : ProgramDef
+      program = program_of p w.set i bounds
 
-  scale : ℕ
-  scale = product_of_lengths w.set cs
+      scale : ℕ
+      scale = product_of_lengths w.set cs
 
-  e : ℕ
-  e = window_end w (slice_index bounds) n j
+      e : ℕ
+      e = window_end w (slice_index bounds) n j
 
-  ticks : ColumnDef → ℕ
-  ticks = λ c. count_below e (λ t. is_in c (charged_column charges w t j))
+      ticks : ColumnDef → ℕ
+      ticks = λ c. count_below e (λ t. is_in c (charged_column charges w t j))
 
-  term : ℕ → ℕ
-  term = λ c. cost program c * fractions_of charges w (slice_index bounds) n j cs c
+      term : ℕ → ℕ
+      term = λ c. cost program c * fractions_of charges w (slice_index bounds) n j cs c
 
-  of_column : (c : ℕ) → c < length cs → term c ≡ ticks (get_or cs c no_column) * scale
-  of_column c l =
-      let d : ColumnDef = get_or cs c no_column in
-      let a : WholeShare w.set scale (ticks d) d = column_share p w.set i c (ticks d) have l in
-      let costs : cost program c ≡ length_of w.set d.task d.resource = get_or-map (cost_of w.set) cs c no_column 0 l in
-      ap (λ z. z * fractions_of charges w (slice_index bounds) n j cs c) costs ∙ ap (λ z. length_of w.set d.task d.resource * z) a.fraction
-      ∙ turned (length_of w.set d.task d.resource) (ticks d) (share_of w.set scale d.task d.resource) ∙ ap (λ z. ticks d * z) a.whole
+      of_column : (c : ℕ) → c < length cs → term c ≡ ticks (get_or cs c no_column) * scale
+      of_column c l =
+          let d : ColumnDef = get_or cs c no_column in
+          let a : WholeShare w.set scale (ticks d) d = column_share p w.set i c (ticks d) have l in
+          let costs : cost program c ≡ length_of w.set d.task d.resource = get_or-map (cost_of w.set) cs c no_column 0 l in
+          ap (λ z. z * fractions_of charges w (slice_index bounds) n j cs c) costs ∙ ap (λ z. length_of w.set d.task d.resource * z) a.fraction
+          ∙ turned (length_of w.set d.task d.resource) (ticks d) (share_of w.set scale d.task d.resource) ∙ ap (λ z. ticks d * z) a.whole

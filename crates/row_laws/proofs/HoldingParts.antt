@@ -1,39 +1,32 @@
 -- Row of holdings, under MPCP: what is charged indirectly is parted by the resource that the job waits for and by the task
 -- that holds it; each part is paid for by the holdings of that resource by that task.
-use Rattle.std.proofs.Common.{◌≡◌, ℕ, ◌+◌, ◌*◌, ◌<◌, ◌≤◌, ◌==◌, ◌&&◌, not, Bool, true, false, List, length, get_or, refl, sym, ap, ◌∙◌, arith, inl, inr, Some, nat_lt}
-use Rattle.std.proofs.Math.Nat.{mul_assoc, mul_comm, mul-le-mul_left, mul-le-mul_right}
-use Rattle.std.proofs.lemmas.Bool.{cases_lt, cases_Bool, both_ways, and_from, eqb-true, eq-eqb, ltb-true, lt-ltb, ltb-false}
-use Rattle.bounded_sums.specs.Sums.{sum_below, flag, only_if}
-use Rattle.bounded_sums.specs.Tests.{count_below, any_below}
-use Rattle.bounded_sums.proofs.SumLaws.{sum_below-agree, sum_below-monotone, sum_below-plus, sum_below-times, sum_below-zero, only_if-true, only_if-false, only_if-at_most}
-use Rattle.bounded_sums.proofs.SlotLaws.{sum_below-slots}
-use Rattle.bounded_sums.proofs.TestLaws.{any_below-none}
-use Rattle.sporadic_model.specs.Users.{count_of, length_of, is_user}
+use Rattle.std.proofs.Common.{◌≡◌, ℕ, ◌*◌, ◌<◌, ◌≤◌, ◌==◌, ◌&&◌, not, Bool, true, List, length, get_or, sym, ap, ◌∙◌, arith, Some, nat_lt}
+use Rattle.std.proofs.Math.Nat.{mul-le-mul_right}
+use Rattle.std.proofs.lemmas.Bool.{eqb-true, ltb-true}
+use Rattle.bounded_sums.specs.Sums.{sum_below, only_if}
+use Rattle.bounded_sums.specs.Tests.{count_below}
+use Rattle.bounded_sums.proofs.SumLaws.{only_if-at_most}
+use Rattle.sporadic_model.specs.Users.{count_of, length_of}
 use Rattle.schedule_model.specs.JobDef.{SegmentDef, job_of, asks_for}
-use Rattle.schedule_model.specs.LawfulJobs.{IsLawfulJob}
 use Rattle.schedule_model.specs.RowDef.{Trace, holder_in}
 use Rattle.schedule_model.specs.Phase.{phase_of}
 use Rattle.schedule_model.specs.Phase.Phase.{Asking}
-use Rattle.schedule_model.specs.Activity.{task_of, processor_of, is_active}
+use Rattle.schedule_model.specs.Activity.{task_of, processor_of}
 use Rattle.schedule_model.specs.Ranks.{mpcp}
 use Rattle.schedule_model.specs.Protocols.{shared_rule}
 use Rattle.schedule_model.specs.Keeping.{KeepsBefore}
 use Rattle.schedule_laws.specs.Counting.{no_segment}
 use Rattle.schedule_laws.proofs.Ticks.{open_between}
-use Rattle.schedule_laws.proofs.ActiveJobs.{Active, active_is, Requester}
-use Rattle.schedule_laws.proofs.Holders.{shared_holder_stays, open_active}
+use Rattle.schedule_laws.proofs.Holders.{shared_holder_stays}
 use Rattle.schedule_laws.proofs.Segments.{open_segment}
 use Rattle.schedule_laws.proofs.OwnRequests.{own_requests}
-use Rattle.fragments.specs.ColumnDef.{ColumnDef, is_indirect}
-use Rattle.fragments.specs.Windows.{jobs_in, requests_in}
-use Rattle.indirect_constraints.specs.Rows.{is_beside, higher_holdings, lower_holdings, holdings, holding_row}
+use Rattle.fragments.specs.ColumnDef.{is_indirect}
 use Rattle.charge_model.specs.Charges.{shared_charge}
 use Rattle.charge_model.specs.Windows.{window_end}
-use Rattle.row_laws.proofs.Brings.{Window, Hit, hit, brings, TicksMeet, flag_times-at_most, only_if-parts, sum_below-passing}
-use Rattle.row_laws.proofs.JobRows.{is_near, Near, near_is, active_near, near_jobs}
-use Rattle.row_laws.proofs.SlotRow.{OneRequest, Parts, Shares, parts_paid}
+use Rattle.row_laws.proofs.Brings.{Window, Hit, hit, brings, flag_times-at_most, only_if-parts}
+use Rattle.row_laws.proofs.SlotRow.{OneRequest, Shares, parts_paid}
 use Rattle.row_laws.proofs.Numbers.{number_of}
-use Rattle.row_laws.proofs.LowerHolders.{Asks, asks_between, held_since, holder_asks}
+use Rattle.row_laws.proofs.LowerHolders.{Asks, asks_between, held_since}
 use Rattle.row_laws.proofs.Holdings.{holding_share, own_resource, first_holder, Held, held_at, holding_one}
 
 -- What is known of the row that is met.
@@ -95,34 +88,34 @@ low_paid w bound n j x s share q c =
     })
     (shares_of w bound n j x s share c) in
     omega (arith, paid, mul-le-mul_right s (own_requests w.set (job_of w.jobs j) q (c.window.lawful.each j c.window.listed))) where
-  script : List SegmentDef
-  script = (job_of w.jobs j).script
+      script : List SegmentDef
+      script = (job_of w.jobs j).script
 
-  below : (t : ℕ) → low_part w j x share q t ≤ amount w j x share t
-  below t = omega (arith, only_if-at_most (is_low w j t) (for_resource w j x share q t), only_if-at_most (own_resource w j t == q) (amount w j x share t))
+      below : (t : ℕ) → low_part w j x share q t ≤ amount w j x share t
+      below t = omega (arith, only_if-at_most (is_low w j t) (for_resource w j x share q t), only_if-at_most (own_resource w j t == q) (amount w j x share t))
 
-  low : (t : ℕ) → t < window_end w bound n j → 0 < low_part w j x share q t → (task_of w j < task_of w (first_holder w j t)) × ForResource w j x share q t
-  low t l some =
-      let parts : (is_low w j t ≡ true) × (0 < for_resource w j x share q t) = only_if-parts (is_low w j t) (for_resource w j x share q t) some in
-      (ltb-true _ _ parts.0, for_resource_is w bound n j x s share q t c l parts.1)
+      low : (t : ℕ) → t < window_end w bound n j → 0 < low_part w j x share q t → (task_of w j < task_of w (first_holder w j t)) × ForResource w j x share q t
+      low t l some =
+          let parts : (is_low w j t ≡ true) × (0 < for_resource w j x share q t) = only_if-parts (is_low w j t) (for_resource w j x share q t) some in
+          (ltb-true _ _ parts.0, for_resource_is w bound n j x s share q t c l parts.1)
 
-  asks_q : (t : ℕ) → (a : ForResource w j x share q t) → phase_of w t j ≡ Asking a.facts.number q
-  asks_q t a = a.facts.asks ∙ ap (Asking a.facts.number) a.resource
+      asks_q : (t : ℕ) → (a : ForResource w j x share q t) → phase_of w t j ≡ Asking a.facts.number q
+      asks_q t a = a.facts.asks ∙ ap (Asking a.facts.number) a.resource
 
-  passes : (t : ℕ) → ForResource w j x share q t → asks_for q (get_or script (number_of (phase_of w t j)) no_segment) ≡ true
-  passes t a = ap (λ p. asks_for q (get_or script (number_of p) no_segment)) (asks_q t a) ∙ (open_segment w t j a.facts.number q (asks_q t a)).asks
+      passes : (t : ℕ) → ForResource w j x share q t → asks_for q (get_or script (number_of (phase_of w t j)) no_segment) ≡ true
+      passes t a = ap (λ p. asks_for q (get_or script (number_of p) no_segment)) (asks_q t a) ∙ (open_segment w t j a.facts.number q (asks_q t a)).asks
 
-  together : (u v : ℕ) → u ≤ v → v < window_end w bound n j → ForResource w j x share q u → task_of w j < task_of w (first_holder w j v) → ForResource w j x share q v
-      → (a : Hit shared_charge w (holding_share x share) j u) → (b : Hit shared_charge w (holding_share x share) j v) → number_of (phase_of w u j) ≡ number_of (phase_of w v j)
-      → OneRequest w u v a.charge.job b.charge.job
-  together u v order l early lower late a b same =
-      let number : early.facts.number ≡ late.facts.number = sym (ap number_of early.facts.asks) ∙ same ∙ ap number_of late.facts.asks in
-      let there : phase_of w v j ≡ Asking early.facts.number q = asks_q v late ∙ ap (λ k. Asking k q) (sym number) in
-      let asks : Asks w u v q j = asks_between w u v early.facts.number q q j order early.facts.active (asks_q u early) there in
-      let holder : holder_in (w.row v) q ≡ Some (first_holder w j v) = ap (holder_in (w.row v)) (sym late.resource) ∙ late.facts.holder in
-      let b_facts : Held w v j x b.charge.job = held_at mpcp w bound n v j x share c.window c.keeps (omega arith) b in
-      holding_one mpcp w bound n u v q (first_holder w j v) j x share c.window c.keeps order l a b b_facts.processor
-      (held_since w n u v q (first_holder w j v) j c.keeps (omega arith) asks lower holder)
+      together : (u v : ℕ) → u ≤ v → v < window_end w bound n j → ForResource w j x share q u → task_of w j < task_of w (first_holder w j v) → ForResource w j x share q v
+          → (a : Hit shared_charge w (holding_share x share) j u) → (b : Hit shared_charge w (holding_share x share) j v) → number_of (phase_of w u j) ≡ number_of (phase_of w v j)
+          → OneRequest w u v a.charge.job b.charge.job
+      together u v order l early lower late a b same =
+          let number : early.facts.number ≡ late.facts.number = sym (ap number_of early.facts.asks) ∙ same ∙ ap number_of late.facts.asks in
+          let there : phase_of w v j ≡ Asking early.facts.number q = asks_q v late ∙ ap (λ k. Asking k q) (sym number) in
+          let asks : Asks w u v q j = asks_between w u v early.facts.number q q j order early.facts.active (asks_q u early) there in
+          let holder : holder_in (w.row v) q ≡ Some (first_holder w j v) = ap (holder_in (w.row v)) (sym late.resource) ∙ late.facts.holder in
+          let b_facts : Held w v j x b.charge.job = held_at mpcp w bound n v j x share c.window c.keeps (omega arith) b in
+          holding_one mpcp w bound n u v q (first_holder w j v) j x share c.window c.keeps order l a b b_facts.processor
+          (held_since w n u v q (first_holder w j v) j c.keeps (omega arith) asks lower holder)
 
 -- Job z holds q, in its request of that number, and j waits for it.
 pub record JobHolds (w : Trace) (j q z t : ℕ) : Type 0 where
@@ -146,38 +139,38 @@ job_paid w bound n j x s share q y z c listed task =
     (shares_of w bound n j x s share c) in
     let most : count_below (length script) (λ k. asks_for q (get_or script k no_segment)) ≤ count_of w.set y q = rw task at (own_requests w.set (job_of w.jobs z) q (c.window.lawful.each z listed)) in
     omega (arith, paid, mul-le-mul_right s most) where
-  script : List SegmentDef
-  script = (job_of w.jobs z).script
+      script : List SegmentDef
+      script = (job_of w.jobs z).script
 
-  below : (t : ℕ) → job_part w j x share q y z t ≤ amount w j x share t
-  below t = omega (arith, only_if-at_most (first_holder w j t == z) (task_part w j x share q y t), only_if-at_most (task_of w (first_holder w j t) == y) (high_part w j x share q t), only_if-at_most (not (is_low w j t)) (for_resource w j x share q t), only_if-at_most (own_resource w j t == q) (amount w j x share t))
+      below : (t : ℕ) → job_part w j x share q y z t ≤ amount w j x share t
+      below t = omega (arith, only_if-at_most (first_holder w j t == z) (task_part w j x share q y t), only_if-at_most (task_of w (first_holder w j t) == y) (high_part w j x share q t), only_if-at_most (not (is_low w j t)) (for_resource w j x share q t), only_if-at_most (own_resource w j t == q) (amount w j x share t))
 
-  holds : (t : ℕ) → t < window_end w bound n j → 0 < job_part w j x share q y z t → JobHolds w j q z t
-  holds t l some =
-      let one : ((first_holder w j t == z) ≡ true) × (0 < task_part w j x share q y t) = only_if-parts (first_holder w j t == z) (task_part w j x share q y t) some in
-      let two : ((task_of w (first_holder w j t) == y) ≡ true) × (0 < high_part w j x share q t) = only_if-parts (task_of w (first_holder w j t) == y) (high_part w j x share q t) one.1 in
-      let three : (not (is_low w j t) ≡ true) × (0 < for_resource w j x share q t) = only_if-parts (not (is_low w j t)) (for_resource w j x share q t) two.1 in
-      let a : ForResource w j x share q t = for_resource_is w bound n j x s share q t c l three.1 in
-      let job : first_holder w j t ≡ z = eqb-true _ _ one.0 in
-      record {
-        number = a.facts.holding;
-        phase = ap (phase_of w t) (sym job) ∙ a.facts.held ∙ ap (Asking a.facts.holding) a.resource;
-        holder = ap (holder_in (w.row t)) (sym a.resource) ∙ a.facts.holder ∙ ap (λ i. Some i) job;
-        first = job;
-      }
+      holds : (t : ℕ) → t < window_end w bound n j → 0 < job_part w j x share q y z t → JobHolds w j q z t
+      holds t l some =
+          let one : ((first_holder w j t == z) ≡ true) × (0 < task_part w j x share q y t) = only_if-parts (first_holder w j t == z) (task_part w j x share q y t) some in
+          let two : ((task_of w (first_holder w j t) == y) ≡ true) × (0 < high_part w j x share q t) = only_if-parts (task_of w (first_holder w j t) == y) (high_part w j x share q t) one.1 in
+          let three : (not (is_low w j t) ≡ true) × (0 < for_resource w j x share q t) = only_if-parts (not (is_low w j t)) (for_resource w j x share q t) two.1 in
+          let a : ForResource w j x share q t = for_resource_is w bound n j x s share q t c l three.1 in
+          let job : first_holder w j t ≡ z = eqb-true _ _ one.0 in
+          record {
+            number = a.facts.holding;
+            phase = ap (phase_of w t) (sym job) ∙ a.facts.held ∙ ap (Asking a.facts.holding) a.resource;
+            holder = ap (holder_in (w.row t)) (sym a.resource) ∙ a.facts.holder ∙ ap (λ i. Some i) job;
+            first = job;
+          }
 
-  within : (t : ℕ) → JobHolds w j q z t → number_of (phase_of w t z) < length script
-  within t a = rw a.phase ((open_segment w t z a.number q a.phase).within)
+      within : (t : ℕ) → JobHolds w j q z t → number_of (phase_of w t z) < length script
+      within t a = rw a.phase ((open_segment w t z a.number q a.phase).within)
 
-  passes : (t : ℕ) → JobHolds w j q z t → asks_for q (get_or script (number_of (phase_of w t z)) no_segment) ≡ true
-  passes t a = ap (λ p. asks_for q (get_or script (number_of p) no_segment)) a.phase ∙ (open_segment w t z a.number q a.phase).asks
+      passes : (t : ℕ) → JobHolds w j q z t → asks_for q (get_or script (number_of (phase_of w t z)) no_segment) ≡ true
+      passes t a = ap (λ p. asks_for q (get_or script (number_of p) no_segment)) a.phase ∙ (open_segment w t z a.number q a.phase).asks
 
-  together : (u v : ℕ) → u ≤ v → v < window_end w bound n j → JobHolds w j q z u → JobHolds w j q z v
-      → (a : Hit shared_charge w (holding_share x share) j u) → (b : Hit shared_charge w (holding_share x share) j v) → number_of (phase_of w u z) ≡ number_of (phase_of w v z)
-      → OneRequest w u v a.charge.job b.charge.job
-  together u v order l early late a b same =
-      let number : early.number ≡ late.number = sym (ap number_of early.phase) ∙ same ∙ ap number_of late.phase in
-      let there : phase_of w v z ≡ Asking early.number q = late.phase ∙ ap (λ k. Asking k q) (sym number) in
-      let b_facts : Held w v j x b.charge.job = held_at mpcp w bound n v j x share c.window c.keeps (omega arith) b in
-      holding_one mpcp w bound n u v q z j x share c.window c.keeps order l a b (b_facts.processor ∙ ap (processor_of w) late.first)
-      (λ t from before. shared_holder_stays mpcp w n u t q z early.number q c.keeps from (omega arith) early.phase (open_between w u t v z early.number q q early.phase there from before) early.holder)
+      together : (u v : ℕ) → u ≤ v → v < window_end w bound n j → JobHolds w j q z u → JobHolds w j q z v
+          → (a : Hit shared_charge w (holding_share x share) j u) → (b : Hit shared_charge w (holding_share x share) j v) → number_of (phase_of w u z) ≡ number_of (phase_of w v z)
+          → OneRequest w u v a.charge.job b.charge.job
+      together u v order l early late a b same =
+          let number : early.number ≡ late.number = sym (ap number_of early.phase) ∙ same ∙ ap number_of late.phase in
+          let there : phase_of w v z ≡ Asking early.number q = late.phase ∙ ap (λ k. Asking k q) (sym number) in
+          let b_facts : Held w v j x b.charge.job = held_at mpcp w bound n v j x share c.window c.keeps (omega arith) b in
+          holding_one mpcp w bound n u v q z j x share c.window c.keeps order l a b (b_facts.processor ∙ ap (processor_of w) late.first)
+          (λ t from before. shared_holder_stays mpcp w n u t q z early.number q c.keeps from (omega arith) early.phase (open_between w u t v z early.number q q early.phase there from before) early.holder)

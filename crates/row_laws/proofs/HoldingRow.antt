@@ -1,10 +1,10 @@
 -- Row of holdings, under MPCP: the parts by resource and by holder, summed.
-use Rattle.std.proofs.Common.{◌≡◌, ℕ, ◌+◌, ◌*◌, ◌<◌, ◌≤◌, ◌==◌, ◌&&◌, not, Bool, true, false, length, refl, sym, ap, ◌∙◌, arith, inl, inr, Some, nat_lt}
+use Rattle.std.proofs.Common.{◌≡◌, ℕ, ◌+◌, ◌*◌, ◌<◌, ◌≤◌, ◌==◌, ◌&&◌, not, Bool, true, false, length, refl, sym, ap, ◌∙◌, arith, inl, inr, nat_lt}
 use Rattle.std.proofs.Math.Nat.{mul_assoc, mul_comm, mul-add, mul-le-mul_right}
-use Rattle.std.proofs.lemmas.Bool.{cases_lt, cases_Bool, both_ways, and_from, eqb-true, eq-eqb, ltb-true, lt-ltb, ltb-false, not-true}
-use Rattle.bounded_sums.specs.Sums.{sum_below, flag, only_if}
+use Rattle.std.proofs.lemmas.Bool.{cases_lt, cases_Bool, both_ways, and_from, eqb-true, eq-eqb, ltb-false, not-true}
+use Rattle.bounded_sums.specs.Sums.{sum_below, only_if}
 use Rattle.bounded_sums.specs.Tests.{count_below, any_below}
-use Rattle.bounded_sums.proofs.SumLaws.{sum_below-agree, sum_below-monotone, sum_below-plus, sum_below-times, sum_below-zero, only_if-at_most}
+use Rattle.bounded_sums.proofs.SumLaws.{sum_below-agree, sum_below-monotone, sum_below-plus, sum_below-times, sum_below-zero}
 use Rattle.bounded_sums.proofs.SlotLaws.{sum_below-slots}
 use Rattle.bounded_sums.proofs.TestLaws.{any_below-none}
 use Rattle.sporadic_model.specs.Users.{count_of, is_user}
@@ -24,7 +24,7 @@ use Rattle.charge_model.specs.Windows.{window_end}
 use Rattle.row_laws.proofs.Brings.{Window, TicksMeet, only_if-parts, sum_below-passing}
 use Rattle.row_laws.proofs.JobRows.{is_near, Near, near_is, active_near, near_jobs}
 use Rattle.row_laws.proofs.Holdings.{own_resource, first_holder}
-use Rattle.row_laws.proofs.HoldingParts.{Holding, amount, for_resource, is_low, low_part, high_part, task_part, job_part, ForResource, for_resource_is, low_paid, job_paid}
+use Rattle.row_laws.proofs.HoldingParts.{Holding, amount, for_resource, is_low, low_part, high_part, task_part, ForResource, for_resource_is, low_paid, job_paid}
 
 product_turned : (a b s : ℕ) → a * (b * s) ≡ s * (b * a)
 product_turned a b s = mul_comm a (b * s) ∙ ap (λ z. z * a) (mul_comm b s) ∙ mul_assoc s b a
@@ -86,18 +86,18 @@ high_paid w bound n j x s share q c =
     let times : sum_below (task_of w j) (λ y. s * only_if (is_beside w.set x y) (requests_in w.set bound (task_of w j) y q)) ≡ s * higher_holdings w.set bound (task_of w j) x q =
     sum_below-times (task_of w j) s (λ y. only_if (is_beside w.set x y) (requests_in w.set bound (task_of w j) y q)) in
     omega (arith, parts, each, times) where
-  listed : task_of w j < length w.set.tasks
-  listed = (c.window.lawful.each j c.window.listed).task
+      listed : task_of w j < length w.set.tasks
+      listed = (c.window.lawful.each j c.window.listed).task
 
-  higher : (t : ℕ) → t < window_end w bound n j → 0 < high_part w j x share q t → task_of w (first_holder w j t) < task_of w j
-  higher t l some =
-      let three : (not (is_low w j t) ≡ true) × (0 < for_resource w j x share q t) = only_if-parts (not (is_low w j t)) (for_resource w j x share q t) some in
-      let a : ForResource w j x share q t = for_resource_is w bound n j x s share q t c l three.1 in
-      let most : task_of w (first_holder w j t) ≤ task_of w j = ltb-false _ _ (not-true _ three.0) in
-      elim (cases_lt (task_of w (first_holder w j t)) (task_of w j)) [
-        | inl less ↦ less
-        | inr same ↦ absurd (a.facts.other (omega arith))
-      ]
+      higher : (t : ℕ) → t < window_end w bound n j → 0 < high_part w j x share q t → task_of w (first_holder w j t) < task_of w j
+      higher t l some =
+          let three : (not (is_low w j t) ≡ true) × (0 < for_resource w j x share q t) = only_if-parts (not (is_low w j t)) (for_resource w j x share q t) some in
+          let a : ForResource w j x share q t = for_resource_is w bound n j x s share q t c l three.1 in
+          let most : task_of w (first_holder w j t) ≤ task_of w j = ltb-false _ _ (not-true _ three.0) in
+          elim (cases_lt (task_of w (first_holder w j t)) (task_of w j)) [
+            | inl less ↦ less
+            | inr same ↦ absurd (a.facts.other (omega arith))
+          ]
 
 -- While lower tasks hold q, where there is one beside x that uses it.
 lower_paid : (w : Trace) (bound : ℕ → ℕ) (n j x s : ℕ) (share : ℕ → ℕ → ℕ) (q : ℕ) → Holding w bound n j x s share
@@ -160,13 +160,13 @@ holding_row_met w bound n j x window keeps s share fair =
     let each : sum_below (length w.set.resources) (λ q. sum_below (window_end w bound n j) (λ t. for_resource w j x share q t)) ≤ sum_below (length w.set.resources) (λ q. s * limits q) =
     sum_below-monotone (length w.set.resources) (λ q. sum_below (window_end w bound n j) (λ t. for_resource w j x share q t)) (λ q. s * limits q) (λ q l. resource_paid w bound n j x s share q c) in
     omega (arith, parts, each, sum_below-times (length w.set.resources) s limits) where
-  c : Holding w bound n j x s share
-  c = record { window = window; keeps = keeps; fair = fair }
+      c : Holding w bound n j x s share
+      c = record { window = window; keeps = keeps; fair = fair }
 
-  limits : ℕ → ℕ
-  limits = λ q. only_if (is_user w.set q (task_of w j)) (higher_holdings w.set bound (task_of w j) x q + lower_holdings w.set (task_of w j) x q)
+      limits : ℕ → ℕ
+      limits = λ q. only_if (is_user w.set q (task_of w j)) (higher_holdings w.set bound (task_of w j) x q + lower_holdings w.set (task_of w j) x q)
 
-  within : (t : ℕ) → t < window_end w bound n j → 0 < amount w j x share t → own_resource w j t < length w.set.resources
-  within t l some =
-      let a : ForResource w j x share (own_resource w j t) t = for_resource_is w bound n j x s share (own_resource w j t) t c l (rw (eq-eqb (own_resource w j t) (own_resource w j t) refl) some) in
-      a.facts.within
+      within : (t : ℕ) → t < window_end w bound n j → 0 < amount w j x share t → own_resource w j t < length w.set.resources
+      within t l some =
+          let a : ForResource w j x share (own_resource w j t) t = for_resource_is w bound n j x s share (own_resource w j t) t c l (rw (eq-eqb (own_resource w j t) (own_resource w j t) refl) some) in
+          a.facts.within

@@ -1,8 +1,8 @@
 -- Indirect charges: a job waits for a holder that doesn't run, and a request of another task runs on the holder's processor.
 -- While one job holds a resource no other job of its processor runs a local tick, so each task there runs one request.
-use Rattle.std.proofs.Common.{◌≡◌, ℕ, ◌*◌, ◌<◌, ◌≤◌, ◌==◌, ◌&&◌, not, Bool, true, false, length, refl, sym, ap, ◌∙◌, arith, inl, inr, Option, Some, None}
+use Rattle.std.proofs.Common.{◌≡◌, ℕ, ◌*◌, ◌<◌, ◌≤◌, ◌==◌, ◌&&◌, true, length, refl, sym, ap, ◌∙◌, arith, Some}
 use Rattle.std.specs.Option.{option_map_or}
-use Rattle.std.proofs.lemmas.Bool.{cases_Bool, both_ways, and_parts, and_from, eqb-true, eq-eqb, ne_eqb, not_from_false}
+use Rattle.std.proofs.lemmas.Bool.{both_ways, and_parts, and_from, eqb-true, eq-eqb, ne_eqb, not_from_false}
 use Rattle.bounded_sums.specs.Sums.{flag}
 use Rattle.sporadic_model.specs.SetDef.{task_at}
 use Rattle.sporadic_model.specs.Users.{is_user}
@@ -11,22 +11,20 @@ use Rattle.schedule_model.specs.JobDef.{job_of}
 use Rattle.schedule_model.specs.LawfulJobs.{IsLawfulJob}
 use Rattle.schedule_model.specs.RowDef.{Trace, running_on, holder_in, runs_in}
 use Rattle.schedule_model.specs.Phase.{Phase, phase_of}
-use Rattle.schedule_model.specs.Phase.Phase.{Local, Asking, Finished}
+use Rattle.schedule_model.specs.Phase.Phase.{Local, Asking}
 use Rattle.schedule_model.specs.Activity.{task_of, processor_of, is_active, is_ready_holder, is_ready}
 use Rattle.schedule_model.specs.SharedRules.{Ranks, KeepsRun, KeepsPriority}
-use Rattle.schedule_model.specs.Ranks.{mpcp}
 use Rattle.schedule_model.specs.Protocols.{shared_rule}
 use Rattle.schedule_model.specs.Keeping.{KeepsBefore}
-use Rattle.schedule_laws.proofs.ActiveJobs.{Active, active_is, active_listed, one_active, Requester}
+use Rattle.schedule_laws.proofs.ActiveJobs.{active_listed, one_active, Requester}
 use Rattle.schedule_laws.proofs.Rows.{runs_from, runs_where, ReadyHolder, ready_holder_is, ready_holder_from, ready_holding}
 use Rattle.schedule_laws.proofs.Segments.{open_resource, open_user}
 use Rattle.fragments.specs.ColumnDef.{ColumnDef, is_indirect}
-use Rattle.fragments.specs.Columns.{have_one_processor}
 use Rattle.indirect_constraints.specs.Rows.{is_beside}
 use Rattle.charge_model.specs.Charges.{shared_charge}
 use Rattle.charge_model.specs.Windows.{window_end}
-use Rattle.charge_laws.proofs.SharedCharging.{WaitsFor, IndirectBy, shared_reason}
-use Rattle.row_laws.proofs.Brings.{Window, Hit, brings, flag_times-passes}
+use Rattle.charge_laws.proofs.SharedCharging.{IndirectBy, shared_reason}
+use Rattle.row_laws.proofs.Brings.{Window, Hit, flag_times-passes}
 use Rattle.row_laws.proofs.JobRows.{HitJob, hit_job}
 use Rattle.row_laws.proofs.SlotRow.{OneRequest}
 use Rattle.row_laws.proofs.Requests.{indirect_is, indirect_by, one_request}

@@ -1,19 +1,19 @@
 -- Row of homes, under DPCP: while a job is in a request at a processor no lower request is granted there, and of those that
 -- were granted before at most one runs.
-use Rattle.std.proofs.Common.{◌≡◌, ℕ, zero, suc, ◌*◌, ◌<◌, ◌≤◌, ◌==◌, ◌&&◌, not, Bool, true, false, length, refl, sym, ap, subst, ◌∙◌, arith, inl, inr, Some, nat_lt}
-use Rattle.std.proofs.lemmas.Bool.{cases_lt, cases_Bool, both_ways, and_parts, and_from, eqb-true, eq-eqb, ltb-true, not-true, not_from_false}
+use Rattle.std.proofs.Common.{◌≡◌, ℕ, zero, suc, ◌*◌, ◌<◌, ◌≤◌, ◌==◌, ◌&&◌, not, true, false, refl, sym, ap, subst, ◌∙◌, arith, inl, inr, Some, nat_lt}
+use Rattle.std.proofs.lemmas.Bool.{cases_lt, cases_Bool, and_parts, and_from, eqb-true, eq-eqb, ltb-true, not-true, not_from_false}
 use Rattle.bounded_sums.specs.Sums.{flag}
 use Rattle.schedule_model.specs.declared.rule.Rule.TheVariants as rule
 use Rattle.schedule_model.specs.JobDef.{job_of}
 use Rattle.schedule_model.specs.LawfulJobs.{AreLawfulJobs, IsLawfulJob}
-use Rattle.schedule_model.specs.RowDef.{Trace, jobs_of, is_job, holder_in, held_before, runs_in}
+use Rattle.schedule_model.specs.RowDef.{Trace, jobs_of, is_job, holder_in, held_before}
 use Rattle.schedule_model.specs.Phase.{phase_of}
 use Rattle.schedule_model.specs.Phase.Phase.{Local, Asking}
-use Rattle.schedule_model.specs.Activity.{task_of, is_active, is_requester, holds_by}
-use Rattle.schedule_model.specs.DpcpRules.{home_of, ceiling_rank, waits_at, is_kept, KeepsGrant}
+use Rattle.schedule_model.specs.Activity.{task_of, is_requester, holds_by}
+use Rattle.schedule_model.specs.DpcpRules.{home_of, ceiling_rank, waits_at}
 use Rattle.schedule_model.specs.Protocols.{dpcp_rule}
 use Rattle.schedule_model.specs.Keeping.{KeepsBefore}
-use Rattle.schedule_laws.proofs.ActiveJobs.{one_active, Requester, requester_is, requester_listed}
+use Rattle.schedule_laws.proofs.ActiveJobs.{one_active, requester_listed}
 use Rattle.schedule_laws.proofs.Ticks.{one_resource}
 use Rattle.schedule_laws.proofs.Rows.{job_named}
 use Rattle.fragments.specs.declared.columns.Class.{Class}
@@ -23,12 +23,12 @@ use Rattle.sporadic_model.specs.Homes.{home_in}
 use Rattle.indirect_constraints.specs.Rows.{home_row}
 use Rattle.charge_model.specs.Charges.{dpcp_charge}
 use Rattle.charge_model.specs.Windows.{window_end}
-use Rattle.charge_laws.proofs.DpcpCharging.{RunsRequest, HomeBlocked, DpcpReason, dpcp_reason, request_at_from}
+use Rattle.charge_laws.proofs.DpcpCharging.{HomeBlocked, DpcpReason, dpcp_reason, request_at_from}
 use Rattle.row_laws.proofs.Brings.{Window, Hit, TicksMeet, flag_times-at_most, flag_times-passes}
 use Rattle.row_laws.proofs.JobRows.{HitJob, hit_job}
-use Rattle.row_laws.proofs.SlotRow.{OneRequest, Shares}
+use Rattle.row_laws.proofs.SlotRow.{OneRequest}
 use Rattle.row_laws.proofs.Requests.{one_request}
-use Rattle.row_laws.proofs.Numbers.{OwnRequest, by_number}
+use Rattle.row_laws.proofs.Numbers.{by_number}
 use Rattle.row_laws.proofs.LowerHolders.{Asks, asks_between}
 use Rattle.row_laws.proofs.Ordered.{HoldsAt, requester_facts, holder_facts, Granted, new_granted, LowRunner, runs_first, low_ceiling, ordered, kept_from}
 
@@ -119,44 +119,44 @@ home_row_met w bound n j k window keeps s share fair =
     (λ t l h. let b : HomeBlocked w t j h.charge.job = blocked t (omega arith) h in
     record { number = b.number; resource = b.resource; request = b.request; passes = eq-eqb (home_of w b.resource) k (sym b.runner.home ∙ ap (home_of w) (same_resource t h b) ∙ (column t h).home) })
     one where
-  f : ColumnDef → ℕ
-  f = λ c. flag ((not (is_preemption c.class) && nat_lt (task_of w j) c.task) && (home_in w.set c.resource == k)) * share c.task c.resource
+      f : ColumnDef → ℕ
+      f = λ c. flag ((not (is_preemption c.class) && nat_lt (task_of w j) c.task) && (home_in w.set c.resource == k)) * share c.task c.resource
 
-  column : (t : ℕ) → (h : Hit dpcp_charge w f j t) → HomeColumn w (task_of w j) k h.charge.job h.resource h.charge.class
-  column t h =
-      let parts : ((not (is_preemption h.charge.class) && nat_lt (task_of w j) (task_of w h.charge.job)) ≡ true) × ((home_in w.set h.resource == k) ≡ true) =
-      and_parts _ _ (flag_times-passes ((not (is_preemption h.charge.class) && nat_lt (task_of w j) (task_of w h.charge.job)) && (home_in w.set h.resource == k)) (share (task_of w h.charge.job) h.resource) h.some) in
-      let both : (not (is_preemption h.charge.class) ≡ true) × (nat_lt (task_of w j) (task_of w h.charge.job) ≡ true) = and_parts _ _ parts.0 in
-      record { class = not-true _ both.0; lower = ltb-true _ _ both.1; home = eqb-true _ _ parts.1 }
+      column : (t : ℕ) → (h : Hit dpcp_charge w f j t) → HomeColumn w (task_of w j) k h.charge.job h.resource h.charge.class
+      column t h =
+          let parts : ((not (is_preemption h.charge.class) && nat_lt (task_of w j) (task_of w h.charge.job)) ≡ true) × ((home_in w.set h.resource == k) ≡ true) =
+          and_parts _ _ (flag_times-passes ((not (is_preemption h.charge.class) && nat_lt (task_of w j) (task_of w h.charge.job)) && (home_in w.set h.resource == k)) (share (task_of w h.charge.job) h.resource) h.some) in
+          let both : (not (is_preemption h.charge.class) ≡ true) × (nat_lt (task_of w j) (task_of w h.charge.job) ≡ true) = and_parts _ _ parts.0 in
+          record { class = not-true _ both.0; lower = ltb-true _ _ both.1; home = eqb-true _ _ parts.1 }
 
-  blocked : (t : ℕ) → t < n → (h : Hit dpcp_charge w f j t) → HomeBlocked w t j h.charge.job
-  blocked t l h = home_blocked w t j h.charge.job h.charge.class (column t h).class (dpcp_reason w t j h.charge (keeps t l) h.is_it)
+      blocked : (t : ℕ) → t < n → (h : Hit dpcp_charge w f j t) → HomeBlocked w t j h.charge.job
+      blocked t l h = home_blocked w t j h.charge.job h.charge.class (column t h).class (dpcp_reason w t j h.charge (keeps t l) h.is_it)
 
-  same_resource : (t : ℕ) → (h : Hit dpcp_charge w f j t) → (b : HomeBlocked w t j h.charge.job) → b.runner.resource ≡ h.resource
-  same_resource t h b = let x : Asking b.runner.number b.runner.resource ≡ Asking h.number h.resource = sym b.runner.request ∙ h.request in cc
+      same_resource : (t : ℕ) → (h : Hit dpcp_charge w f j t) → (b : HomeBlocked w t j h.charge.job) → b.runner.resource ≡ h.resource
+      same_resource t h b = let x : Asking b.runner.number b.runner.resource ≡ Asking h.number h.resource = sym b.runner.request ∙ h.request in cc
 
-  together : (u v : ℕ) → u ≤ v → v < window_end w bound n j → (g : Hit dpcp_charge w f j u) → (h : Hit dpcp_charge w f j v) → (r : ℕ) → OneHolder w u v r g.charge.job h.charge.job
-      → OneRequest w u v g.charge.job h.charge.job
-  together u v order l g h r o =
-      let there : HitJob dpcp_charge w bound j u g.charge.job = hit_job dpcp_charge w bound n j u f window (omega arith) g in
-      let later : HitJob dpcp_charge w bound j v h.charge.job = hit_job dpcp_charge w bound n j v f window l h in
-      let lawful : IsLawfulJob w.set (job_of w.jobs h.charge.job) = window.lawful.each h.charge.job later.listed in
-      one_request w n u v g.charge.job h.charge.job h.number h.resource window.active (omega arith) order lawful.script there.active (ap (task_of w) o.job) h.request
-      (λ t from before local runs. let a : HoldsAt w t r h.charge.job = holder_facts w n t r h.charge.job window.lawful keeps (omega arith) (o.holds t from (omega arith)) in
-      let x : Local ≡ Asking a.number r = sym local ∙ a.request in cc)
+      together : (u v : ℕ) → u ≤ v → v < window_end w bound n j → (g : Hit dpcp_charge w f j u) → (h : Hit dpcp_charge w f j v) → (r : ℕ) → OneHolder w u v r g.charge.job h.charge.job
+          → OneRequest w u v g.charge.job h.charge.job
+      together u v order l g h r o =
+          let there : HitJob dpcp_charge w bound j u g.charge.job = hit_job dpcp_charge w bound n j u f window (omega arith) g in
+          let later : HitJob dpcp_charge w bound j v h.charge.job = hit_job dpcp_charge w bound n j v f window l h in
+          let lawful : IsLawfulJob w.set (job_of w.jobs h.charge.job) = window.lawful.each h.charge.job later.listed in
+          one_request w n u v g.charge.job h.charge.job h.number h.resource window.active (omega arith) order lawful.script there.active (ap (task_of w) o.job) h.request
+          (λ t from before local runs. let a : HoldsAt w t r h.charge.job = holder_facts w n t r h.charge.job window.lawful keeps (omega arith) (o.holds t from (omega arith)) in
+          let x : Local ≡ Asking a.number r = sym local ∙ a.request in cc)
 
-  one : (u v m a b : ℕ) → u ≤ v → v < window_end w bound n j → (g : Hit dpcp_charge w f j u) → (h : Hit dpcp_charge w f j v) → phase_of w u j ≡ Asking m a → phase_of w v j ≡ Asking m b
-      → OneRequest w u v g.charge.job h.charge.job
-  one u v m a b order l g h early late =
-      let mine : HomeBlocked w u j g.charge.job = blocked u (omega arith) g in
-      let later : HomeBlocked w v j h.charge.job = blocked v (omega arith) h in
-      let x : Asking m a ≡ Asking mine.number mine.resource = sym early ∙ mine.request in
-      let resource : a ≡ mine.resource = cc in
-      let y : Asking m b ≡ Asking later.number later.resource = sym late ∙ later.request in
-      let last : b ≡ later.resource = cc in
-      let first : phase_of w u j ≡ Asking m mine.resource = early ∙ ap (Asking m) resource in
-      let same : later.resource ≡ mine.resource = sym last ∙ sym (one_resource w u v j m mine.resource b first late) in
-      let asks : Asks w u v mine.resource j = asks_between w u v m mine.resource b j order mine.active first late in
-      let low : LowRunner w v (home_of w mine.resource) j h.charge.job = subst (λ (z : ℕ). LowRunner w v (home_of w z) j h.charge.job) same (low_runner w v j h.charge.job later (column v h).lower) in
-      together u v order l g h low.runner.resource
-      (one_holder w n u v mine.resource j g.charge.job h.charge.job window.lawful keeps (omega arith) asks (low_runner w u j g.charge.job mine (column u g).lower) low)
+      one : (u v m a b : ℕ) → u ≤ v → v < window_end w bound n j → (g : Hit dpcp_charge w f j u) → (h : Hit dpcp_charge w f j v) → phase_of w u j ≡ Asking m a → phase_of w v j ≡ Asking m b
+          → OneRequest w u v g.charge.job h.charge.job
+      one u v m a b order l g h early late =
+          let mine : HomeBlocked w u j g.charge.job = blocked u (omega arith) g in
+          let later : HomeBlocked w v j h.charge.job = blocked v (omega arith) h in
+          let x : Asking m a ≡ Asking mine.number mine.resource = sym early ∙ mine.request in
+          let resource : a ≡ mine.resource = cc in
+          let y : Asking m b ≡ Asking later.number later.resource = sym late ∙ later.request in
+          let last : b ≡ later.resource = cc in
+          let first : phase_of w u j ≡ Asking m mine.resource = early ∙ ap (Asking m) resource in
+          let same : later.resource ≡ mine.resource = sym last ∙ sym (one_resource w u v j m mine.resource b first late) in
+          let asks : Asks w u v mine.resource j = asks_between w u v m mine.resource b j order mine.active first late in
+          let low : LowRunner w v (home_of w mine.resource) j h.charge.job = subst (λ (z : ℕ). LowRunner w v (home_of w z) j h.charge.job) same (low_runner w v j h.charge.job later (column v h).lower) in
+          together u v order l g h low.runner.resource
+          (one_holder w n u v mine.resource j g.charge.job h.charge.job window.lawful keeps (omega arith) asks (low_runner w u j g.charge.job mine (column u g).lower) low)

@@ -1,6 +1,6 @@
 -- Row of intervals: from one request of its own to the next a job is preempted by at most one request of a lower task of
 -- its processor, since that task runs no local tick meanwhile.
-use Rattle.std.proofs.Common.{◌≡◌, ℕ, suc, ◌+◌, ◌*◌, ◌<◌, ◌≤◌, ◌==◌, ◌&&◌, Bool, true, false, length, refl, sym, ap, subst, ◌∙◌, arith, inl, inr, Some}
+use Rattle.std.proofs.Common.{◌≡◌, ℕ, suc, ◌+◌, ◌*◌, ◌<◌, ◌≤◌, ◌==◌, ◌&&◌, true, false, length, refl, sym, ap, subst, ◌∙◌, arith, inl, inr, Some}
 use Rattle.std.proofs.Math.Nat.{mul_comm, mul-le-mul_right}
 use Rattle.std.proofs.lemmas.Bool.{cases_Bool, both_ways, and_parts, eqb-true, ltb-true}
 use Rattle.bounded_sums.specs.Sums.{sum_below, flag}
@@ -14,7 +14,7 @@ use Rattle.schedule_model.specs.LawfulJobs.{IsLawfulJob}
 use Rattle.schedule_model.specs.RowDef.{Trace, running_on, holder_in, runs_in}
 use Rattle.schedule_model.specs.Phase.{Phase, is_local, is_finished, phase_of}
 use Rattle.schedule_model.specs.Phase.Phase.{Local, Asking, Finished}
-use Rattle.schedule_model.specs.Activity.{task_of, processor_of, is_active, is_ready_holder, is_ready}
+use Rattle.schedule_model.specs.Activity.{task_of, processor_of, is_active, is_ready}
 use Rattle.schedule_model.specs.SharedRules as shared
 use Rattle.schedule_model.specs.SharedRules.{Ranks}
 use Rattle.schedule_model.specs.DpcpRules as distributed
@@ -24,7 +24,7 @@ use Rattle.schedule_model.specs.Keeping.{KeepsRow, KeepsBefore}
 use Rattle.schedule_laws.specs.Counting.{requests_in, requests_begun}
 use Rattle.schedule_laws.proofs.Ticks.{finished_true, finished_stays}
 use Rattle.schedule_laws.proofs.ActiveJobs.{Active, active_is, active_listed, active_stays, active_local_from, active_local_is, ActiveLocal}
-use Rattle.schedule_laws.proofs.Rows.{runs_from, runs_where, ReadyHolder, ready_holder_is, ready_holder_from, ready_is, ready_local, ready_holding, ready_active}
+use Rattle.schedule_laws.proofs.Rows.{runs_where, ReadyHolder, ready_holder_is, ready_holder_from, ready_is, ready_local, ready_holding, ready_active}
 use Rattle.schedule_laws.proofs.Begun.{requests_begun_up, requests_begun_at_most, open_if_begun}
 use Rattle.schedule_laws.proofs.Holders.{shared_holder_stays}
 use Rattle.schedule_laws.proofs.OwnRequests.{all_requests}
@@ -38,7 +38,7 @@ use Rattle.charge_model.specs.Windows.{window_end}
 use Rattle.charge_laws.proofs.SharedCharging.{PreemptedBy, SharedReason, shared_reason, runner_holds}
 use Rattle.charge_laws.proofs.DpcpCharging.{LocalBlocked, RunsRequest, DpcpReason, dpcp_reason, requests_run}
 use Rattle.row_laws.proofs.Brings.{Charges, Window, brings, Hit, TicksMeet, flag_times-at_most, flag_times-passes}
-use Rattle.row_laws.proofs.SlotRow.{OneRequest, Slots, Shares, slot_row}
+use Rattle.row_laws.proofs.SlotRow.{OneRequest, slot_row}
 use Rattle.row_laws.proofs.Requests.{preemption_is, one_request}
 
 -- A lower task of i's processor.

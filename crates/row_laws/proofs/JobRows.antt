@@ -1,12 +1,11 @@
 -- Rows per task: the jobs of a task that run in a window are few, and each makes few requests and takes little time.
-use Rattle.std.proofs.Common.{◌≡◌, ℕ, ◌+◌, ◌*◌, ◌<◌, ◌≤◌, ◌==◌, ◌&&◌, Bool, true, false, length, refl, sym, ap, ◌∙◌, arith, inl, inr, Some, min, nat_lt}
+use Rattle.std.proofs.Common.{◌≡◌, ℕ, ◌*◌, ◌<◌, ◌≤◌, ◌==◌, ◌&&◌, Bool, true, length, refl, sym, ap, ◌∙◌, arith, inl, inr, nat_lt}
 use Rattle.std.proofs.Math.Nat.{mul_assoc, mul_comm, mul-le-mul_right, mul-le-mul}
 use Rattle.std.proofs.lemmas.Bool.{cases_lt, cases_Bool, and_parts, and_from, eq-eqb, eqb-true, lt-ltb, ltb-true}
 use Rattle.bounded_sums.specs.Sums.{sum_below, flag, only_if}
 use Rattle.bounded_sums.specs.Tests.{count_below}
-use Rattle.bounded_sums.proofs.SumLaws.{sum_below-monotone, sum_below-times_right}
 use Rattle.bounded_sums.proofs.CountLaws.{sum_below-counted}
-use Rattle.sporadic_model.specs.SetDef.{task_at, jobs_within}
+use Rattle.sporadic_model.specs.SetDef.{task_at}
 use Rattle.sporadic_model.specs.Users.{count_of, length_of}
 use Rattle.schedule_model.specs.JobDef.{job_of, total_ticks, number_of_requests}
 use Rattle.schedule_model.specs.LawfulJobs.{IsLawfulJob}
@@ -21,7 +20,7 @@ use Rattle.schedule_laws.proofs.Rows.{runs_where}
 use Rattle.schedule_laws.proofs.Counts.{asking_at_most, executed_within}
 use Rattle.schedule_laws.proofs.Spacing.{released_within}
 use Rattle.fragments.specs.ColumnDef.{ColumnDef}
-use Rattle.fragments.specs.Windows.{jobs_in, requests_in}
+use Rattle.fragments.specs.Windows.{jobs_in}
 use Rattle.direct_constraints.specs.Rows.{request_row, time_row}
 use Rattle.charge_model.specs.Charges.{Executes}
 use Rattle.charge_model.specs.Windows.{bound_end, window_end}
@@ -87,10 +86,10 @@ by_job charges w bound n j x c f window l of most =
     (λ t b some. place t b (hit charges w f j t some))
     (λ y b near. let a : Near w bound j x y = near_is w bound j x y near in most y b a.task) in
     omega (arith, all, mul-le-mul_right c (near_jobs charges w bound n j x window l)) where
-  place : (t : ℕ) → t < window_end w bound n j → Hit charges w f j t → (blocker charges w j t < length w.jobs) × (is_near w bound j x (blocker charges w j t) ≡ true)
-  place t b h =
-      let a : HitJob charges w bound j t h.charge.job = hit_job charges w bound n j t f window b h in
-      rw (blocker_is charges w f j t h) (a.listed, active_near charges w bound n j x h.charge.job t window a.active (of t b h) a.from b)
+      place : (t : ℕ) → t < window_end w bound n j → Hit charges w f j t → (blocker charges w j t < length w.jobs) × (is_near w bound j x (blocker charges w j t) ≡ true)
+      place t b h =
+          let a : HitJob charges w bound j t h.charge.job = hit_job charges w bound n j t f window b h in
+          rw (blocker_is charges w f j t h) (a.listed, active_near charges w bound n j x h.charge.job t window a.active (of t b h) a.from b)
 
 -- The ticks of a slot are those of one job that runs in requests of q, each bringing at most c.
 asking_term : (charges : Charges) (w : Trace) (bound : ℕ → ℕ) (n j q y c t : ℕ) (f : ColumnDef → ℕ) → Window charges w bound n j → t < window_end w bound n j
@@ -166,37 +165,41 @@ product_turned a b s = mul_comm a (b * s) ∙ ap (λ z. z * a) (mul_comm b s) �
 pub request_row_met : (charges : Charges) (w : Trace) (bound : ℕ → ℕ) (n j x q : ℕ) → Window charges w bound n j → x < length w.set.tasks
     → TicksMeet charges w bound n j (request_row w.set (task_of w j) x q)
 request_row_met charges w bound n j x q window l s share fair =
-    omega (arith,
-    by_job charges w bound n j x (count_of w.set x q * s) f window l (λ t b h. (column t b h).0)
-    (λ y b task. job_requests charges w bound n j x q y s (share x q) f window b task (fair x q) (λ t b h. (column t b h).1)),
-    product_turned (jobs_in w.set bound (task_of w j) x) (count_of w.set x q) s) where
-  f : ColumnDef → ℕ
-  f = λ c. flag ((c.task == x) && (c.resource == q)) * share c.task c.resource
+    omega (
+      arith,
+      by_job charges w bound n j x (count_of w.set x q * s) f window l (λ t b h. (column t b h).0)
+          (λ y b task. job_requests charges w bound n j x q y s (share x q) f window b task (fair x q) (λ t b h. (column t b h).1)),
+      product_turned (jobs_in w.set bound (task_of w j) x) (count_of w.set x q) s,
+    ) where
+      f : ColumnDef → ℕ
+      f = λ c. flag ((c.task == x) && (c.resource == q)) * share c.task c.resource
 
-  column : (t : ℕ) → t < window_end w bound n j → (h : Hit charges w f j t) → (task_of w h.charge.job ≡ x) × ((h.resource ≡ q) × (f (column_with w h.charge h.resource) ≤ share x q))
-  column t b h =
-      let both : ((task_of w h.charge.job == x) ≡ true) × ((h.resource == q) ≡ true) = and_parts _ _ (flag_times-passes _ (share (task_of w h.charge.job) h.resource) h.some) in
-      let task : task_of w h.charge.job ≡ x = eqb-true _ _ both.0 in
-      let resource : h.resource ≡ q = eqb-true _ _ both.1 in
-      let same : share (task_of w h.charge.job) h.resource ≡ share x q = rw (task, resource) refl in
-      (task, (resource, omega (arith, same, flag_times-at_most ((task_of w h.charge.job == x) && (h.resource == q)) (share (task_of w h.charge.job) h.resource))))
+      column : (t : ℕ) → t < window_end w bound n j → (h : Hit charges w f j t) → (task_of w h.charge.job ≡ x) × ((h.resource ≡ q) × (f (column_with w h.charge h.resource) ≤ share x q))
+      column t b h =
+          let both : ((task_of w h.charge.job == x) ≡ true) × ((h.resource == q) ≡ true) = and_parts _ _ (flag_times-passes _ (share (task_of w h.charge.job) h.resource) h.some) in
+          let task : task_of w h.charge.job ≡ x = eqb-true _ _ both.0 in
+          let resource : h.resource ≡ q = eqb-true _ _ both.1 in
+          let same : share (task_of w h.charge.job) h.resource ≡ share x q = rw (task, resource) refl in
+          (task, (resource, omega (arith, same, flag_times-at_most ((task_of w h.charge.job == x) && (h.resource == q)) (share (task_of w h.charge.job) h.resource))))
 
 -- Row of time: x's requests together take no longer than its jobs may execute.
 pub time_row_met : (charges : Charges) (w : Trace) (bound : ℕ → ℕ) (n j x : ℕ) → Window charges w bound n j → x < length w.set.tasks → TicksMeet charges w bound n j (time_row w.set (task_of w j) x)
 time_row_met charges w bound n j x window l s share fair =
-    omega (arith,
-    by_job charges w bound n j x ((task_at w.set x).cost * s) f window l (λ t b h. (column t b h).0)
-    (λ y b task. job_time charges w bound n j x y s f window b task (λ t b h. (column t b h).1)),
-    product_turned (jobs_in w.set bound (task_of w j) x) (task_at w.set x).cost s) where
-  f : ColumnDef → ℕ
-  f = λ c. only_if (c.task == x) (length_of w.set x c.resource) * share c.task c.resource
+    omega (
+      arith,
+      by_job charges w bound n j x ((task_at w.set x).cost * s) f window l (λ t b h. (column t b h).0)
+          (λ y b task. job_time charges w bound n j x y s f window b task (λ t b h. (column t b h).1)),
+      product_turned (jobs_in w.set bound (task_of w j) x) (task_at w.set x).cost s,
+    ) where
+      f : ColumnDef → ℕ
+      f = λ c. only_if (c.task == x) (length_of w.set x c.resource) * share c.task c.resource
 
-  column : (t : ℕ) → t < window_end w bound n j → (h : Hit charges w f j t) → (task_of w h.charge.job ≡ x) × (f (column_with w h.charge h.resource) ≤ s)
-  column t b h = elim (cases_Bool (task_of w h.charge.job == x)) [
-    | inr other ↦ let none : 0 < 0 * share (task_of w h.charge.job) h.resource = rw other at h.some in absurd (omega arith)
-    | inl is ↦
-        let task : task_of w h.charge.job ≡ x = eqb-true _ _ is in
-        let whole : share x h.resource * length_of w.set x h.resource ≤ s = fair x h.resource in
-        let turned : length_of w.set x h.resource * share (task_of w h.charge.job) h.resource ≤ s = rw task (omega (arith, mul_comm (length_of w.set x h.resource) (share x h.resource))) in
-        (task, rw is turned)
-  ]
+      column : (t : ℕ) → t < window_end w bound n j → (h : Hit charges w f j t) → (task_of w h.charge.job ≡ x) × (f (column_with w h.charge h.resource) ≤ s)
+      column t b h = elim (cases_Bool (task_of w h.charge.job == x)) [
+        | inr other ↦ let none : 0 < 0 * share (task_of w h.charge.job) h.resource = rw other at h.some in absurd (omega arith)
+        | inl is ↦
+            let task : task_of w h.charge.job ≡ x = eqb-true _ _ is in
+            let whole : share x h.resource * length_of w.set x h.resource ≤ s = fair x h.resource in
+            let turned : length_of w.set x h.resource * share (task_of w h.charge.job) h.resource ≤ s = rw task (omega (arith, mul_comm (length_of w.set x h.resource) (share x h.resource))) in
+            (task, rw is turned)
+      ]

@@ -1,15 +1,14 @@
 -- The laws of each protocol's programs, joined: the columns are there, the fractions are a point, and a dual bounds the blocked ticks.
-use Rattle.std.proofs.Common.{◌≡◌, ℕ, ◌*◌, ◌<◌, ◌≤◌, Bool, true, List, [], ◌∷◌, length, get_or, refl, sym, ap, ◌∙◌, arith, inl, inr, Option, Some, None, nat_lt}
+use Rattle.std.proofs.Common.{◌≡◌, ℕ, ◌<◌, ◌≤◌, Bool, true, List, length, get_or, refl, arith, Option, Some, None}
 use Rattle.std.specs.Prelude.{slice_index}
-use Rattle.std.specs.Option.{option_map_or, option_and_then}
-use Rattle.std.specs.List.{All, Contains, find}
+use Rattle.std.specs.Option.{option_map_or}
+use Rattle.std.specs.List.{Contains}
 use Rattle.std.proofs.lemmas.Bool.{and_parts, ltb-true}
 use Rattle.std.proofs.lemmas.List.Elements.{All-get_or, All-from_get_or}
 use Rattle.std.specs.Str.{bytes_eq}
 use Rattle.bounded_sums.specs.Sums.{collect_below}
 use Rattle.bounded_sums.specs.Tests.{count_below}
-use Rattle.program_form.specs.Program.{ProgramDef}
-use Rattle.program_form.specs.Points.{IsScaledPoint, Reaches}
+use Rattle.program_form.specs.Points.{IsScaledPoint}
 use Rattle.program_form.specs.Duals.{Covers, dual_value}
 use Rattle.program_form.proofs.Duality.{dual_bounds}
 use Rattle.sporadic_model.specs.SetDef.{SetDef, RequestDef, task_at, resource_at}
@@ -39,14 +38,13 @@ use Rattle.fragments.specs.Columns.{is_column, columns_of}
 use Rattle.fragments.proofs.KnownColumns.{IsKnown, columns_known, columns_pass}
 use Rattle.program_laws.specs.Programs.{program_of}
 use Rattle.program_laws.proofs.Lists.{contains_filter, contains_collected}
-use Rattle.program_laws.proofs.RowKinds.{EachKind}
 use Rattle.charge_model.specs.Charges.{Charge, shared_charge, dpcp_charge, Executes}
 use Rattle.charge_model.specs.Windows.{window_end, EndedBy}
-use Rattle.charge_model.specs.Fractions.{column_in, charged_column, product_of_lengths, fractions_of, no_column}
+use Rattle.charge_model.specs.Fractions.{charged_column, product_of_lengths, fractions_of, no_column}
 use Rattle.charge_laws.proofs.SharedCharging.{SharedCharged, shared_charged, shared_charge_blocked, shared_executes}
 use Rattle.charge_laws.proofs.DpcpCharging.{DpcpCharged, dpcp_charged, dpcp_charge_blocked, dpcp_executes}
-use Rattle.row_laws.proofs.Brings.{Charges, Window, TicksMeet, column_with}
-use Rattle.row_laws.proofs.SharedPlacement.{IsPlaced, Sharing, mpcp_shares, fmlp_shares, shared_placed}
+use Rattle.row_laws.proofs.Brings.{Charges, Window, column_with}
+use Rattle.row_laws.proofs.SharedPlacement.{IsPlaced, Sharing, shared_placed}
 use Rattle.row_laws.proofs.DpcpPlacement.{dpcp_placed}
 use Rattle.row_laws.proofs.Fractions.{HaveLengths, fractions_are_point, fractions_worth}
 use Rattle.row_laws.proofs.EachRow.{mpcp_rows_met, fmlp_rows_met, dpcp_rows_met}

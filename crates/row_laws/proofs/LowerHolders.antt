@@ -1,12 +1,12 @@
 -- Row of lower holders, under MPCP, which grants by base priority: while a job is in a request no job of a lower task becomes
 -- the holder of its resource, so one that holds it has held it since before.
-use Rattle.std.proofs.Common.{◌≡◌, ℕ, zero, suc, ◌*◌, ◌<◌, ◌≤◌, ◌==◌, ◌&&◌, Bool, true, false, length, refl, sym, ap, ◌∙◌, arith, inl, inr, Some, nat_lt}
+use Rattle.std.proofs.Common.{◌≡◌, ℕ, zero, suc, ◌*◌, ◌<◌, ◌≤◌, ◌==◌, ◌&&◌, true, false, refl, sym, ap, ◌∙◌, arith, inl, inr, Some, nat_lt}
 use Rattle.std.proofs.lemmas.Bool.{cases_lt, cases_Bool, both_ways, and_parts, eqb-true, eq-eqb, ltb-true}
 use Rattle.bounded_sums.specs.Sums.{flag}
 use Rattle.schedule_model.specs.declared.rule.Rule.TheVariants as rule
 use Rattle.schedule_model.specs.JobDef.{job_of}
 use Rattle.schedule_model.specs.LawfulJobs.{IsLawfulJob}
-use Rattle.schedule_model.specs.RowDef.{Trace, is_job, holder_in, held_before, runs_in}
+use Rattle.schedule_model.specs.RowDef.{Trace, is_job, holder_in, held_before}
 use Rattle.schedule_model.specs.Phase.{phase_of}
 use Rattle.schedule_model.specs.Phase.Phase.{Local, Asking}
 use Rattle.schedule_model.specs.Activity.{task_of, is_active, is_requester}
@@ -24,9 +24,9 @@ use Rattle.charge_model.specs.Windows.{window_end}
 use Rattle.charge_laws.proofs.SharedCharging.{WaitsFor, DirectBy, shared_reason}
 use Rattle.row_laws.proofs.Brings.{Window, Hit, TicksMeet, flag_times-at_most, flag_times-passes}
 use Rattle.row_laws.proofs.JobRows.{HitJob, hit_job}
-use Rattle.row_laws.proofs.SlotRow.{OneRequest, Shares}
+use Rattle.row_laws.proofs.SlotRow.{OneRequest}
 use Rattle.row_laws.proofs.Requests.{direct_is, direct_by, held_resource, one_request}
-use Rattle.row_laws.proofs.Numbers.{OwnRequest, by_number_of}
+use Rattle.row_laws.proofs.Numbers.{by_number_of}
 
 -- A new holder isn't of a lower task than a requester.
 mpcp_new : (w : Trace) (t q y j : ℕ) → KeepsGrant mpcp w t → holder_in (w.row t) q ≡ Some y → is_job y (held_before w t q) ≡ false → is_requester w t q j ≡ true → task_of w y ≤ task_of w j
@@ -72,41 +72,41 @@ lower_holder_row_met w bound n j q window keeps s share fair =
     (λ t l h. let a : WaitsFor w t j h.charge.job = waits t (omega arith) h in
     record { number = a.number; resource = a.resource; request = a.request; passes = eq-eqb a.resource q (held_resource w t j h.charge.job h.number h.resource a h.request ∙ (column t h).same) })
     one where
-  f : ColumnDef → ℕ
-  f = λ c. flag (((c.resource == q) && is_direct c.class) && nat_lt (task_of w j) c.task) * share c.task c.resource
+      f : ColumnDef → ℕ
+      f = λ c. flag (((c.resource == q) && is_direct c.class) && nat_lt (task_of w j) c.task) * share c.task c.resource
 
-  tests : (t : ℕ) → (h : Hit shared_charge w f j t) → (((h.resource == q) && is_direct h.charge.class) ≡ true) × (nat_lt (task_of w j) (task_of w h.charge.job) ≡ true)
-  tests t h = and_parts _ _ (flag_times-passes (((h.resource == q) && is_direct h.charge.class) && nat_lt (task_of w j) (task_of w h.charge.job)) (share (task_of w h.charge.job) h.resource) h.some)
+      tests : (t : ℕ) → (h : Hit shared_charge w f j t) → (((h.resource == q) && is_direct h.charge.class) ≡ true) × (nat_lt (task_of w j) (task_of w h.charge.job) ≡ true)
+      tests t h = and_parts _ _ (flag_times-passes (((h.resource == q) && is_direct h.charge.class) && nat_lt (task_of w j) (task_of w h.charge.job)) (share (task_of w h.charge.job) h.resource) h.some)
 
-  column : (t : ℕ) → (h : Hit shared_charge w f j t) → LowerDirect w (task_of w j) q h.charge.job h.resource
-  column t h = let both : ((h.resource == q) ≡ true) × (is_direct h.charge.class ≡ true) = and_parts _ _ (tests t h).0 in record { same = eqb-true _ _ both.0; lower = ltb-true _ _ (tests t h).1 }
+      column : (t : ℕ) → (h : Hit shared_charge w f j t) → LowerDirect w (task_of w j) q h.charge.job h.resource
+      column t h = let both : ((h.resource == q) ≡ true) × (is_direct h.charge.class ≡ true) = and_parts _ _ (tests t h).0 in record { same = eqb-true _ _ both.0; lower = ltb-true _ _ (tests t h).1 }
 
-  waits : (t : ℕ) → t < n → (h : Hit shared_charge w f j t) → WaitsFor w t j h.charge.job
-  waits t l h =
-      let both : ((h.resource == q) ≡ true) × (is_direct h.charge.class ≡ true) = and_parts _ _ (tests t h).0 in
-      let why : DirectBy w t j h.charge.job = direct_by mpcp w t j h.charge.job h.charge.class (direct_is h.charge.class both.1) (shared_reason mpcp w t j h.charge (keeps t l) h.is_it) in
-      why.waits
+      waits : (t : ℕ) → t < n → (h : Hit shared_charge w f j t) → WaitsFor w t j h.charge.job
+      waits t l h =
+          let both : ((h.resource == q) ≡ true) × (is_direct h.charge.class ≡ true) = and_parts _ _ (tests t h).0 in
+          let why : DirectBy w t j h.charge.job = direct_by mpcp w t j h.charge.job h.charge.class (direct_is h.charge.class both.1) (shared_reason mpcp w t j h.charge (keeps t l) h.is_it) in
+          why.waits
 
-  held : (t : ℕ) → t < n → (h : Hit shared_charge w f j t) → holder_in (w.row t) q ≡ Some h.charge.job
-  held t l h =
-      let a : WaitsFor w t j h.charge.job = waits t l h in
-      let same : a.resource ≡ q = held_resource w t j h.charge.job h.number h.resource a h.request ∙ (column t h).same in
-      ap (holder_in (w.row t)) (sym same) ∙ a.holder
+      held : (t : ℕ) → t < n → (h : Hit shared_charge w f j t) → holder_in (w.row t) q ≡ Some h.charge.job
+      held t l h =
+          let a : WaitsFor w t j h.charge.job = waits t l h in
+          let same : a.resource ≡ q = held_resource w t j h.charge.job h.number h.resource a h.request ∙ (column t h).same in
+          ap (holder_in (w.row t)) (sym same) ∙ a.holder
 
-  one : (u v k a b : ℕ) → u ≤ v → v < window_end w bound n j → (g : Hit shared_charge w f j u) → (h : Hit shared_charge w f j v) → phase_of w u j ≡ Asking k a → phase_of w v j ≡ Asking k b
-      → OneRequest w u v g.charge.job h.charge.job
-  one u v k a b order l g h early late =
-      let mine : WaitsFor w u j g.charge.job = waits u (omega arith) g in
-      let x : Asking k a ≡ Asking mine.number mine.resource = sym early ∙ mine.request in
-      let resource : a ≡ mine.resource = cc in
-      let same : mine.resource ≡ q = held_resource w u j g.charge.job g.number g.resource mine g.request ∙ (column u g).same in
-      let asks : Asks w u v q j = asks_between w u v k q b j order mine.active (early ∙ ap (Asking k) (resource ∙ same)) late in
-      let since : (t : ℕ) → u ≤ t → t ≤ v → holder_in (w.row t) q ≡ Some h.charge.job = held_since w n u v q h.charge.job j keeps (omega arith) asks (column v h).lower (held v (omega arith) h) in
-      let both : Some g.charge.job ≡ Some h.charge.job = sym (held u (omega arith) g) ∙ since u (omega arith) order in
-      let job : g.charge.job ≡ h.charge.job = cc in
-      let there : HitJob shared_charge w bound j u g.charge.job = hit_job shared_charge w bound n j u f window (omega arith) g in
-      let later : HitJob shared_charge w bound j v h.charge.job = hit_job shared_charge w bound n j v f window l h in
-      let lawful : IsLawfulJob w.set (job_of w.jobs h.charge.job) = window.lawful.each h.charge.job later.listed in
-      one_request w n u v g.charge.job h.charge.job h.number h.resource window.active (omega arith) order lawful.script there.active (ap (task_of w) job) h.request
-      (λ t from before local runs. let r : Requester w t q h.charge.job = holder_asks mpcp w n t q h.charge.job keeps (omega arith) (since t from (omega arith)) in
-      let y : Local ≡ Asking r.number q = sym local ∙ r.phase in cc)
+      one : (u v k a b : ℕ) → u ≤ v → v < window_end w bound n j → (g : Hit shared_charge w f j u) → (h : Hit shared_charge w f j v) → phase_of w u j ≡ Asking k a → phase_of w v j ≡ Asking k b
+          → OneRequest w u v g.charge.job h.charge.job
+      one u v k a b order l g h early late =
+          let mine : WaitsFor w u j g.charge.job = waits u (omega arith) g in
+          let x : Asking k a ≡ Asking mine.number mine.resource = sym early ∙ mine.request in
+          let resource : a ≡ mine.resource = cc in
+          let same : mine.resource ≡ q = held_resource w u j g.charge.job g.number g.resource mine g.request ∙ (column u g).same in
+          let asks : Asks w u v q j = asks_between w u v k q b j order mine.active (early ∙ ap (Asking k) (resource ∙ same)) late in
+          let since : (t : ℕ) → u ≤ t → t ≤ v → holder_in (w.row t) q ≡ Some h.charge.job = held_since w n u v q h.charge.job j keeps (omega arith) asks (column v h).lower (held v (omega arith) h) in
+          let both : Some g.charge.job ≡ Some h.charge.job = sym (held u (omega arith) g) ∙ since u (omega arith) order in
+          let job : g.charge.job ≡ h.charge.job = cc in
+          let there : HitJob shared_charge w bound j u g.charge.job = hit_job shared_charge w bound n j u f window (omega arith) g in
+          let later : HitJob shared_charge w bound j v h.charge.job = hit_job shared_charge w bound n j v f window l h in
+          let lawful : IsLawfulJob w.set (job_of w.jobs h.charge.job) = window.lawful.each h.charge.job later.listed in
+          one_request w n u v g.charge.job h.charge.job h.number h.resource window.active (omega arith) order lawful.script there.active (ap (task_of w) job) h.request
+          (λ t from before local runs. let r : Requester w t q h.charge.job = holder_asks mpcp w n t q h.charge.job keeps (omega arith) (since t from (omega arith)) in
+          let y : Local ≡ Asking r.number q = sym local ∙ r.phase in cc)

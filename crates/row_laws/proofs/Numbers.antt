@@ -1,27 +1,26 @@
 -- Rows of which each request of the job itself pays for one: a tick's slot is the number of the request that it is in.
-use Rattle.std.proofs.Common.{◌≡◌, ℕ, zero, suc, ◌+◌, ◌*◌, ◌<◌, ◌≤◌, ◌==◌, ◌&&◌, Bool, true, false, List, [], ◌∷◌, length, get_or, refl, sym, ap, ◌∙◌, arith, inl, inr, Option, Some, None, nat_lt, count_by}
+use Rattle.std.proofs.Common.{◌≡◌, ℕ, zero, suc, ◌+◌, ◌*◌, ◌<◌, ◌≤◌, ◌==◌, Bool, true, false, List, [], ◌∷◌, length, get_or, refl, sym, ap, ◌∙◌, arith, inl, inr, Option, Some, None, nat_lt, count_by}
 use Rattle.std.specs.Option.{option_map_or}
 use Rattle.std.proofs.Math.Nat.{mul_comm, mul-le-mul_left, mul-le-mul_right}
-use Rattle.std.proofs.lemmas.Bool.{cases_lt, cases_Bool, and_parts, ltb-true, eq-eqb, eqb-true, ne_eqb}
+use Rattle.std.proofs.lemmas.Bool.{cases_Bool, and_parts, ltb-true, eq-eqb, eqb-true, ne_eqb}
 use Rattle.bounded_sums.specs.Sums.{sum_below, flag, only_if}
 use Rattle.bounded_sums.specs.Tests.{count_below}
 use Rattle.bounded_sums.proofs.SumLaws.{sum_below-agree, sum_below-plus, sum_below-monotone, sum_below-term, sum_below-zero, only_if-true, only_if-false}
-use Rattle.bounded_sums.proofs.CountLaws.{flag-at_most}
 use Rattle.bounded_sums.proofs.ListCounts.{count_by-first, count_by-places}
 use Rattle.sporadic_model.specs.SetDef.{SetDef}
-use Rattle.sporadic_model.specs.Users.{count_of, length_of}
+use Rattle.sporadic_model.specs.Users.{count_of}
 use Rattle.schedule_model.specs.JobDef.{SegmentDef, JobDef, job_of, asks_for, number_of_requests}
 use Rattle.schedule_model.specs.LawfulJobs.{is_resource_in, are_resources_in, IsLawfulJob}
 use Rattle.schedule_model.specs.RowDef.{Trace}
 use Rattle.schedule_model.specs.Phase.{Phase, phase_of}
-use Rattle.schedule_model.specs.Phase.Phase.{Local, Asking, Finished}
+use Rattle.schedule_model.specs.Phase.Phase.{Asking}
 use Rattle.schedule_model.specs.Activity.{task_of}
 use Rattle.schedule_laws.specs.Counting.{no_segment}
 use Rattle.schedule_laws.proofs.Segments.{RequestAt, open_segment, asks_some}
 use Rattle.fragments.specs.ColumnDef.{ColumnDef}
 use Rattle.charge_model.specs.Windows.{window_end}
 use Rattle.row_laws.proofs.Brings.{Charges, Window, brings, Hit}
-use Rattle.row_laws.proofs.SlotRow.{OneRequest, Slots, Shares, slot_row}
+use Rattle.row_laws.proofs.SlotRow.{OneRequest, Shares, slot_row}
 
 -- Which number has the request? 0 where there is none.
 abbrev pub number_of : Phase → ℕ
@@ -108,25 +107,25 @@ by_number charges w bound n j s share f ok window shares own one =
     shares in
     let number : count_below (length script) test ≤ sum_below (length w.set.resources) (λ q. only_if (ok q) (count_of w.set (task_of w j) q)) = own_passing w.set ok (job_of w.jobs j) (window.lawful.each j window.listed) in
     omega (arith, most, mul-le-mul_right s number, mul_comm (sum_below (length w.set.resources) (λ q. only_if (ok q) (count_of w.set (task_of w j) q))) s) where
-  script : List SegmentDef
-  script = (job_of w.jobs j).script
+      script : List SegmentDef
+      script = (job_of w.jobs j).script
 
-  slot : ℕ → ℕ
-  slot = λ t. number_of (phase_of w t j)
+      slot : ℕ → ℕ
+      slot = λ t. number_of (phase_of w t j)
 
-  test : ℕ → Bool
-  test = λ k. asks_passing ok (get_or script k no_segment)
+      test : ℕ → Bool
+      test = λ k. asks_passing ok (get_or script k no_segment)
 
-  passes : (t : ℕ) → OwnRequest w t j ok → test (slot t) ≡ true
-  passes t a =
-      let at : RequestAt script a.number a.resource = open_segment w t j a.number a.resource a.request in
-      let some : (l : ℕ) × ((get_or script a.number no_segment).request ≡ Some (a.resource, l)) = asks_some a.resource (get_or script a.number no_segment) at.asks in
-      rw (a.request, some.1) a.passes
+      passes : (t : ℕ) → OwnRequest w t j ok → test (slot t) ≡ true
+      passes t a =
+          let at : RequestAt script a.number a.resource = open_segment w t j a.number a.resource a.request in
+          let some : (l : ℕ) × ((get_or script a.number no_segment).request ≡ Some (a.resource, l)) = asks_some a.resource (get_or script a.number no_segment) at.asks in
+          rw (a.request, some.1) a.passes
 
-  together : (u v : ℕ) → u ≤ v → v < window_end w bound n j → (a : Hit charges w f j u) → (b : Hit charges w f j v) → OwnRequest w u j ok → OwnRequest w v j ok → slot u ≡ slot v → OneRequest w u v a.charge.job b.charge.job
-  together u v order l a b mine later same =
-      let number : mine.number ≡ later.number = sym (ap number_of mine.request) ∙ same ∙ ap number_of later.request in
-      one u v mine.number mine.resource later.resource order l a b mine.request (later.request ∙ ap (λ k. Asking k later.resource) (sym number))
+      together : (u v : ℕ) → u ≤ v → v < window_end w bound n j → (a : Hit charges w f j u) → (b : Hit charges w f j v) → OwnRequest w u j ok → OwnRequest w v j ok → slot u ≡ slot v → OneRequest w u v a.charge.job b.charge.job
+      together u v order l a b mine later same =
+          let number : mine.number ≡ later.number = sym (ap number_of mine.request) ∙ same ∙ ap number_of later.request in
+          one u v mine.number mine.resource later.resource order l a b mine.request (later.request ∙ ap (λ k. Asking k later.resource) (sym number))
 
 -- The same for the requests of one resource.
 pub by_number_of : (charges : Charges) (w : Trace) (bound : ℕ → ℕ) (n j q s : ℕ) (share : ℕ → ℕ → ℕ) (f : ColumnDef → ℕ) → Window charges w bound n j → Shares w s share f

@@ -2,7 +2,7 @@
 -- lower one's resource. So where a lower request runs while a job waits there, its resource's ceiling is no lower than the job.
 use Rattle.std.proofs.Common.{◌≡◌, ◌⊎◌, ℕ, zero, suc, ◌<◌, ◌≤◌, ◌==◌, ◌&&◌, ◌||◌, not, Bool, true, false, length, refl, sym, ap, ◌∙◌, arith, inl, inr, Option, Some, None, nat_le, unwrap_or}
 use Rattle.std.specs.Option.{option_map_or}
-use Rattle.std.proofs.lemmas.Bool.{cases_lt, cases_Bool, both_ways, and_parts, and_from, eq-eqb, eqb-true, le-leb, leb-true, ltb-true, leb-false, not-true, not_from_false, or_cases}
+use Rattle.std.proofs.lemmas.Bool.{cases_lt, cases_Bool, both_ways, and_parts, and_from, eq-eqb, eqb-true, le-leb, leb-true, ltb-true, leb-false, not-true, not_from_false}
 use Rattle.bounded_sums.specs.Tests.{all_below, any_below}
 use Rattle.bounded_sums.proofs.TestLaws.{any_below-some, any_below-from, all_below-each, all_below-fails}
 use Rattle.sporadic_model.specs.SetDef.{SetDef}
@@ -12,14 +12,14 @@ use Rattle.sporadic_model.proofs.Laws.{highest_user, no_user}
 use Rattle.schedule_model.specs.declared.rule.Rule.TheVariants as rule
 use Rattle.schedule_model.specs.JobDef.{job_of}
 use Rattle.schedule_model.specs.LawfulJobs.{AreLawfulJobs, IsLawfulJob}
-use Rattle.schedule_model.specs.RowDef.{Trace, jobs_of, is_job, running_on, holder_in, held_before}
+use Rattle.schedule_model.specs.RowDef.{Trace, jobs_of, is_job, holder_in, held_before}
 use Rattle.schedule_model.specs.Phase.{phase_of}
 use Rattle.schedule_model.specs.Phase.Phase.{Asking}
 use Rattle.schedule_model.specs.Activity.{task_of, is_active, is_requester, holds_by}
 use Rattle.schedule_model.specs.SharedRules.{KeepsKeep}
 use Rattle.schedule_model.specs.DpcpRules.{home_of, ceiling_rank, has_request_at, has_requests, holds_at, is_kept, waits_at, is_first_waiting, is_barred, is_granted, KeepsGrant, RunsFirstHolder, KeepsPriority}
 use Rattle.schedule_model.specs.Protocols.{dpcp_rule}
-use Rattle.schedule_model.specs.Keeping.{KeepsRow, KeepsBefore}
+use Rattle.schedule_model.specs.Keeping.{KeepsBefore}
 use Rattle.schedule_laws.proofs.ActiveJobs.{active_listed, one_active, Requester, requester_is, requester_from, requester_listed}
 use Rattle.schedule_laws.proofs.Rows.{job_named, named_job, holds_from}
 use Rattle.schedule_laws.proofs.RuleUses.{request_among}

@@ -1,20 +1,18 @@
 -- Under shared memory the column in which a charged tick lies is one of the blocked job's program.
-use Rattle.std.proofs.Common.{◌≡◌, ℕ, ◌<◌, ◌≤◌, ◌==◌, ◌&&◌, not, Bool, true, false, length, refl, sym, ap, ◌∙◌, arith, inl, inr, Some, nat_le, nat_lt}
+use Rattle.std.proofs.Common.{◌≡◌, ℕ, ◌<◌, ◌≤◌, ◌==◌, ◌&&◌, not, true, false, length, refl, sym, ap, ◌∙◌, arith, inl, inr, Some}
 use Rattle.std.specs.Option.{option_map_or}
-use Rattle.std.proofs.lemmas.Bool.{cases_Bool, both_ways, and_parts, and_from, eqb-true, eq-eqb, ne_eqb, lt-ltb, le-leb, not_from_false}
+use Rattle.std.proofs.lemmas.Bool.{cases_Bool, both_ways, and_from, eq-eqb, ne_eqb, lt-ltb, le-leb, not_from_false}
 use Rattle.bounded_sums.specs.Tests.{any_below}
 use Rattle.bounded_sums.proofs.TestLaws.{any_below-from}
-use Rattle.sporadic_model.specs.SetDef.{SetDef, task_at, is_higher_local}
-use Rattle.sporadic_model.specs.Users.{is_user}
+use Rattle.sporadic_model.specs.SetDef.{SetDef, is_higher_local}
 use Rattle.sporadic_model.specs.declared.ids.Protocol.{Protocol}
 use Rattle.sporadic_model.specs.declared.ids.Protocol.TheVariants as protocol
 use Rattle.schedule_model.specs.declared.rule.Rule.TheVariants as rule
-use Rattle.schedule_model.specs.JobDef.{job_of}
-use Rattle.schedule_model.specs.LawfulJobs.{AreLawfulJobs, IsLawfulJob}
+use Rattle.schedule_model.specs.LawfulJobs.{AreLawfulJobs}
 use Rattle.schedule_model.specs.RowDef.{Trace, jobs_of, running_on, holder_in, runs_in}
 use Rattle.schedule_model.specs.Phase.{phase_of}
 use Rattle.schedule_model.specs.Phase.Phase.{Asking}
-use Rattle.schedule_model.specs.Activity.{task_of, processor_of, is_active, is_ready_holder, is_ready}
+use Rattle.schedule_model.specs.Activity.{task_of, processor_of, is_active, is_ready}
 use Rattle.schedule_model.specs.SharedRules.{Ranks, KeepsRun}
 use Rattle.schedule_model.specs.Ranks.{mpcp, fmlp_plus, boost_in}
 use Rattle.schedule_model.specs.Protocols.{shared_rule}
@@ -26,10 +24,9 @@ use Rattle.schedule_laws.proofs.KindsOfTicks.{Blocked, blocked_is, delayed_from,
 use Rattle.schedule_laws.proofs.Segments.{open_listed, open_resource, open_user}
 use Rattle.fragments.specs.declared.columns.Class.{Class}
 use Rattle.fragments.specs.declared.columns.Class.TheVariants.{Direct, Indirect, Preemption}
-use Rattle.fragments.specs.ColumnDef.{ColumnDef}
 use Rattle.fragments.specs.Ceilings.{remote_ceiling_rank}
-use Rattle.fragments.specs.Columns.{have_one_processor, is_lower_local, may_run_before, is_path, has_path, blocks_by_sharing, may_block, is_column}
-use Rattle.charge_laws.proofs.SharedCharging.{PreemptedBy, WaitsFor, DirectBy, IndirectBy, SharedReason}
+use Rattle.fragments.specs.Columns.{may_run_before, is_path, has_path, blocks_by_sharing, may_block, is_column}
+use Rattle.charge_laws.proofs.SharedCharging.{IndirectBy, SharedReason}
 
 -- A column of task i, by its task, its resource and its class.
 pub record IsPlaced (p : Protocol) (w : Trace) (i x q : ℕ) (c : Class) : Type 0 where
@@ -108,39 +105,39 @@ path_there p o w t j r n q sharing lawful run listed runs by =
     (and_from _ _ (and_from _ _ (passes_not by.waits.resource q other_resource)
     (and_from _ _ (open_user w.set w t j by.waits.number by.waits.resource (lawful.each j listed) by.waits.request) (open_user w.set w t z by.waits.holding by.waits.resource (lawful.each z z_listed) by.waits.held)))
     (sharing.runs w t z r by.waits.resource q by.waits.holding n by.waits.held runs place by.order)))) where
-  z : ℕ
-  z = by.first
+      z : ℕ
+      z = by.first
 
-  holder : ReadyHolder w t z
-  holder = ready_holder_is w t z by.waits.holds
+      holder : ReadyHolder w t z
+      holder = ready_holder_is w t z by.waits.holds
 
-  runner : ReadyHolder w t r
-  runner = ready_holder_is w t r by.holds
+      runner : ReadyHolder w t r
+      runner = ready_holder_is w t r by.holds
 
-  z_listed : z < length w.jobs
-  z_listed = active_listed w t z holder.active
+      z_listed : z < length w.jobs
+      z_listed = active_listed w t z holder.active
 
-  place : processor_of w z ≡ processor_of w r
-  place = run.column (processor_of w z) r by.runs
+      place : processor_of w z ≡ processor_of w r
+      place = run.column (processor_of w z) r by.runs
 
-  not_same : (z ≡ r) → ⊥
-  not_same e = let here : runs_in (w.row t) z ≡ true = rw e (runs_from (w.row t) (processor_of w by.first) r by.runs) in both_ways (runs_in (w.row t) z) by.stands here
+      not_same : (z ≡ r) → ⊥
+      not_same e = let here : runs_in (w.row t) z ≡ true = rw e (runs_from (w.row t) (processor_of w by.first) r by.runs) in both_ways (runs_in (w.row t) z) by.stands here
 
-  not_runner : (task_of w z ≡ task_of w r) → ⊥
-  not_runner e = not_same (one_active w t z r holder.active runner.active e)
+      not_runner : (task_of w z ≡ task_of w r) → ⊥
+      not_runner e = not_same (one_active w t z r holder.active runner.active e)
 
-  not_own : (task_of w z ≡ task_of w j) → ⊥
-  not_own e =
-      let same : z ≡ j = one_active w t z j holder.active by.waits.active e in
-      let ready : is_ready w t j ≡ true = rw (← same) (ready_holding w t z by.waits.holds) in
-      both_ways (is_ready w t j) by.waits.other ready
+      not_own : (task_of w z ≡ task_of w j) → ⊥
+      not_own e =
+          let same : z ≡ j = one_active w t z j holder.active by.waits.active e in
+          let ready : is_ready w t j ≡ true = rw (← same) (ready_holding w t z by.waits.holds) in
+          both_ways (is_ready w t j) by.waits.other ready
 
-  other_resource : (by.waits.resource ≡ q) → ⊥
-  other_resource e =
-      let phases : Asking runner.number runner.resource ≡ Asking n q = sym runner.phase ∙ runs in
-      let own : runner.resource ≡ q = cc in
-      let both : Some z ≡ Some r = sym by.waits.holder ∙ ap (holder_in (w.row t)) (e ∙ sym own) ∙ runner.holds in
-      not_same (cc)
+      other_resource : (by.waits.resource ≡ q) → ⊥
+      other_resource e =
+          let phases : Asking runner.number runner.resource ≡ Asking n q = sym runner.phase ∙ runs in
+          let own : runner.resource ≡ q = cc in
+          let both : Some z ≡ Some r = sym by.waits.holder ∙ ap (holder_in (w.row t)) (e ∙ sym own) ∙ runner.holds in
+          not_same (cc)
 
 -- How its class blocks.
 blocks_there : (p : Protocol) (o : Ranks) (w : Trace) (t j y n q : ℕ) (c : Class) → Sharing p o → AreLawfulJobs (jobs_of w) → KeepsRun w t → j < length w.jobs → phase_of w t y ≡ Asking n q → SharedReason o w t j c y

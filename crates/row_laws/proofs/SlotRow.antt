@@ -1,7 +1,7 @@
 -- Rows of which each unit pays for one request: all that one slot brings is of one request, and so at most one whole.
-use Rattle.std.proofs.Common.{◌≡◌, ℕ, ◌+◌, ◌*◌, ◌<◌, ◌≤◌, ◌==◌, ◌&&◌, Bool, true, false, length, refl, sym, ap, ◌∙◌, arith, inl, inr}
+use Rattle.std.proofs.Common.{◌≡◌, ℕ, ◌*◌, ◌<◌, ◌≤◌, ◌==◌, ◌&&◌, Bool, true, refl, sym, ap, ◌∙◌, arith, inl, inr}
 use Rattle.std.proofs.Math.Nat.{mul_comm, mul-le-mul_right}
-use Rattle.std.proofs.lemmas.Bool.{cases_lt, cases_Bool, eq-eqb, eqb-true, and_from}
+use Rattle.std.proofs.lemmas.Bool.{cases_lt, eq-eqb, eqb-true, and_from}
 use Rattle.bounded_sums.specs.Sums.{sum_below, flag, only_if}
 use Rattle.bounded_sums.specs.Tests.{count_below}
 use Rattle.bounded_sums.proofs.SumLaws.{sum_below-none_or_some}
@@ -104,10 +104,10 @@ parts_paid charges w bound n j m s share f g slot p window parts shares =
     sum_below-passing (window_end w bound n j) m s slot g p
     (λ t l some. let a : Hit charges w f j t = part_hit charges w bound n j m f g slot p t parts l some in (parts.within t l some a, parts.passes t l some a))
     (λ k b passing. sum_below-none_or_some (window_end w bound n j) s (λ v. only_if (slot v == k) (g v)) (λ u l some. whole k u l some)) where
-  whole : (k u : ℕ) → u < window_end w bound n j → 0 < only_if (slot u == k) (g u) → sum_below (window_end w bound n j) (λ v. only_if (slot v == k) (g v)) ≤ s
-  whole k u l some =
-      let both : ((slot u == k) ≡ true) × (0 < g u) = only_if-parts (slot u == k) (g u) some in
-      slot_whole charges w bound n j m s share f g slot p u k window parts shares l both.1 (eqb-true (slot u) k both.0)
+      whole : (k u : ℕ) → u < window_end w bound n j → 0 < only_if (slot u == k) (g u) → sum_below (window_end w bound n j) (λ v. only_if (slot v == k) (g v)) ≤ s
+      whole k u l some =
+          let both : ((slot u == k) ≡ true) × (0 < g u) = only_if-parts (slot u == k) (g u) some in
+          slot_whole charges w bound n j m s share f g slot p u k window parts shares l both.1 (eqb-true (slot u) k both.0)
 
 -- How a whole row is paid for, all that its ticks bring.
 pub record Slots (charges : Charges) (w : Trace) (bound : ℕ → ℕ) (n j m : ℕ) (f : ColumnDef → ℕ) (slot : ℕ → ℕ) (p : ℕ → Bool) : Type 0 where

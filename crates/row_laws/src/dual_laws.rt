@@ -21,15 +21,15 @@ pub fn duals_bound_blocked_ticks()
         → KeepsBefore (shared_rule mpcp) w n → j < length w.jobs → EndedBy w (slice_index bounds) (job_of w.jobs j).release
         → Covers (program_of protocol.Mpcp w.set (task_of w j) bounds) den num
         → count_below (window_end w (slice_index bounds) n j) (λ t. is_blocked is_shared_interference w t j)
-            ≤ dual_value (program_of protocol.Mpcp w.set (task_of w j) bounds) den num }
+        ≤ dual_value (program_of protocol.Mpcp w.set (task_of w j) bounds) den num }
     ensures fmlp_plus { (w : Trace) (bounds : List ℕ) (n j den : ℕ) (num : ℕ → ℕ) → IsAccepted w.set → AreLawfulJobs (jobs_of w)
         → KeepsBefore (shared_rule fmlp_plus) w n → j < length w.jobs → EndedBy w (slice_index bounds) (job_of w.jobs j).release
         → Covers (program_of protocol.FmlpPlus w.set (task_of w j) bounds) den num
         → count_below (window_end w (slice_index bounds) n j) (λ t. is_blocked is_shared_interference w t j)
-            ≤ dual_value (program_of protocol.FmlpPlus w.set (task_of w j) bounds) den num }
+        ≤ dual_value (program_of protocol.FmlpPlus w.set (task_of w j) bounds) den num }
     ensures dpcp { (w : Trace) (bounds : List ℕ) (n j den : ℕ) (num : ℕ → ℕ) → IsAccepted w.set → AreLawfulJobs (jobs_of w)
         → KeepsBefore dpcp_rule w n → j < length w.jobs → EndedBy w (slice_index bounds) (job_of w.jobs j).release
         → Covers (program_of protocol.Dpcp w.set (task_of w j) bounds) den num
         → count_below (window_end w (slice_index bounds) n j) (λ t. is_blocked is_dpcp_interference w t j)
-            ≤ dual_value (program_of protocol.Dpcp w.set (task_of w j) bounds) den num }
+        ≤ dual_value (program_of protocol.Dpcp w.set (task_of w j) bounds) den num }
 {}

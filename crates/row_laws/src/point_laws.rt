@@ -21,16 +21,16 @@ pub fn fractions_meet_every_row()
     ensures mpcp { (w : Trace) (bounds : List ℕ) (n j : ℕ) → IsAccepted w.set → AreLawfulJobs (jobs_of w)
         → KeepsBefore (shared_rule mpcp) w n → j < length w.jobs → EndedBy w (slice_index bounds) (job_of w.jobs j).release
         → IsScaledPoint (program_of protocol.Mpcp w.set (task_of w j) bounds)
-            (product_of_lengths w.set (columns_of protocol.Mpcp w.set (task_of w j)))
-            (fractions_of shared_charge w (slice_index bounds) n j (columns_of protocol.Mpcp w.set (task_of w j))) }
+        (product_of_lengths w.set (columns_of protocol.Mpcp w.set (task_of w j)))
+        (fractions_of shared_charge w (slice_index bounds) n j (columns_of protocol.Mpcp w.set (task_of w j))) }
     ensures fmlp_plus { (w : Trace) (bounds : List ℕ) (n j : ℕ) → IsAccepted w.set → AreLawfulJobs (jobs_of w)
         → KeepsBefore (shared_rule fmlp_plus) w n → j < length w.jobs → EndedBy w (slice_index bounds) (job_of w.jobs j).release
         → IsScaledPoint (program_of protocol.FmlpPlus w.set (task_of w j) bounds)
-            (product_of_lengths w.set (columns_of protocol.FmlpPlus w.set (task_of w j)))
-            (fractions_of shared_charge w (slice_index bounds) n j (columns_of protocol.FmlpPlus w.set (task_of w j))) }
+        (product_of_lengths w.set (columns_of protocol.FmlpPlus w.set (task_of w j)))
+        (fractions_of shared_charge w (slice_index bounds) n j (columns_of protocol.FmlpPlus w.set (task_of w j))) }
     ensures dpcp { (w : Trace) (bounds : List ℕ) (n j : ℕ) → IsAccepted w.set → AreLawfulJobs (jobs_of w)
         → KeepsBefore dpcp_rule w n → j < length w.jobs → EndedBy w (slice_index bounds) (job_of w.jobs j).release
         → IsScaledPoint (program_of protocol.Dpcp w.set (task_of w j) bounds)
-            (product_of_lengths w.set (columns_of protocol.Dpcp w.set (task_of w j)))
-            (fractions_of dpcp_charge w (slice_index bounds) n j (columns_of protocol.Dpcp w.set (task_of w j))) }
+        (product_of_lengths w.set (columns_of protocol.Dpcp w.set (task_of w j)))
+        (fractions_of dpcp_charge w (slice_index bounds) n j (columns_of protocol.Dpcp w.set (task_of w j))) }
 {}
