@@ -1,15 +1,15 @@
 -- Laws of the commands: each has one outcome for each shelf, and its status is one that is its own.
-use Rattle.std.proofs.Common.{◌≡◌, ℕ, ◌+◌, ◌<◌, ◌++◌, List, refl, sym, ◌∙◌, ap, arith, inl, inr, ◌⊎◌}
+use Rattle.std.proofs.Common.{◌≡◌, ℕ, ◌+◌, ◌<◌, ◌++◌, refl, sym, ◌∙◌, ap, arith, inl, inr, ◌⊎◌}
 use Rattle.std.proofs.lemmas.Bool.{cases_lt}
 use Rattle.std.specs.Prelude.{codes, decimal}
-use Rattle.sporadic_model.specs.SetDef.{SetDef, task_at}
+use Rattle.sporadic_model.specs.SetDef.{SetDef}
 use Rattle.sporadic_model.specs.Users.{count_of}
 use Rattle.response_fixpoint.specs.Rounds.{Ending, Schedulable, NotShown, Wide, Allowance, EndsIn}
 use Rattle.response_fixpoint.specs.Response.{RequestsNothing, IsFirstRequester, rounds_of}
 use Rattle.response_fixpoint.proofs.ResponseLaws.{one_ending}
 use Rattle.response_fixpoint.proofs.AnswerLaws.{never_wide_of}
 use Rattle.report.specs.Table.{table_text}
-use Rattle.block_top.specs.Plans.{Answer, Known, IsOutcomeOf, IsStopped}
+use Rattle.block_top.specs.Plans.{Answer, Known, IsOutcomeOf}
 use Rattle.block_top.specs.Words.{Form, Analyse, Report}
 use Rattle.block_top.specs.Commands.{requests_later, ending_answer, IsAnalysis, analysis_of, table_of, plan_of}
 use Rattle.block_top.specs.Inputs.{set_input}

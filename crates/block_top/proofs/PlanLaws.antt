@@ -4,7 +4,7 @@ use Rattle.std.specs.Prelude.{Option, Result, IsSomeAnd, codes}
 use Rattle.outside_ports.specs.Counts.{Rose}
 use Rattle.outside_ports.specs.Names.{Inputs, bytes_of, IsNamed, IsLonger, IsAbsent}
 use Rattle.outside_ports.specs.declared.whole.TheConstants.{GREATEST_INPUT_BYTES}
-use Rattle.block_top.specs.Plans.{Answer, Input, Work, Plan, Working, Reading, refused, read_fault, Known, IsWorking, IsStopped, IsRead, IsOutcomeOf, IsReadFaultOf, EndsWell}
+use Rattle.block_top.specs.Plans.{Answer, Input, Work, Plan, Working, Reading, refused, Known, IsWorking, IsStopped, IsRead, IsOutcomeOf, IsReadFaultOf, EndsWell}
 use Rattle.block_top.specs.Outcome.{Shown, shown_by, told, IsReplyOf}
 
 -- Is whatever one knows also known by the other?

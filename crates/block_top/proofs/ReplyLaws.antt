@@ -1,7 +1,6 @@
 -- What is replied, from what came of inputs and of the work.
-use Rattle.std.proofs.Common.{◌≡◌, ℕ, ◌≤◌, List, length, refl, sym, subst, inl, inr, ◌⊎◌, Ok, Err, Some, None, IfOk, map}
-use Rattle.std.specs.Prelude.{Option, Result, MatchOption}
-use Rattle.std.specs.declared.alloc.AllocError.{AllocError}
+use Rattle.std.proofs.Common.{◌≡◌, ℕ, ◌≤◌, List, length, inl, inr, Ok, Err, map}
+use Rattle.std.specs.Prelude.{Option, Result}
 use Rattle.outside_ports.specs.Names.{Inputs}
 use Rattle.program_form.specs.Certificate.{dual_seen}
 use Rattle.sporadic_model.specs.SetDef.{SetDef}
@@ -13,10 +12,9 @@ use Rattle.response_fixpoint.specs.declared.verdict.Verdict.TheVariants as verdi
 use Rattle.response_fixpoint.specs.declared.verdict.Stop.{Stop}
 use Rattle.response_fixpoint.specs.declared.verdict.Stop.TheVariants as stop
 use Rattle.block_top.specs.Plans.{Answer, Input, Plan, Reading, IsWorking, IsRead, IsOutcomeOf}
-use Rattle.block_top.specs.Words.{Form, form_of}
-use Rattle.block_top.specs.Commands.{IsAnalysis, plan_of}
-use Rattle.block_top.specs.Outcome.{Shown, shown_by, refused_words, IsReplyOf, IsReply}
-use Rattle.block_top.specs.Replies.{reply_seen, HaltsWith, Answered, IsSettled, IsUnloaded, IsRefusal, IsUngot, RepliesTo}
+use Rattle.block_top.specs.Commands.{IsAnalysis}
+use Rattle.block_top.specs.Outcome.{Shown, shown_by, IsReplyOf}
+use Rattle.block_top.specs.Replies.{reply_seen, HaltsWith, Answered, IsUngot, RepliesTo}
 use Rattle.block_top.specs.declared.halt.Reply.{Reply}
 use Rattle.block_top.specs.declared.halt.Halt.{Halt}
 use Rattle.block_top.specs.declared.halt.Halt.TheVariants as halt

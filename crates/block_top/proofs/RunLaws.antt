@@ -1,10 +1,8 @@
 -- What is true of a call, from what was replied and what was written.
-use Rattle.std.proofs.Common.{◌≡◌, ◌≢◌, ℕ, ◌-◌, ◌<◌, ◌≤◌, ◌↔◌, List, length, refl, sym, ◌∙◌, ap, subst, arith, inl, inr, ◌⊎◌, Ok, Some, None}
+use Rattle.std.proofs.Common.{◌≡◌, ℕ, ◌-◌, ◌<◌, ◌≤◌, ◌↔◌, List, length, refl, sym, ◌∙◌, ap, subst, arith, inl, inr, ◌⊎◌, Some, None}
 use Rattle.std.specs.Prelude.{Option, MatchOption, codes}
-use Rattle.std.specs.Io.KnownBytes.{Appends}
 use Rattle.outside_ports.specs.Counts.{Rose}
-use Rattle.outside_ports.specs.Names.{Inputs, bytes_of}
-use Rattle.outside_ports.specs.Prefix.{AppendsPart}
+use Rattle.outside_ports.specs.Names.{Inputs}
 use Rattle.outside_ports.specs.declared.whole.TheConstants.{GREATEST_INPUT_BYTES}
 use Rattle.program_form.specs.Certificate.{DualDef}
 use Rattle.sporadic_model.specs.SetDef.{SetDef}
@@ -17,8 +15,8 @@ use Rattle.block_top.specs.Words.{Form, Analyse, form_of}
 use Rattle.block_top.specs.Inputs.{set_input}
 use Rattle.block_top.specs.Commands.{ending_answer, IsAnalysis, analysis_of, plan_of}
 use Rattle.block_top.specs.Outcome.{Shown, shown_by, told, refused_words, IsOutcome, IsReplyOf, IsReply}
-use Rattle.block_top.specs.Headline.{Call, RanOut, WritesSchedulable, HasRead, Analyses, IsHeadline}
-use Rattle.block_top.specs.Run.{shelf_of, Gives, FailsToWrite, Replies, GivesOutcome, AnalysesRequests, IsRun}
+use Rattle.block_top.specs.Headline.{Call, RanOut, WritesSchedulable, Analyses, IsHeadline}
+use Rattle.block_top.specs.Run.{shelf_of, Gives, FailsToWrite, Replies, GivesOutcome, IsRun}
 use Rattle.block_top.proofs.PlanLaws.{told_implied, outcome_implied, rest_of, one_of_plan, plan_plain, plan_well, plan_longer, fault_status}
 use Rattle.block_top.proofs.InputLaws.{set_reads_once}
 use Rattle.block_top.proofs.CommandLaws.{lawful, never_five, analysis_ends}

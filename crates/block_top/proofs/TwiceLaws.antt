@@ -1,5 +1,5 @@
 -- Completeness of a call over a shelf that raised no count.
-use Rattle.std.proofs.Common.{◌≡◌, ℕ, ◌-◌, ◌^◌, ◌<◌, ◌≤◌, List, sym, ◌∙◌, subst, arith, inl, inr, ◌⊎◌, Some, Bool}
+use Rattle.std.proofs.Common.{◌≡◌, ℕ, ◌-◌, ◌^◌, ◌<◌, ◌≤◌, ◌∙◌, arith, inl, inr}
 use Rattle.std.specs.Prelude.{Option, IsSome}
 use Rattle.outside_ports.specs.Counts.{Rose}
 use Rattle.outside_ports.specs.Names.{Inputs}

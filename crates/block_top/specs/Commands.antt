@@ -1,5 +1,5 @@
 -- The commands: what each form of words does.
-use Rattle.std.specs.Prelude.{◌≡◌, ℕ, ◌+◌, ◌++◌, ◌⊎◌, List, codes, decimal}
+use Rattle.std.specs.Prelude.{◌≡◌, ℕ, ◌+◌, ◌++◌, ◌⊎◌, codes, decimal}
 use Rattle.sporadic_model.specs.SetDef.{SetDef, task_at}
 use Rattle.response_fixpoint.specs.Rounds.{Ending, Schedulable, NotShown, Wide, Allowance, EndsIn}
 use Rattle.response_fixpoint.specs.Response.{RequestsNothing, IsFirstRequester, rounds_of}
@@ -29,7 +29,8 @@ IsAnalysis set allowance answer = ((x : ℕ) × (IsFirstRequester set x) × (ans
 abbrev pub analysis_of : SetDef → ℕ → Work
 analysis_of set allowance = record {
   answers = IsAnalysis set allowance;
-  ends = RequestsNothing set × ((i : ℕ) → EndsIn (rounds_of set) allowance (Wide i) → ⊥) × (EndsIn (rounds_of set) allowance Allowance → ⊥);
+  ends = RequestsNothing set × ((i : ℕ) → EndsIn (rounds_of set) allowance (Wide i) → ⊥)
+      × (EndsIn (rounds_of set) allowance Allowance → ⊥);
 }
 
 -- The answer of a table, which there is of every set.

@@ -40,7 +40,8 @@ pub record RanOut (call : Call) : Type 0 where
 -- Does the call write "schedulable", with the least bounds within all deadlines that satisfy the recurrence and
 -- optimal duals?
 abbrev pub WritesSchedulable : Call → SetDef → Type 0
-WritesSchedulable call set = (certificate : CertificateDef) × (call.status ≡ 0) × Appends call.written_before call.written_now (certificate_text certificate)
+WritesSchedulable call set = (certificate : CertificateDef) × (call.status ≡ 0)
+    × Appends call.written_before call.written_now (certificate_text certificate)
     × AreLeastFitting set certificate.bounds × AreOptimalDuals set certificate.duals
 
 -- The named bytes, which are this set.

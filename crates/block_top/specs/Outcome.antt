@@ -40,7 +40,8 @@ refused_words = record { status = 2; text = codes "refused words\n" }
 
 -- The outcome of words, for what is known of the inputs.
 abbrev pub IsOutcomeBy : Known → List (List ℕ) → Answer → Type 0
-IsOutcomeBy known words answer = MatchOption (form_of words) (answer ≡ refused_words) (λ form. IsOutcomeOf known (plan_of form) answer)
+IsOutcomeBy known words answer =
+    MatchOption (form_of words) (answer ≡ refused_words) (λ form. IsOutcomeOf known (plan_of form) answer)
 
 -- The outcome of words, where these are the named inputs.
 abbrev pub IsOutcome : Inputs → List (List ℕ) → Answer → Type 0
@@ -48,7 +49,8 @@ IsOutcome inputs words answer = IsOutcomeBy (told inputs) words answer
 
 -- A reply of a plan: that an input could not be read, for which the shelf's count of faults rose; or an outcome.
 abbrev pub IsReplyOf : Shown → Plan → Answer → Type 0
-IsReplyOf shelf plan answer = (Rose shelf.before shelf.now × (shelf.given ≤ GREATEST_INPUT_BYTES) × IsReadFaultOf (shown_by shelf) plan answer)
+IsReplyOf shelf plan answer =
+    (Rose shelf.before shelf.now × (shelf.given ≤ GREATEST_INPUT_BYTES) × IsReadFaultOf (shown_by shelf) plan answer)
     ⊎ IsOutcomeOf (shown_by shelf) plan answer
 
 -- A reply to words.

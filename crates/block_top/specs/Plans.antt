@@ -52,8 +52,8 @@ IsWorking (Reading input name next) = ⊥
 abbrev pub IsStopped : Known → Input → List ℕ → Answer → Type 0
 IsStopped known input name answer = (known.absent name × (answer ≡ refused input.word (codes "absent")))
     ⊎ ((known.longer name × (answer ≡ refused input.word (codes "toolong")))
-    ⊎ ((bytes : List ℕ) × (refusal : input.Refusal) × (known.has name bytes) × (known.last bytes) × (input.reads bytes (Err refusal))
-    × (answer ≡ refused input.word (input.reason refusal))))
+    ⊎ ((bytes : List ℕ) × (refusal : input.Refusal) × (known.has name bytes) × (known.last bytes)
+    × (input.reads bytes (Err refusal)) × (answer ≡ refused input.word (input.reason refusal))))
 
 -- Is the input of this name there and accepted, with these bytes and this value?
 abbrev pub IsRead : Known → (input : Input) → List ℕ → List ℕ → input.Value → Type 0
@@ -63,16 +63,18 @@ IsRead known input name bytes value = known.has name bytes × input.reads bytes 
 abbrev pub IsOutcomeOf : Known → Plan → Answer → Type 0
 IsOutcomeOf known (Working work) answer = work.answers answer
 IsOutcomeOf known (Reading input name next) answer = IsStopped known input name answer
-    ⊎ ((bytes : List ℕ) × (value : input.Value) × (IsRead known input name bytes value) × (IsWorking (next bytes value) → known.last bytes)
-    × (IsOutcomeOf known (next bytes value) answer))
+    ⊎ ((bytes : List ℕ) × (value : input.Value) × (IsRead known input name bytes value)
+    × (IsWorking (next bytes value) → known.last bytes) × (IsOutcomeOf known (next bytes value) answer))
 
 -- Is this the answer that one of the inputs could not be read, every input before it being there and accepted?
 abbrev pub IsReadFaultOf : Known → Plan → Answer → Type 0
 IsReadFaultOf known (Working work) answer = ⊥
 IsReadFaultOf known (Reading input name next) answer = (answer ≡ read_fault input.word)
-    ⊎ ((bytes : List ℕ) × (value : input.Value) × (IsRead known input name bytes value) × (IsReadFaultOf known (next bytes value) answer))
+    ⊎ ((bytes : List ℕ) × (value : input.Value) × (IsRead known input name bytes value)
+    × (IsReadFaultOf known (next bytes value) answer))
 
 -- Is every input there and accepted, and does the work then end with status 0 or 1?
 abbrev pub EndsWell : Known → Plan → Type 0
 EndsWell known (Working work) = work.ends
-EndsWell known (Reading input name next) = (bytes : List ℕ) × (value : input.Value) × (IsRead known input name bytes value) × (EndsWell known (next bytes value))
+EndsWell known (Reading input name next) =
+    (bytes : List ℕ) × (value : input.Value) × (IsRead known input name bytes value) × (EndsWell known (next bytes value))

@@ -3,7 +3,7 @@ use Rattle.std.specs.Prelude.{◌≡◌, ℕ, ◌≤◌, ◌⊎◌, List, Option
 use Rattle.std.specs.Global.{Global}
 use Rattle.std.specs.declared.alloc.AllocError.{AllocError}
 use Rattle.outside_ports.specs.Counts.{Rose}
-use Rattle.outside_ports.specs.Names.{Inputs, IsNamed}
+use Rattle.outside_ports.specs.Names.{Inputs}
 use Rattle.outside_ports.specs.declared.whole.TheConstants.{GREATEST_INPUT_BYTES}
 use Rattle.program_form.specs.Certificate.{dual_seen}
 use Rattle.sporadic_model.specs.SetDef.{SetDef}
@@ -50,7 +50,8 @@ IsFailed shelf word answer = Rose shelf.before shelf.now × (shelf.given ≤ GRE
 -- Is this the answer to an input that is not loaded: it could not be read, it is absent or too long?
 abbrev pub IsUnloaded : Shown → List ℕ → List ℕ → Answer → Type 0
 IsUnloaded shelf word name answer = IsFailed shelf word answer
-    ⊎ (((shown_by shelf).absent name × (answer ≡ refused word (codes "absent"))) ⊎ ((shown_by shelf).longer name × (answer ≡ refused word (codes "toolong"))))
+    ⊎ (((shown_by shelf).absent name × (answer ≡ refused word (codes "absent")))
+    ⊎ ((shown_by shelf).longer name × (answer ≡ refused word (codes "toolong"))))
 
 -- What came of loading an input: its bytes, as many as were given; or the answer that says why there are none.
 abbrev pub IsLoaded : Shown → List ℕ → List ℕ → Result (Vec ℕ Global) Halt → Type 0
@@ -59,7 +60,8 @@ IsLoaded shelf word name (Err h) = HaltsWith h (IsUnloaded shelf word name)
 
 -- Is this the answer that refuses the bytes of an input?
 abbrev pub IsRefusal : Input → List ℕ → Answer → Type 0
-IsRefusal input bytes answer = (refusal : input.Refusal) × (input.reads bytes (Err refusal)) × (answer ≡ refused input.word (input.reason refusal))
+IsRefusal input bytes answer =
+    (refusal : input.Refusal) × (input.reads bytes (Err refusal)) × (answer ≡ refused input.word (input.reason refusal))
 
 -- What came of reading the bytes of an input: its value, or the answer that refuses them.
 abbrev pub IsTaken : (input : Input) → List ℕ → Result input.Value Halt → Type 0
@@ -82,7 +84,8 @@ ReadsSetFor protocol bytes r = ReadsSet protocol bytes r
 
 -- Is this the answer to an analysis that ends so?
 abbrev pub RepliesTo : SetDef → Result Verdict Stop → Answer → Type 0
-RepliesTo set (Ok (verdict.Schedulable certificate)) answer = answer ≡ ending_answer set (Schedulable certificate.bounds.items (map dual_seen certificate.duals.items))
+RepliesTo set (Ok (verdict.Schedulable certificate)) answer =
+    answer ≡ ending_answer set (Schedulable certificate.bounds.items (map dual_seen certificate.duals.items))
 RepliesTo set (Ok (verdict.NotShown task bound)) answer = answer ≡ ending_answer set (NotShown task.0 bound)
 RepliesTo set (Err (stop.Wide task)) answer = answer ≡ ending_answer set (Wide task.0)
 RepliesTo set (Err stop.Allowance) answer = answer ≡ ending_answer set Allowance
@@ -90,7 +93,8 @@ RepliesTo set (Err stop.Memory) answer = ⊥
 
 -- What a shelf keeps over a call: its names, and whether it tells the rest; its count never falls; and a shelf that
 -- promises that no call fails promises it still, and raised no count.
-pub record Keeps (names_before names_now : Option Inputs) (tells_before tells_now : Bool) (before now : ℕ) (steady_before steady_now : Type 0) : Type 0 where
+pub record Keeps (names_before names_now : Option Inputs) (tells_before tells_now : Bool) (before now : ℕ)
+    (steady_before steady_now : Type 0) : Type 0 where
   pub names : names_now ≡ names_before
   pub tells : tells_now ≡ tells_before
   pub later : before ≤ now

@@ -43,8 +43,8 @@ pub record Replies (call : Call) : Type 0 where
   pub room : (room : ℕ) → length reply.text ≤ room → call.takes room
       → Gives call reply × call.takes_now (room - length reply.text) × (call.sink_now ≡ call.sink_before)
   -- Where more bytes were given than an input may have, the reply says that an input is too long.
-  pub longer : (form : Form) → form_of call.words ≡ Some form → (IsWorking (plan_of form) → ⊥) → GREATEST_INPUT_BYTES < call.given
-      → (word : List ℕ) × (reply ≡ refused word (codes "toolong"))
+  pub longer : (form : Form) → form_of call.words ≡ Some form → (IsWorking (plan_of form) → ⊥)
+      → GREATEST_INPUT_BYTES < call.given → (word : List ℕ) × (reply ≡ refused word (codes "toolong"))
 
 -- The outcome's whole text went out with its status.
 pub record GivesOutcome (call : Call) (inputs : Inputs) : Type 0 where

@@ -10,5 +10,6 @@ use Rattle.block_top.specs.Outcome.{told}
 -- Where the words have a form, each input that it names is there and accepted, the work on them comes to an end with
 -- status 0 or 1, and the sink's count doesn't rise, the status is 0 or 1, or 7 for want of memory.
 abbrev pub IsCompleteOver : Option Inputs → List (List ℕ) → ℕ → ℕ → ℕ → Type 0
-IsCompleteOver names words before now status = (inputs : Inputs) (form : Form) → form_of words ≡ Some form → names ≡ Some inputs → EndsWell (told inputs) (plan_of form)
+IsCompleteOver names words before now status =
+    (inputs : Inputs) (form : Form) → form_of words ≡ Some form → names ≡ Some inputs → EndsWell (told inputs) (plan_of form)
     → (Rose before now → ⊥) → (status ≡ 0) ⊎ ((status ≡ 1) ⊎ (status ≡ 7))

@@ -22,7 +22,8 @@ protocol_of word = if bytes_eq word (codes "mpcp") then Some Mpcp
 
 -- Which form do these three words have?
 abbrev pub form_of_three : List ℕ → List ℕ → List ℕ → Option Form
-form_of_three command protocol name = if bytes_eq command (codes "analyse") && bytes_eq protocol (codes "fmlp+") then Some (Analyse FmlpPlus name DEFAULT_ALLOWANCE)
+form_of_three command protocol name = if bytes_eq command (codes "analyse") && bytes_eq protocol (codes "fmlp+")
+    then Some (Analyse FmlpPlus name DEFAULT_ALLOWANCE)
     else if bytes_eq command (codes "report") then option_map (λ p. Report p name) (protocol_of protocol)
     else None
 

@@ -24,7 +24,8 @@ fn analyse_reply<R: Threads + Sync, S: Shelf>(
     allowance: u64,
 ) -> Result<Reply, Halt>
     requires { protocol ≡ Protocol.FmlpPlus }
-    ensures reply { Answered result (IsReplyOf (record { names = S.names shelf.old; before = S.faults shelf.old; now = S.faults shelf.new; given = S.given shelf.new })
+    ensures reply { Answered result (IsReplyOf
+        (record { names = S.names shelf.old; before = S.faults shelf.old; now = S.faults shelf.new; given = S.given shelf.new })
         (plan_of (Analyse protocol name.now allowance))) }
     ensures keeps { Keeps (S.names shelf.old) (S.names shelf.new) (is_some (S.rest shelf.old)) (is_some (S.rest shelf.new))
         (S.faults shelf.old) (S.faults shelf.new) (S.steady shelf.old) (S.steady shelf.new) }
@@ -40,7 +41,8 @@ fn report_reply<S: Shelf>(
     protocol: Protocol,
     name: &str,
 ) -> Result<Reply, Halt>
-    ensures reply { Answered result (IsReplyOf (record { names = S.names shelf.old; before = S.faults shelf.old; now = S.faults shelf.new; given = S.given shelf.new })
+    ensures reply { Answered result (IsReplyOf
+        (record { names = S.names shelf.old; before = S.faults shelf.old; now = S.faults shelf.new; given = S.given shelf.new })
         (plan_of (Report protocol name.now))) }
     ensures keeps { Keeps (S.names shelf.old) (S.names shelf.new) (is_some (S.rest shelf.old)) (is_some (S.rest shelf.new))
         (S.faults shelf.old) (S.faults shelf.new) (S.steady shelf.old) (S.steady shelf.new) }
@@ -57,7 +59,8 @@ fn command_reply<R: Threads + Sync, S: Shelf>(
     command: Command<'_>,
 ) -> Result<Reply, Halt>
     requires { IsServed (form_seen command) }
-    ensures reply { Answered result (IsReplyOf (record { names = S.names shelf.old; before = S.faults shelf.old; now = S.faults shelf.new; given = S.given shelf.new })
+    ensures reply { Answered result (IsReplyOf
+        (record { names = S.names shelf.old; before = S.faults shelf.old; now = S.faults shelf.new; given = S.given shelf.new })
         (plan_of (form_seen command.entry))) }
     ensures keeps { Keeps (S.names shelf.old) (S.names shelf.new) (is_some (S.rest shelf.old)) (is_some (S.rest shelf.new))
         (S.faults shelf.old) (S.faults shelf.new) (S.steady shelf.old) (S.steady shelf.new) }
@@ -79,7 +82,8 @@ pub fn reply_to<R: Threads + Sync, S: Shelf>(
     words: &[String],
     shelf: &mut S,
 ) -> Result<Reply, AllocError>
-    ensures reply { IfOk result (λ r. IsReply (record { names = S.names shelf.old; before = S.faults shelf.old; now = S.faults shelf.new; given = S.given shelf.new })
+    ensures reply { IfOk result (λ r. IsReply
+        (record { names = S.names shelf.old; before = S.faults shelf.old; now = S.faults shelf.new; given = S.given shelf.new })
         (words_seen words.now) (reply_seen r)) }
     ensures keeps { Keeps (S.names shelf.old) (S.names shelf.new) (is_some (S.rest shelf.old)) (is_some (S.rest shelf.new))
         (S.faults shelf.old) (S.faults shelf.new) (S.steady shelf.old) (S.steady shelf.new) }

@@ -19,7 +19,8 @@ fn load_input<S: Shelf>(
     word: &str,
     name: &str,
 ) -> Result<Vec<u8>, Halt>
-    ensures loaded { IsLoaded (record { names = S.names shelf.old; before = S.faults shelf.old; now = S.faults shelf.new; given = S.given shelf.new })
+    ensures loaded { IsLoaded
+        (record { names = S.names shelf.old; before = S.faults shelf.old; now = S.faults shelf.new; given = S.given shelf.new })
         word.now name.now result }
     ensures keeps { Keeps (S.names shelf.old) (S.names shelf.new) (is_some (S.rest shelf.old)) (is_some (S.rest shelf.new))
         (S.faults shelf.old) (S.faults shelf.new) (S.steady shelf.old) (S.steady shelf.new) }
@@ -72,7 +73,8 @@ pub fn get_set<S: Shelf>(
     protocol: Protocol,
     name: &str,
 ) -> Result<(Vec<u8>, TaskSet), Halt>
-    ensures got { IsGot (record { names = S.names shelf.old; before = S.faults shelf.old; now = S.faults shelf.new; given = S.given shelf.new })
+    ensures got { IsGot
+        (record { names = S.names shelf.old; before = S.faults shelf.old; now = S.faults shelf.new; given = S.given shelf.new })
         (set_input protocol) name.now result }
     ensures keeps { Keeps (S.names shelf.old) (S.names shelf.new) (is_some (S.rest shelf.old)) (is_some (S.rest shelf.new))
         (S.faults shelf.old) (S.faults shelf.new) (S.steady shelf.old) (S.steady shelf.new) }

@@ -1,4 +1,4 @@
-use Rattle.std.proofs.Common.{refl, arith, ◌∙◌, ◌≡◌, ◌^◌, ◌-◌, ◌<◌, ◌≤◌}
+use Rattle.std.proofs.Common.{refl, arith, ◌∙◌, ◌^◌, ◌-◌, ◌<◌, ◌≤◌}
 use Rattle.block_top.specs.Words.{words_seen}
 use Rattle.block_top.specs.Headline.{Call}
 use Rattle.block_top.proofs.TwiceLaws.{complete_over}
