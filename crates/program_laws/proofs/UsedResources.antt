@@ -12,9 +12,8 @@ use Rattle.bounded_sums.specs.Sums.{sum_below, flag, collect_below}
 use Rattle.bounded_sums.specs.Tests.{count_below}
 use Rattle.bounded_sums.proofs.SumLaws.{sum_below-monotone, sum_below-list_by, sum_below-times}
 use Rattle.bounded_sums.proofs.CountLaws.{count_below-monotone, count_below-either, count_below-one, count_below-none}
-use Rattle.sporadic_model.specs.SetDef.{SetDef, TaskDef, RequestDef, task_at, resource_at, no_task}
+use Rattle.sporadic_model.specs.SetDef.{SetDef, TaskDef, RequestDef, task_at, resource_at, no_task, request_count}
 use Rattle.sporadic_model.specs.Users.{is_user}
-use Rattle.sporadic_model.specs.Refusals.{request_count}
 use Rattle.sporadic_model.specs.Accepted.{IsAccepted, AreNamed}
 use Rattle.sporadic_model.specs.declared.ids.Protocol.{Protocol}
 use Rattle.sporadic_model.proofs.Laws.{sizes_of_accepted, names_of_accepted}
