@@ -1,12 +1,12 @@
 -- Each column has a coefficient above zero in a row: in that of its requests.
-use Rattle.std.proofs.Common.{◌≡◌, ℕ, ◌<◌, ◌≤◌, ◌==◌, ◌&&◌, Bool, true, List, [], ◌∷◌, ◌++◌, map, length, refl, sym, ◌∙◌, ap, subst, arith, nat_lt, eq-eqb, rules}
+use Rattle.std.proofs.Common.{◌≡◌, ℕ, ◌<◌, ◌==◌, ◌&&◌, true, List, [], ◌∷◌, ◌++◌, map, length, refl, ◌∙◌, ap, arith, nat_lt, eq-eqb}
 use Rattle.std.specs.Prelude.{slice_index, slice_index_or}
-use Rattle.std.specs.List.{All, Contains, filter, list_any}
+use Rattle.std.specs.List.{Contains}
 use Rattle.std.proofs.lemmas.List.{get_or-map, length-map}
 use Rattle.std.proofs.lemmas.List.Folds.{list_any_at}
 use Rattle.std.proofs.lemmas.List.Elements.{All-get_or, Contains-append_left}
-use Rattle.bounded_sums.specs.Sums.{flag, collect_below}
-use Rattle.program_form.specs.Program.{ProgramDef, IsCovered, columns, height, entry}
+use Rattle.bounded_sums.specs.Sums.{flag}
+use Rattle.program_form.specs.Program.{IsCovered, columns}
 use Rattle.sporadic_model.specs.SetDef.{SetDef}
 use Rattle.sporadic_model.specs.declared.ids.Protocol.{Protocol}
 use Rattle.fragments.specs.declared.columns.Class.TheVariants as class

@@ -1,5 +1,5 @@
 -- No number of a program is large, since the numbers of an accepted set are in their ranges.
-use Rattle.std.proofs.Common.{◌≡◌, ℕ, zero, suc, ◌+◌, ◌*◌, ◌<◌, ◌≤◌, Bool, true, false, List, length, refl, arith, ◌==◌, ◌&&◌, nat_lt, Option, Some, None, inl, inr}
+use Rattle.std.proofs.Common.{◌≡◌, ℕ, zero, suc, ◌+◌, ◌*◌, ◌<◌, ◌≤◌, Bool, List, length, refl, arith, ◌==◌, ◌&&◌, nat_lt, Option, Some, None, inl, inr}
 use Rattle.std.specs.Prelude.{slice_index}
 use Rattle.std.specs.Int.{div_ceil}
 use Rattle.std.specs.Option.{option_map_or}
@@ -13,7 +13,7 @@ use Rattle.bounded_sums.proofs.CountLaws.{flag-at_most}
 use Rattle.bounded_sums.proofs.SumLaws.{only_if-at_most}
 use Rattle.sporadic_model.specs.SetDef.{SetDef, RequestDef, task_at, resource_at}
 use Rattle.sporadic_model.specs.Users.{count_of, length_of, entry_of, is_user}
-use Rattle.sporadic_model.specs.Accepted.{IsAccepted, SetSizes}
+use Rattle.sporadic_model.specs.Accepted.{IsAccepted}
 use Rattle.sporadic_model.specs.Homes.{home_in}
 use Rattle.sporadic_model.specs.declared.ids.Protocol.{Protocol}
 use Rattle.sporadic_model.proofs.Laws.{numbers_of_accepted, sizes_of_accepted, entry_of_accepted}
@@ -21,9 +21,7 @@ use Rattle.program_sources.specs.Bounds.{AreWithinDeadlines}
 use Rattle.fragments.specs.ColumnDef.{ColumnDef}
 use Rattle.fragments.specs.Windows.{jobs_in, requests_in, all_requests}
 use Rattle.fragments.specs.Constraints.{ConstraintDef}
-use Rattle.direct_constraints.specs.Rows.{request_row, time_row, turn_row, lower_holder_row}
-use Rattle.preempt_constraints.specs.Rows.{interval_row}
-use Rattle.indirect_constraints.specs.Rows.{queue_row, holding_row, home_row, is_beside, higher_holdings, lower_holdings, holdings}
+use Rattle.indirect_constraints.specs.Rows.{is_beside, higher_holdings, lower_holdings, holdings}
 use Rattle.program_laws.proofs.Lists.{sum_at_most}
 use Rattle.program_laws.proofs.RowKinds.{EachKind}
 

@@ -1,6 +1,6 @@
 -- A task uses at most as many resources as it has request entries, so a program has at most three columns for each entry.
-use Rattle.std.proofs.Common.{◌≡◌, ◌≢◌, ℕ, zero, suc, ◌+◌, ◌*◌, ◌<◌, ◌≤◌, ◌==◌, ◌&&◌, ◌||◌, not, Bool, true, false, nat_lt, List, [], ◌∷◌, ◌++◌, map, length, refl, sym, ◌∙◌, ap, subst, arith, inl, inr, cond, Option, Some, None, sum_by}
-use Rattle.std.specs.Prelude.{slice_index, slice_index_or, find}
+use Rattle.std.proofs.Common.{◌≡◌, ℕ, zero, suc, ◌*◌, ◌<◌, ◌≤◌, ◌==◌, ◌&&◌, ◌||◌, not, Bool, true, false, nat_lt, List, [], ◌∷◌, length, refl, sym, ◌∙◌, arith, inl, inr, cond, Option, Some}
+use Rattle.std.specs.Prelude.{find}
 use Rattle.std.specs.List.{All, filter}
 use Rattle.std.specs.Option.{option_map_or}
 use Rattle.std.specs.Str.{bytes_eq}
@@ -10,16 +10,15 @@ use Rattle.std.proofs.lemmas.List.Elements.{filter-append, All-nil, All-cons, Al
 use Rattle.std.proofs.lemmas.Slice.Eq.{bytes_eq-Decides}
 use Rattle.bounded_sums.specs.Sums.{sum_below, flag, collect_below}
 use Rattle.bounded_sums.specs.Tests.{count_below}
-use Rattle.bounded_sums.proofs.SumLaws.{sum_below-monotone, sum_below-list_by, sum_below-times, sum_below-times_right, sum_below-agree}
+use Rattle.bounded_sums.proofs.SumLaws.{sum_below-monotone, sum_below-list_by, sum_below-times}
 use Rattle.bounded_sums.proofs.CountLaws.{count_below-monotone, count_below-either, count_below-one, count_below-none}
-use Rattle.sporadic_model.specs.SetDef.{SetDef, TaskDef, RequestDef, ResourceDef, task_at, resource_at, no_task}
-use Rattle.sporadic_model.specs.Users.{is_user, count_of, entry_of}
-use Rattle.sporadic_model.specs.Refusals.{request_count}
-use Rattle.sporadic_model.specs.Accepted.{IsAccepted, SetSizes, AreNamed}
+use Rattle.sporadic_model.specs.SetDef.{SetDef, TaskDef, RequestDef, task_at, resource_at, no_task, request_count}
+use Rattle.sporadic_model.specs.Users.{is_user}
+use Rattle.sporadic_model.specs.Accepted.{IsAccepted, AreNamed}
 use Rattle.sporadic_model.specs.declared.ids.Protocol.{Protocol}
 use Rattle.sporadic_model.proofs.Laws.{sizes_of_accepted, names_of_accepted}
 use Rattle.fragments.specs.declared.columns.Class.TheVariants as class
-use Rattle.fragments.specs.ColumnDef.{ColumnDef, all_columns, classes_of}
+use Rattle.fragments.specs.ColumnDef.{ColumnDef, classes_of}
 use Rattle.fragments.specs.Columns.{is_column, columns_of, may_block}
 use Rattle.program_laws.proofs.Lists.{filter_shorter}
 

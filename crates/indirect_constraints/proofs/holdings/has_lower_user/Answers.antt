@@ -1,4 +1,4 @@
-use Rattle.std.proofs.Common.{ℕ, ◌&&◌, nat_lt, length, sym, ◌∙◌, arith}
+use Rattle.std.proofs.Common.{◌&&◌, nat_lt, length, sym, ◌∙◌, arith}
 use Rattle.bounded_sums.proofs.TestLaws.{any_below-from}
 use Rattle.sporadic_model.specs.Users.{is_user}
 use Rattle.indirect_constraints.specs.Rows.{is_beside}
