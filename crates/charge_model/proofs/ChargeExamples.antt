@@ -26,7 +26,9 @@ abbrev pub by : ℕ → Class → Option Charge
 by j class = Some (record { job = j; class = class })
 
 -- Two jobs on processors of their own: the first waits at ticks 1 and 2 for what the second holds and runs with.
-pub waits_for_runner : shared_charge trace_a 0 0 ∷ shared_charge trace_a 1 0 ∷ shared_charge trace_a 2 0 ∷ shared_charge trace_a 3 0 ∷ shared_charge trace_a 1 1 ∷ []
+pub waits_for_runner :
+    shared_charge trace_a 0 0 ∷ shared_charge trace_a 1 0 ∷ shared_charge trace_a 2 0 ∷ shared_charge trace_a 3 0
+    ∷ shared_charge trace_a 1 1 ∷ []
     ≡ None ∷ by 1 Direct ∷ by 1 Direct ∷ None ∷ None ∷ []
 unfolding phase_of phase_from executed runs_in is_pending is_next is_active is_active_local is_ready_holder is_ready is_delayed runs_higher is_shared_interference is_blocked shared_charge
 waits_for_runner = refl
@@ -37,13 +39,23 @@ abbrev pub set_path : SetDef
 set_path = record {
   processors = 3;
   resources = resource 97 None ∷ resource 98 None ∷ [];
-  tasks = task 49 1 20 2 (once 97 1 ∷ []) ∷ task 50 2 20 2 (once 97 1 ∷ []) ∷ task 51 2 20 3 (once 98 2 ∷ []) ∷ task 52 3 20 2 (once 98 1 ∷ []) ∷ [];
+  tasks =
+      task 49 1 20 2 (once 97 1 ∷ [])
+      ∷ task 50 2 20 2 (once 97 1 ∷ [])
+      ∷ task 51 2 20 3 (once 98 2 ∷ [])
+      ∷ task 52 3 20 2 (once 98 1 ∷ [])
+      ∷ [];
 }
 
 abbrev pub jobs_path : JobsDef
 jobs_path = record {
   set = set_path;
-  jobs = job 0 2 (then_request 1 0 1 ∷ []) ∷ job 1 1 (then_request 1 0 1 ∷ []) ∷ job 2 0 (then_request 1 1 2 ∷ []) ∷ job 3 0 (then_request 1 1 1 ∷ []) ∷ [];
+  jobs =
+      job 0 2 (then_request 1 0 1 ∷ [])
+      ∷ job 1 1 (then_request 1 0 1 ∷ [])
+      ∷ job 2 0 (then_request 1 1 2 ∷ [])
+      ∷ job 3 0 (then_request 1 1 1 ∷ [])
+      ∷ [];
 }
 
 abbrev pub rows_path : List RunDef
@@ -65,20 +77,24 @@ path_keeps_fmlp = keeps_from (shared_rule fmlp_plus) trace_path (passes_shared f
 
 -- At tick 3 the first job waits for a resource whose holder, the second, doesn't run: the third runs there, since its request was
 -- issued earlier. At tick 4 the second runs.
-pub waits_behind_holder : shared_charge trace_path 2 0 ∷ shared_charge trace_path 3 0 ∷ shared_charge trace_path 4 0 ∷ shared_charge trace_path 5 0 ∷ []
+pub waits_behind_holder :
+    shared_charge trace_path 2 0 ∷ shared_charge trace_path 3 0 ∷ shared_charge trace_path 4 0 ∷ shared_charge trace_path 5 0 ∷ []
     ≡ None ∷ by 2 Indirect ∷ by 1 Direct ∷ None ∷ []
 unfolding phase_of phase_from executed runs_in is_pending is_next is_active is_active_local is_ready_holder is_ready is_delayed runs_higher is_shared_interference is_blocked shared_charge
 waits_behind_holder = refl
 
 -- Meanwhile the second is ready, and preempted by the third, of a lower task.
-pub preempted_by_holder : shared_charge trace_path 1 1 ∷ shared_charge trace_path 2 1 ∷ shared_charge trace_path 3 1 ∷ shared_charge trace_path 4 1 ∷ []
+pub preempted_by_holder :
+    shared_charge trace_path 1 1 ∷ shared_charge trace_path 2 1 ∷ shared_charge trace_path 3 1 ∷ shared_charge trace_path 4 1 ∷ []
     ≡ None ∷ by 2 Preemption ∷ by 2 Preemption ∷ None ∷ []
 unfolding phase_of phase_from executed runs_in is_pending is_next is_active is_active_local is_ready_holder is_ready is_delayed runs_higher is_shared_interference is_blocked shared_charge
 preempted_by_holder = refl
 
 -- At tick 1 the third waits, while the second, of a higher task, runs on its processor: that is interference, which is charged
 -- to nothing.
-pub interfered_not_charged : is_interferer is_shared_interference trace_path 1 2 1 ∷ is_interference_of is_shared_interference trace_path 1 2 1 ∷ interferes_with_some is_shared_interference trace_path 1 1 ∷ []
+pub interfered_not_charged :
+    is_interferer is_shared_interference trace_path 1 2 1 ∷ is_interference_of is_shared_interference trace_path 1 2 1
+    ∷ interferes_with_some is_shared_interference trace_path 1 1 ∷ []
     ≡ true ∷ true ∷ true ∷ []
 unfolding phase_of phase_from executed runs_in is_pending is_next is_active is_delayed runs_higher is_shared_interference is_interferer is_interference_of interferes_with_some
 interfered_not_charged = refl
@@ -91,24 +107,35 @@ interference_uncharged = refl
 abbrev pub columns_path : List ColumnDef
 columns_path = record { task = 1; resource = 0; class = Direct } ∷ record { task = 2; resource = 1; class = Indirect } ∷ []
 
-pub fractions_path : product_of_lengths set_path columns_path ∷ fractions_of shared_charge trace_path (λ x. 20) 6 0 columns_path 0 ∷ fractions_of shared_charge trace_path (λ x. 20) 6 0 columns_path 1 ∷ []
+pub fractions_path :
+    product_of_lengths set_path columns_path ∷ fractions_of shared_charge trace_path (λ x. 20) 6 0 columns_path 0
+    ∷ fractions_of shared_charge trace_path (λ x. 20) 6 0 columns_path 1 ∷ []
     ≡ 2 ∷ 2 ∷ 1 ∷ []
 unfolding phase_of phase_from executed runs_in is_pending is_next is_active is_active_local is_ready_holder is_ready is_delayed runs_higher is_shared_interference is_blocked shared_charge ticks_in
 fractions_path = refl
 
 -- A window that ends at tick 4 has the first of both ticks alone.
-pub fractions_early : fractions_of shared_charge trace_path (λ x. 2) 6 0 columns_path 0 ∷ fractions_of shared_charge trace_path (λ x. 2) 6 0 columns_path 1 ∷ [] ≡ 0 ∷ 1 ∷ []
+pub fractions_early :
+    fractions_of shared_charge trace_path (λ x. 2) 6 0 columns_path 0
+    ∷ fractions_of shared_charge trace_path (λ x. 2) 6 0 columns_path 1 ∷ [] ≡ 0 ∷ 1 ∷ []
 unfolding phase_of phase_from executed runs_in is_pending is_next is_active is_active_local is_ready_holder is_ready is_delayed runs_higher is_shared_interference is_blocked shared_charge ticks_in
 fractions_early = refl
 
 -- Under DPCP: the first job waits at tick 2 while a request of another resource runs at its own one's home.
-pub waits_at_home : dpcp_charge trace_home 1 0 ∷ dpcp_charge trace_home 2 0 ∷ dpcp_charge trace_home 3 0 ∷ [] ≡ None ∷ by 1 Indirect ∷ None ∷ []
+pub waits_at_home :
+    dpcp_charge trace_home 1 0 ∷ dpcp_charge trace_home 2 0 ∷ dpcp_charge trace_home 3 0 ∷ [] ≡ None ∷ by 1 Indirect ∷ None ∷ []
 unfolding phase_of phase_from executed runs_in is_pending is_next is_active is_delayed runs_higher_local is_dpcp_interference is_blocked dpcp_charge
 waits_at_home = refl
 
 -- Where both request one resource, it waits for that one.
+abbrev pub jobs_same : JobsDef
+jobs_same = record {
+  set = set_home;
+  jobs = job 0 1 (then_request 1 0 1 ∷ local_only 1 ∷ []) ∷ job 1 0 (then_request 1 0 2 ∷ local_only 1 ∷ []) ∷ [];
+}
+
 abbrev pub trace_same : Trace
-trace_same = trace_in (record { set = set_home; jobs = job 0 1 (then_request 1 0 1 ∷ local_only 1 ∷ []) ∷ job 1 0 (then_request 1 0 2 ∷ local_only 1 ∷ []) ∷ [] }) (
+trace_same = trace_in jobs_same (
     run 1 (None ∷ Some 1 ∷ None ∷ []) (None ∷ None ∷ [])
     ∷ run 1 (Some 0 ∷ None ∷ Some 1 ∷ []) (Some 1 ∷ None ∷ [])
     ∷ run 1 (None ∷ None ∷ Some 1 ∷ []) (Some 1 ∷ None ∷ [])
@@ -123,6 +150,7 @@ unfolding phase_of phase_from executed runs_in is_pending is_next is_active is_d
 waits_for_same = refl
 
 -- The request of the higher job runs on its own processor, which is the home: the lower job, which is Local, is preempted.
-pub preempted_at_home : dpcp_charge trace_one 0 1 ∷ dpcp_charge trace_one 1 1 ∷ dpcp_charge trace_one 2 1 ∷ [] ≡ None ∷ by 0 Preemption ∷ None ∷ []
+pub preempted_at_home :
+    dpcp_charge trace_one 0 1 ∷ dpcp_charge trace_one 1 1 ∷ dpcp_charge trace_one 2 1 ∷ [] ≡ None ∷ by 0 Preemption ∷ None ∷ []
 unfolding phase_of phase_from executed runs_in is_pending is_next is_active is_delayed runs_higher_local is_dpcp_interference is_blocked dpcp_charge
 preempted_at_home = refl
