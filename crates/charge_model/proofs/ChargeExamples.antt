@@ -1,6 +1,6 @@
 -- Worked schedules and what their ticks are charged to.
 use Rattle.std.proofs.Common.{◌≡◌, ℕ, true, List, [], ◌∷◌, refl, Option, Some, None}
-use Rattle.schedule_model.specs.JobDef.{JobsDef, job_of}
+use Rattle.schedule_model.specs.JobDef.{JobsDef}
 use Rattle.sporadic_model.specs.SetDef.{SetDef}
 use Rattle.schedule_model.specs.RowDef.{RunDef, Trace, trace_in, runs_in}
 use Rattle.schedule_model.specs.Phase.{phase_from, executed, phase_of}
@@ -19,8 +19,7 @@ use Rattle.fragments.specs.declared.columns.Class.TheVariants.{Direct, Indirect,
 use Rattle.fragments.specs.ColumnDef.{ColumnDef}
 use Rattle.charge_model.specs.Charges.{Charge, shared_charge, dpcp_charge}
 use Rattle.charge_model.specs.Interferers.{interferes_with_some, is_interference_of}
-use Rattle.charge_model.specs.Windows.{window_end}
-use Rattle.charge_model.specs.Fractions.{charged_column, ticks_in, product_of_lengths, fractions_of}
+use Rattle.charge_model.specs.Fractions.{ticks_in, product_of_lengths, fractions_of}
 
 abbrev pub by : ℕ → Class → Option Charge
 by j class = Some (record { job = j; class = class })
