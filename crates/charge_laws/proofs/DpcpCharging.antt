@@ -68,18 +68,21 @@ pub record DpcpCharged (w : Trace) (t j : ℕ) : Type 0 where
   pub why : DpcpReason w t j charge.class charge.job
 
 -- What runs in a request runs on the resource's home and holds it.
-pub runs_request : (w : Trace) (t k r m q : ℕ) → KeepsRun w t → running_on (w.row t) k ≡ Some r → phase_of w t r ≡ Asking m q → RunsRequest w t k r
+pub runs_request : (w : Trace) (t k r m q : ℕ) → KeepsRun w t → running_on (w.row t) k ≡ Some r → phase_of w t r ≡ Asking m q
+    → RunsRequest w t k r
 runs_request w t k r m q run e h =
     let both : (k ≡ home_of w q) × (holder_in (w.row t) q ≡ Some r) = run.request k r q e (asking_is m q (phase_of w t r) h) in
     record { runs = e; active = run.active k r e; number = m; resource = q; request = h; home = sym both.0; holder = both.1 }
 
 -- A job in a request has one at its resource's home.
-pub request_at_from : (w : Trace) (t j m q : ℕ) → is_active w t j ≡ true → phase_of w t j ≡ Asking m q → has_request_at w t (home_of w q) j ≡ true
+pub request_at_from : (w : Trace) (t j m q : ℕ) → is_active w t j ≡ true → phase_of w t j ≡ Asking m q
+    → has_request_at w t (home_of w q) j ≡ true
 unfolding has_request_at
 request_at_from w t j m q a e = and_from _ _ a (rw e (eq-eqb (home_of w q) (home_of w q) refl))
 
 -- The phase of a job that has a request at a processor.
-pub request_at_is : (w : Trace) (t k j : ℕ) → has_request_at w t k j ≡ true → (m : ℕ) × (q : ℕ) × (is_active w t j ≡ true) × (phase_of w t j ≡ Asking m q) × (home_of w q ≡ k)
+pub request_at_is : (w : Trace) (t k j : ℕ) → has_request_at w t k j ≡ true
+    → (m : ℕ) × (q : ℕ) × (is_active w t j ≡ true) × (phase_of w t j ≡ Asking m q) × (home_of w q ≡ k)
 unfolding has_request_at
 request_at_is w t k j h = go (phase_of w t j) refl where
   parts : (is_active w t j ≡ true) × (is_at w k (phase_of w t j) ≡ true)
@@ -91,7 +94,8 @@ request_at_is w t k j h = go (phase_of w t j) refl where
   go (Asking m q) e = let x : is_at w k (Asking m q) ≡ true = rw e at parts.1 in (m, q, parts.0, e, eqb-true (home_of w q) k x)
 
 -- Where requests are at a processor, one of them runs there.
-pub requests_run : (w : Trace) (t k r : ℕ) → KeepsRow dpcp_rule w t → has_requests w t k ≡ true → running_on (w.row t) k ≡ Some r → RunsRequest w t k r
+pub requests_run : (w : Trace) (t k r : ℕ) → KeepsRow dpcp_rule w t → has_requests w t k ≡ true → running_on (w.row t) k ≡ Some r
+    → RunsRequest w t k r
 unfolding holds_at
 requests_run w t k r keeps h e =
     let priority : KeepsPriority w t = keeps rule.Priority in
@@ -99,21 +103,26 @@ requests_run w t k r keeps h e =
     let x : Some first.runner ≡ Some r = sym first.runs ∙ e in
     let same : first.runner ≡ r = cc in
     let at : has_request_at w t k first.runner ≡ true = (and_parts (has_request_at w t k first.runner) _ first.holds).0 in
-    let is : (m : ℕ) × (q : ℕ) × (is_active w t first.runner ≡ true) × (phase_of w t first.runner ≡ Asking m q) × (home_of w q ≡ k) = request_at_is w t k first.runner at in
+    let is : (m : ℕ) × (q : ℕ) × (is_active w t first.runner ≡ true) × (phase_of w t first.runner ≡ Asking m q) × (home_of w q ≡ k) =
+    request_at_is w t k first.runner at in
     runs_request w t k r is.0 is.1 (keeps rule.Run) e (rw (← same) is.3)
 
 -- A Local job of a higher task of a blocked job's processor doesn't run there.
-no_higher_local : (w : Trace) (t j r : ℕ) → KeepsRun w t → Blocked is_dpcp_interference w t j → running_on (w.row t) (processor_of w j) ≡ Some r → phase_of w t r ≡ Local → task_of w r < task_of w j → ⊥
+no_higher_local : (w : Trace) (t j r : ℕ) → KeepsRun w t → Blocked is_dpcp_interference w t j
+    → running_on (w.row t) (processor_of w j) ≡ Some r → phase_of w t r ≡ Local → task_of w r < task_of w j → ⊥
 unfolding is_dpcp_interference runs_higher_local
 no_higher_local w t j r run b e local higher =
     let is : is_local (phase_of w t r) ≡ true = rw local refl in
     let place : processor_of w j ≡ processor_of w r = run.local (processor_of w j) r e is in
-    let h : is_higher_local w.set (task_of w j) (task_of w r) ≡ true = higher_local_from w.set (task_of w j) (task_of w r) higher (sym place) in
-    let there : option_map_or (λ x. is_higher_local w.set (task_of w j) (task_of w x) && is_local (phase_of w t x)) (running_on (w.row t) (processor_of w j)) false ≡ true = rw e (and_from _ _ h is) in
+    let h : is_higher_local w.set (task_of w j) (task_of w r) ≡ true =
+    higher_local_from w.set (task_of w j) (task_of w r) higher (sym place) in
+    let there : option_map_or (λ x. is_higher_local w.set (task_of w j) (task_of w x) && is_local (phase_of w t x))
+    (running_on (w.row t) (processor_of w j)) false ≡ true = rw e (and_from _ _ h is) in
     both_ways _ b.free (and_from (is_delayed w t j) _ (delayed_from w t j b.active b.waits) there)
 
 -- What runs on the processor of a blocked Local job is a request.
-local_blocked : (w : Trace) (t j r : ℕ) → KeepsRow dpcp_rule w t → Blocked is_dpcp_interference w t j → phase_of w t j ≡ Local → running_on (w.row t) (processor_of w j) ≡ Some r → RunsRequest w t (processor_of w j) r
+local_blocked : (w : Trace) (t j r : ℕ) → KeepsRow dpcp_rule w t → Blocked is_dpcp_interference w t j → phase_of w t j ≡ Local
+    → running_on (w.row t) (processor_of w j) ≡ Some r → RunsRequest w t (processor_of w j) r
 local_blocked w t j r keeps b local e = elim (cases_Bool (has_requests w t (processor_of w j))) [
   | inl some ↦ requests_run w t (processor_of w j) r keeps some e
   | inr none ↦ go none (phase_of w t r) refl
@@ -134,7 +143,8 @@ local_blocked w t j r keeps b local e = elim (cases_Bool (has_requests w t (proc
       let x : is_finished (phase_of w t r) ≡ true = rw h refl in
       absurd (both_ways _ a.unfinished x)
   go none Local h =
-      let order : task_of w r ≤ task_of w j = priority.locals (processor_of w j) r e none j (active_listed w t j b.active) refl (active_local_from w t j b.active local) in
+      let order : task_of w r ≤ task_of w j =
+      priority.locals (processor_of w j) r e none j (active_listed w t j b.active) refl (active_local_from w t j b.active local) in
       elim (cases_lt (task_of w r) (task_of w j)) [
         | inl higher ↦ absurd (no_higher_local w t j r run b e h higher)
         | inr same ↦
@@ -144,24 +154,28 @@ local_blocked w t j r keeps b local e = elim (cases_Bool (has_requests w t (proc
       ]
 
 -- The charge of a blocked Local job.
-charged_local : (w : Trace) (t j : ℕ) → KeepsRow dpcp_rule w t → is_blocked is_dpcp_interference w t j ≡ true → phase_of w t j ≡ Local → DpcpCharged w t j
+charged_local : (w : Trace) (t j : ℕ) → KeepsRow dpcp_rule w t → is_blocked is_dpcp_interference w t j ≡ true → phase_of w t j ≡ Local
+    → DpcpCharged w t j
 unfolding dpcp_charge
 charged_local w t j keeps blocked local =
     let b : Blocked is_dpcp_interference w t j = blocked_is is_dpcp_interference w t j blocked in
-    let busy : (r : ℕ) × (running_on (w.row t) (processor_of w j) ≡ Some r) = locals_busy w t j (keeps rule.Idle) (active_local_from w t j b.active local) in
+    let busy : (r : ℕ) × (running_on (w.row t) (processor_of w j) ≡ Some r) =
+    locals_busy w t j (keeps rule.Idle) (active_local_from w t j b.active local) in
     record {
       charge = record { job = busy.0; class = Preemption };
       is_it = rw (blocked, local, busy.1) refl;
       why = record { active = b.active; local = local; runner = local_blocked w t j busy.0 keeps b local busy.1 };
     }
 
-home_charge : (w : Trace) (t j n q r : ℕ) → is_blocked is_dpcp_interference w t j ≡ true → phase_of w t j ≡ Asking n q → running_on (w.row t) (home_of w q) ≡ Some r
+home_charge : (w : Trace) (t j n q r : ℕ) → is_blocked is_dpcp_interference w t j ≡ true → phase_of w t j ≡ Asking n q
+    → running_on (w.row t) (home_of w q) ≡ Some r
     → dpcp_charge w t j ≡ Some (record { job = r; class = class_at_home q (phase_of w t r) })
 unfolding dpcp_charge
 home_charge w t j n q r blocked request e = rw (blocked, request, e) refl
 
 -- The charge of a blocked job that is in a request.
-charged_at_home : (w : Trace) (t j n q : ℕ) → KeepsRow dpcp_rule w t → is_blocked is_dpcp_interference w t j ≡ true → phase_of w t j ≡ Asking n q → DpcpCharged w t j
+charged_at_home : (w : Trace) (t j n q : ℕ) → KeepsRow dpcp_rule w t → is_blocked is_dpcp_interference w t j ≡ true
+    → phase_of w t j ≡ Asking n q → DpcpCharged w t j
 charged_at_home w t j n q keeps blocked request = elim (cases_Bool (runner.resource == q)) [
   | inl same ↦ record {
     charge = record { job = r; class = Direct };
@@ -217,7 +231,8 @@ dpcp_charge_blocked w t j c e = elim (cases_Bool (is_blocked is_dpcp_interferenc
 ]
 
 -- Each charge has its reason.
-pub dpcp_reason : (w : Trace) (t j : ℕ) (c : Charge) → KeepsRow dpcp_rule w t → dpcp_charge w t j ≡ Some c → DpcpReason w t j c.class c.job
+pub dpcp_reason : (w : Trace) (t j : ℕ) (c : Charge) → KeepsRow dpcp_rule w t → dpcp_charge w t j ≡ Some c
+    → DpcpReason w t j c.class c.job
 dpcp_reason w t j c keeps e =
     let s : DpcpCharged w t j = dpcp_charged w t j keeps (dpcp_charge_blocked w t j c e) in
     let x : Some s.charge ≡ Some c = sym s.is_it ∙ e in
@@ -225,9 +240,11 @@ dpcp_reason w t j c keeps e =
     subst (λ (d : Charge). DpcpReason w t j d.class d.job) same s.why
 
 request_executes : (w : Trace) (t k r : ℕ) (class : Class) → RunsRequest w t k r → Executes w t (record { job = r; class = class })
-request_executes w t k r class a = record { runs = runs_from (w.row t) k r a.runs; number = a.number; resource = a.resource; request = a.request }
+request_executes w t k r class a =
+    record { runs = runs_from (w.row t) k r a.runs; number = a.number; resource = a.resource; request = a.request }
 
-reason_executes : (w : Trace) (t j : ℕ) (class : Class) (r : ℕ) → DpcpReason w t j class r → Executes w t (record { job = r; class = class })
+reason_executes : (w : Trace) (t j : ℕ) (class : Class) (r : ℕ) → DpcpReason w t j class r
+    → Executes w t (record { job = r; class = class })
 reason_executes w t j Preemption r why = request_executes w t (processor_of w j) r Preemption why.runner
 reason_executes w t j Direct r why = request_executes w t (home_of w why.blocked.resource) r Direct why.blocked.runner
 reason_executes w t j Indirect r why = request_executes w t (home_of w why.blocked.resource) r Indirect why.blocked.runner

@@ -20,27 +20,33 @@ use Rattle.schedule_laws.proofs.Interferers.{Interferer, interferer_is, dpcp_int
 use Rattle.charge_model.specs.Interferers.{interferes_with_some}
 
 -- Who interferes with some job runs.
-pub interferer_runs : (interferes : Trace → ℕ → ℕ → Bool) (w : Trace) (t y : ℕ) → interferes_with_some interferes w t y ≡ true → runs_in (w.row t) y ≡ true
+pub interferer_runs : (interferes : Trace → ℕ → ℕ → Bool) (w : Trace) (t y : ℕ) → interferes_with_some interferes w t y ≡ true
+    → runs_in (w.row t) y ≡ true
 unfolding interferes_with_some
 interferer_runs interferes w t y h =
-    let some : (j : ℕ) × (j < length w.jobs) × (is_interferer interferes w t j y ≡ true) = any_below-some (length w.jobs) (λ j. is_interferer interferes w t j y) h in
+    let some : (j : ℕ) × (j < length w.jobs) × (is_interferer interferes w t j y ≡ true) =
+    any_below-some (length w.jobs) (λ j. is_interferer interferes w t j y) h in
     let i : Interferer interferes w t some.0 y = interferer_is interferes w t some.0 y some.2 in
     runs_from (w.row t) (processor_of w some.0) y i.runs
 
 -- Under DPCP it is Local.
-pub dpcp_interferer_local : (w : Trace) (t y : ℕ) → interferes_with_some is_dpcp_interference w t y ≡ true → is_local (phase_of w t y) ≡ true
+pub dpcp_interferer_local : (w : Trace) (t y : ℕ) → interferes_with_some is_dpcp_interference w t y ≡ true
+    → is_local (phase_of w t y) ≡ true
 unfolding interferes_with_some
 dpcp_interferer_local w t y h =
-    let some : (j : ℕ) × (j < length w.jobs) × (is_interferer is_dpcp_interference w t j y ≡ true) = any_below-some (length w.jobs) (λ j. is_interferer is_dpcp_interference w t j y) h in
+    let some : (j : ℕ) × (j < length w.jobs) × (is_interferer is_dpcp_interference w t j y ≡ true) =
+    any_below-some (length w.jobs) (λ j. is_interferer is_dpcp_interference w t j y) h in
     (dpcp_interferer_higher w t some.0 y some.2).1
 
 -- A lawful job interferes for at most its task's cost, whatever interference is.
-pub interferes_within_cost : (interferes : Trace → ℕ → ℕ → Bool) (w : Trace) (n y : ℕ) → RunsActiveBefore w n → IsLawfulJob w.set (job_of w.jobs y)
+pub interferes_within_cost : (interferes : Trace → ℕ → ℕ → Bool) (w : Trace) (n y : ℕ) → RunsActiveBefore w n
+    → IsLawfulJob w.set (job_of w.jobs y)
     → count_below n (λ t. interferes_with_some interferes w t y) ≤ (task_at w.set (task_of w y)).cost
 unfolding executed
 interferes_within_cost interferes w n y active lawful =
     let runs : count_below n (λ t. interferes_with_some interferes w t y) ≤ executed w n y =
-    count_below-monotone n (λ t. interferes_with_some interferes w t y) (λ t. runs_in (w.row t) y) (λ t l h. interferer_runs interferes w t y h) in
+    count_below-monotone n (λ t. interferes_with_some interferes w t y) (λ t. runs_in (w.row t) y)
+    (λ t l h. interferer_runs interferes w t y h) in
     let most : executed w n y ≤ total_ticks (job_of w.jobs y).script = executed_within w n n y active (omega arith) in
     omega (arith, runs, most, lawful.cost)
 
@@ -55,7 +61,8 @@ interferes_within_local w n y lawful =
     omega (arith, runs, local_at_most w n y, lawful.local)
 
 -- A tick that is interference for a job is one at which it is active.
-pub interference_active : (interferes : Trace → ℕ → ℕ → Bool) (w : Trace) (t j : ℕ) → IsOneOfThree interferes w t j → interferes w t j ≡ true → is_active w t j ≡ true
+pub interference_active : (interferes : Trace → ℕ → ℕ → Bool) (w : Trace) (t j : ℕ) → IsOneOfThree interferes w t j
+    → interferes w t j ≡ true → is_active w t j ≡ true
 interference_active interferes w t j three h = elim (cases_Bool (is_active w t j)) [
   | inl active ↦ active
   | inr off ↦ absurd (omega (arith, three, flag-of_true (interferes w t j) h, flag-of_false (is_active w t j) off))
@@ -66,5 +73,6 @@ pub interferer_some : (interferes : Trace → ℕ → ℕ → Bool) (w : Trace) 
     → count_below m (λ t. is_interferer interferes w t j y) ≤ count_below m (λ t. interferes_with_some interferes w t y)
 unfolding interferes_with_some
 interferer_some interferes w m j y l =
-    count_below-monotone m (λ t. is_interferer interferes w t j y) (λ t. any_below (length w.jobs) (λ i. is_interferer interferes w t i y))
+    count_below-monotone m (λ t. is_interferer interferes w t j y)
+    (λ t. any_below (length w.jobs) (λ i. is_interferer interferes w t i y))
     (λ t b h. any_below-from (length w.jobs) (λ i. is_interferer interferes w t i y) j l h)

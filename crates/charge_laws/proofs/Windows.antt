@@ -27,7 +27,8 @@ count_below-within (suc n) a b p h = elim (cases_Bool (p n)) [
 ]
 
 -- The same, where some number passes: then a and b are that far apart.
-pub count_below-between : (n a b : ℕ) (p : ℕ → Bool) → ((t : ℕ) → t < n → p t ≡ true → (a ≤ t) × (t < b)) → 0 < count_below n p → count_below n p + a ≤ b
+pub count_below-between : (n a b : ℕ) (p : ℕ → Bool) → ((t : ℕ) → t < n → p t ≡ true → (a ≤ t) × (t < b)) → 0 < count_below n p
+    → count_below n p + a ≤ b
 count_below-between n a b p h some = omega (arith, count_below-within n a b p h)
 
 -- A job that is active at a tick hasn't ended before.
@@ -47,31 +48,41 @@ pub active_after : (w : Trace) (bound : ℕ → ℕ) (r t j : ℕ) → EndedBy w
 active_after w bound r t j ended active l = elim (cases_lt r (bound_end w bound j)) [
   | inl later ↦ later
   | inr passed ↦
-      let before : t < bound_end w bound j = active_before_end w (bound_end w bound j) t j active (ended j (active_listed w t j active) passed) in
+      let before : t < bound_end w bound j =
+      active_before_end w (bound_end w bound j) t j active (ended j (active_listed w t j active) passed) in
       absurd (omega arith)
 ]
 
 -- Where each job whose bound passes before e ends in time, a job that is active before e is so before its bound has passed.
-pub active_within : (w : Trace) (bound : ℕ → ℕ) (e t j : ℕ) → EndedBefore w bound e → is_active w t j ≡ true → t < e → t < bound_end w bound j
+pub active_within : (w : Trace) (bound : ℕ → ℕ) (e t j : ℕ) → EndedBefore w bound e → is_active w t j ≡ true → t < e
+    → t < bound_end w bound j
 active_within w bound e t j ended active l = elim (cases_lt t (bound_end w bound j)) [
   | inl before ↦ before
   | inr passed ↦ active_before_end w (bound_end w bound j) t j active (ended j (active_listed w t j active) (omega arith))
 ]
 
 -- A job that is released at least a period after an earlier one of its task is released past the earlier one's bound.
-pub earlier_ended : (w : Trace) (bound : ℕ → ℕ) (e j : ℕ) → AreLawfulJobs (jobs_of w) → bound (task_of w e) ≤ (task_at w.set (task_of w e)).period → j < length w.jobs
+pub earlier_ended : (w : Trace) (bound : ℕ → ℕ) (e j : ℕ) → AreLawfulJobs (jobs_of w)
+    → bound (task_of w e) ≤ (task_at w.set (task_of w e)).period → j < length w.jobs
     → EndedBy w bound (job_of w.jobs j).release → e < j → task_of w e ≡ task_of w j → phase_of w (job_of w.jobs j).release e ≡ Finished
 earlier_ended w bound e j lawful short l ended before same =
-    let apart : (job_of w.jobs e).release + (task_at w.set (task_of w e)).period ≤ (job_of w.jobs j).release = lawful.apart e j before l same in
+    let apart : (job_of w.jobs e).release + (task_at w.set (task_of w e)).period ≤ (job_of w.jobs j).release =
+    lawful.apart e j before l same in
     let passed : bound_end w bound e ≤ (job_of w.jobs j).release = omega arith in
     finished_stays w (bound_end w bound e) (job_of w.jobs j).release e passed (ended e (omega arith) passed)
 
 -- So a job is active from its release until it ends.
-pub active_from_release : (w : Trace) (bound : ℕ → ℕ) (t j : ℕ) → AreLawfulJobs (jobs_of w) → ((x : ℕ) → x < length w.set.tasks → bound x ≤ (task_at w.set x).period) → j < length w.jobs
-    → EndedBy w bound (job_of w.jobs j).release → (job_of w.jobs j).release ≤ t → is_finished (phase_of w t j) ≡ false → is_active w t j ≡ true
+pub active_from_release : (w : Trace) (bound : ℕ → ℕ) (t j : ℕ) → AreLawfulJobs (jobs_of w)
+    → ((x : ℕ) → x < length w.set.tasks → bound x ≤ (task_at w.set x).period) → j < length w.jobs
+    → EndedBy w bound (job_of w.jobs j).release → (job_of w.jobs j).release ≤ t → is_finished (phase_of w t j) ≡ false
+    → is_active w t j ≡ true
 active_from_release w bound t j lawful short l ended released unfinished =
-    active_since w (job_of w.jobs j).release t j (λ e before same. earlier_ended w bound e j lawful (short (task_of w e) (lawful.each e (omega arith)).task) l ended before same) released released unfinished
+    active_since w (job_of w.jobs j).release t j
+    (λ e before same. earlier_ended w bound e j lawful
+    (short (task_of w e) (lawful.each e (omega arith)).task) l ended before same) released released unfinished
 
 -- The bounds of an accepted set are at most the periods.
-pub bounds_below_periods : (set : SetDef) (bound : ℕ → ℕ) (x : ℕ) → IsAccepted set → AreBounds set bound → x < length set.tasks → bound x ≤ (task_at set x).period
-bounds_below_periods set bound x accepted bounds l = let numbers : TaskNumbers set x = numbers_of_accepted set x accepted l in omega (arith, bounds.deadline x l, numbers.deadline_to)
+pub bounds_below_periods : (set : SetDef) (bound : ℕ → ℕ) (x : ℕ) → IsAccepted set → AreBounds set bound → x < length set.tasks
+    → bound x ≤ (task_at set x).period
+bounds_below_periods set bound x accepted bounds l = let numbers : TaskNumbers set x = numbers_of_accepted set x accepted l in
+    omega (arith, bounds.deadline x l, numbers.deadline_to)

@@ -23,7 +23,8 @@ charge_to class named = option_map (λ y. record { job = y; class = class }) nam
 -- Shared memory, where a job waits for a resource that job y holds: y where it runs; else what runs on y's processor.
 abbrev pub charge_by_holder : Trace → ℕ → ℕ → Option Charge
 charge_by_holder w t y =
-    if runs_in (w.row t) y then Some (record { job = y; class = Direct }) else charge_to Indirect (running_on (w.row t) (processor_of w y))
+    if runs_in (w.row t) y then Some (record { job = y; class = Direct })
+    else charge_to Indirect (running_on (w.row t) (processor_of w y))
 
 -- Shared memory: the charge of a job that isn't ready, in this phase.
 abbrev pub charge_of_waiting : Trace → ℕ → Phase → Option Charge
@@ -36,7 +37,9 @@ charge_of_waiting w t _ = None
 unfoldable pub shared_charge : Trace → ℕ → ℕ → Option Charge
 shared_charge w t j =
     if is_blocked is_shared_interference w t j
-    then (if is_ready w t j then charge_to Preemption (running_on (w.row t) (processor_of w j)) else charge_of_waiting w t (phase_of w t j))
+    then (if is_ready w t j
+    then charge_to Preemption (running_on (w.row t) (processor_of w j))
+    else charge_of_waiting w t (phase_of w t j))
     else None
 
 -- DPCP: which class has a request that runs where a job waits for resource q? Direct where it is of q.
@@ -47,7 +50,8 @@ class_at_home q p = if is_asking q p then Direct else Indirect
 -- what it requests, where it is in a request.
 abbrev pub charge_by_phase : Trace → ℕ → ℕ → Phase → Option Charge
 charge_by_phase w t j Local = charge_to Preemption (running_on (w.row t) (processor_of w j))
-charge_by_phase w t j (Asking n q) = option_map (λ y. record { job = y; class = class_at_home q (phase_of w t y) }) (running_on (w.row t) (home_of w q))
+charge_by_phase w t j (Asking n q) =
+    option_map (λ y. record { job = y; class = class_at_home q (phase_of w t y) }) (running_on (w.row t) (home_of w q))
 charge_by_phase w t j Finished = None
 
 -- What is tick t charged to for job j under DPCP?

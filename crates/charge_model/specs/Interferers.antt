@@ -12,4 +12,5 @@ interferes_with_some interferes w t y = any_below (length w.jobs) (λ j. is_inte
 
 -- Does a job of task h make tick t interference for job j?
 unfoldable pub is_interference_of : (Trace → ℕ → ℕ → Bool) → Trace → ℕ → ℕ → ℕ → Bool
-is_interference_of interferes w t j h = interferes w t j && option_map_or (λ y. task_of w y == h) (running_on (w.row t) (processor_of w j)) false
+is_interference_of interferes w t j h =
+    interferes w t j && option_map_or (λ y. task_of w y == h) (running_on (w.row t) (processor_of w j)) false

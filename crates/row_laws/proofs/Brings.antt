@@ -56,8 +56,10 @@ pub record Hit (charges : Charges) (w : Trace) (f : ColumnDef → ℕ) (j t : �
   pub some : 0 < f (column_with w charge resource)
   pub amount : brings charges w f j t ≡ f (column_with w charge resource)
 
-hit_phase : (charges : Charges) (w : Trace) (f : ColumnDef → ℕ) (j t : ℕ) (c : Charge) → charges w t j ≡ Some c → (p : Phase) → phase_of w t c.job ≡ p → 0 < brought f (column_in w c p) → Hit charges w f j t
-hit_phase charges w f j t c e (Asking m q) h some = record { charge = c; is_it = e; number = m; resource = q; request = h; some = some; amount = rw (e, h) refl }
+hit_phase : (charges : Charges) (w : Trace) (f : ColumnDef → ℕ) (j t : ℕ) (c : Charge) → charges w t j ≡ Some c → (p : Phase)
+    → phase_of w t c.job ≡ p → 0 < brought f (column_in w c p) → Hit charges w f j t
+hit_phase charges w f j t c e (Asking m q) h some =
+    record { charge = c; is_it = e; number = m; resource = q; request = h; some = some; amount = rw (e, h) refl }
 hit_phase charges w f j t c e Local h some = absurd (omega arith)
 hit_phase charges w f j t c e Finished h some = absurd (omega arith)
 
@@ -74,7 +76,8 @@ hit charges w f j t some = hit_charge charges w f j t (charges w t j) refl some
 abbrev pub blocker : Charges → Trace → ℕ → ℕ → ℕ
 blocker charges w j t = option_map_or (λ c. c.job) (charges w t j) 0
 
-pub blocker_is : (charges : Charges) (w : Trace) (f : ColumnDef → ℕ) (j t : ℕ) → (h : Hit charges w f j t) → blocker charges w j t ≡ h.charge.job
+pub blocker_is : (charges : Charges) (w : Trace) (f : ColumnDef → ℕ) (j t : ℕ) → (h : Hit charges w f j t)
+    → blocker charges w j t ≡ h.charge.job
 blocker_is charges w f j t h = rw h.is_it refl
 
 -- Do the ticks of job j's window meet a row: is what they bring at most s times its limit, however s is shared out over the
@@ -98,12 +101,14 @@ pub only_if-parts : (b : Bool) (n : ℕ) → 0 < only_if b n → (b ≡ true) ×
 only_if-parts true n h = (refl, h)
 only_if-parts false n h = absurd (omega arith)
 
-slot_sum : (n m c : ℕ) (slot f : ℕ → ℕ) (p : ℕ → Bool) → ((u : ℕ) → u < n → 0 < f u → p (slot u) ≡ true) → ((k : ℕ) → k < m → p k ≡ true → sum_below n (λ u. only_if (slot u == k) (f u)) ≤ c)
+slot_sum : (n m c : ℕ) (slot f : ℕ → ℕ) (p : ℕ → Bool) → ((u : ℕ) → u < n → 0 < f u → p (slot u) ≡ true)
+    → ((k : ℕ) → k < m → p k ≡ true → sum_below n (λ u. only_if (slot u == k) (f u)) ≤ c)
     → (k : ℕ) → k < m → sum_below n (λ u. only_if (slot u == k) (f u)) ≤ flag (p k) * c
 slot_sum n m c slot f p passes most k b = elim (cases_Bool (p k)) [
   | inl passes_here ↦ rw passes_here (omega (arith, most k b passes_here))
   | inr fails ↦
-      let none : sum_below n (λ u. only_if (slot u == k) (f u)) ≡ 0 = sum_below-zero n (λ u. only_if (slot u == k) (f u)) (λ u l. zero_term u l fails) in
+      let none : sum_below n (λ u. only_if (slot u == k) (f u)) ≡ 0 =
+      sum_below-zero n (λ u. only_if (slot u == k) (f u)) (λ u l. zero_term u l fails) in
       rw fails (omega arith)
 ] where
   zero_term : (u : ℕ) → u < n → p k ≡ false → only_if (slot u == k) (f u) ≡ 0
@@ -121,4 +126,5 @@ slot_sum n m c slot f p passes most k b = elim (cases_Bool (p k)) [
 pub sum_below-passing : (n m c : ℕ) (slot f : ℕ → ℕ) (p : ℕ → Bool) → ((u : ℕ) → u < n → 0 < f u → (slot u < m) × (p (slot u) ≡ true))
     → ((k : ℕ) → k < m → p k ≡ true → sum_below n (λ u. only_if (slot u == k) (f u)) ≤ c) → sum_below n f ≤ count_below m p * c
 sum_below-passing n m c slot f p within most =
-    sum_below-by_slot n m c slot f p (λ u l some. (within u l some).0) (λ k l. slot_sum n m c slot f p (λ u b some. (within u b some).1) most k l)
+    sum_below-by_slot n m c slot f p (λ u l some. (within u l some).0)
+    (λ k l. slot_sum n m c slot f p (λ u b some. (within u b some).1) most k l)

@@ -24,16 +24,20 @@ sum_by-kept p f (x ∷ xs) = omega (arith, first (p x), sum_by-cons f x xs, sum_
   first false = omega arith
 
 -- The sum over lists that are collected is the sum of their sums.
-pub sum_by-collected : {X : Type 0} (f : X → ℕ) (n : ℕ) (g : ℕ → List X) → sum_by f (collect_below n g) ≡ sum_below n (λ k. sum_by f (g k))
+pub sum_by-collected : {X : Type 0} (f : X → ℕ) (n : ℕ) (g : ℕ → List X)
+    → sum_by f (collect_below n g) ≡ sum_below n (λ k. sum_by f (g k))
 sum_by-collected f zero g = refl
 sum_by-collected f (suc n) g = sum_by-append f (collect_below n g) (g n) ∙ ap (λ z. z + sum_by f (g n)) (sum_by-collected f n g)
 
 -- A sum over a list of sums below a bound may be exchanged.
-pub sum_by-swap : {X : Type 0} (e : ℕ) (h : X → ℕ → ℕ) (xs : List X) → sum_by (λ x. sum_below e (h x)) xs ≡ sum_below e (λ t. sum_by (λ x. h x t) xs)
+pub sum_by-swap : {X : Type 0} (e : ℕ) (h : X → ℕ → ℕ) (xs : List X)
+    → sum_by (λ x. sum_below e (h x)) xs ≡ sum_below e (λ t. sum_by (λ x. h x t) xs)
 sum_by-swap e h [] = sym (sum_below-zero e (λ t. 0) (λ k l. refl))
 sum_by-swap e h (x ∷ xs) =
-    sum_by-cons (λ y. sum_below e (h y)) x xs ∙ ap (λ z. sum_below e (h x) + z) (sum_by-swap e h xs) ∙ sym (sum_below-plus e (h x) (λ t. sum_by (λ y. h y t) xs))
-    ∙ sum_below-agree e (λ t. h x t + sum_by (λ y. h y t) xs) (λ t. sum_by (λ y. h y t) (x ∷ xs)) (λ t l. sym (sum_by-cons (λ y. h y t) x xs))
+    sum_by-cons (λ y. sum_below e (h y)) x xs ∙ ap (λ z. sum_below e (h x) + z) (sum_by-swap e h xs)
+    ∙ sym (sum_below-plus e (h x) (λ t. sum_by (λ y. h y t) xs))
+    ∙ sum_below-agree e (λ t. h x t + sum_by (λ y. h y t) xs) (λ t. sum_by (λ y. h y t) (x ∷ xs))
+    (λ t l. sym (sum_by-cons (λ y. h y t) x xs))
 
 -- Functions that agree have one sum over a list; one that is less, a lesser.
 pub sum_by-agree : {X : Type 0} (f g : X → ℕ) → ((x : X) → f x ≡ g x) → (xs : List X) → sum_by f xs ≡ sum_by g xs
@@ -46,7 +50,8 @@ sum_by-monotone f g h (x ∷ xs) = omega (arith, sum_by-cons f x xs, sum_by-cons
 
 -- The value of an element is at most the sum.
 pub sum_by-element : {X : Type 0} (f : X → ℕ) (xs : List X) (x : X) → Contains xs x → f x ≤ sum_by f xs
-sum_by-element f xs x (k, l, e) = let same : f (get_or xs k x) ≡ f x = ap f e in omega (arith, same, sum_below-list_by f x xs, sum_below-term (length xs) (λ i. f (get_or xs i x)) k l)
+sum_by-element f xs x (k, l, e) = let same : f (get_or xs k x) ≡ f x = ap f e in
+    omega (arith, same, sum_below-list_by f x xs, sum_below-term (length xs) (λ i. f (get_or xs i x)) k l)
 
 pub same_class_is : (a b : Class) → is_same_class a b ≡ true → a ≡ b
 same_class_is Direct Direct h = refl
@@ -65,16 +70,20 @@ same_class_itself Indirect = refl
 same_class_itself Preemption = refl
 
 pub same_column_itself : (c : ColumnDef) → is_same_column c c ≡ true
-same_column_itself c = and_from _ _ (eq-eqb c.task c.task refl) (and_from _ _ (eq-eqb c.resource c.resource refl) (same_class_itself c.class))
+same_column_itself c =
+    and_from _ _ (eq-eqb c.task c.task refl) (and_from _ _ (eq-eqb c.resource c.resource refl) (same_class_itself c.class))
 
 -- Of the three classes of one task and resource at most one is the column's.
-one_class : (f : Class → ℕ) (b : Bool) (d : Class) → flag (b && is_same_class Direct d) * f Direct + (flag (b && is_same_class Indirect d) * f Indirect + flag (b && is_same_class Preemption d) * f Preemption) ≤ only_if b (f d)
+one_class : (f : Class → ℕ) (b : Bool) (d : Class)
+    → flag (b && is_same_class Direct d) * f Direct +
+    (flag (b && is_same_class Indirect d) * f Indirect + flag (b && is_same_class Preemption d) * f Preemption) ≤ only_if b (f d)
 one_class f false d = omega arith
 one_class f true Direct = omega arith
 one_class f true Indirect = omega arith
 one_class f true Preemption = omega arith
 
-classes_sum : (f : ColumnDef → ℕ) (d : ColumnDef) (x q : ℕ) → sum_by (λ c. flag (is_same_column c d) * f c) (classes_of x q) ≤ only_if (x == d.task) (only_if (q == d.resource) (f d))
+classes_sum : (f : ColumnDef → ℕ) (d : ColumnDef) (x q : ℕ)
+    → sum_by (λ c. flag (is_same_column c d) * f c) (classes_of x q) ≤ only_if (x == d.task) (only_if (q == d.resource) (f d))
 classes_sum f d x q = elim (cases_Bool (x == d.task)) [
   | inr off ↦ rw off (omega arith)
   | inl on ↦ elim (cases_Bool (q == d.resource)) [
@@ -82,7 +91,9 @@ classes_sum f d x q = elim (cases_Bool (x == d.task)) [
     | inl same ↦
         let task : x ≡ d.task = eqb-true _ _ on in
         let resource : q ≡ d.resource = eqb-true _ _ same in
-        let whole : f (record { task = x; resource = q; class = d.class }) ≡ f d = ap (λ z. f (record { task = z; resource = q; class = d.class })) task ∙ ap (λ z. f (record { task = d.task; resource = z; class = d.class })) resource in
+        let whole : f (record { task = x; resource = q; class = d.class }) ≡ f d =
+        ap (λ z. f (record { task = z; resource = q; class = d.class })) task
+        ∙ ap (λ z. f (record { task = d.task; resource = z; class = d.class })) resource in
         rw (on, same) (omega (arith, whole, one_class (λ k. f (record { task = x; resource = q; class = k })) true d.class))
   ]
 ]
@@ -90,7 +101,8 @@ classes_sum f d x q = elim (cases_Bool (x == d.task)) [
 -- So of all columns.
 pub all_sum : (f : ColumnDef → ℕ) (d : ColumnDef) (n m : ℕ) → sum_by (λ c. flag (is_same_column c d) * f c) (all_columns n m) ≤ f d
 all_sum f d n m =
-    let tasks : sum_by h (all_columns n m) ≡ sum_below n (λ x. sum_by h (collect_below m (λ q. classes_of x q))) = sum_by-collected h n (λ x. collect_below m (λ q. classes_of x q)) in
+    let tasks : sum_by h (all_columns n m) ≡ sum_below n (λ x. sum_by h (collect_below m (λ q. classes_of x q))) =
+    sum_by-collected h n (λ x. collect_below m (λ q. classes_of x q)) in
     let each : sum_below n (λ x. sum_by h (collect_below m (λ q. classes_of x q))) ≤ sum_below n (λ x. only_if (x == d.task) (f d)) =
     sum_below-monotone n (λ x. sum_by h (collect_below m (λ q. classes_of x q))) (λ x. only_if (x == d.task) (f d)) (λ x l. of_task x) in
     omega (arith, tasks, each, sum_below-only n d.task (λ x. f d)) where
@@ -104,9 +116,12 @@ all_sum f d n m =
 
       of_task : (x : ℕ) → sum_by h (collect_below m (λ q. classes_of x q)) ≤ only_if (x == d.task) (f d)
       of_task x =
-          let resources : sum_by h (collect_below m (λ q. classes_of x q)) ≡ sum_below m (λ q. sum_by h (classes_of x q)) = sum_by-collected h m (λ q. classes_of x q) in
-          let each : sum_below m (λ q. sum_by h (classes_of x q)) ≤ sum_below m (λ q. only_if (q == d.resource) (only_if (x == d.task) (f d))) =
-          sum_below-monotone m (λ q. sum_by h (classes_of x q)) (λ q. only_if (q == d.resource) (only_if (x == d.task) (f d))) (λ q l. omega (arith, classes_sum f d x q, swapped (x == d.task) (q == d.resource) (f d))) in
+          let resources : sum_by h (collect_below m (λ q. classes_of x q)) ≡ sum_below m (λ q. sum_by h (classes_of x q)) =
+          sum_by-collected h m (λ q. classes_of x q) in
+          let each : sum_below m (λ q. sum_by h (classes_of x q))
+          ≤ sum_below m (λ q. only_if (q == d.resource) (only_if (x == d.task) (f d))) =
+          sum_below-monotone m (λ q. sum_by h (classes_of x q)) (λ q. only_if (q == d.resource) (only_if (x == d.task) (f d)))
+          (λ q l. omega (arith, classes_sum f d x q, swapped (x == d.task) (q == d.resource) (f d))) in
           omega (arith, resources, each, sum_below-only m d.resource (λ q. only_if (x == d.task) (f d)))
 
 -- What the columns of a program are worth, each by the ticks that lie in it, is at most what the ticks bring.
@@ -114,9 +129,12 @@ pub columns_bring : (f : ColumnDef → ℕ) (named : ℕ → Option ColumnDef) (
     → sum_by (λ c. count_below e (λ t. is_in c (named t)) * f c) (filter p (all_columns n m)) ≤ sum_below e (λ t. brought f (named t))
 columns_bring f named e n m p =
     let cs : List ColumnDef = filter p (all_columns n m) in
-    let times : sum_by (λ c. count_below e (λ t. is_in c (named t)) * f c) cs ≡ sum_by (λ c. sum_below e (λ t. flag (is_in c (named t)) * f c)) cs =
-    sum_by-agree (λ c. count_below e (λ t. is_in c (named t)) * f c) (λ c. sum_below e (λ t. flag (is_in c (named t)) * f c)) (λ c. sym (sum_below-times_right e (f c) (λ t. flag (is_in c (named t))))) cs in
-    let swap : sum_by (λ c. sum_below e (λ t. flag (is_in c (named t)) * f c)) cs ≡ sum_below e (λ t. sum_by (λ c. flag (is_in c (named t)) * f c) cs) = sum_by-swap e (λ c t. flag (is_in c (named t)) * f c) cs in
+    let times : sum_by (λ c. count_below e (λ t. is_in c (named t)) * f c) cs
+    ≡ sum_by (λ c. sum_below e (λ t. flag (is_in c (named t)) * f c)) cs =
+    sum_by-agree (λ c. count_below e (λ t. is_in c (named t)) * f c) (λ c. sum_below e (λ t. flag (is_in c (named t)) * f c))
+    (λ c. sym (sum_below-times_right e (f c) (λ t. flag (is_in c (named t))))) cs in
+    let swap : sum_by (λ c. sum_below e (λ t. flag (is_in c (named t)) * f c)) cs
+    ≡ sum_below e (λ t. sum_by (λ c. flag (is_in c (named t)) * f c) cs) = sum_by-swap e (λ c t. flag (is_in c (named t)) * f c) cs in
     let each : sum_below e (λ t. sum_by (λ c. flag (is_in c (named t)) * f c) cs) ≤ sum_below e (λ t. brought f (named t)) =
     sum_below-monotone e (λ t. sum_by (λ c. flag (is_in c (named t)) * f c) cs) (λ t. brought f (named t)) (λ t l. at_tick (named t)) in
     omega (arith, times, swap, each) where
@@ -129,10 +147,12 @@ columns_bring f named e n m p =
       at_tick (Some d) = omega (arith, sum_by-kept p (λ c. flag (is_same_column c d) * f c) (all_columns n m), all_sum f d n m)
 
 -- Where each tick that counts lies in one of the columns, there are no more such ticks than lie in the columns.
-pub columns_hold : (named : ℕ → Option ColumnDef) (counts : ℕ → Bool) (e : ℕ) (cs : List ColumnDef) → ((t : ℕ) → t < e → counts t ≡ true → (d : ColumnDef) × (named t ≡ Some d) × Contains cs d)
+pub columns_hold : (named : ℕ → Option ColumnDef) (counts : ℕ → Bool) (e : ℕ) (cs : List ColumnDef)
+    → ((t : ℕ) → t < e → counts t ≡ true → (d : ColumnDef) × (named t ≡ Some d) × Contains cs d)
     → count_below e counts ≤ sum_by (λ c. count_below e (λ t. is_in c (named t))) cs
 columns_hold named counts e cs placed =
-    let swap : sum_by (λ c. count_below e (λ t. is_in c (named t))) cs ≡ sum_below e (λ t. sum_by (λ c. flag (is_in c (named t))) cs) = sum_by-swap e (λ c t. flag (is_in c (named t))) cs in
+    let swap : sum_by (λ c. count_below e (λ t. is_in c (named t))) cs ≡ sum_below e (λ t. sum_by (λ c. flag (is_in c (named t))) cs) =
+    sum_by-swap e (λ c t. flag (is_in c (named t))) cs in
     let each : sum_below e (λ t. flag (counts t)) ≤ sum_below e (λ t. sum_by (λ c. flag (is_in c (named t))) cs) =
     sum_below-monotone e (λ t. flag (counts t)) (λ t. sum_by (λ c. flag (is_in c (named t))) cs) (λ t l. at_tick t l) in
     omega (arith, swap, each) where

@@ -31,18 +31,22 @@ runner_resource : (w : Trace) (t k r m q : ℕ) → (a : RunsRequest w t k r) �
 runner_resource w t k r m q a e = let x : Asking a.number a.resource ≡ Asking m q = sym a.request ∙ e in cc
 
 -- Job j requests another resource of the home at which the request runs.
-beside_there : (w : Trace) (t j r m q : ℕ) → AreLawfulJobs (jobs_of w) → j < length w.jobs → phase_of w t r ≡ Asking m q → (b : HomeBlocked w t j r) → ((b.runner.resource ≡ b.resource) → ⊥)
+beside_there : (w : Trace) (t j r m q : ℕ) → AreLawfulJobs (jobs_of w) → j < length w.jobs → phase_of w t r ≡ Asking m q
+    → (b : HomeBlocked w t j r) → ((b.runner.resource ≡ b.resource) → ⊥)
     → requests_beside w.set (task_of w j) q ≡ true
 beside_there w t j r m q lawful listed e b other =
-    any_below-from (length w.set.resources) (λ k. not (k == q) && (is_user w.set k (task_of w j) && (home_in w.set k == home_in w.set q))) b.resource
+    any_below-from (length w.set.resources)
+    (λ k. not (k == q) && (is_user w.set k (task_of w j) && (home_in w.set k == home_in w.set q))) b.resource
     (open_resource w.set w t j b.number b.resource (lawful.each j listed) b.request)
     (and_from _ _ (passes_not b.resource q (λ x. other (same ∙ sym x)))
-    (and_from _ _ (open_user w.set w t j b.number b.resource (lawful.each j listed) b.request) (eq-eqb (home_of w b.resource) (home_of w q) (sym b.runner.home ∙ ap (home_of w) same)))) where
+    (and_from _ _ (open_user w.set w t j b.number b.resource (lawful.each j listed) b.request)
+    (eq-eqb (home_of w b.resource) (home_of w q) (sym b.runner.home ∙ ap (home_of w) same)))) where
       same : b.runner.resource ≡ q
       same = runner_resource w t (home_of w b.resource) r m q b.runner e
 
 -- A lower request runs only where its resource's ceiling is no lower than j.
-lower_only : (w : Trace) (n t j r m q : ℕ) → AreLawfulJobs (jobs_of w) → KeepsBefore dpcp_rule w n → t < n → phase_of w t r ≡ Asking m q → HomeBlocked w t j r
+lower_only : (w : Trace) (n t j r m q : ℕ) → AreLawfulJobs (jobs_of w) → KeepsBefore dpcp_rule w n → t < n → phase_of w t r ≡ Asking m q
+    → HomeBlocked w t j r
     → (not (nat_lt (task_of w j) (task_of w r)) || nat_le (ceiling_rank w.set q) (task_of w j)) ≡ true
 lower_only w n t j r m q lawful keeps l e b = elim (cases_lt (task_of w j) (task_of w r)) [
   | inr no_lower ↦ or_left _ _ (not_from_false _ (le-ltb _ _ no_lower))
@@ -54,15 +58,19 @@ lower_only w n t j r m q lawful keeps l e b = elim (cases_lt (task_of w j) (task
       or_right _ _ (le-leb _ _ here)
 ]
 
-blocks_there : (w : Trace) (n t j r m q : ℕ) (c : Class) → AreLawfulJobs (jobs_of w) → KeepsBefore dpcp_rule w n → t < n → j < length w.jobs → phase_of w t r ≡ Asking m q → DpcpReason w t j c r
+blocks_there : (w : Trace) (n t j r m q : ℕ) (c : Class) → AreLawfulJobs (jobs_of w) → KeepsBefore dpcp_rule w n → t < n
+    → j < length w.jobs → phase_of w t r ≡ Asking m q → DpcpReason w t j c r
     → blocks_at_home w.set (task_of w j) (task_of w r) q c ≡ true
 blocks_there w n t j r m q Direct lawful keeps l listed e why =
-    let same : why.blocked.resource ≡ q = sym why.same ∙ runner_resource w t (home_of w why.blocked.resource) r m q why.blocked.runner e in
-    ap (λ k. is_user w.set k (task_of w j)) (sym same) ∙ open_user w.set w t j why.blocked.number why.blocked.resource (lawful.each j listed) why.blocked.request
+    let same : why.blocked.resource ≡ q =
+    sym why.same ∙ runner_resource w t (home_of w why.blocked.resource) r m q why.blocked.runner e in
+    ap (λ k. is_user w.set k (task_of w j)) (sym same)
+    ∙ open_user w.set w t j why.blocked.number why.blocked.resource (lawful.each j listed) why.blocked.request
 blocks_there w n t j r m q Indirect lawful keeps l listed e why =
     and_from _ _ (beside_there w t j r m q lawful listed e why.blocked why.other) (lower_only w n t j r m q lawful keeps l e why.blocked)
 blocks_there w n t j r m q Preemption lawful keeps l listed e why =
-    eq-eqb (home_of w q) (processor_of w j) (ap (home_of w) (sym (runner_resource w t (processor_of w j) r m q why.runner e)) ∙ why.runner.home)
+    eq-eqb (home_of w q) (processor_of w j)
+    (ap (home_of w) (sym (runner_resource w t (processor_of w j) r m q why.runner e)) ∙ why.runner.home)
 
 runner_active : (w : Trace) (t j r : ℕ) (c : Class) → DpcpReason w t j c r → is_active w t r ≡ true
 runner_active w t j r Direct why = why.blocked.runner.active
@@ -70,7 +78,8 @@ runner_active w t j r Indirect why = why.blocked.runner.active
 runner_active w t j r Preemption why = why.runner.active
 
 -- The column in which a charged tick lies is there.
-pub dpcp_placed : (w : Trace) (n t j r m q : ℕ) (c : Class) → AreLawfulJobs (jobs_of w) → KeepsBefore dpcp_rule w n → t < n → is_blocked is_dpcp_interference w t j ≡ true → runs_in (w.row t) r ≡ true
+pub dpcp_placed : (w : Trace) (n t j r m q : ℕ) (c : Class) → AreLawfulJobs (jobs_of w) → KeepsBefore dpcp_rule w n → t < n
+    → is_blocked is_dpcp_interference w t j ≡ true → runs_in (w.row t) r ≡ true
     → phase_of w t r ≡ Asking m q → DpcpReason w t j c r → IsPlaced protocol.Dpcp w (task_of w j) (task_of w r) q c
 dpcp_placed w n t j r m q c lawful keeps l blocked runs e why =
     let b : Blocked is_dpcp_interference w t j = blocked_is is_dpcp_interference w t j blocked in
@@ -79,6 +88,7 @@ dpcp_placed w n t j r m q c lawful keeps l blocked runs e why =
       task = (lawful.each r listed).task;
       resource = open_resource w.set w t r m q (lawful.each r listed) e;
       column = and_from _ _
-          (and_from _ _ (passes_not (task_of w r) (task_of w j) (other_task w t j r b.active b.waits (runner_active w t j r c why) runs)) (open_user w.set w t r m q (lawful.each r listed) e))
+          (and_from _ _ (passes_not (task_of w r) (task_of w j) (other_task w t j r b.active b.waits (runner_active w t j r c why) runs))
+          (open_user w.set w t r m q (lawful.each r listed) e))
           (blocks_there w n t j r m q c lawful keeps l (active_listed w t j b.active) e why);
     }

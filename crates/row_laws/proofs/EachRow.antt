@@ -16,7 +16,8 @@ use Rattle.row_laws.proofs.LowerHolders.{lower_holder_row_met}
 use Rattle.row_laws.proofs.HoldingRow.{holding_row_met}
 use Rattle.row_laws.proofs.HomeRow.{home_row_met}
 
-pub mpcp_rows_met : (w : Trace) (bound : ℕ → ℕ) (n j : ℕ) → Window shared_charge w bound n j → KeepsBefore (shared_rule mpcp) w n → EachKind (TicksMeet shared_charge w bound n j) protocol.Mpcp w.set (task_of w j)
+pub mpcp_rows_met : (w : Trace) (bound : ℕ → ℕ) (n j : ℕ) → Window shared_charge w bound n j → KeepsBefore (shared_rule mpcp) w n
+    → EachKind (TicksMeet shared_charge w bound n j) protocol.Mpcp w.set (task_of w j)
 mpcp_rows_met w bound n j window keeps = record {
   request = λ x q a b. request_row_met shared_charge w bound n j x q window a;
   time = λ x a. time_row_met shared_charge w bound n j x window a;
@@ -28,7 +29,8 @@ mpcp_rows_met w bound n j window keeps = record {
   home = λ e. absurd (cc);
 }
 
-pub fmlp_rows_met : (w : Trace) (bound : ℕ → ℕ) (n j : ℕ) → Window shared_charge w bound n j → KeepsBefore (shared_rule fmlp_plus) w n → EachKind (TicksMeet shared_charge w bound n j) protocol.FmlpPlus w.set (task_of w j)
+pub fmlp_rows_met : (w : Trace) (bound : ℕ → ℕ) (n j : ℕ) → Window shared_charge w bound n j → KeepsBefore (shared_rule fmlp_plus) w n
+    → EachKind (TicksMeet shared_charge w bound n j) protocol.FmlpPlus w.set (task_of w j)
 fmlp_rows_met w bound n j window keeps = record {
   request = λ x q a b. request_row_met shared_charge w bound n j x q window a;
   time = λ x a. time_row_met shared_charge w bound n j x window a;
@@ -40,7 +42,8 @@ fmlp_rows_met w bound n j window keeps = record {
   home = λ e. absurd (cc);
 }
 
-pub dpcp_rows_met : (w : Trace) (bound : ℕ → ℕ) (n j : ℕ) → Window dpcp_charge w bound n j → KeepsBefore dpcp_rule w n → EachKind (TicksMeet dpcp_charge w bound n j) protocol.Dpcp w.set (task_of w j)
+pub dpcp_rows_met : (w : Trace) (bound : ℕ → ℕ) (n j : ℕ) → Window dpcp_charge w bound n j → KeepsBefore dpcp_rule w n
+    → EachKind (TicksMeet dpcp_charge w bound n j) protocol.Dpcp w.set (task_of w j)
 dpcp_rows_met w bound n j window keeps = record {
   request = λ x q a b. request_row_met dpcp_charge w bound n j x q window a;
   time = λ x a. time_row_met dpcp_charge w bound n j x window a;

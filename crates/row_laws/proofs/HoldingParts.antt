@@ -58,8 +58,10 @@ task_part w j x share q y t = only_if (task_of w (first_holder w j t) == y) (hig
 abbrev pub job_part : Trace → ℕ → ℕ → (ℕ → ℕ → ℕ) → ℕ → ℕ → ℕ → ℕ → ℕ
 job_part w j x share q y z t = only_if (first_holder w j t == z) (task_part w j x share q y t)
 
-shares_of : (w : Trace) (bound : ℕ → ℕ) (n j x s : ℕ) (share : ℕ → ℕ → ℕ) → Holding w bound n j x s share → Shares w s share (holding_share x share)
-shares_of w bound n j x s share c = record { fair = c.fair; small = λ k. flag_times-at_most ((k.task == x) && is_indirect k.class) (share k.task k.resource) }
+shares_of : (w : Trace) (bound : ℕ → ℕ) (n j x s : ℕ) (share : ℕ → ℕ → ℕ) → Holding w bound n j x s share
+    → Shares w s share (holding_share x share)
+shares_of w bound n j x s share c =
+    record { fair = c.fair; small = λ k. flag_times-at_most ((k.task == x) && is_indirect k.class) (share k.task k.resource) }
 
 -- What a tick that counts for q says.
 pub record ForResource (w : Trace) (j x : ℕ) (share : ℕ → ℕ → ℕ) (q t : ℕ) : Type 0 where
@@ -67,10 +69,12 @@ pub record ForResource (w : Trace) (j x : ℕ) (share : ℕ → ℕ → ℕ) (q 
   pub hits : Hit shared_charge w (holding_share x share) j t
   pub facts : Held w t j x hits.charge.job
 
-pub for_resource_is : (w : Trace) (bound : ℕ → ℕ) (n j x s : ℕ) (share : ℕ → ℕ → ℕ) (q t : ℕ) → Holding w bound n j x s share → t < window_end w bound n j → 0 < for_resource w j x share q t
+pub for_resource_is : (w : Trace) (bound : ℕ → ℕ) (n j x s : ℕ) (share : ℕ → ℕ → ℕ) (q t : ℕ) → Holding w bound n j x s share
+    → t < window_end w bound n j → 0 < for_resource w j x share q t
     → ForResource w j x share q t
 for_resource_is w bound n j x s share q t c l some =
-    let parts : ((own_resource w j t == q) ≡ true) × (0 < amount w j x share t) = only_if-parts (own_resource w j t == q) (amount w j x share t) some in
+    let parts : ((own_resource w j t == q) ≡ true) × (0 < amount w j x share t) =
+    only_if-parts (own_resource w j t == q) (amount w j x share t) some in
     let h : Hit shared_charge w (holding_share x share) j t = hit shared_charge w (holding_share x share) j t parts.1 in
     record { resource = eqb-true _ _ parts.0; hits = h; facts = held_at mpcp w bound n t j x share c.window c.keeps (omega arith) h }
 
@@ -78,13 +82,17 @@ for_resource_is w bound n j x s share q t c l some =
 pub low_paid : (w : Trace) (bound : ℕ → ℕ) (n j x s : ℕ) (share : ℕ → ℕ → ℕ) (q : ℕ) → Holding w bound n j x s share
     → sum_below (window_end w bound n j) (λ t. low_part w j x share q t) ≤ count_of w.set (task_of w j) q * s
 low_paid w bound n j x s share q c =
-    let paid : sum_below (window_end w bound n j) (λ t. low_part w j x share q t) ≤ count_below (length script) (λ k. asks_for q (get_or script k no_segment)) * s =
-    parts_paid shared_charge w bound n j (length script) s share (holding_share x share) (λ t. low_part w j x share q t) (λ t. number_of (phase_of w t j)) (λ k. asks_for q (get_or script k no_segment)) c.window
+    let paid : sum_below (window_end w bound n j) (λ t. low_part w j x share q t)
+    ≤ count_below (length script) (λ k. asks_for q (get_or script k no_segment)) * s =
+    parts_paid shared_charge w bound n j (length script) s share (holding_share x share) (λ t. low_part w j x share q t)
+    (λ t. number_of (phase_of w t j)) (λ k. asks_for q (get_or script k no_segment)) c.window
     (record {
       below = λ t l. below t;
-      within = λ t l some h. let a : ForResource w j x share q t = (low t l some).1 in rw a.facts.asks ((open_segment w t j a.facts.number (own_resource w j t) a.facts.asks).within);
+      within = λ t l some h. let a : ForResource w j x share q t = (low t l some).1 in
+          rw a.facts.asks ((open_segment w t j a.facts.number (own_resource w j t) a.facts.asks).within);
       passes = λ t l some h. let a : ForResource w j x share q t = (low t l some).1 in passes t a;
-      one = λ u v order l first second a b same. together u v order l (low u (omega arith) first).1 (low v l second).0 (low v l second).1 a b same;
+      one = λ u v order l first second a b same. together u v order l (low u (omega arith) first).1 (low v l second).0
+          (low v l second).1 a b same;
     })
     (shares_of w bound n j x s share c) in
     omega (arith, paid, mul-le-mul_right s (own_requests w.set (job_of w.jobs j) q (c.window.lawful.each j c.window.listed))) where
@@ -92,27 +100,39 @@ low_paid w bound n j x s share q c =
       script = (job_of w.jobs j).script
 
       below : (t : ℕ) → low_part w j x share q t ≤ amount w j x share t
-      below t = omega (arith, only_if-at_most (is_low w j t) (for_resource w j x share q t), only_if-at_most (own_resource w j t == q) (amount w j x share t))
+      below t = omega (
+        arith,
+        only_if-at_most (is_low w j t) (for_resource w j x share q t),
+        only_if-at_most (own_resource w j t == q)
+            (amount w j x share t),
+      )
 
-      low : (t : ℕ) → t < window_end w bound n j → 0 < low_part w j x share q t → (task_of w j < task_of w (first_holder w j t)) × ForResource w j x share q t
+      low : (t : ℕ) → t < window_end w bound n j → 0 < low_part w j x share q t
+          → (task_of w j < task_of w (first_holder w j t)) × ForResource w j x share q t
       low t l some =
-          let parts : (is_low w j t ≡ true) × (0 < for_resource w j x share q t) = only_if-parts (is_low w j t) (for_resource w j x share q t) some in
+          let parts : (is_low w j t ≡ true) × (0 < for_resource w j x share q t) =
+          only_if-parts (is_low w j t) (for_resource w j x share q t) some in
           (ltb-true _ _ parts.0, for_resource_is w bound n j x s share q t c l parts.1)
 
       asks_q : (t : ℕ) → (a : ForResource w j x share q t) → phase_of w t j ≡ Asking a.facts.number q
       asks_q t a = a.facts.asks ∙ ap (Asking a.facts.number) a.resource
 
       passes : (t : ℕ) → ForResource w j x share q t → asks_for q (get_or script (number_of (phase_of w t j)) no_segment) ≡ true
-      passes t a = ap (λ p. asks_for q (get_or script (number_of p) no_segment)) (asks_q t a) ∙ (open_segment w t j a.facts.number q (asks_q t a)).asks
+      passes t a = ap (λ p. asks_for q (get_or script (number_of p) no_segment)) (asks_q t a)
+          ∙ (open_segment w t j a.facts.number q (asks_q t a)).asks
 
-      together : (u v : ℕ) → u ≤ v → v < window_end w bound n j → ForResource w j x share q u → task_of w j < task_of w (first_holder w j v) → ForResource w j x share q v
-          → (a : Hit shared_charge w (holding_share x share) j u) → (b : Hit shared_charge w (holding_share x share) j v) → number_of (phase_of w u j) ≡ number_of (phase_of w v j)
+      together : (u v : ℕ) → u ≤ v → v < window_end w bound n j → ForResource w j x share q u
+          → task_of w j < task_of w (first_holder w j v) → ForResource w j x share q v
+          → (a : Hit shared_charge w (holding_share x share) j u) → (b : Hit shared_charge w (holding_share x share) j v)
+          → number_of (phase_of w u j) ≡ number_of (phase_of w v j)
           → OneRequest w u v a.charge.job b.charge.job
       together u v order l early lower late a b same =
-          let number : early.facts.number ≡ late.facts.number = sym (ap number_of early.facts.asks) ∙ same ∙ ap number_of late.facts.asks in
+          let number : early.facts.number ≡ late.facts.number =
+          sym (ap number_of early.facts.asks) ∙ same ∙ ap number_of late.facts.asks in
           let there : phase_of w v j ≡ Asking early.facts.number q = asks_q v late ∙ ap (λ k. Asking k q) (sym number) in
           let asks : Asks w u v q j = asks_between w u v early.facts.number q q j order early.facts.active (asks_q u early) there in
-          let holder : holder_in (w.row v) q ≡ Some (first_holder w j v) = ap (holder_in (w.row v)) (sym late.resource) ∙ late.facts.holder in
+          let holder : holder_in (w.row v) q ≡ Some (first_holder w j v) =
+          ap (holder_in (w.row v)) (sym late.resource) ∙ late.facts.holder in
           let b_facts : Held w v j x b.charge.job = held_at mpcp w bound n v j x share c.window c.keeps (omega arith) b in
           holding_one mpcp w bound n u v q (first_holder w j v) j x share c.window c.keeps order l a b b_facts.processor
           (held_since w n u v q (first_holder w j v) j c.keeps (omega arith) asks lower holder)
@@ -125,11 +145,14 @@ pub record JobHolds (w : Trace) (j q z t : ℕ) : Type 0 where
   pub first : first_holder w j t ≡ z
 
 -- While job z of y holds q there is one for each request of q by z.
-pub job_paid : (w : Trace) (bound : ℕ → ℕ) (n j x s : ℕ) (share : ℕ → ℕ → ℕ) (q y z : ℕ) → Holding w bound n j x s share → z < length w.jobs → task_of w z ≡ y
+pub job_paid : (w : Trace) (bound : ℕ → ℕ) (n j x s : ℕ) (share : ℕ → ℕ → ℕ) (q y z : ℕ) → Holding w bound n j x s share
+    → z < length w.jobs → task_of w z ≡ y
     → sum_below (window_end w bound n j) (λ t. job_part w j x share q y z t) ≤ count_of w.set y q * s
 job_paid w bound n j x s share q y z c listed task =
-    let paid : sum_below (window_end w bound n j) (λ t. job_part w j x share q y z t) ≤ count_below (length script) (λ k. asks_for q (get_or script k no_segment)) * s =
-    parts_paid shared_charge w bound n j (length script) s share (holding_share x share) (λ t. job_part w j x share q y z t) (λ t. number_of (phase_of w t z)) (λ k. asks_for q (get_or script k no_segment)) c.window
+    let paid : sum_below (window_end w bound n j) (λ t. job_part w j x share q y z t)
+    ≤ count_below (length script) (λ k. asks_for q (get_or script k no_segment)) * s =
+    parts_paid shared_charge w bound n j (length script) s share (holding_share x share) (λ t. job_part w j x share q y z t)
+    (λ t. number_of (phase_of w t z)) (λ k. asks_for q (get_or script k no_segment)) c.window
     (record {
       below = λ t l. below t;
       within = λ t l some h. within t (holds t l some);
@@ -137,19 +160,31 @@ job_paid w bound n j x s share q y z c listed task =
       one = λ u v order l first second a b same. together u v order l (holds u (omega arith) first) (holds v l second) a b same;
     })
     (shares_of w bound n j x s share c) in
-    let most : count_below (length script) (λ k. asks_for q (get_or script k no_segment)) ≤ count_of w.set y q = rw task at (own_requests w.set (job_of w.jobs z) q (c.window.lawful.each z listed)) in
+    let most : count_below (length script) (λ k. asks_for q (get_or script k no_segment)) ≤ count_of w.set y q =
+    rw task at (own_requests w.set (job_of w.jobs z) q (c.window.lawful.each z listed)) in
     omega (arith, paid, mul-le-mul_right s most) where
       script : List SegmentDef
       script = (job_of w.jobs z).script
 
       below : (t : ℕ) → job_part w j x share q y z t ≤ amount w j x share t
-      below t = omega (arith, only_if-at_most (first_holder w j t == z) (task_part w j x share q y t), only_if-at_most (task_of w (first_holder w j t) == y) (high_part w j x share q t), only_if-at_most (not (is_low w j t)) (for_resource w j x share q t), only_if-at_most (own_resource w j t == q) (amount w j x share t))
+      below t = omega (
+        arith,
+        only_if-at_most (first_holder w j t == z) (task_part w j x share q y t),
+        only_if-at_most
+            (task_of w (first_holder w j t) == y) (high_part w j x share q t),
+        only_if-at_most (not (is_low w j t))
+            (for_resource w j x share q t),
+        only_if-at_most (own_resource w j t == q) (amount w j x share t),
+      )
 
       holds : (t : ℕ) → t < window_end w bound n j → 0 < job_part w j x share q y z t → JobHolds w j q z t
       holds t l some =
-          let one : ((first_holder w j t == z) ≡ true) × (0 < task_part w j x share q y t) = only_if-parts (first_holder w j t == z) (task_part w j x share q y t) some in
-          let two : ((task_of w (first_holder w j t) == y) ≡ true) × (0 < high_part w j x share q t) = only_if-parts (task_of w (first_holder w j t) == y) (high_part w j x share q t) one.1 in
-          let three : (not (is_low w j t) ≡ true) × (0 < for_resource w j x share q t) = only_if-parts (not (is_low w j t)) (for_resource w j x share q t) two.1 in
+          let one : ((first_holder w j t == z) ≡ true) × (0 < task_part w j x share q y t) =
+          only_if-parts (first_holder w j t == z) (task_part w j x share q y t) some in
+          let two : ((task_of w (first_holder w j t) == y) ≡ true) × (0 < high_part w j x share q t) =
+          only_if-parts (task_of w (first_holder w j t) == y) (high_part w j x share q t) one.1 in
+          let three : (not (is_low w j t) ≡ true) × (0 < for_resource w j x share q t) =
+          only_if-parts (not (is_low w j t)) (for_resource w j x share q t) two.1 in
           let a : ForResource w j x share q t = for_resource_is w bound n j x s share q t c l three.1 in
           let job : first_holder w j t ≡ z = eqb-true _ _ one.0 in
           record {
@@ -166,11 +201,13 @@ job_paid w bound n j x s share q y z c listed task =
       passes t a = ap (λ p. asks_for q (get_or script (number_of p) no_segment)) a.phase ∙ (open_segment w t z a.number q a.phase).asks
 
       together : (u v : ℕ) → u ≤ v → v < window_end w bound n j → JobHolds w j q z u → JobHolds w j q z v
-          → (a : Hit shared_charge w (holding_share x share) j u) → (b : Hit shared_charge w (holding_share x share) j v) → number_of (phase_of w u z) ≡ number_of (phase_of w v z)
+          → (a : Hit shared_charge w (holding_share x share) j u) → (b : Hit shared_charge w (holding_share x share) j v)
+          → number_of (phase_of w u z) ≡ number_of (phase_of w v z)
           → OneRequest w u v a.charge.job b.charge.job
       together u v order l early late a b same =
           let number : early.number ≡ late.number = sym (ap number_of early.phase) ∙ same ∙ ap number_of late.phase in
           let there : phase_of w v z ≡ Asking early.number q = late.phase ∙ ap (λ k. Asking k q) (sym number) in
           let b_facts : Held w v j x b.charge.job = held_at mpcp w bound n v j x share c.window c.keeps (omega arith) b in
           holding_one mpcp w bound n u v q z j x share c.window c.keeps order l a b (b_facts.processor ∙ ap (processor_of w) late.first)
-          (λ t from before. shared_holder_stays mpcp w n u t q z early.number q c.keeps from (omega arith) early.phase (open_between w u t v z early.number q q early.phase there from before) early.holder)
+          (λ t from before. shared_holder_stays mpcp w n u t q z early.number q c.keeps from (omega arith) early.phase
+          (open_between w u t v z early.number q q early.phase there from before) early.holder)

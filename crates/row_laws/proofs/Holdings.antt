@@ -64,14 +64,17 @@ pub record Held (w : Trace) (t j x r : ℕ) : Type 0 where
   pub processor : processor_of w r ≡ processor_of w (first_holder w j t)
 
 -- What counts is of x, and indirect.
-holding_hit : (w : Trace) (x j t : ℕ) (share : ℕ → ℕ → ℕ) → (h : Hit shared_charge w (holding_share x share) j t) → (task_of w h.charge.job ≡ x) × (is_indirect h.charge.class ≡ true)
+holding_hit : (w : Trace) (x j t : ℕ) (share : ℕ → ℕ → ℕ) → (h : Hit shared_charge w (holding_share x share) j t)
+    → (task_of w h.charge.job ≡ x) × (is_indirect h.charge.class ≡ true)
 holding_hit w x j t share h =
     let both : ((task_of w h.charge.job == x) ≡ true) × (is_indirect h.charge.class ≡ true) =
-    and_parts _ _ (flag_times-passes ((task_of w h.charge.job == x) && is_indirect h.charge.class) (share (task_of w h.charge.job) h.resource) h.some) in
+    and_parts _ _ (flag_times-passes ((task_of w h.charge.job == x) && is_indirect h.charge.class)
+    (share (task_of w h.charge.job) h.resource) h.some) in
     (eqb-true _ _ both.0, both.1)
 
 -- Such a holder is of another task than the job that waits, and than the job that runs.
-held_by : (o : Ranks) (w : Trace) (bound : ℕ → ℕ) (n t j x r : ℕ) → Window shared_charge w bound n j → KeepsBefore (shared_rule o) w n → t < n → task_of w r ≡ x → IndirectBy o w t j r → Held w t j x r
+held_by : (o : Ranks) (w : Trace) (bound : ℕ → ℕ) (n t j x r : ℕ) → Window shared_charge w bound n j → KeepsBefore (shared_rule o) w n
+    → t < n → task_of w r ≡ x → IndirectBy o w t j r → Held w t j x r
 held_by o w bound n t j x r window keeps l task by = record {
   number = by.waits.number;
   asks = by.waits.request ∙ ap (Asking by.waits.number) (sym own);
@@ -82,7 +85,8 @@ held_by o w bound n t j x r window keeps l task by = record {
   listed = rw first listed;
   holding = by.waits.holding;
   held = ap (phase_of w t) first ∙ by.waits.held ∙ ap (Asking by.waits.holding) (sym own);
-  uses = rw (first, own) (open_user w.set w t by.first by.waits.holding by.waits.resource (window.lawful.each by.first listed) by.waits.held);
+  uses = rw (first, own)
+      (open_user w.set w t by.first by.waits.holding by.waits.resource (window.lawful.each by.first listed) by.waits.held);
   other = λ e. not_own (ap (task_of w) (sym first) ∙ e);
   beside = rw first beside;
   task = task;
@@ -122,17 +126,21 @@ held_by o w bound n t j x r window keeps l task by = record {
   place = sym processor ∙ ap (λ z. (task_at w.set z).processor) task
 
   beside : is_beside w.set x (task_of w by.first) ≡ true
-  beside = and_from _ _ (not_from_false (task_of w by.first == x) (ne_eqb (task_of w by.first) x not_runner)) (eq-eqb (processor_of w by.first) (task_at w.set x).processor place)
+  beside = and_from _ _ (not_from_false (task_of w by.first == x) (ne_eqb (task_of w by.first) x not_runner))
+      (eq-eqb (processor_of w by.first) (task_at w.set x).processor place)
 
 -- The facts at a tick that counts.
-pub held_at : (o : Ranks) (w : Trace) (bound : ℕ → ℕ) (n t j x : ℕ) (share : ℕ → ℕ → ℕ) → Window shared_charge w bound n j → KeepsBefore (shared_rule o) w n → t < n
+pub held_at : (o : Ranks) (w : Trace) (bound : ℕ → ℕ) (n t j x : ℕ) (share : ℕ → ℕ → ℕ) → Window shared_charge w bound n j
+    → KeepsBefore (shared_rule o) w n → t < n
     → (h : Hit shared_charge w (holding_share x share) j t) → Held w t j x h.charge.job
 held_at o w bound n t j x share window keeps l h =
     held_by o w bound n t j x h.charge.job window keeps l (holding_hit w x j t share h).0
-    (indirect_by o w t j h.charge.job h.charge.class (indirect_is h.charge.class (holding_hit w x j t share h).1) (shared_reason o w t j h.charge (keeps t l) h.is_it))
+    (indirect_by o w t j h.charge.job h.charge.class (indirect_is h.charge.class (holding_hit w x j t share h).1)
+    (shared_reason o w t j h.charge (keeps t l) h.is_it))
 
 -- While job z holds q, no job of its processor runs a Local tick.
-no_local_beside : (o : Ranks) (w : Trace) (n t q z y : ℕ) → KeepsBefore (shared_rule o) w n → t < n → holder_in (w.row t) q ≡ Some z → processor_of w y ≡ processor_of w z → phase_of w t y ≡ Local
+no_local_beside : (o : Ranks) (w : Trace) (n t q z y : ℕ) → KeepsBefore (shared_rule o) w n → t < n → holder_in (w.row t) q ≡ Some z
+    → processor_of w y ≡ processor_of w z → phase_of w t y ≡ Local
     → runs_in (w.row t) y ≡ true → ⊥
 no_local_beside o w n t q z y keeps l holds same local runs =
     let asks : Requester w t q z = holder_asks o w n t q z keeps l holds in
@@ -142,18 +150,24 @@ no_local_beside o w n t q z y keeps l holds same local runs =
     let place : at.0 ≡ processor_of w z = run.column at.0 y at.1 ∙ same in
     let here : running_on (w.row t) (processor_of w z) ≡ Some y = rw (← place) at.1 in
     let priority : KeepsPriority o w t = keeps t l rule.Priority in
-    let h : ReadyHolder w t y = ready_holder_is w t y (priority.holders (processor_of w z) y here z (active_listed w t z asks.active) refl ready).0 in
+    let h : ReadyHolder w t y =
+    ready_holder_is w t y (priority.holders (processor_of w z) y here z (active_listed w t z asks.active) refl ready).0 in
     let x : Local ≡ Asking h.number h.resource = sym local ∙ h.phase in
     cc
 
 -- So what is charged at two ticks between which one job holds what j waits for is one request.
-pub holding_one : (o : Ranks) (w : Trace) (bound : ℕ → ℕ) (n u v q z j x : ℕ) (share : ℕ → ℕ → ℕ) → Window shared_charge w bound n j → KeepsBefore (shared_rule o) w n → u ≤ v → v < window_end w bound n j
-    → (a : Hit shared_charge w (holding_share x share) j u) → (b : Hit shared_charge w (holding_share x share) j v) → processor_of w b.charge.job ≡ processor_of w z
+pub holding_one : (o : Ranks) (w : Trace) (bound : ℕ → ℕ) (n u v q z j x : ℕ) (share : ℕ → ℕ → ℕ) → Window shared_charge w bound n j
+    → KeepsBefore (shared_rule o) w n → u ≤ v → v < window_end w bound n j
+    → (a : Hit shared_charge w (holding_share x share) j u) → (b : Hit shared_charge w (holding_share x share) j v)
+    → processor_of w b.charge.job ≡ processor_of w z
     → ((t : ℕ) → u ≤ t → t ≤ v → holder_in (w.row t) q ≡ Some z) → OneRequest w u v a.charge.job b.charge.job
 holding_one o w bound n u v q z j x share window keeps order l a b processor holds =
-    let there : HitJob shared_charge w bound j u a.charge.job = hit_job shared_charge w bound n j u (holding_share x share) window (omega arith) a in
+    let there : HitJob shared_charge w bound j u a.charge.job =
+    hit_job shared_charge w bound n j u (holding_share x share) window (omega arith) a in
     let later : HitJob shared_charge w bound j v b.charge.job = hit_job shared_charge w bound n j v (holding_share x share) window l b in
     let lawful : IsLawfulJob w.set (job_of w.jobs b.charge.job) = window.lawful.each b.charge.job later.listed in
     let same : task_of w a.charge.job ≡ task_of w b.charge.job = (holding_hit w x j u share a).0 ∙ sym (holding_hit w x j v share b).0 in
-    one_request w n u v a.charge.job b.charge.job b.number b.resource window.active (omega arith) order lawful.script there.active same b.request
-    (λ t from before local runs. no_local_beside o w n t q z b.charge.job keeps (omega arith) (holds t from (omega arith)) processor local runs)
+    one_request w n u v a.charge.job b.charge.job b.number b.resource window.active
+    (omega arith) order lawful.script there.active same b.request
+    (λ t from before local runs. no_local_beside o w n t q z b.charge.job keeps (omega arith)
+    (holds t from (omega arith)) processor local runs)

@@ -29,7 +29,9 @@ use Rattle.row_laws.proofs.Brings.{Charges, Window, brings, Hit, hit, column_wit
 
 -- Is y a job of x that is released less than its bound before job j's window, or in it?
 abbrev pub is_near : Trace → (ℕ → ℕ) → ℕ → ℕ → ℕ → Bool
-is_near w bound j x y = (task_of w y == x) && (nat_lt (job_of w.jobs j).release (bound_end w bound y) && nat_lt (job_of w.jobs y).release (bound_end w bound j))
+is_near w bound j x y =
+    (task_of w y == x) &&
+    (nat_lt (job_of w.jobs j).release (bound_end w bound y) && nat_lt (job_of w.jobs y).release (bound_end w bound j))
 
 pub record Near (w : Trace) (bound : ℕ → ℕ) (j x y : ℕ) : Type 0 where
   pub task : task_of w y ≡ x
@@ -39,24 +41,29 @@ pub record Near (w : Trace) (bound : ℕ → ℕ) (j x y : ℕ) : Type 0 where
 pub near_is : (w : Trace) (bound : ℕ → ℕ) (j x y : ℕ) → is_near w bound j x y ≡ true → Near w bound j x y
 near_is w bound j x y h =
     let parts : ((task_of w y == x) ≡ true) × _ = and_parts _ _ h in
-    let rest : (nat_lt (job_of w.jobs j).release (bound_end w bound y) ≡ true) × (nat_lt (job_of w.jobs y).release (bound_end w bound j) ≡ true) = and_parts _ _ parts.1 in
+    let rest : (nat_lt (job_of w.jobs j).release (bound_end w bound y) ≡ true)
+    × (nat_lt (job_of w.jobs y).release (bound_end w bound j) ≡ true) = and_parts _ _ parts.1 in
     record { task = eqb-true _ _ parts.0; after = ltb-true _ _ rest.0; before = ltb-true _ _ rest.1 }
 
 -- A job of x that is active at a tick of the window is near.
-pub active_near : (charges : Charges) (w : Trace) (bound : ℕ → ℕ) (n j x y t : ℕ) → Window charges w bound n j → is_active w t y ≡ true → task_of w y ≡ x → (job_of w.jobs j).release ≤ t
+pub active_near : (charges : Charges) (w : Trace) (bound : ℕ → ℕ) (n j x y t : ℕ) → Window charges w bound n j → is_active w t y ≡ true
+    → task_of w y ≡ x → (job_of w.jobs j).release ≤ t
     → t < window_end w bound n j → is_near w bound j x y ≡ true
 active_near charges w bound n j x y t window active task from before =
     let a : Active w t y = active_is w t y active in
     and_from _ _ (eq-eqb _ _ task)
-    (and_from _ _ (lt-ltb _ _ (active_after w bound (job_of w.jobs j).release t y window.ended active from)) (lt-ltb _ _ (omega (arith, a.released))))
+    (and_from _ _ (lt-ltb _ _ (active_after w bound (job_of w.jobs j).release t y window.ended active from))
+    (lt-ltb _ _ (omega (arith, a.released))))
 
 -- So many jobs of x are near at most.
 pub near_jobs : (charges : Charges) (w : Trace) (bound : ℕ → ℕ) (n j x : ℕ) → Window charges w bound n j → x < length w.set.tasks
     → count_below (length w.jobs) (is_near w bound j x) ≤ jobs_in w.set bound (task_of w j) x
 near_jobs charges w bound n j x window l =
-    released_within (jobs_of w) x (length w.jobs) (job_of w.jobs j).release (bound (task_of w j)) (bound x) (is_near w bound j x) window.lawful (window.periods x l) (omega arith)
+    released_within (jobs_of w) x (length w.jobs) (job_of w.jobs j).release (bound (task_of w j)) (bound x)
+    (is_near w bound j x) window.lawful (window.periods x l) (omega arith)
     (λ y h. let a : Near w bound j x y = near_is w bound j x y h in a.task)
-    (λ y h. let a : Near w bound j x y = near_is w bound j x y h in let same : bound (task_of w y) ≡ bound x = ap bound a.task in omega (arith, a.after))
+    (λ y h. let a : Near w bound j x y = near_is w bound j x y h in let same : bound (task_of w y) ≡ bound x = ap bound a.task in
+    omega (arith, a.after))
     (λ y h. let a : Near w bound j x y = near_is w bound j x y h in a.before)
 
 -- The job of a tick that brings something to a row is active, listed, and active in the window.
@@ -66,7 +73,8 @@ pub record HitJob (charges : Charges) (w : Trace) (bound : ℕ → ℕ) (j t y :
   pub listed : y < length w.jobs
   pub from : (job_of w.jobs j).release ≤ t
 
-pub hit_job : (charges : Charges) (w : Trace) (bound : ℕ → ℕ) (n j t : ℕ) (f : ColumnDef → ℕ) → Window charges w bound n j → t < window_end w bound n j → (h : Hit charges w f j t)
+pub hit_job : (charges : Charges) (w : Trace) (bound : ℕ → ℕ) (n j t : ℕ) (f : ColumnDef → ℕ) → Window charges w bound n j
+    → t < window_end w bound n j → (h : Hit charges w f j t)
     → HitJob charges w bound j t h.charge.job
 hit_job charges w bound n j t f window l h =
     let e : Executes w t h.charge = window.executes t h.charge (omega arith) h.is_it in
@@ -76,9 +84,11 @@ hit_job charges w bound n j t f window l h =
     record { runs = e.runs; active = active; listed = active_listed w t h.charge.job active; from = own.released }
 
 -- Where all that counts is of x's jobs, and each of them brings at most c, all bring at most c for each job in the window.
-pub by_job : (charges : Charges) (w : Trace) (bound : ℕ → ℕ) (n j x c : ℕ) (f : ColumnDef → ℕ) → Window charges w bound n j → x < length w.set.tasks
+pub by_job : (charges : Charges) (w : Trace) (bound : ℕ → ℕ) (n j x c : ℕ) (f : ColumnDef → ℕ) → Window charges w bound n j
+    → x < length w.set.tasks
     → ((t : ℕ) → t < window_end w bound n j → (h : Hit charges w f j t) → task_of w h.charge.job ≡ x)
-    → ((y : ℕ) → y < length w.jobs → task_of w y ≡ x → sum_below (window_end w bound n j) (λ t. only_if (blocker charges w j t == y) (brings charges w f j t)) ≤ c)
+    → ((y : ℕ) → y < length w.jobs → task_of w y ≡ x
+    → sum_below (window_end w bound n j) (λ t. only_if (blocker charges w j t == y) (brings charges w f j t)) ≤ c)
     → sum_below (window_end w bound n j) (λ t. brings charges w f j t) ≤ jobs_in w.set bound (task_of w j) x * c
 by_job charges w bound n j x c f window l of most =
     let all : sum_below (window_end w bound n j) (λ t. brings charges w f j t) ≤ count_below (length w.jobs) (is_near w bound j x) * c =
@@ -86,42 +96,51 @@ by_job charges w bound n j x c f window l of most =
     (λ t b some. place t b (hit charges w f j t some))
     (λ y b near. let a : Near w bound j x y = near_is w bound j x y near in most y b a.task) in
     omega (arith, all, mul-le-mul_right c (near_jobs charges w bound n j x window l)) where
-      place : (t : ℕ) → t < window_end w bound n j → Hit charges w f j t → (blocker charges w j t < length w.jobs) × (is_near w bound j x (blocker charges w j t) ≡ true)
+      place : (t : ℕ) → t < window_end w bound n j → Hit charges w f j t
+          → (blocker charges w j t < length w.jobs) × (is_near w bound j x (blocker charges w j t) ≡ true)
       place t b h =
           let a : HitJob charges w bound j t h.charge.job = hit_job charges w bound n j t f window b h in
-          rw (blocker_is charges w f j t h) (a.listed, active_near charges w bound n j x h.charge.job t window a.active (of t b h) a.from b)
+          rw (blocker_is charges w f j t h)
+          (a.listed, active_near charges w bound n j x h.charge.job t window a.active (of t b h) a.from b)
 
 -- The ticks of a slot are those of one job that runs in requests of q, each bringing at most c.
-asking_term : (charges : Charges) (w : Trace) (bound : ℕ → ℕ) (n j q y c t : ℕ) (f : ColumnDef → ℕ) → Window charges w bound n j → t < window_end w bound n j
+asking_term : (charges : Charges) (w : Trace) (bound : ℕ → ℕ) (n j q y c t : ℕ) (f : ColumnDef → ℕ) → Window charges w bound n j
+    → t < window_end w bound n j
     → ((h : Hit charges w f j t) → (h.resource ≡ q) × (f (column_with w h.charge h.resource) ≤ c))
     → only_if (blocker charges w j t == y) (brings charges w f j t) ≤ flag (runs_in (w.row t) y && is_asking q (phase_of w t y)) * c
-asking_term charges w bound n j q y c t f window l fits = elim (cases_lt 0 (only_if (blocker charges w j t == y) (brings charges w f j t))) [
-  | inr none ↦ omega arith
-  | inl some ↦
-      let parts : ((blocker charges w j t == y) ≡ true) × (0 < brings charges w f j t) = only_if-parts (blocker charges w j t == y) (brings charges w f j t) some in
-      let h : Hit charges w f j t = hit charges w f j t parts.1 in
-      let fit : (h.resource ≡ q) × (f (column_with w h.charge h.resource) ≤ c) = fits h in
-      let a : HitJob charges w bound j t h.charge.job = hit_job charges w bound n j t f window l h in
-      let same : h.charge.job ≡ y = sym (blocker_is charges w f j t h) ∙ eqb-true (blocker charges w j t) y parts.0 in
-      let runs : runs_in (w.row t) y ≡ true = ap (runs_in (w.row t)) (sym same) ∙ a.runs in
-      let asks : is_asking q (phase_of w t y) ≡ true = asking_is h.number q (phase_of w t y) (ap (phase_of w t) (sym same) ∙ h.request ∙ ap (Asking h.number) fit.0) in
-      rw (parts.0, runs, asks) (omega (arith, h.amount, fit.1))
-]
+asking_term charges w bound n j q y c t f window l fits =
+    elim (cases_lt 0 (only_if (blocker charges w j t == y) (brings charges w f j t))) [
+      | inr none ↦ omega arith
+      | inl some ↦
+          let parts : ((blocker charges w j t == y) ≡ true) × (0 < brings charges w f j t) =
+          only_if-parts (blocker charges w j t == y) (brings charges w f j t) some in
+          let h : Hit charges w f j t = hit charges w f j t parts.1 in
+          let fit : (h.resource ≡ q) × (f (column_with w h.charge h.resource) ≤ c) = fits h in
+          let a : HitJob charges w bound j t h.charge.job = hit_job charges w bound n j t f window l h in
+          let same : h.charge.job ≡ y = sym (blocker_is charges w f j t h) ∙ eqb-true (blocker charges w j t) y parts.0 in
+          let runs : runs_in (w.row t) y ≡ true = ap (runs_in (w.row t)) (sym same) ∙ a.runs in
+          let asks : is_asking q (phase_of w t y) ≡ true =
+          asking_is h.number q (phase_of w t y) (ap (phase_of w t) (sym same) ∙ h.request ∙ ap (Asking h.number) fit.0) in
+          rw (parts.0, runs, asks) (omega (arith, h.amount, fit.1))
+    ]
 
 -- The ticks of a slot are those of one job that runs, each bringing at most c.
-running_term : (charges : Charges) (w : Trace) (bound : ℕ → ℕ) (n j y c t : ℕ) (f : ColumnDef → ℕ) → Window charges w bound n j → t < window_end w bound n j
+running_term : (charges : Charges) (w : Trace) (bound : ℕ → ℕ) (n j y c t : ℕ) (f : ColumnDef → ℕ) → Window charges w bound n j
+    → t < window_end w bound n j
     → ((h : Hit charges w f j t) → f (column_with w h.charge h.resource) ≤ c)
     → only_if (blocker charges w j t == y) (brings charges w f j t) ≤ flag (runs_in (w.row t) y) * c
-running_term charges w bound n j y c t f window l fits = elim (cases_lt 0 (only_if (blocker charges w j t == y) (brings charges w f j t))) [
-  | inr none ↦ omega arith
-  | inl some ↦
-      let parts : ((blocker charges w j t == y) ≡ true) × (0 < brings charges w f j t) = only_if-parts (blocker charges w j t == y) (brings charges w f j t) some in
-      let h : Hit charges w f j t = hit charges w f j t parts.1 in
-      let a : HitJob charges w bound j t h.charge.job = hit_job charges w bound n j t f window l h in
-      let same : h.charge.job ≡ y = sym (blocker_is charges w f j t h) ∙ eqb-true (blocker charges w j t) y parts.0 in
-      let runs : runs_in (w.row t) y ≡ true = ap (runs_in (w.row t)) (sym same) ∙ a.runs in
-      rw (parts.0, runs) (omega (arith, h.amount, fits h))
-]
+running_term charges w bound n j y c t f window l fits =
+    elim (cases_lt 0 (only_if (blocker charges w j t == y) (brings charges w f j t))) [
+      | inr none ↦ omega arith
+      | inl some ↦
+          let parts : ((blocker charges w j t == y) ≡ true) × (0 < brings charges w f j t) =
+          only_if-parts (blocker charges w j t == y) (brings charges w f j t) some in
+          let h : Hit charges w f j t = hit charges w f j t parts.1 in
+          let a : HitJob charges w bound j t h.charge.job = hit_job charges w bound n j t f window l h in
+          let same : h.charge.job ≡ y = sym (blocker_is charges w f j t h) ∙ eqb-true (blocker charges w j t) y parts.0 in
+          let runs : runs_in (w.row t) y ≡ true = ap (runs_in (w.row t)) (sym same) ∙ a.runs in
+          rw (parts.0, runs) (omega (arith, h.amount, fits h))
+    ]
 
 -- e ticks of m requests, each at most l long and each tick worth c, where l times c is at most s.
 requests_share : (e m k l c s b : ℕ) → b ≤ e * c → e ≤ m * l → m ≤ k → c * l ≤ s → b ≤ k * s
@@ -130,35 +149,48 @@ requests_share e m k l c s b ticks most count fair =
     omega (arith, ticks, mul-le-mul_right c most, turned, mul-le-mul count fair)
 
 -- Requests of q by one job bring at most s for each request that its task may make.
-job_requests : (charges : Charges) (w : Trace) (bound : ℕ → ℕ) (n j x q y s c : ℕ) (f : ColumnDef → ℕ) → Window charges w bound n j → y < length w.jobs → task_of w y ≡ x → c * length_of w.set x q ≤ s
+job_requests : (charges : Charges) (w : Trace) (bound : ℕ → ℕ) (n j x q y s c : ℕ) (f : ColumnDef → ℕ) → Window charges w bound n j
+    → y < length w.jobs → task_of w y ≡ x → c * length_of w.set x q ≤ s
     → ((t : ℕ) → t < window_end w bound n j → (h : Hit charges w f j t) → (h.resource ≡ q) × (f (column_with w h.charge h.resource) ≤ c))
     → sum_below (window_end w bound n j) (λ t. only_if (blocker charges w j t == y) (brings charges w f j t)) ≤ count_of w.set x q * s
 unfolding executed_in
 job_requests charges w bound n j x q y s c f window listed task fair fits =
     let lawful : IsLawfulJob w.set (job_of w.jobs y) = window.lawful.each y listed in
-    let ticks : sum_below (window_end w bound n j) (λ t. only_if (blocker charges w j t == y) (brings charges w f j t)) ≤ executed_in (is_asking q) w (window_end w bound n j) y * c =
-    sum_below-counted (window_end w bound n j) c (λ t. runs_in (w.row t) y && is_asking q (phase_of w t y)) (λ t. only_if (blocker charges w j t == y) (brings charges w f j t))
+    let ticks : sum_below (window_end w bound n j) (λ t. only_if (blocker charges w j t == y) (brings charges w f j t))
+    ≤ executed_in (is_asking q) w (window_end w bound n j) y * c =
+    sum_below-counted (window_end w bound n j) c (λ t. runs_in (w.row t) y && is_asking q (phase_of w t y))
+    (λ t. only_if (blocker charges w j t == y) (brings charges w f j t))
     (λ t l. asking_term charges w bound n j q y c t f window l (fits t l)) in
-    let asked : executed_in (is_asking q) w (window_end w bound n j) y ≤ number_of_requests (job_of w.jobs y).script q * length_of w.set (task_of w y) q = asking_at_most w.set w (window_end w bound n j) q y lawful in
-    let here : executed_in (is_asking q) w (window_end w bound n j) y ≤ number_of_requests (job_of w.jobs y).script q * length_of w.set x q = rw task at asked in
+    let asked : executed_in (is_asking q) w (window_end w bound n j) y
+    ≤ number_of_requests (job_of w.jobs y).script q * length_of w.set (task_of w y) q =
+    asking_at_most w.set w (window_end w bound n j) q y lawful in
+    let here : executed_in (is_asking q) w (window_end w bound n j) y
+    ≤ number_of_requests (job_of w.jobs y).script q * length_of w.set x q = rw task at asked in
     let count : number_of_requests (job_of w.jobs y).script q ≤ count_of w.set x q = rw task at (lawful.count q) in
-    requests_share (executed_in (is_asking q) w (window_end w bound n j) y) (number_of_requests (job_of w.jobs y).script q) (count_of w.set x q) (length_of w.set x q) c s _ ticks here count fair
+    requests_share (executed_in (is_asking q) w (window_end w bound n j) y) (number_of_requests (job_of w.jobs y).script q)
+    (count_of w.set x q) (length_of w.set x q) c s _ ticks here count fair
 
 -- All its ticks bring at most s for each tick of its task's cost.
-job_time : (charges : Charges) (w : Trace) (bound : ℕ → ℕ) (n j x y s : ℕ) (f : ColumnDef → ℕ) → Window charges w bound n j → y < length w.jobs → task_of w y ≡ x
+job_time : (charges : Charges) (w : Trace) (bound : ℕ → ℕ) (n j x y s : ℕ) (f : ColumnDef → ℕ) → Window charges w bound n j
+    → y < length w.jobs → task_of w y ≡ x
     → ((t : ℕ) → t < window_end w bound n j → (h : Hit charges w f j t) → f (column_with w h.charge h.resource) ≤ s)
     → sum_below (window_end w bound n j) (λ t. only_if (blocker charges w j t == y) (brings charges w f j t)) ≤ (task_at w.set x).cost * s
 unfolding executed
 job_time charges w bound n j x y s f window listed task fits =
     let lawful : IsLawfulJob w.set (job_of w.jobs y) = window.lawful.each y listed in
-    let ticks : sum_below (window_end w bound n j) (λ t. only_if (blocker charges w j t == y) (brings charges w f j t)) ≤ executed w (window_end w bound n j) y * s =
-    sum_below-counted (window_end w bound n j) s (λ t. runs_in (w.row t) y) (λ t. only_if (blocker charges w j t == y) (brings charges w f j t)) (λ t l. running_term charges w bound n j y s t f window l (fits t l)) in
-    let most : executed w (window_end w bound n j) y ≤ total_ticks (job_of w.jobs y).script = executed_within w n (window_end w bound n j) y window.active (omega arith) in
+    let ticks : sum_below (window_end w bound n j) (λ t. only_if (blocker charges w j t == y) (brings charges w f j t))
+    ≤ executed w (window_end w bound n j) y * s =
+    sum_below-counted (window_end w bound n j) s (λ t. runs_in (w.row t) y)
+    (λ t. only_if (blocker charges w j t == y) (brings charges w f j t))
+    (λ t l. running_term charges w bound n j y s t f window l (fits t l)) in
+    let most : executed w (window_end w bound n j) y ≤ total_ticks (job_of w.jobs y).script =
+    executed_within w n (window_end w bound n j) y window.active (omega arith) in
     let cost : total_ticks (job_of w.jobs y).script ≤ (task_at w.set x).cost = rw task at lawful.cost in
     let within : executed w (window_end w bound n j) y ≤ (task_at w.set x).cost = omega arith in
     omega (arith, ticks, mul-le-mul_right s within)
 
-product_turned : (a b s : ℕ) → a * (b * s) ≡ s * (b * a)
+-- Three factors, the other way round.
+pub product_turned : (a b s : ℕ) → a * (b * s) ≡ s * (b * a)
 product_turned a b s = mul_comm a (b * s) ∙ ap (λ z. z * a) (mul_comm b s) ∙ mul_assoc s b a
 
 -- Row of requests: those of q by x, of all classes, are at most as many as x makes in the window.
@@ -174,16 +206,29 @@ request_row_met charges w bound n j x q window l s share fair =
       f : ColumnDef → ℕ
       f = λ c. flag ((c.task == x) && (c.resource == q)) * share c.task c.resource
 
-      column : (t : ℕ) → t < window_end w bound n j → (h : Hit charges w f j t) → (task_of w h.charge.job ≡ x) × ((h.resource ≡ q) × (f (column_with w h.charge h.resource) ≤ share x q))
+      column : (t : ℕ) → t < window_end w bound n j → (h : Hit charges w f j t)
+          → (task_of w h.charge.job ≡ x) × ((h.resource ≡ q) × (f (column_with w h.charge h.resource) ≤ share x q))
       column t b h =
-          let both : ((task_of w h.charge.job == x) ≡ true) × ((h.resource == q) ≡ true) = and_parts _ _ (flag_times-passes _ (share (task_of w h.charge.job) h.resource) h.some) in
+          let both : ((task_of w h.charge.job == x) ≡ true) × ((h.resource == q) ≡ true) =
+          and_parts _ _ (flag_times-passes _ (share (task_of w h.charge.job) h.resource) h.some) in
           let task : task_of w h.charge.job ≡ x = eqb-true _ _ both.0 in
           let resource : h.resource ≡ q = eqb-true _ _ both.1 in
-          let same : share (task_of w h.charge.job) h.resource ≡ share x q = rw (task, resource) refl in
-          (task, (resource, omega (arith, same, flag_times-at_most ((task_of w h.charge.job == x) && (h.resource == q)) (share (task_of w h.charge.job) h.resource))))
+          let same : share (task_of w h.charge.job) h.resource ≡ share x q = rw (task, resource) refl in (
+            task,
+            (
+              resource,
+              omega (
+                arith,
+                same,
+                flag_times-at_most ((task_of w h.charge.job == x) && (h.resource == q))
+                    (share (task_of w h.charge.job) h.resource),
+              ),
+            ),
+          )
 
 -- Row of time: x's requests together take no longer than its jobs may execute.
-pub time_row_met : (charges : Charges) (w : Trace) (bound : ℕ → ℕ) (n j x : ℕ) → Window charges w bound n j → x < length w.set.tasks → TicksMeet charges w bound n j (time_row w.set (task_of w j) x)
+pub time_row_met : (charges : Charges) (w : Trace) (bound : ℕ → ℕ) (n j x : ℕ) → Window charges w bound n j → x < length w.set.tasks
+    → TicksMeet charges w bound n j (time_row w.set (task_of w j) x)
 time_row_met charges w bound n j x window l s share fair =
     omega (
       arith,
@@ -194,12 +239,14 @@ time_row_met charges w bound n j x window l s share fair =
       f : ColumnDef → ℕ
       f = λ c. only_if (c.task == x) (length_of w.set x c.resource) * share c.task c.resource
 
-      column : (t : ℕ) → t < window_end w bound n j → (h : Hit charges w f j t) → (task_of w h.charge.job ≡ x) × (f (column_with w h.charge h.resource) ≤ s)
+      column : (t : ℕ) → t < window_end w bound n j → (h : Hit charges w f j t)
+          → (task_of w h.charge.job ≡ x) × (f (column_with w h.charge h.resource) ≤ s)
       column t b h = elim (cases_Bool (task_of w h.charge.job == x)) [
         | inr other ↦ let none : 0 < 0 * share (task_of w h.charge.job) h.resource = rw other at h.some in absurd (omega arith)
         | inl is ↦
             let task : task_of w h.charge.job ≡ x = eqb-true _ _ is in
             let whole : share x h.resource * length_of w.set x h.resource ≤ s = fair x h.resource in
-            let turned : length_of w.set x h.resource * share (task_of w h.charge.job) h.resource ≤ s = rw task (omega (arith, mul_comm (length_of w.set x h.resource) (share x h.resource))) in
+            let turned : length_of w.set x h.resource * share (task_of w h.charge.job) h.resource ≤ s =
+            rw task (omega (arith, mul_comm (length_of w.set x h.resource) (share x h.resource))) in
             (task, rw is turned)
       ]

@@ -36,15 +36,18 @@ preemption_is Direct h = absurd (cc)
 preemption_is Indirect h = absurd (cc)
 
 -- Job i is active at u, and job k, of the same task, is in a request at v that was open at u: so they are one job.
-pub one_open : (w : Trace) (n u v i k m q : ℕ) → RunsActiveBefore w n → u ≤ n → is_script (job_of w.jobs k).script ≡ true → is_active w u i ≡ true → task_of w i ≡ task_of w k
+pub one_open : (w : Trace) (n u v i k m q : ℕ) → RunsActiveBefore w n → u ≤ n → is_script (job_of w.jobs k).script ≡ true
+    → is_active w u i ≡ true → task_of w i ≡ task_of w k
     → phase_of w u k ≡ Asking m q → phase_of w v k ≡ Asking m q → OneRequest w u v i k
 one_open w n u v i k m q runs l script active same early late =
     let job : i ≡ k = one_active w u i k active (open_active w n u k m q runs l script early) same in
     record { job = job; phase = ap (phase_of w u) job ∙ early ∙ sym late }
 
 -- It was where k executes no Local tick in between.
-pub one_request : (w : Trace) (n u v i k m q : ℕ) → RunsActiveBefore w n → u ≤ n → u ≤ v → is_script (job_of w.jobs k).script ≡ true → is_active w u i ≡ true → task_of w i ≡ task_of w k
-    → phase_of w v k ≡ Asking m q → ((t : ℕ) → u ≤ t → t < v → phase_of w t k ≡ Local → runs_in (w.row t) k ≡ true → ⊥) → OneRequest w u v i k
+pub one_request : (w : Trace) (n u v i k m q : ℕ) → RunsActiveBefore w n → u ≤ n → u ≤ v → is_script (job_of w.jobs k).script ≡ true
+    → is_active w u i ≡ true → task_of w i ≡ task_of w k
+    → phase_of w v k ≡ Asking m q → ((t : ℕ) → u ≤ t → t < v → phase_of w t k ≡ Local → runs_in (w.row t) k ≡ true → ⊥)
+    → OneRequest w u v i k
 one_request w n u v i k m q runs l order script active same late none =
     one_open w n u v i k m q runs l script active same (open_at w u v k m q script order late none) late
 
@@ -54,9 +57,11 @@ pub record DirectColumn (w : Trace) (x q : ℕ) (charge : Charge) (resource : �
   pub same : resource ≡ q
   pub class : charge.class ≡ Direct
 
-pub direct_column : (w : Trace) (x q : ℕ) (charge : Charge) (resource n : ℕ) → 0 < flag (((task_of w charge.job == x) && (resource == q)) && is_direct charge.class) * n → DirectColumn w x q charge resource
+pub direct_column : (w : Trace) (x q : ℕ) (charge : Charge) (resource n : ℕ)
+    → 0 < flag (((task_of w charge.job == x) && (resource == q)) && is_direct charge.class) * n → DirectColumn w x q charge resource
 direct_column w x q charge resource n some =
-    let parts : (((task_of w charge.job == x) && (resource == q)) ≡ true) × (is_direct charge.class ≡ true) = and_parts _ _ (flag_times-passes (((task_of w charge.job == x) && (resource == q)) && is_direct charge.class) n some) in
+    let parts : (((task_of w charge.job == x) && (resource == q)) ≡ true) × (is_direct charge.class ≡ true) =
+    and_parts _ _ (flag_times-passes (((task_of w charge.job == x) && (resource == q)) && is_direct charge.class) n some) in
     let both : ((task_of w charge.job == x) ≡ true) × ((resource == q) ≡ true) = and_parts _ _ parts.0 in
     record { task = eqb-true _ _ both.0; same = eqb-true _ _ both.1; class = direct_is charge.class parts.1 }
 

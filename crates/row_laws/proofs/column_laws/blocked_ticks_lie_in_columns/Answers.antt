@@ -12,7 +12,8 @@ returns-clause-mpcp c = λ w n t j lawful keeps l blocked.
 
 pub returns-clause-fmlp_plus : goal.returns-clause-fmlp_plus
 returns-clause-fmlp_plus c = λ w n t j lawful keeps l blocked.
-    let a : InColumn shared_charge protocol.FmlpPlus w t j = shared_in_column protocol.FmlpPlus fmlp_plus w n t j fmlp_shares lawful keeps l blocked in
+    let a : InColumn shared_charge protocol.FmlpPlus w t j =
+    shared_in_column protocol.FmlpPlus fmlp_plus w n t j fmlp_shares lawful keeps l blocked in
     (a.column, a.is_it, a.there)
 
 pub returns-clause-dpcp : goal.returns-clause-dpcp
