@@ -1,5 +1,5 @@
 -- What the calls that read a line of a file of rows say.
-use Rattle.std.specs.Prelude.{◌≡◌, ◌++◌, ℕ, true, List, [], ◌∷◌, length, None, Some, Result, Ok, Err}
+use Rattle.std.specs.Prelude.{◌≡◌, ◌++◌, ℕ, true, List, [], ◌∷◌, None, Some, Result, Ok, Err}
 use Rattle.std.specs.Int.{is_in_range}
 use Rattle.sporadic_model.specs.declared.limits.TheConstants.{MOST_TICKS}
 use Rattle.schedule_model.specs.JobDef.{JobsDef}
@@ -12,7 +12,7 @@ use Rattle.schedule_model.specs.declared.refusal.RowRefusal.TheVariants as push
 use Rattle.trace_csv.specs.declared.refusal.RowsRefusal.{RowsRefusal}
 use Rattle.trace_csv.specs.declared.refusal.RowsRefusal.TheVariants as refusal
 use Rattle.trace_csv.specs.Records.{Fields}
-use Rattle.trace_csv.specs.RowLines.{cells_refusal, form_refusal, line_refusal, row_written, run_written, job_count, processor_count, resource_count}
+use Rattle.trace_csv.specs.RowLines.{cells_refusal, form_refusal, line_refusal, run_written, job_count, processor_count, resource_count}
 use Rattle.trace_csv.specs.RowsFile.{rows_with}
 
 -- Is it a run for the jobs: has its row one place per processor and per resource of their set, does it name

@@ -1,5 +1,5 @@
 -- Files of rows in CSV, and what the answer of reading one says.
-use Rattle.std.specs.Prelude.{◌≡◌, ℕ, ◌+◌, ◌<◌, ◌⊎◌, codes, decimal, List, [], ◌∷◌, ◌++◌, map, length, drop, slice_get, None, Some, Result, Ok, Err}
+use Rattle.std.specs.Prelude.{◌≡◌, ℕ, ◌<◌, ◌⊎◌, codes, decimal, List, ◌∷◌, ◌++◌, map, length, drop, slice_get, None, Some, Result, Ok, Err}
 use Rattle.std.specs.List.{range_with_len}
 use Rattle.sporadic_model.specs.SetDef.{SetDef}
 use Rattle.schedule_model.specs.JobDef.{JobsDef}

@@ -1,5 +1,5 @@
 -- Scripts in text: local numbers and requests in turn, one space between them.
-use Rattle.std.specs.Prelude.{ℕ, ◌==◌, ◌&&◌, Bool, List, [], ◌∷◌, ◌++◌, length, Option, None, Some, option_map, if◌then◌else◌}
+use Rattle.std.specs.Prelude.{ℕ, ◌==◌, Bool, List, [], ◌∷◌, ◌++◌, length, Option, None, Some, option_map, if◌then◌else◌}
 use Rattle.std.specs.List.{before_first, after_first}
 use Rattle.std.specs.Int.{is_in_range}
 use Rattle.sporadic_model.specs.declared.limits.TheConstants.{MOST_NAME, MOST_TICKS}

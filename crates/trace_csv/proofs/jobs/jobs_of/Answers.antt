@@ -1,7 +1,7 @@
-use Rattle.std.proofs.Common.{◌≡◌, ◌<◌, ◌+◌, ℕ, List, map, length, get_or, take, None, sym, ◌∙◌, arith, below_more}
+use Rattle.std.proofs.Common.{◌≡◌, ◌<◌, map, length, None, ◌∙◌, arith, below_more}
 use Rattle.sporadic_model.proofs.Mapped.{length-map}
 use Rattle.csv.specs.Records.{fields_of}
-use Rattle.trace_csv.specs.Records.{Fields, line_at}
+use Rattle.trace_csv.specs.Records.{line_at}
 use Rattle.trace_csv.specs.JobLines.{refusal_at}
 use Rattle.trace_csv.proofs.Rests.{made_at}
 use Rattle.trace_csv.proofs.JobsTaken.{refused_here, taken_here}

@@ -1,7 +1,7 @@
-use Rattle.std.proofs.Common.{◌≡◌, ◌<◌, ◌+◌, ℕ, List, map, length, take, None, sym, ◌∙◌, arith, below_more}
+use Rattle.std.proofs.Common.{◌≡◌, ◌<◌, map, length, None, ◌∙◌, arith, below_more}
 use Rattle.sporadic_model.proofs.Mapped.{length-map}
 use Rattle.csv.specs.Records.{fields_of}
-use Rattle.trace_csv.specs.Records.{Fields, line_at}
+use Rattle.trace_csv.specs.Records.{line_at}
 use Rattle.trace_csv.specs.RowLines.{refusal_at}
 use Rattle.trace_csv.proofs.Rests.{made_at}
 use Rattle.trace_csv.proofs.RowsTaken.{refused_here, taken_here}

@@ -1,8 +1,6 @@
 use Rattle.std.proofs.Common.{◌≡◌, ◌<◌, ◌≤◌, ◌^◌, ℕ, List, true, length, sym, ap, subst, ◌∙◌, arith}
-use Rattle.std.specs.List.{list_all}
 use Rattle.sporadic_model.specs.SetDef.{SetDef}
 use Rattle.schedule_model.specs.JobDef.{JobsDef}
-use Rattle.schedule_model.specs.RowDef.{RunDef}
 use Rattle.schedule_model.specs.Fitting.{RowsDef, IsRowList, is_fitting}
 use Rattle.schedule_model.specs.declared.limits.TheConstants.{MOST_JOBS}
 use Rattle.trace_csv.specs.RowLines.{job_count}
