@@ -1,7 +1,6 @@
 -- No refusal is due for a job with which a list is lawful and within its limits.
-use Rattle.std.proofs.Common.{◌≡◌, ℕ, ◌<◌, ◌≤◌, ◌+◌, ◌&&◌, ◌||◌, not, Bool, true, false, cond, List, [], ◌∷◌, ◌++◌, length, refl, sym, ap, ◌∙◌, subst, arith, Option, Some, None, leb, ltb, length-append}
+use Rattle.std.proofs.Common.{◌≡◌, ℕ, ◌<◌, ◌≤◌, ◌+◌, ◌||◌, not, Bool, true, false, cond, List, [], ◌∷◌, ◌++◌, length, refl, sym, ap, ◌∙◌, subst, arith, Option, Some, None, leb, ltb, length-append}
 use Rattle.std.specs.Option.{option_map_or}
-use Rattle.std.specs.List.{list_all}
 use Rattle.std.proofs.lemmas.Bool.{and_from, le-leb, le-ltb, lt-leb}
 use Rattle.bounded_sums.specs.Tests.{all_below}
 use Rattle.bounded_sums.proofs.TestLaws.{all_below-from}
@@ -9,7 +8,7 @@ use Rattle.sporadic_model.specs.SetDef.{task_at}
 use Rattle.sporadic_model.specs.Users.{count_of}
 use Rattle.sporadic_model.specs.declared.limits.TheConstants.{MOST_TICKS}
 use Rattle.schedule_model.specs.JobDef.{JobDef, JobsDef, job_of, total_ticks, local_ticks, number_of_requests}
-use Rattle.schedule_model.specs.LawfulJobs.{is_length_kept, IsLawfulJob, AreLawfulJobs}
+use Rattle.schedule_model.specs.LawfulJobs.{IsLawfulJob, AreLawfulJobs}
 use Rattle.schedule_model.specs.JobLists.{is_listed_script, is_within_budget, last_release, is_too_close, is_too_many, segment_count, first_refusal, with_job, IsJobList}
 use Rattle.schedule_model.specs.declared.limits.TheConstants.{MOST_JOBS, MOST_SEGMENTS}
 use Rattle.schedule_model.specs.declared.refusal.JobRefusal.TheVariants as refusal

@@ -1,5 +1,5 @@
 -- Of an accepted set no refusal is due.
-use Rattle.std.proofs.Common.{◌≡◌, ◌≢◌, ℕ, ◌<◌, ◌≤◌, Bool, true, false, cond, not, List, map, length, take, refl, arith, Option, Some, None, nat_lt, ◌&&◌, ◌==◌, IsTrue, inl, inr, sym, ◌∙◌, ap}
+use Rattle.std.proofs.Common.{◌≡◌, ◌≢◌, ℕ, ◌<◌, ◌≤◌, Bool, true, false, cond, not, List, map, length, take, refl, arith, Option, Some, None, nat_lt, ◌&&◌, ◌==◌, IsTrue, inl, inr}
 use Rattle.std.specs.List.{find, slice_index_or, list_any}
 use Rattle.std.specs.Int.{is_in_range}
 use Rattle.std.specs.Option.{option_map_or}
@@ -13,7 +13,7 @@ use Rattle.sporadic_model.specs.SetDef.{SetDef, task_at, resource_at, request_at
 use Rattle.sporadic_model.specs.Names.{is_name}
 use Rattle.sporadic_model.specs.Users.{numbers}
 use Rattle.sporadic_model.specs.Refusals.{is_due, size_refusals, at_tasks, at_resources, at_requests, name_refusals, number_refusals, request_refusals, has_resource_named, first_refusal}
-use Rattle.sporadic_model.specs.Accepted.{IsAccepted, SetSizes, TaskNumbers, EntryNumbers, AreEntries}
+use Rattle.sporadic_model.specs.Accepted.{KeepsRanges, IsAccepted, SetSizes, TaskNumbers}
 use Rattle.sporadic_model.specs.declared.limits.TheConstants.{MOST_PROCESSORS, MOST_TASKS, MOST_RESOURCES, MOST_REQUESTS, MOST_TICKS, MOST_COUNT}
 use Rattle.sporadic_model.specs.declared.refusal.Place.TheVariants as place
 use Rattle.sporadic_model.specs.declared.refusal.SizeOf.TheVariants as size
@@ -85,7 +85,7 @@ sizes_free set s =
     five (length set.tasks == 0) (not (is_in_range 1 MOST_PROCESSORS set.processors)) (nat_lt MOST_TASKS (length set.tasks)) (nat_lt MOST_RESOURCES (length set.resources)) (nat_lt MOST_REQUESTS (request_count set))
     (some _ s.tasks_from) (inside 1 MOST_PROCESSORS set.processors s.processors_from s.processors_to) (within MOST_TASKS _ s.tasks_to) (within MOST_RESOURCES _ s.resources_to) (within MOST_REQUESTS _ s.requests_to)
 
-names_free : (set : SetDef) → IsAccepted set → find (is_due set) (name_refusals set) ≡ None
+names_free : (set : SetDef) → KeepsRanges set → find (is_due set) (name_refusals set) ≡ None
 unfolding is_due
 names_free set h =
     none_joined (is_due set) (at_resources set (λ q. refusal.Name (place.Resource q))) _ (resources_free set (λ q. refusal.Name (place.Resource q)) (λ q l. holds (is_name (resource_at set q).name) (h.names.resource_names q l)))
@@ -94,7 +94,7 @@ names_free set h =
     (resources_free set (λ q. refusal.TwiceName (place.Resource q)) (λ q l. none_alike (λ r. r.name) set.resources q no_resource (λ p k. h.names.resources_apart p q k l)))
     (tasks_free set (λ x. refusal.TwiceName (place.Task x)) (λ x l. none_alike (λ t. t.name) set.tasks x no_task (λ y k. h.names.tasks_apart y x k l)))))
 
-numbers_free : (set : SetDef) → IsAccepted set → find (is_due set) (number_refusals set) ≡ None
+numbers_free : (set : SetDef) → KeepsRanges set → find (is_due set) (number_refusals set) ≡ None
 unfolding is_due
 numbers_free set h =
     none_joined (is_due set) (at_tasks set (λ x. refusal.Processor (record { 0 = x }))) _ (tasks_free set (λ x. refusal.Processor (record { 0 = x })) (λ x l. inside 1 set.processors (task_at set x).processor (at x l).processor_from (at x l).processor_to))
@@ -111,7 +111,7 @@ numbers_free set h =
       period_from : (x : ℕ) → x < length set.tasks → 1 ≤ (task_at set x).period
       period_from x l = let n : TaskNumbers set x = h.numbers x l in omega (arith, n.cost_from, n.cost_to, n.deadline_to)
 
-entries_free : (set : SetDef) → IsAccepted set → find (is_due set) (request_refusals set) ≡ None
+entries_free : (set : SetDef) → KeepsRanges set → find (is_due set) (request_refusals set) ≡ None
 unfolding is_due
 entries_free set h =
     none_joined (is_due set) (at_requests set (λ x j. refusal.Resource (place.Request x j))) _
@@ -122,13 +122,14 @@ entries_free set h =
     (requests_free set (λ x j. refusal.Count (place.Request x j)) (λ x j l k. inside 1 MOST_COUNT (request_at set x j).count (h.requests x j l k).count_from (h.requests x j l k).count_to))
     (requests_free set (λ x j. refusal.Length (place.Request x j)) (λ x j l k. length_inside (request_at set x j).length (task_at set x).cost (h.requests x j l k).length_from (h.requests x j l k).length_to))))
 
-homes_free : (set : SetDef) → IsAccepted set → find (is_due set) (at_resources set (λ q. refusal.Home (record { 0 = q }))) ≡ None
+homes_free : (set : SetDef) → KeepsRanges set → find (is_due set) (at_resources set (λ q. refusal.Home (record { 0 = q }))) ≡ None
 unfolding is_due
 homes_free set h =
     resources_free set (λ q. refusal.Home (record { 0 = q })) (λ q l. home_inside set (resource_at set q).home (λ k e. (h.homes.homes_from q k l e, h.homes.homes_to q k l e)))
 
 -- Of an accepted set no refusal is due.
 pub free_from_accepted : (set : SetDef) → IsAccepted set → first_refusal set ≡ None
+unfolding IsAccepted
 free_from_accepted set h =
     none_joined (is_due set) size_refusals _ (sizes_free set h.sizes)
     (none_joined (is_due set) (name_refusals set) _ (names_free set h)

@@ -1,25 +1,16 @@
 -- What follows from a set's being accepted, in the words of the field.
-use Rattle.std.proofs.Common.{◌≡◌, ◌≢◌, ℕ, ◌<◌, ◌≤◌, Bool, true, false, cond, not, List, [], ◌∷◌, map, length, take, refl, arith, Option, Some, None, suc, subst, nat_lt, ◌&&◌, ◌||◌, ◌==◌, lit<, IsTrue, ◌⊎◌, inl, inr, sym, IfSome}
-use Rattle.std.specs.List.{find, slice_index_or, list_any}
-use Rattle.std.specs.Int.{is_in_range}
+use Rattle.std.proofs.Common.{◌≡◌, ◌≢◌, ℕ, ◌<◌, ◌≤◌, Bool, true, false, cond, not, List, [], ◌∷◌, length, arith, Option, Some, None, suc, subst, nat_lt, ◌&&◌, ◌==◌, ◌⊎◌, inl, inr, sym, IfSome}
+use Rattle.std.specs.List.{find, slice_index_or}
 use Rattle.std.specs.Option.{option_map}
 use Rattle.std.specs.Str.{bytes_eq}
 use Rattle.std.proofs.lemmas.Bool.{ltb-true}
 use Rattle.std.proofs.lemmas.Bool.Decides.{nat_tests}
-use Rattle.std.proofs.lemmas.List.{get_or-take, length-take}
-use Rattle.std.proofs.lemmas.List.Folds.{list_any_at}
 use Rattle.std.proofs.lemmas.List.Quantifiers.{position-Some}
 use Rattle.std.proofs.lemmas.Slice.Eq.{bytes_eq-Decides}
-use Rattle.sporadic_model.specs.SetDef.{SetDef, RequestDef, task_at, resource_at, request_at, request_count, no_task, no_resource, no_request}
-use Rattle.sporadic_model.specs.Names.{is_name}
+use Rattle.sporadic_model.specs.SetDef.{SetDef, RequestDef, task_at, resource_at, no_task, no_resource, no_request}
 use Rattle.sporadic_model.specs.Users.{numbers, count_of, is_user, is_remote_user, ceiling_of, task_with_name, resource_with_name}
-use Rattle.sporadic_model.specs.Refusals.{is_due, size_refusals, at_tasks, at_resources, at_requests, name_refusals, number_refusals, request_refusals, has_resource_named, first_refusal}
 use Rattle.sporadic_model.specs.Accepted.{IsAccepted, SetSizes, TaskNumbers, RequestNumbers, EntryNumbers, AreNamed, AreEntries, AreHomes, IsHighestUser, HasNoUser, IsHighestRemoteUser, HasNoRemoteUser}
-use Rattle.sporadic_model.specs.declared.limits.TheConstants.{MOST_PROCESSORS, MOST_TASKS, MOST_RESOURCES, MOST_REQUESTS, MOST_TICKS, MOST_COUNT}
-use Rattle.sporadic_model.specs.declared.refusal.Place.TheVariants as place
-use Rattle.sporadic_model.specs.declared.refusal.ModelRefusal.{ModelRefusal}
-use Rattle.sporadic_model.specs.declared.refusal.ModelRefusal.TheVariants as refusal
-use Rattle.sporadic_model.proofs.Finding.{none_at, none_in_at, none_of_both, each_fails, first_of_range, none_in_range}
+use Rattle.sporadic_model.proofs.Finding.{first_of_range, none_in_range}
 
 pub found_or : {A : Type 0} (b : Bool) (x e : A) (o : Option A) → cond b (Some x) o ≡ Some e → (x ≡ e) ⊎ (o ≡ Some e)
 found_or true x e o h = inl (cc)
@@ -39,21 +30,27 @@ found_at p (x ∷ xs) d e h =
 
 -- The parts of being accepted.
 pub numbers_of_accepted : (set : SetDef) (x : ℕ) → IsAccepted set → x < length set.tasks → TaskNumbers set x
+unfolding IsAccepted
 numbers_of_accepted set x h = h.numbers x
 
 pub requests_of_accepted : (set : SetDef) (x j : ℕ) → IsAccepted set → x < length set.tasks → j < length (task_at set x).requests → RequestNumbers set x j
+unfolding IsAccepted
 requests_of_accepted set x j h = h.requests x j
 
 pub sizes_of_accepted : (set : SetDef) → IsAccepted set → SetSizes set
+unfolding IsAccepted
 sizes_of_accepted set h = h.sizes
 
 pub names_of_accepted : (set : SetDef) → IsAccepted set → AreNamed set
+unfolding IsAccepted
 names_of_accepted set h = h.names
 
 pub entries_of_accepted : (set : SetDef) (x : ℕ) → IsAccepted set → x < length set.tasks → AreEntries set x
+unfolding IsAccepted
 entries_of_accepted set x h = h.entries x
 
 pub homes_of_accepted : (set : SetDef) → IsAccepted set → AreHomes set
+unfolding IsAccepted
 homes_of_accepted set h = h.homes
 
 -- The numbers of each entry that is found among a task's are in their ranges.

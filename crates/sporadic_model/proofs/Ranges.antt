@@ -1,25 +1,22 @@
 -- Where no refusal of a task set is due, all stands in its range; and where all does, none is due.
-use Rattle.std.proofs.Common.{◌≡◌, ◌≢◌, ℕ, ◌<◌, ◌≤◌, Bool, true, false, cond, not, List, [], ◌∷◌, map, length, take, refl, arith, Option, Some, None, suc, subst, nat_lt, ◌&&◌, ◌||◌, ◌==◌, lit<, IsTrue, ◌⊎◌, inl, inr, sym, IfSome}
+use Rattle.std.proofs.Common.{◌≡◌, ◌≢◌, ℕ, ◌<◌, ◌≤◌, Bool, true, false, not, List, [], ◌∷◌, map, length, take, refl, arith, Some, None, suc, nat_lt, ◌&&◌, ◌||◌, ◌==◌, lit<, IsTrue, ◌⊎◌, inl, inr}
 use Rattle.std.specs.List.{find, slice_index_or, list_any}
 use Rattle.std.specs.Int.{is_in_range}
-use Rattle.std.specs.Option.{option_map}
 use Rattle.std.specs.Str.{bytes_eq}
-use Rattle.std.proofs.lemmas.Bool.{ltb-true}
 use Rattle.std.proofs.lemmas.Bool.Decides.{nat_tests}
 use Rattle.std.proofs.lemmas.List.{get_or-take, length-take}
 use Rattle.std.proofs.lemmas.List.Folds.{list_any_at}
-use Rattle.std.proofs.lemmas.List.Quantifiers.{position-Some}
 use Rattle.std.proofs.lemmas.Slice.Eq.{bytes_eq-Decides}
-use Rattle.sporadic_model.specs.SetDef.{SetDef, RequestDef, task_at, resource_at, request_at, request_count, no_task, no_resource, no_request}
+use Rattle.sporadic_model.specs.SetDef.{SetDef, task_at, resource_at, request_at, request_count, no_task, no_resource, no_request}
 use Rattle.sporadic_model.specs.Names.{is_name}
-use Rattle.sporadic_model.specs.Users.{numbers, count_of, is_user, is_remote_user, ceiling_of, task_with_name, resource_with_name}
+use Rattle.sporadic_model.specs.Users.{numbers}
 use Rattle.sporadic_model.specs.Refusals.{is_due, size_refusals, at_tasks, at_resources, at_requests, name_refusals, number_refusals, request_refusals, has_resource_named, first_refusal}
-use Rattle.sporadic_model.specs.Accepted.{IsAccepted, SetSizes, TaskNumbers, RequestNumbers, EntryNumbers, AreNamed, AreEntries, AreHomes, IsHighestUser, HasNoUser, IsHighestRemoteUser, HasNoRemoteUser}
+use Rattle.sporadic_model.specs.Accepted.{IsAccepted, SetSizes, TaskNumbers, RequestNumbers, AreNamed, AreEntries, AreHomes}
 use Rattle.sporadic_model.specs.declared.limits.TheConstants.{MOST_PROCESSORS, MOST_TASKS, MOST_RESOURCES, MOST_REQUESTS, MOST_TICKS, MOST_COUNT}
 use Rattle.sporadic_model.specs.declared.refusal.Place.TheVariants as place
 use Rattle.sporadic_model.specs.declared.refusal.ModelRefusal.{ModelRefusal}
 use Rattle.sporadic_model.specs.declared.refusal.ModelRefusal.TheVariants as refusal
-use Rattle.sporadic_model.proofs.Finding.{none_at, none_in_at, none_of_both, each_fails, first_of_range, none_in_range}
+use Rattle.sporadic_model.proofs.Finding.{none_at, none_in_at, none_of_both, each_fails}
 
 -- No refusal of any of the five groups is due.
 pub record NoneDue (set : SetDef) : Type 0 where
@@ -181,6 +178,7 @@ homes_of_free set h = record {
 
 -- A set for which no refusal is due is accepted.
 pub accepted_from_free : (set : SetDef) → first_refusal set ≡ None → IsAccepted set
+unfolding IsAccepted
 accepted_from_free set h = record {
   sizes = sizes_of_free set h;
   names = names_of_free set h;

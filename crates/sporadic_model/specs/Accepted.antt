@@ -57,14 +57,18 @@ pub record AreHomes (set : SetDef) : Type 0 where
   pub homes_from : (q k : ℕ) → q < length set.resources → (resource_at set q).home ≡ Some k → 1 ≤ k
   pub homes_to : (q k : ℕ) → q < length set.resources → (resource_at set q).home ≡ Some k → k ≤ set.processors
 
--- Is the set accepted: do its sizes, names, numbers, entries and homes all stand in their ranges?
-pub record IsAccepted (set : SetDef) : Type 0 where
+-- The sizes, names, numbers, entries and homes of the set all stand in their ranges.
+pub record KeepsRanges (set : SetDef) : Type 0 where
   pub sizes : SetSizes set
   pub names : AreNamed set
   pub numbers : (x : ℕ) → x < length set.tasks → TaskNumbers set x
   pub entries : (x : ℕ) → x < length set.tasks → AreEntries set x
   pub requests : (x j : ℕ) → x < length set.tasks → j < length (task_at set x).requests → RequestNumbers set x j
   pub homes : AreHomes set
+
+-- Is the set accepted? It is where all of it stands in its range.
+unfoldable pub IsAccepted : SetDef → Type 0
+IsAccepted set = KeepsRanges set
 
 -- Do the positions of the set's resources, tasks and entries fit the 32 bits of an id?
 pub record FitsIds (set : SetDef) : Type 0 where

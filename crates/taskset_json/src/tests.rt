@@ -6,6 +6,9 @@ use std::alloc::{AllocError, Global};
 use std::fmt::Write;
 use std::test::Fail;
 
+/// More bytes than any text of these tests has.
+const MOST_TEXT: usize = 100_000;
+
 /// A line for each resource and each task, and after a task one for each resource that it uses.
 fn described(alloc: Global, set: &TaskSet) -> Result<String, AllocError> {
     let mut text = String::new(alloc);
