@@ -3,6 +3,7 @@ pub mod Fields
 pub mod Rests
 pub mod Sized
 pub mod Reading
+pub mod Examples
 pub mod Dividing
 pub mod Tokens
 pub mod JobsTaken

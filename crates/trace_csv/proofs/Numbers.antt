@@ -1,5 +1,5 @@
 -- Numbers in text: what is left to read of one, and what `decimal` writes.
-use Rattle.std.proofs.Common.{◌≡◌, ◌<◌, ◌+◌, ◌-◌, ◌*◌, ℕ, suc, List, [], ◌∷◌, length, drop, get_or, min, refl, ap, sym, ◌∙◌, arith, add-one, drop-cons}
+use Rattle.std.proofs.Common.{◌≡◌, ◌<◌, ◌+◌, ◌-◌, ◌*◌, ℕ, suc, List, [], ◌∷◌, length, drop, get_or, min, arith, add-one, drop-cons}
 use Rattle.trace_csv.specs.Numbers.{value_after}
 
 -- What digits write after two numbers that are the same up to a cap is the same up to the cap.

@@ -1,8 +1,8 @@
 -- The records that a reader gave one after another are the records of the text.
-use Rattle.std.proofs.Common.{◌≡◌, ◌<◌, ◌≤◌, ◌+◌, ◌++◌, ℕ, zero, suc, List, [], ◌∷◌, length, Bool, true, false, Option, None, Some, refl, sym, ap, ◌∙◌, arith, ◌==◌, inl, inr}
+use Rattle.std.proofs.Common.{◌≡◌, ◌<◌, ◌≤◌, ◌+◌, ◌++◌, ℕ, zero, suc, List, [], ◌∷◌, length, true, false, None, Some, refl, sym, ap, ◌∙◌, arith, ◌==◌, inl, inr}
 use Rattle.std.proofs.lemmas.Bool.{cases_Bool, false≢true}
 use Rattle.csv.specs.Machine.{Read, next_record, step, is_end, ends_at_end, fields_after, field_after}
-use Rattle.csv.specs.Reading.{AreRecords, Reached, default_config, records, records_from, records_next}
+use Rattle.csv.specs.Reading.{AreRecords, Reached, default_config, records, records_from}
 use Rattle.csv.specs.declared.parser.State.{State}
 use Rattle.csv.specs.declared.parser.State.TheVariants as st
 

@@ -1,5 +1,5 @@
 -- What is left of a list, and its items one by one.
-use Rattle.std.proofs.Common.{◌≡◌, ◌<◌, ◌+◌, ℕ, zero, suc, List, [], ◌∷◌, length, get_or, map, drop, refl, ap, sym, ◌∙◌, arith, add-one, drop-cons}
+use Rattle.std.proofs.Common.{◌≡◌, ◌<◌, ◌+◌, ℕ, zero, suc, List, [], ◌∷◌, length, get_or, map, drop, ap, sym, arith, add-one, drop-cons}
 
 module _ {A : Type 0} where
   -- The next item, and the rest.

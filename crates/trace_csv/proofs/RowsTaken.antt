@@ -1,8 +1,7 @@
 -- One more line of a file of rows.
-use Rattle.std.proofs.Common.{◌≡◌, ◌<◌, ◌+◌, ◌++◌, ℕ, List, [], ◌∷◌, length, map, take, sym, ap, ◌∙◌}
+use Rattle.std.proofs.Common.{◌≡◌, ◌<◌, ◌+◌, ◌++◌, ℕ, List, [], ◌∷◌, length, take, sym, ap, ◌∙◌}
 use Rattle.std.proofs.lemmas.List.{map-append, take_more}
 use Rattle.schedule_model.specs.JobDef.{JobsDef}
-use Rattle.schedule_model.specs.RowDef.{RunDef}
 use Rattle.schedule_model.specs.Fitting.{RowsDef}
 use Rattle.trace_csv.specs.Records.{Fields, line_at}
 use Rattle.trace_csv.specs.RowLines.{run_written, runs_written, line_refusal, refusal_at}

@@ -1,16 +1,16 @@
 -- The run that a line of a file of rows writes is one for the jobs.
-use Rattle.std.proofs.Common.{◌≡◌, ◌<◌, ◌≤◌, ◌+◌, ◌-◌, ◌==◌, ◌&&◌, ℕ, Bool, true, false, List, [], ◌∷◌, length, map, take, drop, Option, None, Some, refl, sym, ap, subst, ◌∙◌, arith, inl, inr, min}
-use Rattle.std.specs.Prelude.{nat_lt, nat_le, option_map}
+use Rattle.std.proofs.Common.{◌≡◌, ◌≤◌, ◌+◌, ◌-◌, ℕ, true, List, [], ◌∷◌, length, map, take, drop, Option, None, Some, refl, subst, arith, inl, inr}
+use Rattle.std.specs.Prelude.{nat_le, option_map}
 use Rattle.std.specs.Option.{option_and_then}
 use Rattle.std.specs.Int.{is_in_range}
 use Rattle.std.specs.List.{list_all}
-use Rattle.std.proofs.lemmas.Bool.{and_parts, cases_Bool, false≢true, lt-ltb, leb-true, eq-eqb}
+use Rattle.std.proofs.lemmas.Bool.{and_parts, cases_Bool, lt-ltb, leb-true, eq-eqb}
 use Rattle.std.proofs.lemmas.List.{length-take, length-drop}
 use Rattle.sporadic_model.proofs.Mapped.{length-map}
 use Rattle.sporadic_model.specs.declared.limits.TheConstants.{MOST_TICKS}
 use Rattle.schedule_model.specs.JobDef.{JobsDef}
-use Rattle.schedule_model.specs.Fitting.{is_below, names_below, names_jobs, is_sized}
-use Rattle.trace_csv.specs.Numbers.{if_in_range, number_in, number_between}
+use Rattle.schedule_model.specs.Fitting.{is_below, names_below, is_sized}
+use Rattle.trace_csv.specs.Numbers.{if_in_range, number_in}
 use Rattle.trace_csv.specs.RowLines.{is_cell, is_listed, job_in, job_count, processor_count, resource_count, row_of_cells, run_written, ticks_in, cells_refusal}
 use Rattle.trace_csv.specs.RowAnswers.{IsRunOf}
 

@@ -1,8 +1,8 @@
 -- The tokens of a text, by its first space.
-use Rattle.std.proofs.Common.{◌≡◌, ◌+◌, ◌==◌, ℕ, suc, List, [], ◌∷◌, take, drop, Bool, true, false, refl, ap, sym, ◌∙◌, arith, inl, inr}
+use Rattle.std.proofs.Common.{◌≡◌, ◌+◌, ◌==◌, ℕ, suc, List, [], ◌∷◌, Bool, true, false, refl, sym, ◌∙◌, arith, inl, inr}
 use Rattle.std.proofs.lemmas.Bool.{cases_Bool, false≢true}
 use Rattle.std.specs.List.{list_any, before_first, after_first, position_or_len}
-use Rattle.trace_csv.specs.Scripts.{space, tokens_in, with_first}
+use Rattle.trace_csv.specs.Scripts.{space, tokens_in}
 
 abbrev is_space : ℕ → Bool
 is_space b = b == space

@@ -21,11 +21,14 @@ use Rattle.trace_csv.specs.JobLines.{segment_written, has_known_resource, job_of
 -- The segment that the part writes; or the part requests no resource of the set.
 abbrev pub SegmentOf : Option Segment → SetDef → PartDef → Type 0
 SegmentOf None set part = has_known_resource set part ≡ false
-SegmentOf (Some s) set part = (has_known_resource set part ≡ true) × (segment_seen s ≡ segment_written set part) × (is_resource_in (length set.resources) (segment_seen s) ≡ true)
+SegmentOf (Some s) set part =
+    (has_known_resource set part ≡ true) × (segment_seen s ≡ segment_written set part)
+    × (is_resource_in (length set.resources) (segment_seen s) ≡ true)
 
 -- The segments that the parts write; or one of them requests no resource of the set.
 abbrev pub SegmentsRead : Result (Vec Segment Global) SegmentFault → SetDef → List PartDef → Type 0
-SegmentsRead (Ok segments) set parts = (list_all (has_known_resource set) parts ≡ true) × (map segment_seen segments.items ≡ map (segment_written set) parts)
+SegmentsRead (Ok segments) set parts =
+    (list_all (has_known_resource set) parts ≡ true) × (map segment_seen segments.items ≡ map (segment_written set) parts)
     × (are_resources_in (length set.resources) (map segment_seen segments.items) ≡ true)
 SegmentsRead (Err fault.Form) set parts = ⊥
 SegmentsRead (Err fault.UnknownName) set parts = list_all (has_known_resource set) parts ≡ false
@@ -44,7 +47,9 @@ pub record IsOfSet (set : SetDef) (job : JobDef) : Type 0 where
 
 -- The job that the line writes, or why it is refused for its form and names.
 abbrev pub FieldsRead : Result Job JobsRefusal → SetDef → List ℕ → List ℕ → List ℕ → ℕ → Type 0
-FieldsRead (Ok job) set name release script k = (fields_refusal set name release script k ≡ None) × (job_seen job ≡ job_of_fields set name release script) × IsOfSet set (job_seen job)
+FieldsRead (Ok job) set name release script k =
+    (fields_refusal set name release script k ≡ None) × (job_seen job ≡ job_of_fields set name release script)
+    × IsOfSet set (job_seen job)
 FieldsRead (Err refusal.Memory) set name release script k = Unit {0}
 FieldsRead (Err r) set name release script k = fields_refusal set name release script k ≡ Some r
 

@@ -66,7 +66,8 @@ at_line k push.Memory = refusal.Memory
 -- Why a line is refused after the jobs that are listed, if it is: for its form and names, or else as the list
 -- refuses the job that it writes.
 abbrev pub line_refusal : JobsDef → Fields → ℕ → Option JobsRefusal
-line_refusal before line k = option_or (form_refusal before.set line k) (option_map (at_line k) (first_refusal before (job_written before.set line)))
+line_refusal before line k =
+    option_or (form_refusal before.set line k) (option_map (at_line k) (first_refusal before (job_written before.set line)))
 
 -- The jobs that lines write.
 abbrev pub jobs_written : SetDef → List Fields → JobsDef

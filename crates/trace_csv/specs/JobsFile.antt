@@ -43,7 +43,8 @@ abbrev pub RecordsRead : Result JobsDef JobsRefusal → SetDef → List Fields �
 RecordsRead (Ok list) set records = AreJobsRecords set records × (list ≡ jobs_written set (drop 1 records))
 RecordsRead (Err refusal.Memory) set records = Unit {0}
 RecordsRead (Err r) set records =
-    ((r ≡ refusal.Fields 0) × (HasJobsHeader records → ⊥)) ⊎ (HasJobsHeader records × ((i : ℕ) × IsFirstRefused set (drop 1 records) i r))
+    ((r ≡ refusal.Fields 0) × (HasJobsHeader records → ⊥))
+    ⊎ (HasJobsHeader records × ((i : ℕ) × IsFirstRefused set (drop 1 records) i r))
 
 -- What it says of the text: the same of its records.
 abbrev pub JobsRead : Result JobsDef JobsRefusal → SetDef → List ℕ → Type 0

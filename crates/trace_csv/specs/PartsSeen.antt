@@ -19,7 +19,9 @@ part_seen p = record { local = p.local; request = option_map request_seen p.requ
 -- The text has no such byte; or the two are what stands before the first one and after it.
 abbrev pub Divides : Option (Bor (List ℕ) × Bor (List ℕ)) → List ℕ → ℕ → Type 0
 Divides None text byte = list_any (λ b. b == byte) text ≡ false
-Divides (Some p) text byte = (p.0.now ≡ before_first (λ b. b == byte) text) × (p.1.now ≡ after_first (λ b. b == byte) text) × (length p.1.now < length text) × (list_any (λ b. b == byte) text ≡ true)
+Divides (Some p) text byte =
+    (p.0.now ≡ before_first (λ b. b == byte) text) × (p.1.now ≡ after_first (λ b. b == byte) text)
+    × (length p.1.now < length text) × (list_any (λ b. b == byte) text ≡ true)
 
 -- The tokens of what is left of a script, if there is more.
 abbrev pub tokens_left : Option (List ℕ) → List (List ℕ)

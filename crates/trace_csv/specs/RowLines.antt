@@ -37,7 +37,8 @@ resource_count jobs = length jobs.set.resources
 
 -- The row that cells write: per processor the job that runs, and then per resource the job that holds it.
 abbrev pub row_of_cells : ℕ → ℕ → List (List ℕ) → RowDef
-row_of_cells processors n cells = record { running = map (job_in n) (take processors cells); holders = map (job_in n) (drop processors cells) }
+row_of_cells processors n cells =
+    record { running = map (job_in n) (take processors cells); holders = map (job_in n) (drop processors cells) }
 
 abbrev pub row_written : JobsDef → List (List ℕ) → RowDef
 row_written jobs cells = row_of_cells (processor_count jobs) (job_count jobs) cells

@@ -1,5 +1,5 @@
 -- Files of rows in CSV, and what the answer of reading one says.
-use Rattle.std.specs.Prelude.{◌≡◌, ℕ, ◌+◌, ◌<◌, ◌⊎◌, codes, decimal, List, [], ◌∷◌, ◌++◌, map, length, drop, slice_get, None, Some, Result, Ok, Err}
+use Rattle.std.specs.Prelude.{◌≡◌, ℕ, ◌<◌, ◌⊎◌, codes, decimal, List, ◌∷◌, ◌++◌, map, length, drop, slice_get, None, Some, Result, Ok, Err}
 use Rattle.std.specs.List.{range_with_len}
 use Rattle.sporadic_model.specs.SetDef.{SetDef}
 use Rattle.schedule_model.specs.JobDef.{JobsDef}
@@ -48,12 +48,14 @@ pub record IsFirstRefused (jobs : JobsDef) (lines : List Fields) (i : ℕ) (r : 
 
 -- The runs in a list of rows that is made for the jobs.
 abbrev pub rows_with : JobsDef → List RunDef → RowsDef
-rows_with jobs runs = record { processors = jobs.set.processors; resources = length jobs.set.resources; jobs = length jobs.jobs; runs = runs }
+rows_with jobs runs =
+    record { processors = jobs.set.processors; resources = length jobs.set.resources; jobs = length jobs.jobs; runs = runs }
 
 -- What the answer says of the text's lines after the header: the runs that they write, none of which is
 -- refused, or the first line that is. Only want of memory says nothing of them.
 abbrev pub LinesRead : Result RowsDef RowsRefusal → JobsDef → List Fields → Type 0
-LinesRead (Ok rows) jobs lines = ((i : ℕ) → i < length lines → refusal_at jobs lines i ≡ None) × (rows ≡ rows_with jobs (runs_written jobs lines))
+LinesRead (Ok rows) jobs lines =
+    ((i : ℕ) → i < length lines → refusal_at jobs lines i ≡ None) × (rows ≡ rows_with jobs (runs_written jobs lines))
 LinesRead (Err refusal.Memory) jobs lines = Unit {0}
 LinesRead (Err r) jobs lines = (i : ℕ) × IsFirstRefused jobs lines i r
 
@@ -63,7 +65,8 @@ abbrev pub RecordsRead : Result RowsDef RowsRefusal → JobsDef → List Fields 
 RecordsRead (Ok rows) jobs records = AreRowsRecords jobs records × (rows ≡ rows_with jobs (runs_written jobs (drop 1 records)))
 RecordsRead (Err refusal.Memory) jobs records = Unit {0}
 RecordsRead (Err r) jobs records =
-    ((r ≡ refusal.Fields 0) × (HasRowsHeader jobs.set records → ⊥)) ⊎ (HasRowsHeader jobs.set records × ((i : ℕ) × IsFirstRefused jobs (drop 1 records) i r))
+    ((r ≡ refusal.Fields 0) × (HasRowsHeader jobs.set records → ⊥))
+    ⊎ (HasRowsHeader jobs.set records × ((i : ℕ) × IsFirstRefused jobs (drop 1 records) i r))
 
 -- What it says of the text: the same of its records.
 abbrev pub RowsRead : Result RowsDef RowsRefusal → JobsDef → List ℕ → Type 0

@@ -1,5 +1,5 @@
 -- Scripts in text: local numbers and requests in turn, one space between them.
-use Rattle.std.specs.Prelude.{ℕ, ◌==◌, ◌&&◌, Bool, List, [], ◌∷◌, ◌++◌, length, Option, None, Some, option_map, if◌then◌else◌}
+use Rattle.std.specs.Prelude.{ℕ, ◌==◌, Bool, List, [], ◌∷◌, ◌++◌, length, Option, None, Some, option_map, if◌then◌else◌}
 use Rattle.std.specs.List.{before_first, after_first}
 use Rattle.std.specs.Int.{is_in_range}
 use Rattle.sporadic_model.specs.declared.limits.TheConstants.{MOST_NAME, MOST_TICKS}
@@ -43,8 +43,8 @@ is_name name = is_in_range 1 MOST_NAME (length name)
 abbrev pub request_in : List ℕ → Option NamedRequest
 request_in token =
     let name = before_first (λ b. b == colon) token in
-    if is_name name then option_map (λ n. record { resource = name; ticks = n }) (number_between 1 MOST_TICKS (after_first (λ b. b == colon) token))
-    else None
+    let ticks = number_between 1 MOST_TICKS (after_first (λ b. b == colon) token) in
+    if is_name name then option_map (λ n. record { resource = name; ticks = n }) ticks else None
 
 -- The parts that the tokens are, the first of them a local number, and then requests and local numbers in
 -- turn. The last part may lack its request.

@@ -41,7 +41,8 @@ pub record ReadsBack (rows : RowsDef) (text : List ℕ) (jobs : JobsDef) : Type 
   pub runs : runs_in jobs text ≡ rows.runs
 
 abbrev pub ReadsBackIfFitting : SetDef → RowsDef → List ℕ → Type 0
-ReadsBackIfFitting set rows text = (jobs : JobsDef) → jobs.set ≡ set → length jobs.jobs ≤ MOST_JOBS → is_fitting rows jobs ≡ true → ReadsBack rows text jobs
+ReadsBackIfFitting set rows text =
+    (jobs : JobsDef) → jobs.set ≡ set → length jobs.jobs ≤ MOST_JOBS → is_fitting rows jobs ≡ true → ReadsBack rows text jobs
 
 -- A writer that stands between two records.
 pub record IsBetween (w : Writer (Vec ℕ Global)) : Type 0 where

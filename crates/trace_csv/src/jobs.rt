@@ -137,10 +137,7 @@ fn take_line(
 ) -> Result<(), JobsRefusal>
     ensures { LineTaken result jobs.old jobs.new (fields_of row.now) line }
 {
-    let job = match job_of(alloc, jobs.set(), row, line) {
-        Ok(job) => job,
-        Err(refusal) => return Err(refusal),
-    };
+    let job = job_of(alloc, jobs.set(), row, line)?;
     match jobs.push(job) {
         Ok(()) => Ok(()),
         Err(refusal) => Err(refused_at(line, refusal)),
@@ -157,10 +154,7 @@ fn jobs_of<'a>(
 {
     let mut jobs = JobList::new(alloc, set);
     for (i, row) in lines.iter().enumerate() {
-        match take_line(&mut jobs, alloc, row, i as u64 + 1) {
-            Ok(()) => {}
-            Err(refusal) => return Err(refusal),
-        }
+        take_line(&mut jobs, alloc, row, i as u64 + 1)?;
     }
     Ok(jobs)
 }

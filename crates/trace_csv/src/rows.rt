@@ -152,10 +152,7 @@ fn take_line(
     requires { IsMade rows.old jobs.now }
     ensures { LineTaken result jobs.now rows.old rows.new (fields_of row.now) line }
 {
-    let run = match run_of(alloc, jobs, row, line) {
-        Ok(run) => run,
-        Err(refusal) => return Err(refusal),
-    };
+    let run = run_of(alloc, jobs, row, line)?;
     match rows.push(run) {
         Ok(()) => Ok(()),
         Err(refusal) => Err(refused_at(line, refusal)),
@@ -168,10 +165,7 @@ fn rows_of(alloc: Global, jobs: &JobList, lines: &[ByteRecord]) -> Result<RowLis
 {
     let mut rows = RowList::new(alloc, jobs);
     for (i, row) in lines.iter().enumerate() {
-        match take_line(&mut rows, alloc, jobs, row, i as u64 + 1) {
-            Ok(()) => {}
-            Err(refusal) => return Err(refusal),
-        }
+        take_line(&mut rows, alloc, jobs, row, i as u64 + 1)?;
     }
     Ok(rows)
 }

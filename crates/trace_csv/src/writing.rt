@@ -85,6 +85,5 @@ pub fn write_rows(alloc: Global, set: &TaskSet, rows: &RowList) -> Result<Vec<u8
     ensures text { IfOk result (λ text. text.items ≡ rows_text set.now rows.now.runs) }
     ensures reads_back { IfOk result (λ text. ReadsBackIfFitting set.now rows.now text.items) }
 {
-    let text = text_of_rows(alloc, set, rows)?;
-    Ok(text)
+    text_of_rows(alloc, set, rows)
 }

@@ -1,7 +1,7 @@
-use Rattle.std.proofs.Common.{◌≡◌, ◌+◌, ◌++◌, ◌∷◌, [], ℕ, List, sym, ap, ◌∙◌, arith}
+use Rattle.std.proofs.Common.{◌+◌, ◌++◌, ◌∷◌, [], ℕ, List, sym, ap, ◌∙◌, arith}
 use Rattle.std.specs.Prelude.{codes}
 use Rattle.std.proofs.lemmas.List.FromFn.{map-range_with_len_more}
-use Rattle.trace_csv.specs.RowsFile.{processor_field, processor_fields}
+use Rattle.trace_csv.specs.RowsFile.{processor_field}
 use Rattle.trace_csv.proofs.header.processors_header.Goals as goal
 
 pub loop-k-preserved : goal.loop-k-preserved

@@ -1,7 +1,7 @@
-use Rattle.std.proofs.Common.{◌≡◌, ◌<◌, ◌+◌, ◌++◌, ◌∷◌, [], ℕ, List, length, map, take, get_or, refl, sym, ap, ◌∙◌, arith, append_assoc}
+use Rattle.std.proofs.Common.{◌≡◌, ◌<◌, ◌++◌, ◌∷◌, [], ℕ, List, length, take, get_or, sym, ap, ◌∙◌, arith, append_assoc}
 use Rattle.std.specs.Prelude.{codes}
 use Rattle.std.proofs.lemmas.List.{take_more}
-use Rattle.sporadic_model.specs.SetDef.{ResourceDef, no_resource, resource_at}
+use Rattle.sporadic_model.specs.SetDef.{ResourceDef, no_resource}
 use Rattle.sporadic_model.proofs.Mapped.{length-map, element-map}
 use Rattle.trace_csv.specs.RowsFile.{processor_fields, resource_fields}
 use Rattle.trace_csv.proofs.header.rows_header.Goals as goal

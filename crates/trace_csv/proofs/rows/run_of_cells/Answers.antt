@@ -1,10 +1,9 @@
-use Rattle.std.proofs.Common.{◌≡◌, ◌+◌, ◌∷◌, ℕ, List, Option, Some, Bor, true, map, length, sym, ap, subst, ◌∙◌, arith}
+use Rattle.std.proofs.Common.{◌≡◌, ◌+◌, ◌∷◌, ℕ, List, Some, Bor, true, map, length, sym, ap, subst, ◌∙◌, arith}
 use Rattle.std.specs.List.{list_all}
 use Rattle.std.specs.Option.{unwrap_or}
 use Rattle.sporadic_model.specs.SetDef.{SetDef}
 use Rattle.sporadic_model.proofs.Mapped.{length-map}
 use Rattle.schedule_model.specs.JobDef.{JobsDef}
-use Rattle.schedule_model.specs.RowDef.{RowDef, RunDef}
 use Rattle.schedule_model.specs.Seen.{row_seen, run_seen}
 use Rattle.trace_csv.specs.RowLines.{is_cell, is_listed, job_count, processor_count, resource_count, row_of_cells, row_written, run_written, ticks_in}
 use Rattle.trace_csv.specs.RowAnswers.{IsRunOf}

@@ -1,5 +1,4 @@
-use Rattle.std.proofs.Common.{◌≡◌, ◌<◌, ◌==◌, ℕ, List, ◌∷◌, ap, ◌∙◌, sym, arith, refl}
-use Rattle.trace_csv.specs.Scripts.{space, tokens_in}
+use Rattle.std.proofs.Common.{arith}
 use Rattle.trace_csv.proofs.Tokens.{one_token, more_tokens}
 use Rattle.trace_csv.proofs.script.first_token.Goals as goal
 

@@ -1,4 +1,4 @@
-use Rattle.std.proofs.Common.{◌≡◌, ℕ, map}
+use Rattle.std.proofs.Common.{◌≡◌, map}
 use Rattle.trace_csv.specs.Scripts.{script_in, parts_of, with_front}
 use Rattle.trace_csv.specs.PartsSeen.{part_seen, rest_seen, tokens_left, size_left}
 use Rattle.trace_csv.proofs.script.parts_in.Given as goal

@@ -1,8 +1,5 @@
-use Rattle.std.proofs.Common.{◌≡◌, ◌==◌, ℕ, Bool, cond, true, false, List, [], Option, None, Some, refl, sym, ap, ◌∙◌}
-use Rattle.std.specs.Prelude.{option_map}
-use Rattle.std.specs.List.{before_first, after_first, list_any}
-use Rattle.sporadic_model.specs.declared.limits.TheConstants.{MOST_TICKS}
-use Rattle.trace_csv.specs.Numbers.{number_between}
+use Rattle.std.proofs.Common.{◌≡◌, ◌==◌, ℕ, Bool, cond, true, false, List, Option, None, refl, sym}
+use Rattle.std.specs.List.{before_first, list_any}
 use Rattle.trace_csv.specs.Scripts.{NamedRequest, colon, is_name, request_in}
 use Rattle.trace_csv.proofs.Dividing.{none_after}
 use Rattle.trace_csv.proofs.script.request_of.Goals as goal

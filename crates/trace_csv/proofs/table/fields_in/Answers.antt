@@ -1,6 +1,6 @@
-use Rattle.std.proofs.Common.{◌≡◌, ◌≤◌, map, ℕ, ◌+◌, List, [], ◌∷◌, ◌++◌, Bor, add-one, Some, length, sym, ap, ◌∙◌, arith}
+use Rattle.std.proofs.Common.{◌≤◌, add-one, length, sym, arith}
 use Rattle.std.proofs.lemmas.List.{map-append}
-use Rattle.csv.specs.Records.{fields_of, field_at}
+use Rattle.csv.specs.Records.{fields_of}
 use Rattle.trace_csv.proofs.Fields.{take_field, no_field}
 use Rattle.trace_csv.proofs.table.fields_in.Goals as goal
 use Rattle.trace_csv.proofs.table.fields_in.Goals.{in-Some+in_ok-push-in-Some, in-None}

@@ -1,4 +1,4 @@
-use Rattle.std.proofs.Common.{◌≡◌, ◌<◌, ◌+◌, ◌++◌, ◌∷◌, [], ℕ, List, length, map, drop, get_or, sym, ap, ◌∙◌, append_assoc}
+use Rattle.std.proofs.Common.{◌≡◌, ◌<◌, ◌+◌, ◌++◌, ℕ, List, length, map, drop, get_or, sym, ap, ◌∙◌, append_assoc}
 use Rattle.csv.specs.Records.{fields_of}
 use Rattle.csv.specs.Writing.{default_writer, row_text}
 use Rattle.schedule_model.specs.Seen.{run_seen}

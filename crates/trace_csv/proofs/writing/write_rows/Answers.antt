@@ -1,12 +1,14 @@
+use Rattle.std.specs.Prelude.{IfOk, OnOk, Result, Ok, Err}
+use Rattle.std.specs.declared.vec.Vec.{Vec}
+use Rattle.std.specs.Global.{Global}
+use Rattle.std.specs.declared.alloc.AllocError.{AllocError}
 use Rattle.std.proofs.Common.{◌≡◌, ◌<◌, ◌≤◌, ◌^◌, ℕ, List, true, length, sym, ap, subst, ◌∙◌, arith}
-use Rattle.std.specs.List.{list_all}
 use Rattle.sporadic_model.specs.SetDef.{SetDef}
 use Rattle.schedule_model.specs.JobDef.{JobsDef}
-use Rattle.schedule_model.specs.RowDef.{RunDef}
 use Rattle.schedule_model.specs.Fitting.{RowsDef, IsRowList, is_fitting}
 use Rattle.schedule_model.specs.declared.limits.TheConstants.{MOST_JOBS}
 use Rattle.trace_csv.specs.RowLines.{job_count}
-use Rattle.trace_csv.specs.Written.{ReadsBack, rows_text}
+use Rattle.trace_csv.specs.Written.{ReadsBack, ReadsBackIfFitting, rows_text}
 use Rattle.trace_csv.proofs.RoundTrip.{all_fit, reads_back}
 use Rattle.trace_csv.proofs.writing.write_rows.Goals as goal
 
@@ -18,6 +20,11 @@ again set rows text jobs listed is same few fits =
     let read = reads_back jobs rows.runs small (all_fit jobs rows.runs fits listed.lasting) listed.most in
     subst (λ (t : List ℕ). ReadsBack rows t jobs) (sym there) (record { file = read.0; runs = read.1 })
 
+answered : (set : SetDef) (rows : RowsDef) (r : Result (Vec ℕ Global) AllocError) → IfOk r (λ text. text.items ≡ rows_text set rows.runs)
+    → OnOk r (IsRowList rows) → IfOk r (λ text. ReadsBackIfFitting set rows text.items)
+answered set rows (Ok text) is listed = λ jobs same few fits. again set rows text.items jobs listed is same few fits
+answered set rows (Err e) is listed = tt
+
 pub returns-clause-reads_back : goal.returns-clause-reads_back
-returns-clause-reads_back c jobs same few fits =
-    again c.args.set.now c.args.rows.now c.in_ok-text.text.items jobs c.in_ok-text.ensures.listed c.in_ok-text.ensures.text same few fits
+returns-clause-reads_back c =
+    answered c.args.set.now c.args.rows.now c.text_of_rows.result c.text_of_rows.ensures.text c.text_of_rows.ensures.listed
