@@ -1,5 +1,5 @@
 -- Each schedule whose rows can be taken is shown by some machine.
-use Rattle.std.proofs.Common.{◌≡◌, ◌⊎◌, ℕ, zero, suc, ◌+◌, ◌<◌, ◌≤◌, ◌==◌, ◌&&◌, Bool, true, false, List, [], ◌∷◌, ◌++◌, length, get_or, replicate, refl, sym, ap, subst, ◌∙◌, arith, add-one, length-append, inl, inr, Option, Some, None, leb, cond}
+use Rattle.std.proofs.Common.{◌≡◌, ◌⊎◌, ℕ, zero, suc, ◌+◌, ◌<◌, ◌≤◌, ◌==◌, ◌&&◌, Bool, List, [], ◌∷◌, ◌++◌, length, get_or, replicate, refl, sym, subst, ◌∙◌, arith, add-one, length-append, inl, inr, None, leb, cond}
 use Rattle.std.specs.List.{list_any}
 use Rattle.std.proofs.lemmas.Bool.{cases_lt, cases_Bool, and_parts, and_from, leb-true, le-leb, eqb-true, eq-eqb}
 use Rattle.std.proofs.lemmas.List.{get_or_append_left, get_or_at}
@@ -11,13 +11,13 @@ use Rattle.schedule_model.specs.LawfulJobs.{AreLawfulJobs}
 use Rattle.schedule_model.specs.RowDef.{RowDef, Trace, jobs_of, is_job, runs_in}
 use Rattle.schedule_model.specs.TakenRows.{CanBeTakenBefore}
 use Rattle.phase_machine.specs.declared.place.Place.{Place}
-use Rattle.phase_machine.specs.MachineDef.{MachineDef, IsMachine, IsPlace, IsNext, IsComing, IsDue, place_of, coming_of, task_in, segment_in, no_place}
+use Rattle.phase_machine.specs.MachineDef.{MachineDef, IsNext, IsComing, IsDue, place_of, coming_of, task_in, segment_in, no_place}
 use Rattle.phase_machine.specs.Shows.{Shows, Shown, ArePlacesAtFirst}
 use Rattle.phase_machine.specs.Taking.{CanTake}
 use Rattle.phase_machine.specs.Steps.{StepsTo, MovesTo}
 use Rattle.phase_machine.proofs.Coming.{due_later, due_at_first, coming_here, coming_next}
 use Rattle.phase_machine.proofs.Facts.{can_take}
-use Rattle.phase_machine.proofs.Taking.{Took, runs_listed, machine_at_first, shows_at_first, taken_shows}
+use Rattle.phase_machine.proofs.Taking.{runs_listed, machine_at_first, shows_at_first, taken_shows}
 
 -- A list with an element for each number below n that has one.
 pub listed_each : {A : Type 0} (d : A) (P : ℕ → A → Type 0) (n : ℕ) → ((x : ℕ) → x < n → (a : A) × P x a)
@@ -38,12 +38,15 @@ listed_each {A = A} d P (suc n) each =
 
 -- The task's first job from a number on.
 pub next_exists : (jobs : List JobDef) (x from : ℕ) → from ≤ length jobs → (j : ℕ) × IsNext jobs x from j
-next_exists jobs x from l = (first, record {
-  from_on = from_on (cases_lt first (length jobs));
-  most = first_below-at_most (length jobs) passes;
-  own = λ b. eqb-true (task_in jobs first) x (and_parts (leb from first) (task_in jobs first == x) (first_below-passes (length jobs) passes b)).1;
-  first = λ e a b same. absurd (omega (arith, first_below-least (length jobs) passes e (and_from (leb from e) (task_in jobs e == x) (le-leb from e a) (eq-eqb (task_in jobs e) x same))));
-}) where
+next_exists jobs x from l = (
+  first,
+  record {
+    from_on = from_on (cases_lt first (length jobs));
+    most = first_below-at_most (length jobs) passes;
+    own = λ b. eqb-true (task_in jobs first) x (and_parts (leb from first) (task_in jobs first == x) (first_below-passes (length jobs) passes b)).1;
+    first = λ e a b same. absurd (omega (arith, first_below-least (length jobs) passes e (and_from (leb from e) (task_in jobs e == x) (le-leb from e a) (eq-eqb (task_in jobs e) x same))));
+  },
+) where
   passes : ℕ → Bool
   passes e = leb from e && (task_in jobs e == x)
 
@@ -71,18 +74,17 @@ step_exists : (jobs : List JobDef) (after x : ℕ) (p : Place) → p.job < lengt
 step_exists jobs after x p l = elim (cases_lt (p.ticks + 1) (segment_ticks (segment_in jobs p.job p.segment))) [
   | inl further ↦ (
     record { job = p.job; segment = p.segment; ticks = p.ticks + 1; issued = cond (p.ticks + 1 == (segment_in jobs p.job p.segment).local) after p.issued },
-    record { further = λ _. refl; next = λ ends. absurd (omega arith); over = λ ends. absurd (omega arith) }
+    record { further = λ _. refl; next = λ ends. absurd (omega arith); over = λ ends. absurd (omega arith) },
   )
   | inr ends ↦ elim (cases_lt (p.segment + 1) (length (job_of jobs p.job).script)) [
     | inl more ↦ (
       record { job = p.job; segment = p.segment + 1; ticks = 0; issued = p.issued },
-      record { further = λ further. absurd (omega arith); next = λ _ _. refl; over = λ _ last. absurd (omega arith) }
+      record { further = λ further. absurd (omega arith); next = λ _ _. refl; over = λ _ last. absurd (omega arith) },
     )
     | inr last ↦
-        let next : (j : ℕ) × IsNext jobs x (p.job + 1) j = next_exists jobs x (p.job + 1) (omega arith) in
-        (
+        let next : (j : ℕ) × IsNext jobs x (p.job + 1) j = next_exists jobs x (p.job + 1) (omega arith) in (
           record { job = next.0; segment = 0; ticks = 0; issued = p.issued },
-          record { further = λ further. absurd (omega arith); next = λ _ more. absurd (omega arith); over = λ _ _. (next.1, refl, refl) }
+          record { further = λ further. absurd (omega arith); next = λ _ more. absurd (omega arith); over = λ _ _. (next.1, refl, refl) },
         )
   ]
 ]

@@ -26,7 +26,9 @@ pub record Shows (m : MachineDef) (rows : ℕ → RowDef) : Type 0 where
 -- Is each of these the place of its task before the first row: at the start of the task's first job?
 abbrev pub ArePlacesAtFirst : List JobDef → ℕ → List Place → Type 0
 ArePlacesAtFirst jobs tasks places = (x : ℕ) → x < tasks →
-    IsNext jobs x 0 (slice_index_or places x no_place).job × ((slice_index_or places x no_place).segment ≡ 0) × ((slice_index_or places x no_place).ticks ≡ 0)
+    IsNext jobs x 0 (slice_index_or places x no_place).job
+    × ((slice_index_or places x no_place).segment ≡ 0)
+    × ((slice_index_or places x no_place).ticks ≡ 0)
 
 -- A machine that shows the schedule after its rows before tick n.
 pub record Shown (w : Trace) (n : ℕ) : Type 0 where

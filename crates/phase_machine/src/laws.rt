@@ -6,7 +6,8 @@ ghost use Rattle.schedule_model.specs.Phase.{phase_of};
 ghost use Rattle.schedule_model.specs.Activity.{active_job_of, is_active, is_requester};
 ghost use Rattle.schedule_model.specs.TakenRows.{CanBeTaken, CanBeTakenBefore};
 ghost use Rattle.phase_machine.specs.MachineDef.{MachineDef, under};
-ghost use Rattle.phase_machine.specs.Now.{phase_now, current_now, active_now, holder_now, ready_now, waiting_now, requester_now, issued_now, is_ready_before, is_waiting_before, issue_of};
+ghost use Rattle.phase_machine.specs.Now.{phase_now, current_now, active_now, holder_now, ready_now, waiting_now, requester_now, issued_now};
+ghost use Rattle.phase_machine.specs.Now.{is_ready_before, is_waiting_before, issue_of};
 ghost use Rattle.phase_machine.specs.Taking.{CanTake};
 ghost use Rattle.phase_machine.specs.Shows.{Shows, Shown};
 
@@ -15,16 +16,20 @@ ghost use Rattle.phase_machine.specs.Shows.{Shows, Shown};
 pub fn machines_show_the_definitions()
     ensures phase { (m : MachineDef) (rows : ℕ → RowDef) → Shows m rows → (j : ℕ) → j < length m.list.jobs
         → phase_now m j ≡ phase_of (under m rows) m.tick j }
-    ensures active { (m : MachineDef) (rows : ℕ → RowDef) → Shows m rows → (j : ℕ) → active_now m j ≡ is_active (under m rows) m.tick j }
+    ensures active { (m : MachineDef) (rows : ℕ → RowDef) → Shows m rows → (j : ℕ)
+        → active_now m j ≡ is_active (under m rows) m.tick j }
     ensures current { (m : MachineDef) (rows : ℕ → RowDef) → Shows m rows → (x : ℕ) → x < length m.list.set.tasks
         → current_now m x ≡ active_job_of (under m rows) m.tick x }
     ensures requester { (m : MachineDef) (rows : ℕ → RowDef) → Shows m rows → (q j : ℕ)
         → requester_now m q j ≡ is_requester (under m rows) m.tick q j }
     ensures issued { (m : MachineDef) (rows : ℕ → RowDef) → Shows m rows → (j : ℕ) → j < length m.list.jobs
         → issued_now m j ≡ issue_of (under m rows) m.tick j }
-    ensures holder { (m : MachineDef) (rows : ℕ → RowDef) → Shows m rows → (q : ℕ) → holder_now m q ≡ held_before (under m rows) m.tick q }
-    ensures ready { (m : MachineDef) (rows : ℕ → RowDef) → Shows m rows → (j : ℕ) → ready_now m j ≡ is_ready_before (under m rows) m.tick j }
-    ensures waiting { (m : MachineDef) (rows : ℕ → RowDef) → Shows m rows → (j : ℕ) → waiting_now m j ≡ is_waiting_before (under m rows) m.tick j }
+    ensures holder { (m : MachineDef) (rows : ℕ → RowDef) → Shows m rows → (q : ℕ)
+        → holder_now m q ≡ held_before (under m rows) m.tick q }
+    ensures ready { (m : MachineDef) (rows : ℕ → RowDef) → Shows m rows → (j : ℕ)
+        → ready_now m j ≡ is_ready_before (under m rows) m.tick j }
+    ensures waiting { (m : MachineDef) (rows : ℕ → RowDef) → Shows m rows → (j : ℕ)
+        → waiting_now m j ≡ is_waiting_before (under m rows) m.tick j }
 {}
 
 /// A machine can take a row exactly where the row can stand at that tick of each schedule that the machine shows and that
