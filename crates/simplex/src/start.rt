@@ -3,28 +3,28 @@
 ghost use Rattle.std.specs.Prelude.{◌≡◌, ◌<◌, ◌≤◌, ◌^◌, slice_index, IfOk};
 ghost use Rattle.program_form.specs.Program.{IsProgram, columns, height};
 ghost use Rattle.exchange_runs.specs.Table.{variables, first_entries, first_limit, first_number};
-ghost use Rattle.simplex.specs.Starts.{IsFirstRow, AreFirstRows, IsFirstBasis};
+ghost use Rattle.simplex.specs.Starts.{AreFirstEntries, IsFirstRow, AreFirstRows, IsFirstBasis};
 
-use crate::row::Row;
+use crate::entries::Entry;
+use crate::row::SparseRow;
 use fraction128::Frac;
 use program_form::Program;
 use std::alloc::{AllocError, Global};
 
-// The number that row i of the first table has at place v.
+// The number that row i of the first table has at variable v.
 fn number_at(program: &Program, i: usize, v: usize) -> u64
     requires row { i ≤ height program.now }
-    requires place { v ≤ variables program.now }
+    requires place { v < variables program.now }
     ensures value { result ≡ first_number program.now i v }
     ensures small { result < 2 ^ 63 }
 {
     let columns = program.columns() as usize;
-    let variables = columns + program.rows() as usize;
     if v < columns {
         entry_at(program, i, v)
-    } else if v < variables {
-        if v == columns + i { 1 } else { 0 }
+    } else if v == columns + i {
+        1
     } else {
-        bound_of(program, i)
+        0
     }
 }
 
@@ -55,21 +55,34 @@ fn bound_of(program: &Program, i: usize) -> u64
     }
 }
 
+// The nonzero numbers of row i of the first table, with their variables.
+fn first_entries(alloc: Global, program: &Program, i: usize) -> Result<Vec<Entry>, AllocError>
+    requires { i ≤ height program.now }
+    ensures { IfOk result (λ v. AreFirstEntries program.now i v.items) }
+{
+    let variables = program.columns() as usize + program.rows() as usize;
+    let mut entries = Vec::new(alloc);
+    for v in 0..variables {
+        let number = number_at(program, i, v);
+        if number != 0 {
+            entries.push(Entry { variable: v, value: Frac::whole(number) })?;
+        }
+    }
+    Ok(entries)
+}
+
 // Row i of the first table.
-fn first_row(alloc: Global, program: &Program, i: usize) -> Result<Row, AllocError>
+fn first_row(alloc: Global, program: &Program, i: usize) -> Result<SparseRow, AllocError>
     requires { i ≤ height program.now }
     ensures { IfOk result (IsFirstRow program.now i) }
 {
-    let places = program.columns() as usize + program.rows() as usize + 1;
-    let mut cells = Vec::new(alloc);
-    for v in 0..places {
-        cells.push(Frac::whole(number_at(program, i, v)))?;
-    }
-    Ok(Row::new(cells))
+    let entries = first_entries(alloc, program, i)?;
+    let variables = program.columns() as usize + program.rows() as usize;
+    Ok(SparseRow::new(entries, variables, Frac::whole(bound_of(program, i))))
 }
 
 // The rows of the first table, the objective row last.
-pub(crate) fn first_rows(alloc: Global, program: &Program) -> Result<Vec<Row>, AllocError>
+pub(crate) fn first_rows(alloc: Global, program: &Program) -> Result<Vec<SparseRow>, AllocError>
     ensures rows { IfOk result (λ rows. AreFirstRows program.now rows.items) }
     ensures program { IsProgram program.now }
 {
