@@ -1,6 +1,7 @@
 -- What is read off the last table, and the first table's parts.
-use Rattle.std.proofs.Common.{◌≡◌, inl, inr, ℕ, ◌<◌, ◌+◌, List, [], ◌∷◌, ◌++◌, length, Err, pos, refl, sym, ◌∙◌, ap, arith, set, slice_index_or, get_or-set_same, get_or-set_other}
+use Rattle.std.proofs.Common.{◌≡◌, ◌≢◌, inl, inr, ℕ, ◌<◌, ◌+◌, List, [], ◌∷◌, ◌++◌, length, Err, pos, refl, sym, ◌∙◌, ap, arith, set, slice_index_or, get_or-set_same, get_or-set_other}
 use Rattle.std.proofs.lemmas.Bool.{cases_eq, cases_lt}
+use Rattle.std.proofs.lemmas.Int.{ints}
 use Rattle.std.proofs.lemmas.List.{get_or_past, get_or_at, get_or_append_left}
 use Rattle.fraction128.specs.Fraction.{Fraction, IsForm, whole}
 use Rattle.fraction128.specs.Scaling.{fraction_at}
@@ -8,12 +9,15 @@ use Rattle.fraction128.proofs.Forms.{form_of_whole}
 use Rattle.program_form.specs.Program.{ProgramDef, IsProgram, columns}
 use Rattle.exchange_runs.specs.Table.{Table, variables, first_entries, first_limit, first_number, slack}
 use Rattle.exchange_runs.specs.Readings.{IsValueOf}
-use Rattle.exchange_runs.proofs.FirstTable.{first_of-past}
+use Rattle.exchange_runs.proofs.FirstTable.{first_of-past, first_of-limit}
 use Rattle.exchange_runs.proofs.Loops.{value_here, value_more}
-use Rattle.exchange_runs.proofs.Once.{first_number_small}
 use Rattle.simplex.specs.Rows.{RowDef, cell_at, no_row}
 use Rattle.simplex.specs.Tables.{row_of, table_of}
-use Rattle.simplex.specs.Starts.{IsFirstRow}
+use Rattle.simplex.specs.declared.entries.Entry.{Entry}
+use Rattle.simplex.specs.Entries.{listed_at, AreBelow}
+use Rattle.simplex.specs.Starts.{IsFirstRow, AreFirstEntries}
+use Rattle.simplex.proofs.Listed.{listed_past, listed_push, listed_push_other}
+use Rattle.simplex.proofs.Sparse.{cell_limit, cell_listed}
 use Rattle.simplex.proofs.Cells.{row_read}
 use Rattle.simplex.specs.Ends.{WritesDual, Finishes}
 use Rattle.simplex.specs.declared.SolveStop.{SolveStop}
@@ -24,18 +28,49 @@ finish_stop Memory p t k h = tt
 finish_stop Wide p t k h = h
 finish_stop Units p t k h = h
 
--- past the places a row of the first table is zero, as its list of cells is
-pub numbers_all : (p : ProgramDef) (i : ℕ) (cells : List Fraction) → length cells ≡ variables p + 1
-    → ((v : ℕ) → v < variables p + 1 → fraction_at cells v ≡ whole (pos (first_number p i v))) → (v : ℕ) → fraction_at cells v ≡ whole (pos (first_number p i v))
-numbers_all p i cells len h v = elim (cases_lt v (variables p + 1)) [
-  | inl within ↦ h v within
-  | inr past ↦ get_or_past cells v (whole (pos 0)) (omega arith)
-      ∙ sym (rw (first_of-past (columns p) (first_entries p i) (slack p i) (variables p) (first_limit p i) v (omega arith) (omega arith)) refl)
+pub whole_apart : (n : ℕ) (f : Fraction) → f ≡ whole (pos n) → n ≢ 0 → f.num ≢ pos 0
+whole_apart n f is some none = some (zero_of n (sym (ap (λ (g : Fraction). g.num) is) ∙ none))
+  where
+    zero_of : (m : ℕ) → pos m ≡ pos 0 → m ≡ 0
+    zero_of m q = omega (arith, ints)
+
+-- one variable more, whose number is zero
+pub numbers_zero : (p : ProgramDef) (i k n : ℕ) (entries : List Entry) → AreBelow k entries
+    → ((v : ℕ) → v < k → listed_at entries v ≡ whole (pos (first_number p i v))) → n ≡ first_number p i k → n ≡ 0
+    → (v : ℕ) → v < k + 1 → listed_at entries v ≡ whole (pos (first_number p i v))
+numbers_zero p i k n entries below h is none v l = elim (cases_eq v k) [
+  | inl here ↦ rw (here, listed_past entries k k below (omega arith), ← is, none) refl
+  | inr earlier ↦ h v (omega arith)
 ]
 
-pub first_forms : (p : ProgramDef) (i : ℕ) (cells : List Fraction) → IsProgram p → ((v : ℕ) → fraction_at cells v ≡ whole (pos (first_number p i v)))
-    → (v : ℕ) → IsForm (fraction_at cells v)
-first_forms p i cells accepted h v = rw (h v) (form_of_whole (first_number p i v) (first_number_small p i v accepted))
+-- one variable more, whose number isn't
+pub numbers_more : (p : ProgramDef) (i k n : ℕ) (entries : List Entry) (f : Fraction) → AreBelow k entries
+    → ((v : ℕ) → v < k → listed_at entries v ≡ whole (pos (first_number p i v))) → n ≡ first_number p i k → f ≡ whole (pos n)
+    → (v : ℕ) → v < k + 1 → listed_at (entries ++ record { variable = k; value = f } ∷ []) v ≡ whole (pos (first_number p i v))
+numbers_more p i k n entries f below h is own v l = elim (cases_eq v k) [
+  | inl here ↦ rw (here, listed_push entries (record { variable = k; value = f }) k below refl, own, is) refl
+  | inr earlier ↦ listed_push_other entries (record { variable = k; value = f }) v (λ q. earlier (sym q)) ∙ h v (omega arith)
+]
+
+-- a row of the first table, place by place
+pub first_row_is : (p : ProgramDef) (i : ℕ) (entries : List Entry) (bound : Fraction) → AreFirstEntries p i entries → bound ≡ whole (pos (first_limit p i))
+    → IsFirstRow p i (record { entries = entries; place = variables p; limit = bound })
+first_row_is p i entries bound h is =
+    let row : RowDef = record { entries = entries; place = variables p; limit = bound } in
+    record {
+      fits = refl;
+      numbers = λ v. elim (cases_eq (variables p) v) [
+        | inl here ↦
+            rw (cell_limit row v here, ← here, first_of-limit (columns p) (first_entries p i) (slack p i) (variables p) (first_limit p i) (omega arith)) is
+        | inr away ↦ elim (cases_lt v (variables p)) [
+          | inl inside ↦ rw (cell_listed row v away) (h.numbers v inside)
+          | inr past ↦
+              rw (cell_listed row v away, listed_past entries (variables p) v h.below past,
+              first_of-past (columns p) (first_entries p i) (slack p i) (variables p) (first_limit p i) v (omega arith) (omega arith))
+              refl
+        ]
+      ];
+    }
 
 pub rows_more : (p : ProgramDef) (rows : List RowDef) (row : RowDef) (n : ℕ) → length rows ≡ n → ((i : ℕ) → i < n → IsFirstRow p i (row_of rows i))
     → IsFirstRow p n row → (i : ℕ) → i < n + 1 → IsFirstRow p i (row_of (rows ++ row ∷ []) i)

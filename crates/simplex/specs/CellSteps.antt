@@ -19,6 +19,7 @@ TakesCell (Err w) a f y = IsWideLess a f y
 
 -- Is `divided` the list with each value divided?
 pub record AreDivided (entries : List Entry) (by : Fraction) (divided : List Entry) : Type 0 where
+  pub as_many : length divided ≡ length entries
   pub sparse : AreSparse divided
   pub below : (end : ℕ) → AreBelow end entries → AreBelow end divided
   pub quotient : (v : ℕ) → IsQuotient (listed_at entries v) by (listed_at divided v)

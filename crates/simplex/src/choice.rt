@@ -1,6 +1,6 @@
 //! Which variable enters the basis, and which row leaves it.
 
-ghost use Rattle.std.specs.Prelude.{◌≡◌, ℕ, ◌+◌, ◌<◌, ◌≤◌, List, length, slice_index, IfSome};
+ghost use Rattle.std.specs.Prelude.{◌≡◌, ℕ, ◌+◌, ◌<◌, ◌≤◌, List, length, slice_index, IfOk, IfSome};
 ghost use Rattle.program_form.specs.Program.{height};
 ghost use Rattle.exchange_runs.specs.Table.{Table, variables};
 ghost use Rattle.exchange_runs.specs.Exchange.{HasRatio, IsRatio, IsLeastOf};
@@ -71,8 +71,10 @@ pub(crate) fn leaving(
 ) -> Result<Option<(usize, Frac)>, Wide>
     requires rows { length basis.now ≤ length rows.now }
     requires column { length column.now ≡ length rows.now }
-    ensures { (e : ℕ) → IsColumn rows.now e column.now
+    requires read { (e : ℕ) × IsColumn rows.now e column.now }
+    ensures least { (e : ℕ) → IsColumn rows.now e column.now
         → Leaves result place (table_of rows.now basis.now) e (length basis.now) }
+    ensures within { IfOk result (λ best. IfSome best (λ b. b.0 < length basis.now)) }
 {
     let mut best = None;
     for i in 0..basis.len() {

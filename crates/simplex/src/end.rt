@@ -51,7 +51,7 @@ fn dual_of(alloc: Global, program: &Program, row: &SparseRow) -> Result<Dual, So
 
 // So many zeros.
 pub(crate) fn zeros(alloc: Global, count: usize) -> Result<Vec<Frac>, AllocError>
-    ensures len { IfOk result (λ v. length v.items ≡ columns) }
+    ensures len { IfOk result (λ v. length v.items ≡ count) }
     ensures zero { IfOk result (λ v. (c : ℕ) → fraction_at v.items c ≡ whole (pos 0)) }
 {
     let mut list = Vec::new(alloc);

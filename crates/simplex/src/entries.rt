@@ -1,12 +1,13 @@
 //! Lists of nonzero cells in order of their variables, and what an exchange does to them.
 
-ghost use Rattle.std.specs.Prelude.{◌≡◌, ◌≢◌, ℕ, ◌<◌, ◌≤◌, length, pos, IfOk};
+ghost use Rattle.std.specs.Prelude.{◌≡◌, ◌≢◌, ℕ, ◌+◌, ◌<◌, ◌≤◌, length, pos};
 ghost use Rattle.fraction128.specs.Fraction.{IsForm};
-ghost use Rattle.simplex.specs.Entries.{listed_at, variable_or, AreSparse, AreBelow, IsSplit, IsAt, IsFirstListed};
+ghost use Rattle.simplex.specs.Entries.{listed_at, entry_at, variable_or, AreSparse, AreBelow, IsSplit, IsAt, IsFirstListed};
 ghost use Rattle.simplex.specs.CellSteps.{TakesCell, DividesAll, TakesAway};
 
 use crate::SolveStop;
 use fraction128::{Frac, Wide};
+use std::alloc::AllocError;
 
 // A nonzero cell of a row, at its variable.
 #[derive(Clone, Copy)]
@@ -51,6 +52,21 @@ fn value_behind(entries: &[Entry], count: usize, v: usize) -> Frac
         entries[count].value
     } else {
         Frac::whole(0)
+    }
+}
+
+// How many entries stand at variables up to v, where so many stand at variables below it.
+fn count_through(entries: &[Entry], count: usize, v: usize) -> usize
+    requires sparse { AreSparse entries.now }
+    requires split { IsSplit entries.now count v }
+    ensures split { IsSplit entries.now result (v + 1) }
+    ensures least { count ≤ result }
+    ensures at { count < length entries.now → (entry_at entries.now count).variable ≡ v → result ≡ count + 1 }
+{
+    if is_at(entries, count, v) {
+        count + 1
+    } else {
+        count
     }
 }
 
@@ -135,6 +151,10 @@ pub(crate) fn take_away(
 {
     let mut left = spare;
     left.clear();
+    match left.reserve(entries.len() + pivot.len()) {
+        Ok(()) => {}
+        Err(AllocError) => return Err(SolveStop::Memory),
+    }
     let mut i = 0;
     let mut j = 0;
     while i < entries.len() || j < pivot.len() {
@@ -149,8 +169,8 @@ pub(crate) fn take_away(
                 Err(_) => return Err(SolveStop::Memory),
             }
         }
-        i += is_at(entries, i, v) as usize;
-        j += is_at(pivot, j, v) as usize;
+        i = count_through(entries, i, v);
+        j = count_through(pivot, j, v);
     }
     Ok(left)
 }
