@@ -8,11 +8,11 @@ use Rattle.simplex.specs.Entries.{listed_at, AreSparse, AreBelow}
 use Rattle.simplex.specs.Rows.{RowDef, Fits, cell_at}
 use Rattle.simplex.specs.Tables.{row_of}
 
--- Are these the nonzero numbers of the variables in row i of the first table of p?
-pub record AreFirstEntries (p : ProgramDef) (i : ℕ) (entries : List Entry) : Type 0 where
+-- Are these the nonzero numbers of the first n variables in row i of the first table of p?
+pub record AreFirstEntries (p : ProgramDef) (i n : ℕ) (entries : List Entry) : Type 0 where
   pub sparse : AreSparse entries
-  pub below : AreBelow (variables p) entries
-  pub numbers : (v : ℕ) → v < variables p → listed_at entries v ≡ whole (pos (first_number p i v))
+  pub below : AreBelow n entries
+  pub numbers : (v : ℕ) → v < n → listed_at entries v ≡ whole (pos (first_number p i v))
 
 -- Is it row i of the first table of p?
 pub record IsFirstRow (p : ProgramDef) (i : ℕ) (row : RowDef) : Type 0 where

@@ -118,8 +118,22 @@ pub(crate) fn taken(a: Frac, f: Frac, y: Frac) -> Result<Frac, Wide>
     if y.is_zero() {
         return Ok(a);
     }
+    taken_product(a, f, y)
+}
+
+// The same, whatever y is. From zero the product is taken by its other sign, which always has a form.
+fn taken_product(a: Frac, f: Frac, y: Frac) -> Result<Frac, Wide>
+    requires { IsForm a }
+    ensures { TakesCell result a f y }
+{
     match f.mul(y) {
-        Ok(product) => a.sub(product),
+        Ok(product) => {
+            if a.is_zero() {
+                Ok(product.neg())
+            } else {
+                a.sub(product)
+            }
+        }
         Err(Wide) => Err(Wide),
     }
 }
