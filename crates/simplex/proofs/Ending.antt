@@ -2,11 +2,11 @@
 use Rattle.std.proofs.Common.{◌≡◌, ◌≢◌, inl, inr, ℕ, ◌<◌, ◌≤◌, ◌+◌, ◌^◌, List, [], ◌∷◌, ◌++◌, length, Err, pos, refl, sym, ◌∙◌, ap, arith, set, slice_index, slice_index_or, get_or-set_same, get_or-set_other}
 use Rattle.std.proofs.lemmas.Bool.{cases_eq, cases_lt}
 use Rattle.std.proofs.lemmas.Int.{ints}
-use Rattle.std.proofs.lemmas.List.{get_or_past, get_or_at, get_or_append_left}
-use Rattle.fraction128.specs.Fraction.{Fraction, IsForm, whole}
+use Rattle.std.proofs.lemmas.List.{get_or_at, get_or_append_left}
+use Rattle.fraction128.specs.Fraction.{Fraction, whole}
 use Rattle.fraction128.specs.Scaling.{fraction_at}
 use Rattle.fraction128.proofs.Forms.{form_of_whole}
-use Rattle.program_form.specs.Program.{ProgramDef, IsProgram, columns, height}
+use Rattle.program_form.specs.Program.{ProgramDef, columns, height}
 use Rattle.exchange_runs.specs.Table.{Table, variables, first_entries, first_limit, first_number, slack}
 use Rattle.exchange_runs.specs.Readings.{IsValueOf}
 use Rattle.exchange_runs.proofs.FirstTable.{first_of-column, first_of-own, first_of-other, first_of-past, first_of-limit}
@@ -14,7 +14,7 @@ use Rattle.exchange_runs.proofs.Loops.{value_here, value_more}
 use Rattle.simplex.specs.Rows.{RowDef, cell_at, no_row}
 use Rattle.simplex.specs.Tables.{row_of, table_of}
 use Rattle.simplex.specs.declared.entries.Entry.{Entry}
-use Rattle.simplex.specs.Entries.{listed_at, entry_at, AreBelow}
+use Rattle.simplex.specs.Entries.{entry_at, AreBelow}
 use Rattle.simplex.specs.Starts.{IsFirstRow, AreFirstEntries}
 use Rattle.simplex.proofs.Listed.{listed_past, listed_push, listed_push_other, sparse_push, below_push, below_up}
 use Rattle.simplex.proofs.Sparse.{cell_limit, cell_listed}
@@ -89,8 +89,12 @@ entries_of_row_done p i entries f l own h =
       below = below_push entries e (variables p) (λ k lk. let b : (entry_at entries k).variable < columns p = h.below k lk in omega arith) (omega arith);
       numbers = λ v lv. elim (cases_eq v (columns p + i)) [
         | inl here ↦
-            rw (here, listed_push entries e (columns p + i) low refl, own,
-            first_of-own (columns p) (first_entries p i) (slack p i) (variables p) (first_limit p i) (omega arith) (omega arith))
+            rw (
+              here,
+              listed_push entries e (columns p + i) low refl,
+              own,
+              first_of-own (columns p) (first_entries p i) (slack p i) (variables p) (first_limit p i) (omega arith) (omega arith),
+            )
             refl
         | inr away ↦ listed_push_other entries e v (λ q. away (sym q)) ∙ elim (cases_lt v (columns p)) [
           | inl column ↦ h.numbers v column
@@ -112,8 +116,11 @@ first_row_is p i entries bound h is =
         | inr away ↦ elim (cases_lt v (variables p)) [
           | inl inside ↦ rw (cell_listed row v away) (h.numbers v inside)
           | inr past ↦
-              rw (cell_listed row v away, listed_past entries (variables p) v h.below past,
-              first_of-past (columns p) (first_entries p i) (slack p i) (variables p) (first_limit p i) v (omega arith) (omega arith))
+              rw (
+                cell_listed row v away,
+                listed_past entries (variables p) v h.below past,
+                first_of-past (columns p) (first_entries p i) (slack p i) (variables p) (first_limit p i) v (omega arith) (omega arith),
+              )
               refl
         ]
       ];

@@ -1,9 +1,9 @@
 -- What a list of nonzero cells has at each variable.
-use Rattle.std.proofs.Common.{◌≡◌, ◌≢◌, inl, inr, ℕ, zero, suc, ◌+◌, ◌<◌, ◌≤◌, ◌⊎◌, ◌==◌, List, [], ◌∷◌, ◌++◌, length, slice_index_or, pos, ◌≤ℤ◌, refl, sym, ap, ◌∙◌, arith}
+use Rattle.std.proofs.Common.{◌≡◌, ◌≢◌, inl, inr, ℕ, zero, suc, ◌+◌, ◌<◌, ◌≤◌, ◌⊎◌, List, [], ◌∷◌, ◌++◌, length, slice_index_or, pos, ◌≤ℤ◌, refl, sym, ◌∙◌, arith}
 use Rattle.std.proofs.lemmas.Bool.{cases_eq, cases_lt, eq-eqb, ne_eqb}
 use Rattle.std.proofs.lemmas.List.{get_or_at, get_or_read, get_or_default, get_or_append_left, length_push}
 use Rattle.std.proofs.lemmas.Int.{ints}
-use Rattle.fraction128.specs.Fraction.{Fraction, IsForm, whole}
+use Rattle.fraction128.specs.Fraction.{IsForm, whole}
 use Rattle.simplex.specs.Entries.{listed_at, entry_at, AreSparse, AreBelow, IsSplit}
 use Rattle.simplex.specs.declared.entries.Entry.{Entry}
 use Rattle.simplex.proofs.Cells.{form_of_zero}
@@ -62,10 +62,6 @@ form_listed es v h = elim (found_or_none es v) [
   | inr none ↦ rw (listed_none es v none) form_of_zero
 ]
 
--- the entry where the list is split
-pub split_entry : (es : List Entry) (count v : ℕ) → AreSparse es → count < length es → (entry_at es count).variable ≡ v → listed_at es v ≡ (entry_at es count).value
-split_entry es count v h l is = listed_entry es count v h.rise l is
-
 pub split_none : (es : List Entry) (count v : ℕ) → AreSparse es → IsSplit es count v → (count < length es → (entry_at es count).variable ≢ v)
     → listed_at es v ≡ whole (pos 0)
 split_none es count v h split away = listed_none es v (λ k l q. elim (cases_lt k count) [
@@ -93,24 +89,6 @@ split_up es count w v h split l next = record {
         omega arith
   ];
 }
-
--- past the entry of a variable
-pub split_past : (es : List Entry) (count v : ℕ) → AreSparse es → IsSplit es count v → count < length es → (entry_at es count).variable ≡ v
-    → IsSplit es (count + 1) (v + 1)
-split_past es count v h split l is = record {
-  within = omega arith;
-  before = λ k lk. elim (cases_eq k count) [
-    | inl here ↦ rw here (omega arith)
-    | inr earlier ↦ let b : (entry_at es k).variable < v = split.before k (omega arith) in omega arith
-  ];
-  behind = λ k lk inside. let after : (entry_at es count).variable < (entry_at es k).variable = h.rise count k (omega arith) inside in omega arith;
-}
-
--- past a variable that has none
-pub split_stay : (es : List Entry) (count v : ℕ) → AreSparse es → IsSplit es count v → (count < length es → (entry_at es count).variable ≢ v)
-    → IsSplit es count (v + 1)
-split_stay es count v h split away = split_up es count v (v + 1) h split (omega arith)
-    (λ l. let first : v ≤ (entry_at es count).variable = split.behind count (omega arith) l in let apart : (entry_at es count).variable ≢ v = away l in omega arith)
 
 -- before the first entry behind a split nothing is listed
 pub split_gap : (es : List Entry) (count w v u : ℕ) → AreSparse es → IsSplit es count w → w ≤ u → u < v → (count < length es → v ≤ (entry_at es count).variable)

@@ -1,5 +1,5 @@
 -- Two lists of nonzero cells while one times f is taken from the other, variable by variable.
-use Rattle.std.proofs.Common.{◌≡◌, ◌≢◌, inl, inr, ℕ, ◌+◌, ◌<◌, ◌≤◌, ◌⊎◌, min, List, ◌∷◌, [], ◌++◌, length, ℤ, pos, ◌*ℤ◌, refl, sym, ap, subst, ◌∙◌, arith}
+use Rattle.std.proofs.Common.{◌≡◌, ◌≢◌, inl, inr, ℕ, ◌+◌, ◌<◌, ◌≤◌, ◌⊎◌, min, List, ◌∷◌, [], ◌++◌, length, ℤ, pos, ◌*ℤ◌, refl, sym, ap, subst, arith}
 use Rattle.std.proofs.lemmas.Int.{ints}
 use Rattle.std.proofs.lemmas.Bool.{cases_eq, cases_lt}
 use Rattle.std.proofs.lemmas.List.{get_or_default, get_or_past}
@@ -73,20 +73,6 @@ row_split entries pivot left f end i j from v sparse h next = split_up entries i
 pub pivot_split : (entries pivot left : List Entry) (f : Fraction) (end i j from v : ℕ) → AreSparse pivot → AreTakenBelow entries pivot left f end i j from
     → IsNext entries pivot end i j from v → IsSplit pivot j v
 pivot_split entries pivot left f end i j from v sparse h next = split_up pivot j from v sparse h.other next.order next.in_pivot
-
--- one of the two lists has it
-pub next_has : (entries pivot : List Entry) (end i j v : ℕ) → v ≡ min (variable_or entries i end) (variable_or pivot j end) → v < end
-    → ((i < length entries) × ((entry_at entries i).variable ≡ v)) ⊎ ((j < length pivot) × ((entry_at pivot j).variable ≡ v))
-next_has entries pivot end i j v is l = elim (cases_lt (variable_or pivot j end) (variable_or entries i end)) [
-  | inl of_pivot ↦ elim (cases_lt j (length pivot)) [
-    | inl inside ↦ inr (inside, sym (variable_within pivot j end inside) ∙ omega arith)
-    | inr past ↦ let e : variable_or pivot j end ≡ end = variable_past pivot j end past in absurd (omega arith)
-  ]
-  | inr of_row ↦ elim (cases_lt i (length entries)) [
-    | inl inside ↦ inl (inside, sym (variable_within entries i end inside) ∙ omega arith)
-    | inr past ↦ let e : variable_or entries i end ≡ end = variable_past entries i end past in absurd (omega arith)
-  ]
-]
 
 -- a form that is zero is 0/1
 pub zero_is : (b : Fraction) → IsForm b → b.num ≡ pos 0 → b ≡ whole (pos 0)
@@ -162,8 +148,11 @@ taken_whole entries pivot left f end i j from h row_end pivot_end = record {
   each = λ u. elim (cases_lt u from) [
     | inl done ↦ h.each u done
     | inr past ↦
-        rw (listed_past entries from u (λ k l. h.row.before k (omega arith)) past, listed_past pivot from u (λ k l. h.other.before k (omega arith)) past,
-        listed_past left from u h.below past)
+        rw (
+          listed_past entries from u (λ k l. h.row.before k (omega arith)) past,
+          listed_past pivot from u (λ k l. h.other.before k (omega arith)) past,
+          listed_past left from u h.below past,
+        )
         (less_nothing f)
   ];
 }

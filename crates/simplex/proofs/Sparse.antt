@@ -1,14 +1,13 @@
 -- Rows of nonzero cells, place by place.
-use Rattle.std.proofs.Common.{◌≡◌, ◌≢◌, inl, inr, ℕ, ◌+◌, ◌<◌, List, length, pos, ◌≤ℤ◌, Err, refl, sym, ◌∙◌, arith}
+use Rattle.std.proofs.Common.{◌≡◌, ◌≢◌, inl, inr, ℕ, ◌<◌, List, Err, refl, arith}
 use Rattle.std.proofs.lemmas.Bool.{cases_eq, eq-eqb, ne_eqb}
 use Rattle.fraction128.specs.Fraction.{Fraction, IsForm, IsQuotient}
 use Rattle.fraction128.specs.Gives.{HasNoForm}
-use Rattle.exchange_runs.specs.Exchange.{IsLess}
 use Rattle.exchange_runs.specs.WideExchange.{IsWideLess}
-use Rattle.simplex.specs.Entries.{listed_at, AreSparse, AreBelow}
+use Rattle.simplex.specs.Entries.{listed_at}
 use Rattle.simplex.specs.Rows.{RowDef, places, cell_at, HasForms, IsSparseRow}
-use Rattle.simplex.specs.CellSteps.{AreDivided, AreLeft, TakesAway}
-use Rattle.simplex.specs.RowSteps.{IsDividedRow, IsLeftRow, LeavesRow}
+use Rattle.simplex.specs.CellSteps.{AreDivided, TakesAway}
+use Rattle.simplex.specs.RowSteps.{IsDividedRow, LeavesRow}
 use Rattle.simplex.specs.declared.entries.Entry.{Entry}
 use Rattle.simplex.specs.declared.SolveStop.{SolveStop}
 use Rattle.simplex.specs.declared.SolveStop.TheVariants.{Memory, Wide, Units}
@@ -48,18 +47,6 @@ wide_listed row by v l h = (v, rw (cell_listed row v (λ q. omega arith)) h)
 
 pub wide_limit : (row : RowDef) (by : Fraction) → HasNoForm (IsQuotient row.limit by) → (u : ℕ) × HasNoForm (IsQuotient (cell_at row u) by)
 wide_limit row by h = (row.place, rw (cell_limit row row.place refl) h)
-
-pub left_row : (row pivot : RowDef) (f limit : Fraction) (entries : List Entry) → places row ≡ places pivot → AreLeft row.place row.entries f pivot.entries entries
-    → IsLess row.limit f pivot.limit limit → IsLeftRow row f pivot (record { entries = entries; place = row.place; limit = limit })
-left_row row pivot f limit entries even all is =
-    let left : RowDef = record { entries = entries; place = row.place; limit = limit } in
-    record {
-      as_many = refl;
-      each = λ v. elim (cases_eq row.place v) [
-        | inl here ↦ rw (cell_limit row v here, cell_limit pivot v (omega arith), cell_limit left v here) is
-        | inr away ↦ rw (cell_listed row v away, cell_listed pivot v (λ q. omega arith), cell_listed left v away) (all.each v)
-      ];
-    }
 
 pub left_limit_stop : (row pivot : RowDef) (f : Fraction) → places row ≡ places pivot → IsWideLess row.limit f pivot.limit → LeavesRow (Err Wide) row f pivot
 left_limit_stop row pivot f even h = (row.place, rw (cell_limit row row.place refl, cell_limit pivot row.place (omega arith)) h)

@@ -1,8 +1,7 @@
 -- The rows while the pivot row is taken from them.
-use Rattle.std.proofs.Common.{◌≡◌, ◌≢◌, ℕ, ◌<◌, ◌≤◌, ◌+◌, inl, inr, List, length, pos, Err, set, refl, sym, ◌∙◌, arith, get_or-set_same, get_or-set_other, length-set}
+use Rattle.std.proofs.Common.{◌≡◌, ◌≢◌, ℕ, ◌<◌, ◌≤◌, ◌+◌, inl, inr, List, length, pos, Err, set, refl, ◌∙◌, arith, get_or-set_same, get_or-set_other, length-set}
 use Rattle.std.proofs.lemmas.Bool.{cases_eq}
-use Rattle.fraction128.specs.Fraction.{Fraction, IsQuotient}
-use Rattle.fraction128.specs.Gives.{HasNoForm}
+use Rattle.fraction128.specs.Fraction.{Fraction}
 use Rattle.fraction128.specs.Scaling.{fraction_at}
 use Rattle.simplex.specs.Rows.{RowDef, cell_at, no_row, HasForms, IsSparseRow}
 use Rattle.simplex.specs.RowSteps.{IsDividedRow, IsLeftRow, TakesRow}
@@ -100,11 +99,6 @@ exchange_stop Wide before mid after column e r pivot row l is divided h =
       wide = rw (← is.each h.0 within) (rw (put_aside before r h.0 row h.3) at h.4);
     })
 exchange_stop Units before mid after column e r pivot row l is divided h = h
-
--- a wide quotient of the leaving row is one of the exchange
-pub quotient_stop : (before after : List RowDef) (column : List Fraction) (e r v : ℕ) → r < length before → IsColumn before e column
-    → HasNoForm (IsQuotient (cell_at (row_of before r) v) (fraction_at column r)) → ExchangesIn (Err Wide) before after e r
-quotient_stop before after column e r v l is h = λ most basis size. inl (record { at_place = v; wide = rw (← is.each r l) h })
 
 -- the rows with the pivot row in its place
 pub exchanged : (before mid : List RowDef) (column : List Fraction) (e r : ℕ) (pivot row : RowDef) → r < length before

@@ -2,7 +2,7 @@
 use Rattle.std.specs.Prelude.{◌≡◌, ℕ, ◌<◌, List, length, Result, Ok, Err}
 use Rattle.std.specs.Global.{Global}
 use Rattle.std.specs.declared.vec.Vec.{Vec}
-use Rattle.fraction128.specs.Fraction.{Fraction, IsForm, IsQuotient}
+use Rattle.fraction128.specs.Fraction.{Fraction, IsQuotient}
 use Rattle.fraction128.specs.Gives.{HasNoForm}
 use Rattle.fraction128.specs.declared.Wide.{Wide}
 use Rattle.exchange_runs.specs.Exchange.{IsLess}

@@ -18,7 +18,12 @@ use program_form::{Dual, Program};
 use std::alloc::{AllocError, Global};
 
 // Minus the cells of a row, from one place up to another.
-fn minus_cells(alloc: Global, row: &SparseRow, first: usize, last: usize) -> Result<Vec<Frac>, AllocError>
+fn minus_cells(
+    alloc: Global,
+    row: &SparseRow,
+    first: usize,
+    last: usize,
+) -> Result<Vec<Frac>, AllocError>
     requires order { first ≤ last }
     requires within { last ≤ places row.now }
     ensures { IfOk result (λ list. AreMinus row.now first (last - first) list.items) }

@@ -22,7 +22,7 @@ fn read_column(column: &mut [Frac], rows: &[SparseRow], e: usize)
     requires { length column.old ≡ length rows.now }
     ensures { IsColumn rows.now e column.new }
 {
-    for i in 0..rows.len() {
+    for i in 0..column.len() {
         column[i] = rows[i].cell(e);
     }
 }

@@ -99,7 +99,15 @@ fn run(alloc: Global, program: &Program, units: u64) -> Result<Solved, SolveStop
         if exchanges + 1 == units {
             return Err(SolveStop::Units);
         }
-        match step(alloc, program, &mut rows, &mut basis, e, &mut column, &mut spare) {
+        match step(
+            alloc,
+            program,
+            &mut rows,
+            &mut basis,
+            e,
+            &mut column,
+            &mut spare,
+        ) {
             Ok(()) => {}
             Err(stop) => return Err(stop),
         }

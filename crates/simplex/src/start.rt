@@ -72,7 +72,7 @@ fn first_entries(alloc: Global, program: &Program, i: usize) -> Result<Vec<Entry
 }
 
 // Row i of the first table.
-fn first_row(alloc: Global, program: &Program, i: usize) -> Result<SparseRow, AllocError>
+pub(crate) fn first_row(alloc: Global, program: &Program, i: usize) -> Result<SparseRow, AllocError>
     requires { i ≤ height program.now }
     ensures { IfOk result (IsFirstRow program.now i) }
 {

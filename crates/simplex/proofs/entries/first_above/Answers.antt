@@ -1,4 +1,4 @@
-use Rattle.std.proofs.Common.{◌≡◌, sym, ap, refl, arith}
+use Rattle.std.proofs.Common.{◌≡◌, ap, refl, arith}
 use Rattle.simplex.specs.Entries.{entry_at}
 use Rattle.simplex.specs.declared.entries.Entry.{Entry}
 use Rattle.simplex.proofs.Listed.{entry_read, listed_entry, first_listed, none_listed}

@@ -1,9 +1,8 @@
-use Rattle.std.proofs.Common.{◌≡◌, ◌≢◌, ◌⊎◌, inl, inr, ◌+◌, ◌<◌, min, length, pos, sym, ap₂, ◌∙◌, arith}
+use Rattle.std.proofs.Common.{◌≡◌, ◌≢◌, ◌⊎◌, inl, inr, ◌+◌, ◌<◌, min, length, pos, sym, ap₂, ◌∙◌}
 use Rattle.std.proofs.lemmas.Bool.{false≢true}
 use Rattle.exchange_runs.specs.Exchange.{IsLess}
 use Rattle.simplex.specs.Entries.{variable_or, listed_at}
-use Rattle.simplex.proofs.Merging.{IsNext, next_at, next_has, row_split, pivot_split, taken_zero, taken_entry, taken_whole}
-use Rattle.simplex.proofs.Listed.{split_none, sparse_none}
+use Rattle.simplex.proofs.Merging.{IsNext, next_at, row_split, pivot_split, taken_zero, taken_entry, taken_whole}
 use Rattle.simplex.proofs.entries.take_away.Goals as goal
 use Rattle.simplex.proofs.entries.take_away.Goals.{then-i-entries, else-i-entries+then-j-pivot, then-not-is_zero+in-Ok-push, else-not-is_zero}
 

@@ -1,7 +1,7 @@
 use Rattle.std.proofs.Common.{◌≡◌, ℤ, pos, ◌-ℤ◌, ◌*ℤ◌, neg_ℤ, ap, ◌∙◌, sym, arith}
 use Rattle.std.proofs.lemmas.Int.{ints}
 use Rattle.number_laws.proofs.Ring.{as_diff, diffs, same_diff}
-use Rattle.fraction128.specs.Fraction.{Fraction, IsForm, IsProduct, IsDifference, over}
+use Rattle.fraction128.specs.Fraction.{Fraction, IsForm, IsProduct, over}
 use Rattle.fraction128.proofs.Forms.{form_of_negated}
 use Rattle.exchange_runs.specs.Exchange.{IsLess}
 use Rattle.simplex.proofs.entries.taken_product.Goals as goal

@@ -1,4 +1,4 @@
-use Rattle.std.proofs.Common.{◌<◌, length, arith, sym, ◌∙◌, slice_index_or}
+use Rattle.std.proofs.Common.{◌<◌, length, arith}
 use Rattle.fraction128.specs.Scaling.{fraction_at}
 use Rattle.simplex.specs.RowSteps.{IsDividedRow}
 use Rattle.simplex.specs.Tables.{row_of}

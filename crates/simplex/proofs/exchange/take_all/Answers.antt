@@ -1,7 +1,5 @@
 use Rattle.std.proofs.Common.{◌≡◌, ◌<◌, length, arith, sym, ◌∙◌, pos, slice_index_or, subst}
 use Rattle.fraction128.specs.Fraction.{Fraction}
-use Rattle.fraction128.specs.Scaling.{fraction_at}
-use Rattle.simplex.specs.Tables.{row_of}
 use Rattle.simplex.proofs.Cells.{row_same, fraction_read}
 use Rattle.simplex.proofs.Taking.{takes_stop, taken_more, taken_same, taken_past, left_read}
 use Rattle.simplex.proofs.exchange.take_all.Goals as goal

@@ -1,6 +1,5 @@
 use Rattle.std.proofs.Common.{◌≡◌, ◌<◌, arith}
 use Rattle.program_form.specs.Program.{columns}
-use Rattle.simplex.specs.Starts.{AreFirstEntries}
 use Rattle.simplex.proofs.Listed.{sparse_none}
 use Rattle.simplex.proofs.Ending.{numbers_zero, numbers_more, column_number}
 use Rattle.simplex.proofs.start.column_entries.Goals as goal
