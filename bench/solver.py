@@ -167,7 +167,7 @@ def largest():
     columns = range(768)
     costs = [number(50) for _ in columns]
     rows = [(number(40), {c: 1 for c in columns if c % 12 == resource}) for resource in range(12)]
-    rows += [(number(500), {c: costs[c] for c in columns if c // 12 == task}) for task in range(64)]
+    rows += [(number(60), {c: number(2) for c in columns if c // 12 == task}) for task in range(64)]
     rows += [(number(8), {c: 1}) for c in range(625)]
     return costs, rows
 
@@ -251,7 +251,7 @@ def solve_qsopt(folder, costs, rows):
     start = time.perf_counter_ns()
     run(["esolver", "-O", "solution", "-L", "program.lp"], folder)
     took = time.perf_counter_ns() - start
-    for line in (folder / "solution.sol").read_text().splitlines():
+    for line in (folder / "solution").read_text().splitlines():
         if line.strip().startswith("Value"):
             return Fraction(line.split("=")[1].strip()), took
     sys.exit("esolver wrote no optimum")
