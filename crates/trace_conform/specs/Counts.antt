@@ -19,11 +19,15 @@ count_at counts j = slice_index_or counts j no_count
 abbrev pub counted_once : Bool → ℕ → JobCount → JobCount
 counted_once blocked t c = record { blocked = c.blocked + flag blocked; end = t + 1 }
 
--- Is tick t counted, from these counts to those: once for each active job, and not for the others?
+-- Is tick t counted for job j, from this count to that: once if the job is active, and not if it isn't?
+pub record CountsOnce (interferes : Trace → ℕ → ℕ → Bool) (w : Trace) (t j : ℕ) (before after : JobCount) : Type 0 where
+  pub active : is_active w t j ≡ true → after ≡ counted_once (is_blocked interferes w t j) t before
+  pub other : is_active w t j ≡ false → after ≡ before
+
+-- Is tick t counted for each job?
 pub record AddsTick (interferes : Trace → ℕ → ℕ → Bool) (w : Trace) (t : ℕ) (before after : List JobCount) : Type 0 where
   pub size : length after ≡ length before
-  pub active : (j : ℕ) → is_active w t j ≡ true → count_at after j ≡ counted_once (is_blocked interferes w t j) t (count_at before j)
-  pub others : (j : ℕ) → is_active w t j ≡ false → count_at after j ≡ count_at before j
+  pub each : (j : ℕ) → CountsOnce interferes w t j (count_at before j) (count_at after j)
 
 -- Do the counts say of n rows at how many ticks each job was blocked, and when it finished, if it did?
 pub record AreCounts (interferes : Trace → ℕ → ℕ → Bool) (w : Trace) (n : ℕ) (counts : List JobCount) : Type 0 where

@@ -71,14 +71,14 @@ fn measure_task(machine: &Machine, counts: &[JobCount], x: TaskId) -> TaskMeasur
     ensures { measure_seen result ≡ measures_now machine.now counts.now x.0 }
 {
     let mut finished = 0;
-    let mut response = 0;
-    let mut blocking = 0;
+    let mut response: u64 = 0;
+    let mut blocking: u64 = 0;
     for j in 0..machine.jobs().len() {
         if is_finished_job(machine, x, JobId(j)) {
             finished += 1;
         }
-        response = response_for(machine, counts, x, JobId(j)).max(response);
-        blocking = blocking_for(machine, counts, x, JobId(j)).max(blocking);
+        response = response.max(response_for(machine, counts, x, JobId(j)));
+        blocking = blocking.max(blocking_for(machine, counts, x, JobId(j)));
     }
     TaskMeasure {
         finished,
