@@ -87,7 +87,7 @@ one_more interferes m rows x j start now next shows listed e below own others = 
     apart k l same = let own : task_in m.list.jobs k ≡ x = ap (task_in m.list.jobs) same ∙ current.1 in absurd (omega (arith, l, own))
 
 -- After all tasks the tick is counted.
-pub all_counted : (interferes : Trace → ℕ → ℕ → Bool) (m : MachineDef) (rows : ℕ → RowDef) (x : ℕ) (start now : List JobCount) → Shows m rows → x ≡ length m.list.set.tasks
+pub all_counted : (interferes : Trace → ℕ → ℕ → Bool) (m : MachineDef) (rows : ℕ → RowDef) (x : ℕ) (start now : List JobCount) → Shows m rows → length m.list.set.tasks ≤ x
     → length now ≡ length start → CountedBelow interferes m rows x start now → AddsTick interferes (under m rows) m.tick start now
 all_counted interferes m rows x start now shows e size below = record { size = size; each = each } where
   each : (j : ℕ) → CountsOnce interferes (under m rows) m.tick j (count_at start j) (count_at now j)

@@ -8,10 +8,15 @@ use Rattle.schedule_model.specs.RowDef.{Trace, RowDef}
 use Rattle.schedule_model.specs.BlockedTicks.{is_blocked}
 use Rattle.schedule_model.specs.Measures.{finish_of, blocking_of}
 use Rattle.schedule_model.specs.Keeping.{KeepsRow, KeepsBefore, Breaks, IsFirstUnlawful}
+use Rattle.schedule_model.specs.ProtocolLaws.{IsSoundRow}
+use Rattle.schedule_model.specs.Chosen.{IsSized}
 use Rattle.schedule_model.specs.TakenRows.{CanBeTaken}
+use Rattle.schedule_laws.proofs.TakenRows.{sound_taken}
 use Rattle.schedule_model.specs.declared.rule.Rule.{Rule}
 use Rattle.phase_machine.specs.MachineDef.{MachineDef, under}
 use Rattle.phase_machine.specs.Shows.{Shows}
+use Rattle.phase_machine.specs.Taking.{IsRowFor, CanTake}
+use Rattle.phase_machine.proofs.Facts.{can_take}
 use Rattle.trace_conform.specs.declared.counts.JobCount.{JobCount}
 use Rattle.trace_conform.specs.Counts.{count_at, no_count, AddsTick, AreCounts}
 use Rattle.trace_conform.specs.Reached.{IsReached}
@@ -74,3 +79,12 @@ pub broken_within : (keeps : Rule → Trace → ℕ → Type 0) (rows : ℕ → 
 broken_within keeps rows m n a b t r list l first = subst (λ (l : JobsDef). IsFirstUnlawful keeps (over l rows) b t r) list more where
   more : IsFirstUnlawful keeps (over n.list rows) b t r
   more = record { within = omega (arith, first.within, l); before = first.before; breaks = first.breaks }
+
+-- A row that fits the jobs and is sound can stand at the machine's tick, and the machine can take it.
+pub row_stands : (interferes : Trace → ℕ → ℕ → Bool) (rows : ℕ → RowDef) (m : MachineDef) (row : RowDef) → rows m.tick ≡ row → IsRowFor m.list row → IsSoundRow interferes (under m rows) m.tick
+    → CanBeTaken (under m rows) m.tick
+row_stands interferes rows m row here fits sound =
+    sound_taken interferes (under m rows) m.tick (subst (λ (r : RowDef). IsSized m.list.set r) (sym here) fits.sized) sound
+
+pub row_taken : (rows : ℕ → RowDef) (m : MachineDef) (row : RowDef) → rows m.tick ≡ row → Shows m rows → CanBeTaken (under m rows) m.tick → CanTake m row
+row_taken rows m row here shows can = subst (λ (r : RowDef). CanTake m r) here (can_take m rows shows can)

@@ -91,6 +91,13 @@ fn count_job<P: Judge>(
     counts[j.0 as usize] = counted(protocol, rows, i, machine, j, counts[j.0 as usize]);
 }
 
+/// How many tasks are there?
+pub(crate) fn tasks_of(machine: &Machine) -> u32
+    ensures { result ≡ length machine.now.list.set.tasks }
+{
+    machine.jobs().set().tasks()
+}
+
 /// Counts the tick that the machine stands at, in a row that keeps the rules: one job of each task is active, or none.
 pub(crate) fn count_tick<P: Judge>(
     protocol: &P,
@@ -107,7 +114,7 @@ pub(crate) fn count_tick<P: Judge>(
     requires room { (j : ℕ) → j < length machine.now.list.jobs → (count_at counts.old j).blocked < MOST_TICKS }
     ensures { AddsTick (P.interferes protocol.now) (under machine.now (row_in rows.now.runs)) machine.now.tick counts.old counts.new }
 {
-    for x in 0..machine.jobs().set().tasks() {
+    for x in 0..tasks_of(machine) {
         if let Some(j) = machine.current(TaskId(x)) {
             count_job(protocol, rows, i, machine, j, counts);
         }
