@@ -1,0 +1,10 @@
+//! The rules that MPCP and FMLP+ share, over the order in which a protocol grants requests and runs holders: judging a
+//! row, choosing one, and telling which ticks are blocked.
+#![tactic(auto)]
+
+mod judging;
+mod lookup;
+mod order;
+
+pub use judging::judge_shared;
+pub use order::Order;
