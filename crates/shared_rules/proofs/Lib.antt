@@ -4,3 +4,6 @@ pub mod RunTest
 pub mod HolderTests
 pub mod ReadyTests
 pub mod Verdict
+pub mod Blocked
+pub mod Granting
+pub mod Placing

@@ -1,2 +1,5 @@
 pub mod Order
 pub mod RowTests
+pub mod Blocked
+pub mod Scene
+pub mod Choosing

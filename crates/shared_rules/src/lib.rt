@@ -2,9 +2,11 @@
 //! row, choosing one, and telling which ticks are blocked.
 #![tactic(auto)]
 
+mod blocking;
 mod judging;
 mod lookup;
 mod order;
 
+pub use blocking::blocked_shared;
 pub use judging::judge_shared;
 pub use order::Order;
