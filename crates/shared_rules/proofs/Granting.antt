@@ -21,20 +21,20 @@ earlier_only s x i none a l = elim (cases_lt (s.task i) x) [
 ]
 
 -- Before anyone has asked.
-kept_some : (s : Scene) (q j : ℕ) (o : Option ℕ) → stays s q o ≡ Some j → (o ≡ Some j) × (requests s q j ≡ true)
+kept_some : (s : Scene) (q j : ℕ) (o : Option ℕ) → stays (requests s q) o ≡ Some j → (o ≡ Some j) × (requests s q j ≡ true)
 kept_some s q j None h = absurd (cc)
 kept_some s q j (Some i) h = elim (cases_Bool (requests s q i)) [
   | inl asks ↦ let e : Some i ≡ Some j = rw asks at h in let f : i ≡ j = cc in (e, subst (λ k. requests s q k ≡ true) f asks)
   | inr ends ↦ let e : None ≡ Some j = rw ends at h in absurd (cc)
 ]
 
-kept_from : (s : Scene) (q j : ℕ) → requests s q j ≡ true → stays s q (Some j) ≡ Some j
+kept_from : (s : Scene) (q j : ℕ) → requests s q j ≡ true → stays (requests s q) (Some j) ≡ Some j
 kept_from s q j h = rw h refl
 
 pub granted_first : (s : Scene) (held : ℕ → Option ℕ) → ((q : ℕ) → held q ≡ kept s q) → Granted s 0 held
 granted_first s held same = record {
   asks = λ q j e. (kept_some s q j (s.before q) (sym (same q) ∙ e)).1;
-  keeps = λ q j e h. same q ∙ ap (stays s q) e ∙ kept_from s q j h;
+  keeps = λ q j e h. same q ∙ ap (stays (requests s q)) e ∙ kept_from s q j h;
   early = λ q j e new. absurd (new (kept_some s q j (s.before q) (sym (same q) ∙ e)).0);
   leads = λ q j e new i h l. absurd (omega arith);
   free = λ q e i h l. absurd (omega arith);

@@ -7,3 +7,6 @@ pub mod Verdict
 pub mod Blocked
 pub mod Granting
 pub mod Placing
+pub mod Scenes
+pub mod Chosen
+pub mod Writing

@@ -1,9 +1,10 @@
 -- What the choice of a row looks at: the active jobs, what they do next, who held what, and the orders of grants and
 -- runs as numbers of jobs.
-use Rattle.std.specs.Prelude.{◌≡◌, ℕ, ◌<◌, ◌==◌, ◌&&◌, ◌||◌, not, Bool, true, nat_lt, if◌then◌else◌, Option, None, Some, length}
+use Rattle.std.specs.Prelude.{◌≡◌, ℕ, ◌<◌, ◌==◌, ◌&&◌, ◌||◌, not, Bool, true, nat_lt, if◌then◌else◌, Option, None, Some, length, List, [], slice_index_or}
 use Rattle.std.specs.Option.{option_map_or}
-use Rattle.schedule_model.specs.RowDef.{Trace, is_job, held_before}
+use Rattle.schedule_model.specs.RowDef.{Trace, is_job, running_on, held_before}
 use Rattle.schedule_model.specs.Phase.{Phase, is_local, is_asking, phase_of}
+use Rattle.schedule_model.specs.Phase.Phase.{Asking}
 use Rattle.schedule_model.specs.Activity.{task_of, processor_of, is_active, is_requester, holds_by}
 use Rattle.schedule_model.specs.SharedRules.{Ranks}
 use Rattle.phase_machine.specs.MachineDef.{MachineDef, task_in}
@@ -77,12 +78,12 @@ held_after s None held q = held q
 held_after s (Some j) held q = asked s j held q
 
 -- Who holds q before anyone has asked: the last row's holder, where it still requests q.
-abbrev pub stays : Scene → ℕ → Option ℕ → Option ℕ
-stays s q None = None
-stays s q (Some j) = if requests s q j then Some j else None
+abbrev pub stays : (ℕ → Bool) → Option ℕ → Option ℕ
+stays asks None = None
+stays asks (Some j) = if asks j then Some j else None
 
 abbrev pub kept : Scene → ℕ → Option ℕ
-kept s q = stays s q (s.before q)
+kept s q = stays (requests s q) (s.before q)
 
 -- Does what runs give way to job j: nothing, or a job that goes later? Holders go before Local jobs.
 abbrev pub is_outrun : Scene → (ℕ → Option ℕ) → ℕ → Option ℕ → Bool
@@ -99,3 +100,19 @@ entered s held j running k = if enters s held j k (running k) then Some j else r
 abbrev pub running_after : Scene → (ℕ → Option ℕ) → Option ℕ → (ℕ → Option ℕ) → ℕ → Option ℕ
 running_after s held None running k = running k
 running_after s held (Some j) running k = entered s held j running k
+
+-- Who is named at a place of a row, and on processor k.
+abbrev pub place_in : List (Option ℕ) → ℕ → Option ℕ
+place_in places i = slice_index_or places i None
+
+abbrev pub running_in : List (Option ℕ) → ℕ → Option ℕ
+running_in running k = running_on (record { running = running; holders = [] }) k
+
+-- Do the places name jobs below n alone?
+abbrev pub NamesBelow : ℕ → List (Option ℕ) → Type 0
+NamesBelow n places = (i j : ℕ) → slice_index_or places i None ≡ Some j → j < n
+
+-- Which resource is requested in this phase?
+abbrev pub resource_in : Phase → Option ℕ
+resource_in (Asking n q) = Some q
+resource_in _ = None

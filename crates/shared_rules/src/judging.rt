@@ -11,54 +11,13 @@ ghost use Rattle.phase_machine.specs.Judged.{Judged};
 ghost use Rattle.shared_rules.specs.RowTests.{processor_now, current_passes, each_current, is_local_now, holds_now, may_run_now, may_stand, column_passes, stays_holder, kept_passes, holder_passes, goes_before, request_passes, idle_passes, runs_before, priority_passes, passes_run, passes_keep, passes_grant, passes_idle, passes_priority, first_failed};
 
 use crate::lookup::{
-    column_at, holder_at, named_at, processor_of, resources_of, running_beside, task_of, tasks_of,
+    column_at, holder_at, holds, is_local, may_run, processor_of, requests, resources_of,
+    running_beside, task_of, tasks_of,
 };
 use crate::order::Order;
 use phase_machine::{Machine, Phase};
 use schedule_model::{JobId, Row, Rule};
 use sporadic_model::{ResourceId, TaskId};
-
-/// Is the job in a request of the resource, and active?
-#[tactic(auto, unfolding(phase_machine::specs::Now::requester_now))]
-fn requests(machine: &Machine, q: ResourceId, j: JobId) -> bool
-    requires { j.0 < length machine.now.list.jobs }
-    ensures { result ≡ requester_now machine.now q.0 j.0 }
-{
-    machine.active(j)
-        && match machine.phase(j) {
-            Phase::Asking(_, r) => r == q,
-            _ => false,
-        }
-}
-
-/// Is the job Local?
-fn is_local(machine: &Machine, j: JobId) -> bool
-    requires { j.0 < length machine.now.list.jobs }
-    ensures { result ≡ is_local_now machine.now j.0 }
-{
-    machine.phase(j) == Phase::Local
-}
-
-/// With these holders: does the job hold what it requests?
-fn holds(machine: &Machine, holders: &[Option<JobId>], j: JobId) -> bool
-    requires listed { j.0 < length machine.now.list.jobs }
-    requires sized { length holders.now ≡ length machine.now.list.set.resources }
-    ensures { result ≡ holds_now machine.now (λ q. slice_index_or (map place_seen holders.now) q None) j.0 }
-{
-    match machine.phase(j) {
-        Phase::Asking(_, q) => named_at(holders, q.0 as usize) == Some(j),
-        _ => false,
-    }
-}
-
-/// Is the job Local, or with these holders the holder of what it requests?
-fn may_run(machine: &Machine, holders: &[Option<JobId>], j: JobId) -> bool
-    requires listed { j.0 < length machine.now.list.jobs }
-    requires sized { length holders.now ≡ length machine.now.list.set.resources }
-    ensures { result ≡ may_run_now machine.now (λ q. slice_index_or (map place_seen holders.now) q None) j.0 }
-{
-    is_local(machine, j) || holds(machine, holders, j)
-}
 
 /// May the job stand in the column, counted from 0?
 fn may_stand(machine: &Machine, row: &Row, c: usize, j: JobId) -> bool

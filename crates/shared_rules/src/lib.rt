@@ -3,10 +3,12 @@
 #![tactic(auto)]
 
 mod blocking;
+mod choosing;
 mod judging;
 mod lookup;
 mod order;
 
 pub use blocking::blocked_shared;
+pub use choosing::choose_shared;
 pub use judging::judge_shared;
 pub use order::Order;

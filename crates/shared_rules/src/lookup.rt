@@ -1,17 +1,19 @@
 ghost use Rattle.std.specs.Prelude.{◌≡◌, ◌-◌, ◌<◌, ◌≤◌, length, map, None, slice_index_or, IfSome};
 ghost use Rattle.schedule_model.specs.RowDef.{running_on, holder_in};
 ghost use Rattle.schedule_model.specs.Seen.{place_seen, row_seen};
-ghost use Rattle.phase_machine.specs.MachineDef.{task_in};
+ghost use Rattle.phase_machine.specs.MachineDef.{IsMachine, task_in};
 ghost use Rattle.phase_machine.specs.Taking.{IsRowFor};
-ghost use Rattle.shared_rules.specs.RowTests.{processor_now};
+ghost use Rattle.phase_machine.specs.Now.{requester_now};
+ghost use Rattle.shared_rules.specs.RowTests.{processor_now, is_local_now, holds_now, may_run_now};
 
-use phase_machine::Machine;
+use phase_machine::{Machine, Phase};
 use schedule_model::{JobId, Row};
 use sporadic_model::{ResourceId, TaskId};
 
 /// How many tasks the machine's set has.
 pub(crate) fn tasks_of(machine: &Machine) -> u32
-    ensures { result ≡ length machine.now.list.set.tasks }
+    ensures value { result ≡ length machine.now.list.set.tasks }
+    ensures machine { IsMachine machine.now }
 {
     machine.jobs().set().tasks()
 }
@@ -78,4 +80,46 @@ pub(crate) fn running_beside(machine: &Machine, row: &Row, j: JobId) -> Option<J
     ensures within { IfSome result (λ r. r.0 < length machine.now.list.jobs) }
 {
     column_at(machine, row, processor_of(machine, j) as usize - 1)
+}
+
+/// Is the job in a request of the resource, and active?
+#[tactic(auto, unfolding(phase_machine::specs::Now::requester_now))]
+pub(crate) fn requests(machine: &Machine, q: ResourceId, j: JobId) -> bool
+    requires { j.0 < length machine.now.list.jobs }
+    ensures { result ≡ requester_now machine.now q.0 j.0 }
+{
+    machine.active(j)
+        && match machine.phase(j) {
+            Phase::Asking(_, r) => r == q,
+            _ => false,
+        }
+}
+
+/// Is the job Local?
+pub(crate) fn is_local(machine: &Machine, j: JobId) -> bool
+    requires { j.0 < length machine.now.list.jobs }
+    ensures { result ≡ is_local_now machine.now j.0 }
+{
+    machine.phase(j) == Phase::Local
+}
+
+/// With these holders: does the job hold what it requests?
+pub(crate) fn holds(machine: &Machine, holders: &[Option<JobId>], j: JobId) -> bool
+    requires listed { j.0 < length machine.now.list.jobs }
+    requires sized { length holders.now ≡ length machine.now.list.set.resources }
+    ensures { result ≡ holds_now machine.now (λ q. slice_index_or (map place_seen holders.now) q None) j.0 }
+{
+    match machine.phase(j) {
+        Phase::Asking(_, q) => named_at(holders, q.0 as usize) == Some(j),
+        _ => false,
+    }
+}
+
+/// Is the job Local, or with these holders the holder of what it requests?
+pub(crate) fn may_run(machine: &Machine, holders: &[Option<JobId>], j: JobId) -> bool
+    requires listed { j.0 < length machine.now.list.jobs }
+    requires sized { length holders.now ≡ length machine.now.list.set.resources }
+    ensures { result ≡ may_run_now machine.now (λ q. slice_index_or (map place_seen holders.now) q None) j.0 }
+{
+    is_local(machine, j) || holds(machine, holders, j)
 }
