@@ -1,52 +1,114 @@
--- What an input's fault says of its bytes.
-use Rattle.std.proofs.Common.{◌≡◌, ℕ, ◌+◌, ◌<◌, ◌≤◌, List, [], ◌∷◌, length, sym, subst, refl, arith, Bool, true, bytes_eq, if◌then◌else◌, IsSomeAnd, Ok, Err, None, Some}
-use Rattle.std.proofs.lemmas.Slice.Eq.{bytes_eq-Decides}
-use Rattle.std.proofs.lemmas.List.{length-replicate}
-use Rattle.std.specs.Prelude.{Option, replicate}
+-- The bytes of a set are read in one way.
+use Rattle.std.proofs.Common.{◌≡◌, ℕ, List, refl, sym, ◌∙◌, ap, inl, inr, ◌⊎◌, Ok, Err, Some, None}
+use Rattle.std.specs.Prelude.{Option, Result}
+use Rattle.serde_json.specs.Data.{Data}
 use Rattle.sporadic_model.specs.SetDef.{SetDef}
-use Rattle.outside_ports.specs.Names.{Inputs, IsNamed, IsLonger, bytes_of}
-use Rattle.block_top.specs.declared.input.InputFault.TheVariants as fault
-use Rattle.outside_ports.specs.declared.whole.TheConstants.{GREATEST_INPUT_BYTES}
-use Rattle.taskset_json.specs.Answers.{Reads}
+use Rattle.sporadic_model.specs.Refusals.{first_refusal}
+use Rattle.sporadic_model.proofs.Acceptance.{free_from_accepted}
+use Rattle.sporadic_model.specs.declared.ids.Protocol.{Protocol}
+use Rattle.sporadic_model.specs.declared.refusal.Place.{Place}
+use Rattle.sporadic_model.specs.declared.refusal.ModelRefusal.{ModelRefusal}
+use Rattle.sporadic_model.specs.declared.refusal.ModelRefusal.TheVariants as model
+use Rattle.taskset_json.specs.Answers.{Reads, IsValue, JudgesValue, first_homeless}
+use Rattle.taskset_json.specs.FormFaults.{first_misshapen}
+use Rattle.taskset_json.proofs.FormRelation.{none_from_form}
+use Rattle.taskset_json.specs.Written.{set_written}
 use Rattle.taskset_json.specs.declared.refusal.SetRefusal.{SetRefusal}
 use Rattle.taskset_json.specs.declared.refusal.SetRefusal.TheVariants as refusal
-use Rattle.block_top.specs.Inputs.{HasRead, HasTooMany, SaysOfInput, SaysIfTold, IsFaultOf}
-use Rattle.block_top.specs.declared.input.InputFault.{InputFault}
+use Rattle.block_top.specs.Inputs.{ReadsSet, set_input}
+use Rattle.block_top.proofs.PlanLaws.{ReadsOnce}
 
--- The one input of a shelf is found by its name.
-only_input : (name bytes : List ℕ) → bytes_of ((name, bytes) ∷ []) name ≡ Some bytes
-only_input name bytes =
-    let same : bytes_eq name name ≡ true = grind (arith, bytes_eq-Decides name name) in
-    subst (λ (b : Bool). (if b then Some bytes else None) ≡ Some bytes) (sym same) refl
+-- Is the answer of reading one that says something of the bytes?
+abbrev pub Tells : Result SetDef SetRefusal → Type 0
+Tells (Err refusal.Memory) = ⊥
+Tells _ = Unit {0}
 
-long_input : (n : ℕ) (name : List ℕ) → GREATEST_INPUT_BYTES < n → (inputs : Inputs) × HasTooMany inputs name
-long_input n name more =
-    let count : length (replicate n 0) ≡ n = length-replicate n 0 in
-    ((name, replicate n 0) ∷ [], record { bytes = replicate n 0; named = only_input name (replicate n 0); long = subst (λ (k : ℕ). GREATEST_INPUT_BYTES < k) (sym count) more })
+-- What reading says of a value, as a function of the value.
+judge_set : Option ModelRefusal → SetDef → Result SetDef SetRefusal
+judge_set None set = Ok set
+judge_set (Some r) set = Err (refusal.Model r)
 
-pub says_of_long : (names : Option Inputs) (name : List ℕ) → IsLonger names name GREATEST_INPUT_BYTES → SaysIfTold names name (Err fault.TooLong)
-says_of_long None name longer = long_input (GREATEST_INPUT_BYTES + 1) name (omega arith)
-says_of_long (Some inputs) name longer = long_of (bytes_of inputs name) inputs name refl longer where
-  long_of : (o : Option (List ℕ)) (inputs : Inputs) (name : List ℕ) → bytes_of inputs name ≡ o → IsSomeAnd o (λ bytes. GREATEST_INPUT_BYTES < length bytes) → HasTooMany inputs name
-  long_of None inputs name is longer = absurd longer
-  long_of (Some bytes) inputs name is longer = record { bytes = bytes; named = is; long = longer }
+judge_form : Option Place → SetDef → Result SetDef SetRefusal
+unfolding judge_set
+judge_form None set = judge_set (first_refusal set) set
+judge_form (Some place) set = Err (refusal.Shape place)
 
-pub says_of_set : (names : Option Inputs) (name bytes : List ℕ) (set : SetDef) → IsNamed names name bytes → length bytes ≤ GREATEST_INPUT_BYTES
-    → Reads (Ok set) bytes → SaysIfTold names name (Ok set)
-says_of_set None name bytes set named short reads = ((name, bytes) ∷ [], record { bytes = bytes; named = only_input name bytes; short = short; reads = reads })
-says_of_set (Some inputs) name bytes set named short reads = record { bytes = bytes; named = named; short = short; reads = reads }
+judgement : Data → Result SetDef SetRefusal
+judgement d = judge_form (first_misshapen d) (set_written d)
 
--- A refusal of reading as a fault of the input says the same of the bytes.
-fault_says : (inputs : Inputs) (name : List ℕ) (r : SetRefusal) (at : InputFault) → HasRead inputs name (Err r) → IsFaultOf at r → SaysOfInput inputs name (Err at)
-fault_says inputs name refusal.NotJson at read is = subst (λ (x : InputFault). SaysOfInput inputs name (Err x)) (sym is) read
-fault_says inputs name (refusal.Shape place) at read is = subst (λ (x : InputFault). SaysOfInput inputs name (Err x)) (sym is) read
-fault_says inputs name (refusal.Model m) at read is = subst (λ (x : InputFault). SaysOfInput inputs name (Err x)) (sym is) read
-fault_says inputs name (refusal.NoHome q) at read is = subst (λ (x : InputFault). SaysOfInput inputs name (Err x)) (sym is) read
-fault_says inputs name refusal.Memory at read is = subst (λ (x : InputFault). SaysOfInput inputs name (Err x)) (sym is) tt
+model_judged : (m : ModelRefusal) (d : Data) → JudgesValue (Err (refusal.Model m)) d → Err (refusal.Model m) ≡ judgement d
+unfolding judgement judge_form judge_set
+model_judged model.Memory d j = absurd j
+model_judged m d (form, due) = let shape : first_misshapen d ≡ None = none_from_form d form in rw (shape, due) refl
 
-pub says_of_fault : (names : Option Inputs) (name bytes : List ℕ) (r : SetRefusal) (at : InputFault) → IsNamed names name bytes → length bytes ≤ GREATEST_INPUT_BYTES
-    → Reads (Err r) bytes → IsFaultOf at r → SaysIfTold names name (Err at)
-says_of_fault None name bytes r at named short reads is =
-    ((name, bytes) ∷ [], fault_says ((name, bytes) ∷ []) name r at (record { bytes = bytes; named = only_input name bytes; short = short; reads = reads }) is)
-says_of_fault (Some inputs) name bytes r at named short reads is =
-    fault_says inputs name r at (record { bytes = bytes; named = named; short = short; reads = reads }) is
+judged : (r : Result SetDef SetRefusal) (d : Data) → JudgesValue r d → Tells r → r ≡ judgement d
+unfolding judgement judge_form judge_set
+judged (Ok set) d (form, accepted, same) tells =
+    let shape : first_misshapen d ≡ None = none_from_form d form in
+    let none : first_refusal (set_written d) ≡ None = free_from_accepted (set_written d) accepted in
+    rw (shape, none) (ap (λ s. Ok s) same)
+judged (Err refusal.NotJson) d j tells = absurd j
+judged (Err (refusal.Shape place)) d shape tells = rw shape refl
+judged (Err (refusal.Model m)) d j tells = model_judged m d j
+judged (Err (refusal.NoHome q)) d j tells = absurd j
+judged (Err refusal.Memory) d j tells = absurd tells
+
+-- Either the bytes have no value, or the answer is the judgement on their value.
+record IsOfValue (r : Result SetDef SetRefusal) (bytes : List ℕ) : Type 0 where
+  value : Data
+  is_value : IsValue bytes value
+  is : r ≡ judgement value
+
+record IsOfNone (r : Result SetDef SetRefusal) (bytes : List ℕ) : Type 0 where
+  none : (d : Data) → IsValue bytes d → ⊥
+  is : r ≡ Err refusal.NotJson
+
+says : (r : Result SetDef SetRefusal) (bytes : List ℕ) → Reads r bytes → Tells r → IsOfNone r bytes ⊎ IsOfValue r bytes
+says (Ok set) bytes reads tells = inr (record { value = reads.0; is_value = reads.1; is = judged (Ok set) reads.0 reads.2 tells })
+says (Err refusal.NotJson) bytes reads tells = inl (record { none = reads; is = refl })
+says (Err (refusal.Shape place)) bytes reads tells = inr (record { value = reads.0; is_value = reads.1; is = judged (Err (refusal.Shape place)) reads.0 reads.2 tells })
+says (Err (refusal.Model m)) bytes reads tells = inr (record { value = reads.0; is_value = reads.1; is = judged (Err (refusal.Model m)) reads.0 reads.2 tells })
+says (Err (refusal.NoHome q)) bytes reads tells = absurd reads.2
+says (Err refusal.Memory) bytes reads tells = absurd tells
+
+one_saying : (r s : Result SetDef SetRefusal) (bytes : List ℕ) → (IsOfNone r bytes ⊎ IsOfValue r bytes) → (IsOfNone s bytes ⊎ IsOfValue s bytes) → r ≡ s
+one_saying r s bytes (inl x) (inl y) = x.is ∙ sym y.is
+one_saying r s bytes (inl x) (inr y) = absurd (x.none y.value y.is_value)
+one_saying r s bytes (inr x) (inl y) = absurd (y.none x.value x.is_value)
+one_saying r s bytes (inr x) (inr y) =
+    let some : Some x.value ≡ Some y.value = sym x.is_value.1 ∙ y.is_value.1 in
+    let same : x.value ≡ y.value = cc in
+    x.is ∙ ap judgement same ∙ sym y.is
+
+-- Bytes are read in one way.
+pub one_reading : (r s : Result SetDef SetRefusal) (bytes : List ℕ) → Reads r bytes → Reads s bytes → Tells r → Tells s → r ≡ s
+one_reading r s bytes p q a b = one_saying r s bytes (says r bytes p a) (says s bytes q b)
+
+-- What reading for a protocol makes of what reading says: the first resource without a home refuses a set.
+abbrev pub with_homes : Option ℕ → SetDef → Result SetDef SetRefusal
+with_homes None set = Ok set
+with_homes (Some q) set = Err (refusal.NoHome (record { 0 = q }))
+
+abbrev pub for_protocol : Protocol → Result SetDef SetRefusal → Result SetDef SetRefusal
+for_protocol protocol (Ok set) = with_homes (first_homeless set protocol) set
+for_protocol protocol (Err r) = Err r
+
+record ReadFor (protocol : Protocol) (bytes : List ℕ) (r : Result SetDef SetRefusal) : Type 0 where
+  said : Result SetDef SetRefusal
+  reads : Reads said bytes
+  tells : Tells said
+  is : r ≡ for_protocol protocol said
+
+read_for : (protocol : Protocol) (bytes : List ℕ) (r : Result SetDef SetRefusal) → ReadsSet protocol bytes r → ReadFor protocol bytes r
+read_for protocol bytes (Ok set) (reads, none) = record { said = Ok set; reads = reads; tells = tt; is = sym (ap (λ o. with_homes o set) none) }
+read_for protocol bytes (Err (refusal.NoHome q)) (set, reads, some) = record { said = Ok set; reads = reads; tells = tt; is = sym (ap (λ o. with_homes o set) some) }
+read_for protocol bytes (Err refusal.NotJson) reads = record { said = Err refusal.NotJson; reads = reads; tells = tt; is = refl }
+read_for protocol bytes (Err (refusal.Shape place)) reads = record { said = Err (refusal.Shape place); reads = reads; tells = tt; is = refl }
+read_for protocol bytes (Err (refusal.Model m)) reads = record { said = Err (refusal.Model m); reads = reads; tells = tt; is = refl }
+read_for protocol bytes (Err refusal.Memory) reads = absurd reads
+
+pub set_reads_once : (protocol : Protocol) → ReadsOnce (set_input protocol)
+set_reads_once protocol bytes r s p q =
+    let x = read_for protocol bytes r p in
+    let y = read_for protocol bytes s q in
+    x.is ∙ ap (for_protocol protocol) (one_reading x.said y.said bytes x.reads y.reads x.tells y.tells) ∙ sym y.is

@@ -1,4 +1,6 @@
+pub mod PlanLaws
 pub mod InputLaws
-pub mod OutcomeLaws
+pub mod CommandLaws
 pub mod ReplyLaws
 pub mod RunLaws
+pub mod TwiceLaws

@@ -1,57 +1,74 @@
 -- The headline: what a call of the program that analyses a set writes, and what that means.
-use Rattle.std.specs.Prelude.{◌≡◌, ℕ, ◌↔◌, List, Option, Some, Ok}
+use Rattle.std.specs.Prelude.{◌≡◌, ℕ, ◌≤◌, ◌↔◌, List, length, Option, Some, Ok}
 use Rattle.std.specs.Io.KnownBytes.{Appends}
 use Rattle.outside_ports.specs.Counts.{Rose}
-use Rattle.outside_ports.specs.Names.{Inputs}
+use Rattle.outside_ports.specs.Names.{Inputs, bytes_of}
+use Rattle.outside_ports.specs.declared.whole.TheConstants.{GREATEST_INPUT_BYTES}
 use Rattle.program_form.specs.Certificate.{CertificateDef}
 use Rattle.sporadic_model.specs.SetDef.{SetDef}
+use Rattle.sporadic_model.specs.declared.ids.Protocol.TheVariants.{FmlpPlus}
+use Rattle.taskset_json.specs.Answers.{Reads}
 use Rattle.response_fixpoint.specs.Rounds.{Wide, Allowance, EndsIn}
 use Rattle.response_fixpoint.specs.Response.{RequestsNothing, AreFitting, AreLeastFitting, AreOptimalDuals, rounds_of}
 use Rattle.block_top.specs.Words.{Analyse, form_of}
 use Rattle.block_top.specs.Texts.{certificate_text}
-use Rattle.block_top.specs.Inputs.{HasRead}
-use Rattle.block_top.specs.declared.reply.TheConstants.{DEFAULT_ALLOWANCE}
 
--- A call: its words, the shelf's inputs where they are told, the shelf's count of faults before and after, what is
--- written where it is told and the sink's count of faults before and after, and the status.
-pub record Call : Type 0 where
+-- A call: its words; the shelf's inputs where they are told, its count of faults before and after, and the number of bytes
+-- it has given since the last start; what is written where it is told, and the sink's count of faults, before and
+-- after; for how many more bytes the sink promises to take them, before and after; and the status.
+pub record Call : Type 1 where
   pub words : List (List ℕ)
   pub names : Option Inputs
   pub shelf_before : ℕ
   pub shelf_now : ℕ
+  pub given : ℕ
   pub written_before : Option (List ℕ)
   pub written_now : Option (List ℕ)
   pub sink_before : ℕ
   pub sink_now : ℕ
+  pub takes : ℕ → Type 0
+  pub takes_now : ℕ → Type 0
   pub status : ℕ
 
 -- Memory ran out, and nothing was written.
-abbrev pub RanOut : Call → Type 0
-RanOut call = (call.status ≡ 7) × (call.written_now ≡ call.written_before)
+pub record RanOut (call : Call) : Type 0 where
+  pub status : call.status ≡ 7
+  pub written : call.written_now ≡ call.written_before
+  pub faults : call.sink_now ≡ call.sink_before
+  pub room : (room : ℕ) → call.takes room → call.takes_now room
 
 -- Does the call write "schedulable", with the least bounds within all deadlines that satisfy the recurrence and
 -- optimal duals?
 abbrev pub WritesSchedulable : Call → SetDef → Type 0
-WritesSchedulable call set = (certificate : CertificateDef) × (call.status ≡ 0) × Appends call.written_before call.written_now (certificate_text certificate)
+WritesSchedulable call set = (certificate : CertificateDef) × (call.status ≡ 0)
+    × Appends call.written_before call.written_now (certificate_text certificate)
     × AreLeastFitting set certificate.bounds × AreOptimalDuals set certificate.duals
+
+-- The named bytes, which are this set.
+pub record HasRead (inputs : Inputs) (name : List ℕ) (set : SetDef) : Type 0 where
+  pub bytes : List ℕ
+  pub named : bytes_of inputs name ≡ Some bytes
+  pub short : length bytes ≤ GREATEST_INPUT_BYTES
+  pub reads : Reads (Ok set) bytes
 
 -- The call analyses the set: its words are those of `analyse`, and the bytes of the name are the set, which requests
 -- nothing.
 pub record Analyses (call : Call) (set : SetDef) : Type 0 where
   pub inputs : Inputs
   pub name : List ℕ
-  pub form_is : form_of call.words ≡ Some (Analyse name)
+  pub allowance : ℕ
+  pub form_is : form_of call.words ≡ Some (Analyse FmlpPlus name allowance)
   pub told : call.names ≡ Some inputs
-  pub read : HasRead inputs name (Ok set)
+  pub read : HasRead inputs name set
   pub nothing : RequestsNothing set
 
 -- The headline: the call writes "schedulable" exactly where some bounds within all deadlines satisfy the recurrence,
 -- giving the least such bounds with optimal duals. Its premises: no count of faults rose in the call, memory did not
 -- run out, and the rounds end in an answer. Without the last one: what is written as schedulable is least and
 -- optimal, and a set is said to be not shown only where nothing fits.
-pub record IsHeadline (call : Call) (set : SetDef) : Type 0 where
+pub record IsHeadline (call : Call) (set : SetDef) (allowance : ℕ) : Type 0 where
   pub exactly : (Rose call.shelf_before call.shelf_now → ⊥) → (Rose call.sink_before call.sink_now → ⊥) → (RanOut call → ⊥)
-      → ((i : ℕ) → EndsIn (rounds_of set) DEFAULT_ALLOWANCE (Wide i) → ⊥) → (EndsIn (rounds_of set) DEFAULT_ALLOWANCE Allowance → ⊥)
+      → ((i : ℕ) → EndsIn (rounds_of set) allowance (Wide i) → ⊥) → (EndsIn (rounds_of set) allowance Allowance → ⊥)
       → WritesSchedulable call set ↔ ((s : List ℕ) × AreFitting set s)
   pub least : call.status ≡ 0 → WritesSchedulable call set
   pub none : call.status ≡ 1 → (s : List ℕ) → AreFitting set s → ⊥

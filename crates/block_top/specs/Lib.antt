@@ -2,9 +2,12 @@ pub mod Words
 pub mod FormSeen
 pub mod Texts
 pub mod Refusals
-pub mod Outcome
+pub mod Plans
 pub mod Inputs
+pub mod Commands
+pub mod Outcome
 pub mod Replies
 pub mod Reached
 pub mod Headline
 pub mod Run
+pub mod Twice

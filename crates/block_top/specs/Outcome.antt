@@ -1,75 +1,58 @@
--- The outcome of words and named inputs: the status, and the text that goes out.
-use Rattle.std.specs.Prelude.{◌≡◌, ℕ, ◌+◌, ◌++◌, List, length, nat_lt, codes, decimal, Option, None, Some, MatchOption, Result, Ok, Err, ◌⊎◌}
-use Rattle.std.specs.Bool.{MatchBool}
-use Rattle.outside_ports.specs.Names.{Inputs, bytes_of}
+-- The outcome of words: the status, and the text that goes out.
+use Rattle.std.specs.Prelude.{◌≡◌, ℕ, ◌<◌, ◌≤◌, ◌⊎◌, List, length, codes, Option, None, Some, MatchOption, IsSomeAnd}
+use Rattle.outside_ports.specs.Counts.{Rose}
+use Rattle.outside_ports.specs.Names.{Inputs, bytes_of, IsNamed, IsLonger, IsAbsent}
 use Rattle.outside_ports.specs.declared.whole.TheConstants.{GREATEST_INPUT_BYTES}
-use Rattle.sporadic_model.specs.SetDef.{SetDef, task_at}
-use Rattle.sporadic_model.specs.declared.ids.Protocol.{Protocol}
-use Rattle.taskset_json.specs.Answers.{Reads, first_homeless}
-use Rattle.taskset_json.specs.declared.refusal.SetRefusal.{SetRefusal}
-use Rattle.taskset_json.specs.declared.refusal.SetRefusal.TheVariants as refusal
-use Rattle.response_fixpoint.specs.Rounds.{Ending, Schedulable, NotShown, Wide, Allowance, EndsIn}
-use Rattle.response_fixpoint.specs.Response.{RequestsNothing, IsFirstRequester, rounds_of}
-use Rattle.report.specs.Table.{table_text}
-use Rattle.block_top.specs.Words.{Form, Analyse, Report, form_of}
-use Rattle.block_top.specs.Texts.{certificate_text, not_shown_text, wide_text, allowance_text}
-use Rattle.block_top.specs.Refusals.{reason_text}
-use Rattle.block_top.specs.declared.reply.TheConstants.{DEFAULT_ALLOWANCE}
+use Rattle.block_top.specs.Plans.{Answer, Plan, Known, IsOutcomeOf, IsReadFaultOf}
+use Rattle.block_top.specs.Words.{form_of}
+use Rattle.block_top.specs.Commands.{plan_of}
 
--- What goes out: a status and a text.
-pub record Answer : Type 0 where
-  pub status : ℕ
-  pub text : List ℕ
+-- What is known where these are the named inputs.
+abbrev pub told : Inputs → Known
+told inputs = record {
+  absent = λ name. bytes_of inputs name ≡ None;
+  longer = λ name. IsSomeAnd (bytes_of inputs name) (λ bytes. GREATEST_INPUT_BYTES < length bytes);
+  has = λ name bytes. (bytes_of inputs name ≡ Some bytes) × (length bytes ≤ GREATEST_INPUT_BYTES);
+  last = λ bytes. Unit {0};
+}
+
+-- What a shelf shows of a call: its inputs, where it tells them; its count of faults before and after; and the number of
+-- bytes that it has given since the last start.
+pub record Shown : Type 0 where
+  pub names : Option Inputs
+  pub before : ℕ
+  pub now : ℕ
+  pub given : ℕ
+
+-- What is known from that: an input is absent where the told names lack it, or, where they aren't told, the count rose;
+-- it is too long where too many bytes were given; and the one that is read last has as many bytes as were given.
+abbrev pub shown_by : Shown → Known
+shown_by shelf = record {
+  absent = λ name. IsAbsent shelf.names name shelf.before shelf.now × (shelf.given ≤ GREATEST_INPUT_BYTES);
+  longer = λ name. IsLonger shelf.names name GREATEST_INPUT_BYTES × (GREATEST_INPUT_BYTES < shelf.given);
+  has = λ name bytes. IsNamed shelf.names name bytes × (length bytes ≤ GREATEST_INPUT_BYTES);
+  last = λ bytes. length bytes ≡ shelf.given;
+}
 
 -- The words have none of the forms.
 abbrev pub refused_words : Answer
 refused_words = record { status = 2; text = codes "refused words\n" }
 
--- The task set's input is refused, for this reason.
-abbrev pub refused_set : List ℕ → Answer
-refused_set reason = record { status = 3; text = codes "refused set " ++ (reason ++ codes "\n") }
-
--- Under `analyse`: a set whose tasks request resources is not analysed yet; here is the first such task.
-abbrev pub requests_later : ℕ → Answer
-requests_later x = refused_set (codes "requestslater task " ++ decimal (x + 1))
-
--- What goes out where the rounds of the set end so.
-abbrev pub ending_answer : SetDef → Ending → Answer
-ending_answer set (Schedulable bounds duals) = record { status = 0; text = certificate_text (record { bounds = bounds; duals = duals }) }
-ending_answer set (NotShown i value) = record { status = 1; text = not_shown_text (task_at set i).name value (task_at set i).deadline }
-ending_answer set (Wide i) = record { status = 5; text = wide_text (task_at set i).name }
-ending_answer set Allowance = record { status = 6; text = allowance_text }
-
--- The outcome of analysing an accepted set.
-abbrev pub IsAnalysis : SetDef → Answer → Type 0
-IsAnalysis set answer = ((x : ℕ) × IsFirstRequester set x × (answer ≡ requests_later x))
-    ⊎ (RequestsNothing set × ((e : Ending) × EndsIn (rounds_of set) DEFAULT_ALLOWANCE e × (answer ≡ ending_answer set e)))
-
--- The outcome of the table of an accepted set: the table, or the first resource without the home that the protocol
--- asks for.
-abbrev pub IsTable : Protocol → SetDef → Answer → Type 0
-IsTable protocol set answer = MatchOption (first_homeless set protocol)
-    (answer ≡ record { status = 0; text = table_text set })
-    (λ q. answer ≡ refused_set (reason_text (refusal.NoHome (record { 0 = q }))))
-
--- The outcome of a set's bytes that were read so, where `done` says the outcome of an accepted set.
-abbrev pub IsOutcomeOfReading : (SetDef → Answer → Type 0) → Result SetDef SetRefusal → Answer → Type 0
-IsOutcomeOfReading done (Ok set) answer = done set answer
-IsOutcomeOfReading done (Err refusal.Memory) answer = ⊥
-IsOutcomeOfReading done (Err r) answer = answer ≡ refused_set (reason_text r)
-
--- The outcome of a set's input: it is absent, or longer than an input may be, or read.
-abbrev pub IsOutcomeOfInput : (SetDef → Answer → Type 0) → Option (List ℕ) → Answer → Type 0
-IsOutcomeOfInput done None answer = answer ≡ refused_set (codes "absent")
-IsOutcomeOfInput done (Some bytes) answer = MatchBool (nat_lt GREATEST_INPUT_BYTES (length bytes))
-    (answer ≡ refused_set (codes "toolong"))
-    ((r : Result SetDef SetRefusal) × Reads r bytes × IsOutcomeOfReading done r answer)
-
--- The outcome of a form of words.
-abbrev pub IsOutcomeOfForm : Inputs → Form → Answer → Type 0
-IsOutcomeOfForm inputs (Analyse name) answer = IsOutcomeOfInput IsAnalysis (bytes_of inputs name) answer
-IsOutcomeOfForm inputs (Report protocol name) answer = IsOutcomeOfInput (IsTable protocol) (bytes_of inputs name) answer
+-- The outcome of words, for what is known of the inputs.
+abbrev pub IsOutcomeBy : Known → List (List ℕ) → Answer → Type 0
+IsOutcomeBy known words answer =
+    MatchOption (form_of words) (answer ≡ refused_words) (λ form. IsOutcomeOf known (plan_of form) answer)
 
 -- The outcome of words, where these are the named inputs.
 abbrev pub IsOutcome : Inputs → List (List ℕ) → Answer → Type 0
-IsOutcome inputs words answer = MatchOption (form_of words) (answer ≡ refused_words) (λ form. IsOutcomeOfForm inputs form answer)
+IsOutcome inputs words answer = IsOutcomeBy (told inputs) words answer
+
+-- A reply of a plan: that an input could not be read, for which the shelf's count of faults rose; or an outcome.
+abbrev pub IsReplyOf : Shown → Plan → Answer → Type 0
+IsReplyOf shelf plan answer =
+    (Rose shelf.before shelf.now × (shelf.given ≤ GREATEST_INPUT_BYTES) × IsReadFaultOf (shown_by shelf) plan answer)
+    ⊎ IsOutcomeOf (shown_by shelf) plan answer
+
+-- A reply to words.
+abbrev pub IsReply : Shown → List (List ℕ) → Answer → Type 0
+IsReply shelf words answer = MatchOption (form_of words) (answer ≡ refused_words) (λ form. IsReplyOf shelf (plan_of form) answer)

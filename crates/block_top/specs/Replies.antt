@@ -1,83 +1,101 @@
--- What is replied to words, before anything goes out.
-use Rattle.std.specs.Prelude.{◌≡◌, ◌≢◌, ℕ, ◌≤◌, ◌⊎◌, List, Option, None, Some, Result, Ok, Err, codes, map}
+-- What is replied, as contracts see it, before anything goes out.
+use Rattle.std.specs.Prelude.{◌≡◌, ℕ, ◌≤◌, ◌⊎◌, List, Option, Bool, length, Vec, Result, Ok, Err, map, codes}
+use Rattle.std.specs.Global.{Global}
+use Rattle.std.specs.declared.alloc.AllocError.{AllocError}
 use Rattle.outside_ports.specs.Counts.{Rose}
-use Rattle.outside_ports.specs.Names.{Inputs, bytes_of}
+use Rattle.outside_ports.specs.Names.{Inputs}
+use Rattle.outside_ports.specs.declared.whole.TheConstants.{GREATEST_INPUT_BYTES}
 use Rattle.program_form.specs.Certificate.{dual_seen}
 use Rattle.sporadic_model.specs.SetDef.{SetDef}
+use Rattle.sporadic_model.specs.declared.ids.Protocol.{Protocol}
 use Rattle.response_fixpoint.specs.Rounds.{Schedulable, NotShown, Wide, Allowance}
 use Rattle.response_fixpoint.specs.declared.verdict.Verdict.{Verdict}
 use Rattle.response_fixpoint.specs.declared.verdict.Verdict.TheVariants as verdict
 use Rattle.response_fixpoint.specs.declared.verdict.Stop.{Stop}
 use Rattle.response_fixpoint.specs.declared.verdict.Stop.TheVariants as stop
-use Rattle.block_top.specs.Words.{form_of}
-use Rattle.block_top.specs.Texts.{read_fault_text}
-use Rattle.block_top.specs.Refusals.{reason_text}
-use Rattle.block_top.specs.Outcome.{Answer, refused_set, ending_answer, IsAnalysis, IsTable, IsOutcome, IsOutcomeOfInput}
-use Rattle.block_top.specs.declared.words.Work.{Work}
-use Rattle.block_top.specs.declared.words.Work.TheVariants as work
-use Rattle.block_top.specs.declared.input.InputFault.{InputFault}
-use Rattle.block_top.specs.declared.input.InputFault.TheVariants as fault
-use Rattle.block_top.specs.declared.reply.Reply.{Reply}
+use Rattle.taskset_json.specs.declared.refusal.SetRefusal.{SetRefusal}
+use Rattle.taskset_json.specs.declared.refusal.SetRefusal.TheVariants as refusal
+use Rattle.block_top.specs.Plans.{Answer, Input, refused, read_fault, IsStopped, IsRead}
+use Rattle.block_top.specs.Commands.{ending_answer}
+use Rattle.block_top.specs.Inputs.{ReadsSet}
+use Rattle.block_top.specs.Outcome.{Shown, shown_by}
+use Rattle.block_top.specs.declared.halt.Reply.{Reply}
+use Rattle.block_top.specs.declared.halt.Halt.{Halt}
+use Rattle.block_top.specs.declared.halt.Halt.TheVariants as halt
 
 -- What a contract sees of a reply.
 abbrev pub reply_seen : Reply → Answer
 reply_seen r = record { status = r.status; text = r.text.items }
 
--- The set's input could not be read.
-abbrev pub read_fault : Answer
-read_fault = record { status = 4; text = read_fault_text }
+-- Does the halt reply so? Want of memory says nothing.
+abbrev pub HaltsWith : Halt → (Answer → Type 0) → Type 0
+HaltsWith (halt.Reply r) says = says (reply_seen r)
+HaltsWith halt.Memory says = Unit {0}
 
--- Is this the reply to an analysis that answers so?
+-- Is the answer, of the work or of a halt, one that is said?
+abbrev pub Answered : Result Reply Halt → (Answer → Type 0) → Type 0
+Answered (Ok r) says = says (reply_seen r)
+Answered (Err h) says = HaltsWith h says
+
+-- Is this the reply, or want of memory?
+abbrev pub IsSettled : Result Reply Halt → Result Reply AllocError → Type 0
+IsSettled (Ok r) settled = settled ≡ Ok r
+IsSettled (Err (halt.Reply r)) settled = settled ≡ Ok r
+IsSettled (Err halt.Memory) settled = (r : Reply) → settled ≡ Ok r → ⊥
+
+-- Could the input of this name not be read, for which the shelf's count rose?
+abbrev pub IsFailed : Shown → List ℕ → Answer → Type 0
+IsFailed shelf word answer = Rose shelf.before shelf.now × (shelf.given ≤ GREATEST_INPUT_BYTES) × (answer ≡ read_fault word)
+
+-- Is this the answer to an input that is not loaded: it could not be read, it is absent or too long?
+abbrev pub IsUnloaded : Shown → List ℕ → List ℕ → Answer → Type 0
+IsUnloaded shelf word name answer = IsFailed shelf word answer
+    ⊎ (((shown_by shelf).absent name × (answer ≡ refused word (codes "absent")))
+    ⊎ ((shown_by shelf).longer name × (answer ≡ refused word (codes "toolong"))))
+
+-- What came of loading an input: its bytes, as many as were given; or the answer that says why there are none.
+abbrev pub IsLoaded : Shown → List ℕ → List ℕ → Result (Vec ℕ Global) Halt → Type 0
+IsLoaded shelf word name (Ok bytes) = (shown_by shelf).has name bytes.items × (length bytes.items ≡ shelf.given)
+IsLoaded shelf word name (Err h) = HaltsWith h (IsUnloaded shelf word name)
+
+-- Is this the answer that refuses the bytes of an input?
+abbrev pub IsRefusal : Input → List ℕ → Answer → Type 0
+IsRefusal input bytes answer =
+    (refusal : input.Refusal) × (input.reads bytes (Err refusal)) × (answer ≡ refused input.word (input.reason refusal))
+
+-- What came of reading the bytes of an input: its value, or the answer that refuses them.
+abbrev pub IsTaken : (input : Input) → List ℕ → Result input.Value Halt → Type 0
+IsTaken input bytes (Ok value) = input.reads bytes (Ok value)
+IsTaken input bytes (Err h) = HaltsWith h (IsRefusal input bytes)
+
+-- Is this the answer to an input of which nothing is got?
+abbrev pub IsUngot : Shown → Input → List ℕ → Answer → Type 0
+IsUngot shelf input name answer = IsFailed shelf input.word answer ⊎ IsStopped (shown_by shelf) input name answer
+
+-- What came of both: the bytes with their value; or the answer that says why there is none.
+abbrev pub IsGot : Shown → (input : Input) → List ℕ → Result (Vec ℕ Global × input.Value) Halt → Type 0
+IsGot shelf input name (Ok got) = IsRead (shown_by shelf) input name got.0.items got.1 × (length got.0.items ≡ shelf.given)
+IsGot shelf input name (Err h) = HaltsWith h (IsUngot shelf input name)
+
+-- What reading says of a set for a protocol. Only want of memory says nothing.
+abbrev pub ReadsSetFor : Protocol → List ℕ → Result SetDef SetRefusal → Type 0
+ReadsSetFor protocol bytes (Err refusal.Memory) = Unit {0}
+ReadsSetFor protocol bytes r = ReadsSet protocol bytes r
+
+-- Is this the answer to an analysis that ends so?
 abbrev pub RepliesTo : SetDef → Result Verdict Stop → Answer → Type 0
-RepliesTo set (Ok (verdict.Schedulable certificate)) answer = answer ≡ ending_answer set (Schedulable certificate.bounds.items (map dual_seen certificate.duals.items))
+RepliesTo set (Ok (verdict.Schedulable certificate)) answer =
+    answer ≡ ending_answer set (Schedulable certificate.bounds.items (map dual_seen certificate.duals.items))
 RepliesTo set (Ok (verdict.NotShown task bound)) answer = answer ≡ ending_answer set (NotShown task.0 bound)
 RepliesTo set (Err (stop.Wide task)) answer = answer ≡ ending_answer set (Wide task.0)
 RepliesTo set (Err stop.Allowance) answer = answer ≡ ending_answer set Allowance
 RepliesTo set (Err stop.Memory) answer = ⊥
 
--- Is this the reply to an input that gives no set?
-abbrev pub RepliesToFault : InputFault → Answer → Type 0
-RepliesToFault fault.Absent answer = answer ≡ refused_set (codes "absent")
-RepliesToFault fault.TooLong answer = answer ≡ refused_set (codes "toolong")
-RepliesToFault (fault.Refused r) answer = answer ≡ refused_set (reason_text r)
-RepliesToFault fault.Read answer = answer ≡ read_fault
-RepliesToFault fault.Memory answer = ⊥
-
--- Is the answer a refusal of the set's input, or what `done` says of some set?
-abbrev pub IsMade : (SetDef → Answer → Type 0) → Answer → Type 0
-IsMade done answer = ((reason : List ℕ) × (answer ≡ refused_set reason)) ⊎ ((set : SetDef) × done set answer)
-
--- Is the answer the outcome of the input of this name, among the shelf's inputs where it tells them and else among some?
-abbrev pub IsOutcomeOfNamed : (SetDef → Answer → Type 0) → Option Inputs → List ℕ → Answer → Type 0
-IsOutcomeOfNamed done None name answer = (inputs : Inputs) × IsOutcomeOfInput done (bytes_of inputs name) answer
-IsOutcomeOfNamed done (Some inputs) name answer = IsOutcomeOfInput done (bytes_of inputs name) answer
-
--- A reply about the set of this name: a read fault, for which the shelf's count of faults rose, or the outcome.
-abbrev pub IsReplyOnSet : (SetDef → Answer → Type 0) → Option Inputs → List ℕ → ℕ → ℕ → Answer → Type 0
-IsReplyOnSet done names name before now answer = (Rose before now × (answer ≡ read_fault))
-    ⊎ (IsMade done answer × IsOutcomeOfNamed done names name answer)
-
--- A reply to some work on the set of this name.
-abbrev pub IsReplyToWork : Option Inputs → Work → List ℕ → ℕ → ℕ → Answer → Type 0
-IsReplyToWork names work.Analyse name before now answer = IsReplyOnSet IsAnalysis names name before now answer
-IsReplyToWork names (work.Report protocol) name before now answer = IsReplyOnSet (IsTable protocol) names name before now answer
-
--- Is the answer the outcome of the words, with the shelf's inputs where it tells them and else with some?
-abbrev pub IsOutcomeIfTold : Option Inputs → List (List ℕ) → Answer → Type 0
-IsOutcomeIfTold None words answer = (inputs : Inputs) × IsOutcome inputs words answer
-IsOutcomeIfTold (Some inputs) words answer = IsOutcome inputs words answer
-
--- The statuses of outcomes: that of refused words comes exactly where the words have no form, and none is that of
--- a program that is too wide, of a fault or of want of memory.
-pub record HasStatus (words : List (List ℕ)) (answer : Answer) : Type 0 where
-  pub refused : answer.status ≡ 2 → form_of words ≡ None
-  pub no_form : form_of words ≡ None → answer.status ≡ 2
-  pub no_fault : answer.status ≢ 4
-  pub never_wide : answer.status ≢ 5
-  pub most : answer.status ≤ 6
-
--- A reply to words: a read fault, for which the shelf's count of faults rose and the words have a form; or the
--- outcome.
-abbrev pub IsReply : Option Inputs → List (List ℕ) → ℕ → ℕ → Answer → Type 0
-IsReply names words before now answer = (Rose before now × (answer ≡ read_fault) × (form_of words ≢ None))
-    ⊎ (HasStatus words answer × IsOutcomeIfTold names words answer)
+-- What a shelf keeps over a call: its names, and whether it tells the rest; its count never falls; and a shelf that
+-- promises that no call fails promises it still, and raised no count.
+pub record Keeps (names_before names_now : Option Inputs) (tells_before tells_now : Bool) (before now : ℕ)
+    (steady_before steady_now : Type 0) : Type 0 where
+  pub names : names_now ≡ names_before
+  pub tells : tells_now ≡ tells_before
+  pub later : before ≤ now
+  pub steady : steady_before → steady_now × (now ≡ before)

@@ -47,7 +47,3 @@ wide_text name = codes "wide " ++ (name ++ codes "\n")
 -- The programs want more units than the allowance.
 abbrev pub allowance_text : List ℕ
 allowance_text = codes "allowance\n"
-
--- The set's input could not be read.
-abbrev pub read_fault_text : List ℕ
-read_fault_text = codes "fault read set\n"

@@ -1,13 +1,16 @@
 -- The forms of words that the program answers.
-use Rattle.std.specs.Prelude.{ℕ, ◌&&◌, List, [], ◌∷◌, map, Option, Some, None, if◌then◌else◌, option_map, String, string_bytes, codes}
+use Rattle.std.specs.Prelude.{◌≡◌, refl, ℕ, ◌&&◌, List, [], ◌∷◌, map, Option, Some, None, if◌then◌else◌, option_map, String, string_bytes, codes}
 use Rattle.std.specs.Global.{Global}
 use Rattle.std.specs.Str.{bytes_eq}
 use Rattle.sporadic_model.specs.declared.ids.Protocol.{Protocol}
 use Rattle.sporadic_model.specs.declared.ids.Protocol.TheVariants.{Mpcp, FmlpPlus, Dpcp}
+use Rattle.block_top.specs.declared.words.TheConstants.{DEFAULT_ALLOWANCE}
 
--- What the words ask for. Each form names the task set's input.
+-- What the words ask for: a command, with its protocol, the names of its inputs and its numbers.
 pub data Form : Type 0 where
-  Analyse : List ℕ → Form
+  -- the protocol, the set, the allowance
+  Analyse : Protocol → List ℕ → ℕ → Form
+  -- the protocol, the set
   Report : Protocol → List ℕ → Form
 
 -- Which protocol does this word name?
@@ -19,7 +22,8 @@ protocol_of word = if bytes_eq word (codes "mpcp") then Some Mpcp
 
 -- Which form do these three words have?
 abbrev pub form_of_three : List ℕ → List ℕ → List ℕ → Option Form
-form_of_three command protocol name = if bytes_eq command (codes "analyse") && bytes_eq protocol (codes "fmlp+") then Some (Analyse name)
+form_of_three command protocol name = if bytes_eq command (codes "analyse") && bytes_eq protocol (codes "fmlp+")
+    then Some (Analyse FmlpPlus name DEFAULT_ALLOWANCE)
     else if bytes_eq command (codes "report") then option_map (λ p. Report p name) (protocol_of protocol)
     else None
 
@@ -27,6 +31,10 @@ form_of_three command protocol name = if bytes_eq command (codes "analyse") && b
 abbrev pub form_of : List (List ℕ) → Option Form
 form_of (command ∷ protocol ∷ name ∷ []) = form_of_three command protocol name
 form_of _ = None
+
+-- the allowance of units where the words give none
+pub default_allowance : DEFAULT_ALLOWANCE ≡ 1000000
+default_allowance = refl
 
 -- What a contract sees of words: their bytes.
 abbrev pub words_seen : List (String Global) → List (List ℕ)

@@ -1,51 +1,85 @@
-ghost use Rattle.std.specs.Prelude.{◌≡◌, ℕ, ◌≤◌};
-ghost use Rattle.outside_ports.specs.Counts.{Rose};
-ghost use Rattle.block_top.specs.Inputs.{SaysIfTold, IsReadFault, IsFaultOf};
+ghost use Rattle.std.specs.Prelude.{◌≡◌, ◌≤◌, length, is_some, codes};
+ghost use Rattle.outside_ports.specs.declared.whole.TheConstants.{GREATEST_INPUT_BYTES};
+ghost use Rattle.block_top.specs.Plans.{refused};
+ghost use Rattle.block_top.specs.Refusals.{reason_text};
+ghost use Rattle.block_top.specs.Inputs.{set_input};
+ghost use Rattle.block_top.specs.Replies.{HaltsWith, IsLoaded, IsTaken, IsGot, ReadsSetFor, Keeps};
 
+use crate::halt::{Halt, fault, refusal};
+use crate::refusals::reason;
 use outside_ports::{LoadFault, Shelf, load};
-use sporadic_model::TaskSet;
-use std::alloc::Global;
-use taskset_json::{SetRefusal, read};
+use sporadic_model::{Protocol, TaskSet};
+use std::alloc::{AllocError, Global};
+use taskset_json::{SetRefusal, home_check, read};
 
-/// Why there is no task set.
-#[derive(Clone, Copy, Debug)]
-pub enum InputFault {
-    /// There is no input of the name.
-    Absent,
-    /// The input is longer than an input may be.
-    TooLong,
-    /// The bytes are refused.
-    Refused(SetRefusal),
-    /// The input could not be read, and the shelf's count of faults rose.
-    Read,
-    Memory,
-}
-
-/// What reading's refusal is as a fault of the input.
-fn fault_of(refusal: SetRefusal) -> InputFault
-    ensures { IsFaultOf result refusal }
+/// Loads the input of this name, which answers call by this word.
+fn load_input<S: Shelf>(
+    alloc: Global,
+    shelf: &mut S,
+    word: &str,
+    name: &str,
+) -> Result<Vec<u8>, Halt>
+    ensures loaded { IsLoaded
+        (record { names = S.names shelf.old; before = S.faults shelf.old; now = S.faults shelf.new; given = S.given shelf.new })
+        word.now name.now result }
+    ensures keeps { Keeps (S.names shelf.old) (S.names shelf.new) (is_some (S.rest shelf.old)) (is_some (S.rest shelf.new))
+        (S.faults shelf.old) (S.faults shelf.new) (S.steady shelf.old) (S.steady shelf.new) }
 {
-    match refusal {
-        SetRefusal::Memory => InputFault::Memory,
-        refusal => InputFault::Refused(refusal),
+    match load(alloc, shelf, name) {
+        Ok(bytes) => Ok(bytes),
+        Err(LoadFault::Absent) => Err(refusal(alloc, word, "absent")),
+        Err(LoadFault::TooLong) => Err(refusal(alloc, word, "toolong")),
+        Err(LoadFault::Read) => Err(fault(alloc, word)),
+        Err(LoadFault::Memory) => Err(Halt::Memory),
     }
 }
 
-/// Loads and reads the task set of this name.
-#[tactic(auto, using(crate::proofs::InputLaws::says_of_long))]
-pub fn read_set<S: Shelf>(alloc: Global, shelf: &mut S, name: &str) -> Result<TaskSet, InputFault>
-    ensures input { SaysIfTold (S.names shelf.old) name.now result }
-    ensures fault { IsReadFault result → Rose (S.faults shelf.old) (S.faults shelf.new) }
+/// The reply that a set is refused.
+fn set_refusal(alloc: Global, cause: SetRefusal) -> Halt
+    ensures { HaltsWith result (λ answer. answer ≡ refused (codes "set") (reason_text cause)) }
 {
-    let bytes = match load(alloc, shelf, name) {
-        Ok(bytes) => bytes,
-        Err(LoadFault::Absent) => return Err(InputFault::Absent),
-        Err(LoadFault::TooLong) => return Err(InputFault::TooLong),
-        Err(LoadFault::Read) => return Err(InputFault::Read),
-        Err(LoadFault::Memory) => return Err(InputFault::Memory),
-    };
-    match read(alloc, &bytes) {
+    match reason(alloc, cause) {
+        Ok(reason) => refusal(alloc, "set", reason.as_str()),
+        Err(AllocError) => Halt::Memory,
+    }
+}
+
+/// The set that the bytes are, with the homes that the protocol asks for.
+fn set_for(alloc: Global, bytes: &[u8], protocol: Protocol) -> Result<TaskSet, SetRefusal>
+    requires { length bytes.now ≤ GREATEST_INPUT_BYTES }
+    ensures { ReadsSetFor protocol bytes.now result }
+{
+    let set = read(alloc, bytes)?;
+    home_check(&set, protocol)?;
+    Ok(set)
+}
+
+/// The set that the bytes are, or the reply that refuses it.
+fn take_set(alloc: Global, bytes: &[u8], protocol: Protocol) -> Result<TaskSet, Halt>
+    requires { length bytes.now ≤ GREATEST_INPUT_BYTES }
+    ensures { IsTaken (set_input protocol) bytes.now result }
+{
+    match set_for(alloc, bytes, protocol) {
         Ok(set) => Ok(set),
-        Err(refusal) => Err(fault_of(refusal)),
+        Err(SetRefusal::Memory) => Err(Halt::Memory),
+        Err(cause) => Err(set_refusal(alloc, cause)),
     }
+}
+
+/// Loads and reads the task set of this name, for use with this protocol.
+pub fn get_set<S: Shelf>(
+    alloc: Global,
+    shelf: &mut S,
+    protocol: Protocol,
+    name: &str,
+) -> Result<(Vec<u8>, TaskSet), Halt>
+    ensures got { IsGot
+        (record { names = S.names shelf.old; before = S.faults shelf.old; now = S.faults shelf.new; given = S.given shelf.new })
+        (set_input protocol) name.now result }
+    ensures keeps { Keeps (S.names shelf.old) (S.names shelf.new) (is_some (S.rest shelf.old)) (is_some (S.rest shelf.new))
+        (S.faults shelf.old) (S.faults shelf.new) (S.steady shelf.old) (S.steady shelf.new) }
+{
+    let bytes = load_input(alloc, shelf, "set", name)?;
+    let set = take_set(alloc, &bytes, protocol)?;
+    Ok((bytes, set))
 }

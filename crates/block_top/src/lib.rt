@@ -1,15 +1,19 @@
 //! The program's one call: it reads words, loads inputs and writes an answer.
 #![tactic(auto)]
 
+mod commands;
+mod halt;
 mod input;
+mod laws;
 mod refusals;
-mod reply;
 mod texts;
 mod top;
 mod words;
+mod work;
 
-pub use reply::DEFAULT_ALLOWANCE;
+pub use laws::two_runs;
 pub use top::{Status, run};
+pub use words::DEFAULT_ALLOWANCE;
 
 #[cfg(test)]
 mod tests;

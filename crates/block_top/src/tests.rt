@@ -1,4 +1,4 @@
-use crate::{Status, run};
+use crate::{Status, run, two_runs};
 use outside_ports::{MemShelf, MemSink};
 use std::alloc::{AllocError, Global};
 use std::test::Fail;
@@ -324,6 +324,26 @@ fn a_failing_read_is_a_fault_of_the_set(rt: HostRuntime) -> Result<(), Fail> {
             want
         );
     }
+    Ok(())
+}
+
+#[test]
+fn one_shelf_serves_two_runs(rt: HostRuntime) -> Result<(), Fail> {
+    let alloc = rt.alloc();
+    let mut words = Vec::new(alloc);
+    for word in ["analyse", "fmlp+", "set"] {
+        words.push(String::from_str(alloc, word)?)?;
+    }
+    let mut files = Vec::new(alloc);
+    files.push((
+        String::from_str(alloc, "set")?,
+        Vec::from_slice(alloc, ONE_TASK.as_bytes())?,
+    ))?;
+    let mut shelf = MemShelf::new(files, 1000, Vec::new(alloc));
+    let mut sink = MemSink::new(alloc, 1000, 4096, Vec::new(alloc))?;
+    let statuses = two_runs(&rt, alloc, &words, &words, &mut shelf, &mut sink);
+    assert_eq!(rt; statuses, (Status(0), Status(0)));
+    assert_eq!(rt; sink.written().len(), 2 * ONE_TASK_CERTIFICATE.len());
     Ok(())
 }
 

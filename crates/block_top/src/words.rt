@@ -1,23 +1,26 @@
-ghost use Rattle.std.specs.Prelude.{◌≡◌, option_map};
+ghost use Rattle.std.specs.Prelude.{◌≡◌, option_map, IfSome};
 ghost use Rattle.block_top.specs.Words.{protocol_of, form_of_three, form_of, words_seen};
-ghost use Rattle.block_top.specs.FormSeen.{form_seen};
+ghost use Rattle.block_top.specs.FormSeen.{form_seen, IsServed};
 
 use sporadic_model::Protocol;
 
-/// What the program can do with a task set.
-#[derive(Clone, Copy, Debug)]
-pub enum Work {
-    /// Find the least bounds under FMLP+.
-    Analyse,
-    /// Write the table, for use with this protocol.
-    Report(Protocol),
-}
+/// The units that the programs of an analysis may take in all, where the words don't say.
+pub const DEFAULT_ALLOWANCE: u64 = 1_000_000;
 
-/// What the words ask for: some work on the task set of this name.
+/// What the words ask for.
 #[derive(Clone, Copy, Debug)]
-pub struct Command<'a> {
-    pub work: Work,
-    pub name: &'a str,
+pub enum Command<'a> {
+    /// Find the least bounds of the set of this name within so many units.
+    Analyse {
+        protocol: Protocol,
+        set: &'a str,
+        allowance: u64,
+    },
+    /// Write the table of the set of this name.
+    Report {
+        protocol: Protocol,
+        set: &'a str,
+    },
 }
 
 /// The protocol that a word names.
@@ -33,31 +36,31 @@ fn protocol_named(word: &str) -> Option<Protocol>
 }
 
 /// What three words ask for.
-fn command_of_three<'a>(command: &str, protocol: &str, name: &'a str) -> Option<Command<'a>>
-    ensures { option_map form_seen result ≡ form_of_three command.now protocol.now name.now }
+fn command_of_three<'a>(command: &str, protocol: &str, set: &'a str) -> Option<Command<'a>>
+    ensures form { option_map form_seen result ≡ form_of_three command.now protocol.now set.now }
+    ensures served { IfSome result (λ c. IsServed (form_seen c)) }
 {
     if command == "analyse" && protocol == "fmlp+" {
-        return Some(Command {
-            work: Work::Analyse,
-            name,
+        return Some(Command::Analyse {
+            protocol: Protocol::FmlpPlus,
+            set,
+            allowance: DEFAULT_ALLOWANCE,
         });
     }
     if command == "report" {
-        return protocol_named(protocol).map(|protocol| Command {
-            work: Work::Report(protocol),
-            name,
-        });
+        return protocol_named(protocol).map(|protocol| Command::Report { protocol, set });
     }
     None
 }
 
 /// What the words ask for, or none where they have no form. The words are read by exact number and place.
 pub fn command_of(words: &[String]) -> Option<Command<'_>>
-    ensures { option_map form_seen result ≡ form_of (words_seen words.now) }
+    ensures form { option_map form_seen result ≡ form_of (words_seen words.now) }
+    ensures served { IfSome result (λ c. IsServed (form_seen c)) }
 {
     match words {
-        [command, protocol, name] => {
-            command_of_three(command.as_str(), protocol.as_str(), name.as_str())
+        [command, protocol, set] => {
+            command_of_three(command.as_str(), protocol.as_str(), set.as_str())
         }
         _ => None,
     }

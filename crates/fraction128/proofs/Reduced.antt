@@ -2,7 +2,7 @@
 use Rattle.std.proofs.Common.{◌≡◌, ℕ, zero, suc, ◌*◌, ◌/◌, ◌<◌, ◌≤◌, ◌^◌, ℤ, pos, negsuc, ◌*ℤ◌, ◌≤ℤ◌, ◌<ℤ◌, unsigned_abs, ap, ◌∙◌, sym, subst, refl, arith}
 use Rattle.std.specs.Int.{IsGcd, ◌∣◌}
 use Rattle.std.proofs.lemmas.Int.{ints, unsigned_abs-mul}
-use Rattle.std.proofs.Math.Nat.{div-mul_cancel, pos_of_dvd_of_pos, dvd-mul_right, le_of_mul-le-mul_right}
+use Rattle.std.proofs.Math.Nat.{eq-one_of_dvd-one, div-mul_cancel, pos_of_dvd_of_pos, dvd-mul_right, le_of_mul-le-mul_right}
 use Rattle.number_laws.specs.Divisors.{IsCoprime}
 use Rattle.number_laws.proofs.Divisors.{parts_apart, coprime_of_gcd, lowest_terms_once}
 use Rattle.fraction128.specs.Fraction.{Fraction, IsForm, IsSame, over}
@@ -73,3 +73,7 @@ no_form n d top bottom above l wide f form is =
 pub reduced_by_one : (a b g : ℕ) → 0 < b → g ≡ 1 → IsGcd a b g → IsLowest a b a b
 reduced_by_one a b g pb one h =
     record { same = refl; positive = pb; lowest = coprime_of_gcd a b (subst (λ (n : ℕ). IsGcd a b n) one h) }
+
+-- a whole number is in lowest terms
+pub whole_is_lowest : (a b : ℕ) → b ≡ 1 → IsLowest a b a b
+whole_is_lowest a b one = record { same = refl; positive = omega arith; lowest = λ d p q. eq-one_of_dvd-one (subst (λ (n : ℕ). d ∣ n) one q) }

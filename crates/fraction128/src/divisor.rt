@@ -16,6 +16,9 @@ pub(crate) fn gcd(a: u128, b: u128) -> u128
         x = y;
         y = rest;
     }
+    if x <= MOST_SMALL {
+        return gcd_small(x as u64, y as u64) as u128;
+    }
     if y == 0 {
         return x;
     }
@@ -66,6 +69,10 @@ pub(crate) fn reduce(num: u128, den: u128) -> (u128, u128)
     requires { 0 < den }
     ensures { IsLowest num den result.0 result.1 }
 {
+    // whole numbers are in lowest terms
+    if den == 1 {
+        return (num, den);
+    }
     let common = gcd(num, den);
     if common == 1 {
         return (num, den);

@@ -4,6 +4,7 @@ pub mod Prefix
 pub mod Answers
 pub mod MemoryShelf
 pub mod MemorySink
+pub mod Limits
 pub mod Rests
 pub mod MemoryShelfView
 pub mod MemorySinkView

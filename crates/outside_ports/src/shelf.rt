@@ -28,7 +28,8 @@ pub enum ShelfFault {
 /// faults that never falls (`faults`). Which of these it tells never changes, and the inputs stay as they are. Both
 /// numbers stay at 2^64 - 1.
 ///
-/// A shelf may also count its calls (`calls`), and promise that no later call fails (`steady`).
+/// A shelf may also count its calls (`calls`), and promise that no later call fails (`steady`). For a shelf that
+/// counts none `calls` stays 0, and a bound on calls says nothing of it.
 pub trait Shelf {
     ghost names: { Self → Option Inputs };
 

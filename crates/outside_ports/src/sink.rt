@@ -14,7 +14,8 @@ pub struct SinkFault;
 /// To a contract a sink is the bytes written, where it tells them (`written`), and a count of faults that never
 /// falls and stays at 2^64 - 1 (`faults`). Whether it tells the bytes never changes.
 ///
-/// A sink may also count its writes (`calls`), and promise to take so many more bytes with no fault (`takes`).
+/// A sink may also count its writes (`calls`), and promise to take so many more bytes with no fault (`takes`). For a
+/// sink that counts none `calls` stays 0, and a bound on writes says nothing of it.
 pub trait Sink {
     ghost written: { Self → Option (List ℕ) };
 

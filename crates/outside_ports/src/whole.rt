@@ -1,4 +1,4 @@
-ghost use Rattle.std.specs.Prelude.{◌≡◌, ◌+◌, ◌<◌, ◌≤◌, ◌↔◌, length, vec_len, Result, is_some, IfOk, IsOk, OnOk, OnErr, IsErrOf};
+ghost use Rattle.std.specs.Prelude.{◌≡◌, ℕ, ◌+◌, ◌-◌, ◌<◌, ◌≤◌, ◌↔◌, length, vec_len, Result, is_some, IfOk, IsOk, OnOk, OnErr, IsErrOf};
 ghost use Rattle.std.specs.Io.KnownBytes.{Appends, Consumes, IsAtEnd};
 ghost use Rattle.outside_ports.specs.Counts.{Rose};
 ghost use Rattle.outside_ports.specs.Names.{IsNamed, IsLonger, IsAbsent};
@@ -36,7 +36,8 @@ pub enum LoadFault {
 ///
 /// `Absent` comes exactly where the shelf's `start` answered so, `Read` only where the shelf's count of faults rose
 /// in this call, and `TooLong` exactly where more than [`GREATEST_INPUT_BYTES`] bytes were given. After an error the
-/// shelf stands where its last call left it.
+/// shelf stands where its last call left it. A shelf that counts its calls shows that there are at most two more of
+/// them than an input may have bytes.
 pub fn load<S: Shelf>(alloc: Global, shelf: &mut S, name: &str) -> Result<Vec<u8>, LoadFault>
     ensures whole { IfOk result (λ bytes. IsNamed (S.names shelf.old) name.now bytes.items) }
     ensures ended { OnOk result (IsAtEnd (S.rest shelf.new)) }
@@ -99,7 +100,7 @@ fn read_all<S: Shelf>(alloc: Global, shelf: &mut S) -> Result<Vec<u8>, LoadFault
 /// Writes all of the text.
 ///
 /// An error comes only where the sink's count of faults rose in this call; the sink has then taken a proper prefix
-/// of the text.
+/// of the text. A sink that counts its writes shows that there is at most one for each byte.
 pub fn put_all<K: Sink>(sink: &mut K, text: &[u8]) -> Result<(), SinkFault>
     ensures whole { OnOk result (Appends (K.written sink.old) (K.written sink.new) text.now) }
     ensures part { OnErr result (AppendsPart (K.written sink.old) (K.written sink.new) text.now) }
@@ -107,7 +108,7 @@ pub fn put_all<K: Sink>(sink: &mut K, text: &[u8]) -> Result<(), SinkFault>
     ensures tells { is_some (K.written sink.new) ≡ is_some (K.written sink.old) }
     ensures later { K.faults sink.old ≤ K.faults sink.new }
     ensures few_calls { K.calls sink.new ≤ K.calls sink.old + length text.now }
-    ensures takes { K.takes sink.old (length text.now) → IsOk result × (K.faults sink.new ≡ K.faults sink.old) }
+    ensures takes { (room : ℕ) → length text.now ≤ room → K.takes sink.old room → IsOk result × (K.takes sink.new (room - length text.now)) × (K.faults sink.new ≡ K.faults sink.old) }
 {
     let mut sent = 0;
     while sent < text.len() {

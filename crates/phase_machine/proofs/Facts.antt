@@ -206,7 +206,7 @@ ready_shown m rows j shows =
     (is_local (phase_of (under m rows) m.tick j) || holds_by (held_before (under m rows) m.tick) j (phase_of (under m rows) m.tick j))
     (active_shown m rows j shows)
     (λ h. ap (λ p. is_local p || holds_by (holder_now m) j p) (phase_shown m rows j shows (active_listed (under m rows) m.tick j h))
-        ∙ ap (λ b. is_local (phase_of (under m rows) m.tick j) || b) (holds_same (holder_now m) (held_before (under m rows) m.tick) j (phase_of (under m rows) m.tick j) shows.holders))
+    ∙ ap (λ b. is_local (phase_of (under m rows) m.tick j) || b) (holds_same (holder_now m) (held_before (under m rows) m.tick) j (phase_of (under m rows) m.tick j) shows.holders))
 
 pub waiting_shown : (m : MachineDef) (rows : ℕ → RowDef) (j : ℕ) → Shows m rows → waiting_now m j ≡ is_waiting_before (under m rows) m.tick j
 unfolding waiting_now is_waiting_before

@@ -6,3 +6,4 @@ pub mod Placing
 pub mod Taking
 pub mod Coming
 pub mod Named
+pub mod Existence

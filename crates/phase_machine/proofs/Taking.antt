@@ -67,7 +67,7 @@ took_from m row old moved kept before come held running holders a b c d e f size
 }
 
 -- A place whose job runs is one of a listed job.
-runs_listed : (m : MachineDef) (row : RowDef) (j : ℕ) → CanTake m row → runs_in row j ≡ true → (j < length m.list.jobs) × ((place_of m (task_in m.list.jobs j)).job ≡ j)
+pub runs_listed : (m : MachineDef) (row : RowDef) (j : ℕ) → CanTake m row → runs_in row j ≡ true → (j < length m.list.jobs) × ((place_of m (task_in m.list.jobs j)).job ≡ j)
 runs_listed m row j can h = at (runs_where row j h) where
   at : (k : ℕ) × (running_on row k ≡ Some j) → (j < length m.list.jobs) × ((place_of m (task_in m.list.jobs j)).job ≡ j)
   at (k, e) = (can.fits.running k j e, active_place m j (can.active k j e))

@@ -5,7 +5,13 @@ use Rattle.phase_machine.specs.MachineDef.{MachineDef, IsMachine, IsWithinLimits
 use Rattle.phase_machine.specs.declared.machine.Machine.TheInside.{Inside}
 
 abbrev pub machine_view : Inside → MachineDef
-machine_view m = record { list = m.jobs.now; tick = m.tick; places = m.places.items; holders = map place_seen m.holders.items; coming = m.coming.items }
+machine_view m = record {
+  list = m.jobs.now;
+  tick = m.tick;
+  places = m.places.items;
+  holders = map place_seen m.holders.items;
+  coming = m.coming.items;
+}
 
 pub record IsKept (m : Inside) : Type 0 where
   pub machine : IsMachine (machine_view m)

@@ -1,5 +1,5 @@
 -- What a machine answers of the tick that it stands at.
-use Rattle.std.specs.Prelude.{ℕ, ◌&&◌, ◌||◌, not, Bool, nat_lt, nat_le, if◌then◌else◌, List, length, Option, None, Some, slice_index_or}
+use Rattle.std.specs.Prelude.{◌≡◌, refl, ℕ, ◌&&◌, ◌||◌, not, Bool, nat_lt, nat_le, if◌then◌else◌, List, length, Option, None, Some, slice_index_or}
 use Rattle.schedule_model.specs.JobDef.{SegmentDef, JobDef, job_of}
 use Rattle.schedule_model.specs.RowDef.{Trace, is_job, held_before}
 use Rattle.schedule_model.specs.Phase.{Phase, is_local, is_asking, asking, phase_of}
@@ -11,6 +11,12 @@ use Rattle.phase_machine.specs.MachineDef.{MachineDef, place_of, task_in, segmen
 -- The phase in segment number n after so many of its ticks.
 abbrev pub phase_in : ℕ → SegmentDef → ℕ → Phase
 phase_in n s ticks = if nat_lt ticks s.local then Local else asking n s.request
+
+pub local_at_first : phase_in 0 (record { local = 1; request = Some (4, 2) }) 0 ≡ Local
+local_at_first = refl
+
+pub then_a_request : phase_in 0 (record { local = 1; request = Some (4, 2) }) 1 ≡ Asking 0 4
+then_a_request = refl
 
 -- The phase of job j, where its task is at this place: the jobs before the place's are finished, the later ones have
 -- executed nothing.

@@ -1,7 +1,7 @@
 -- Which schedules does a machine show? Those whose rows before its tick have brought it there.
-use Rattle.std.specs.Prelude.{◌≡◌, ℕ, ◌+◌, ◌<◌, ◌≤◌, List, length, take, slice_index_or}
+use Rattle.std.specs.Prelude.{◌≡◌, ℕ, ◌+◌, ◌<◌, ◌≤◌, List, length, take, Option, slice_index_or}
 use Rattle.schedule_model.specs.JobDef.{JobDef, job_of, total_ticks}
-use Rattle.schedule_model.specs.RowDef.{RowDef, Trace, held_before}
+use Rattle.schedule_model.specs.RowDef.{RowDef, Trace, jobs_of, held_before}
 use Rattle.schedule_model.specs.Phase.{executed, phase_of}
 use Rattle.schedule_model.specs.Phase.Phase.{Finished}
 use Rattle.schedule_model.specs.Activity.{task_of, issue_tick_of}
@@ -26,4 +26,13 @@ pub record Shows (m : MachineDef) (rows : ℕ → RowDef) : Type 0 where
 -- Is each of these the place of its task before the first row: at the start of the task's first job?
 abbrev pub ArePlacesAtFirst : List JobDef → ℕ → List Place → Type 0
 ArePlacesAtFirst jobs tasks places = (x : ℕ) → x < tasks →
-    IsNext jobs x 0 (slice_index_or places x no_place).job × ((slice_index_or places x no_place).segment ≡ 0) × ((slice_index_or places x no_place).ticks ≡ 0)
+    IsNext jobs x 0 (slice_index_or places x no_place).job
+    × ((slice_index_or places x no_place).segment ≡ 0)
+    × ((slice_index_or places x no_place).ticks ≡ 0)
+
+-- A machine that shows the schedule after its rows before tick n.
+pub record Shown (w : Trace) (n : ℕ) : Type 0 where
+  pub places : List Place
+  pub holders : List (Option ℕ)
+  pub coming : List ℕ
+  pub shows : Shows (record { list = jobs_of w; tick = n; places = places; holders = holders; coming = coming }) w.row

@@ -6,11 +6,15 @@ use Rattle.schedule_model.specs.RowDef.{is_job}
 use Rattle.phase_machine.specs.declared.place.Place.{Place}
 use Rattle.phase_machine.specs.MachineDef.{IsNext, IsPlace, segment_in, task_in, no_place}
 
--- The place of task x after its job has executed one more tick, at tick `after`: further in the segment (where its
--- request begins, that is its issue tick), at the next segment, or at the task's next job.
+-- The issue tick after one more tick of the place's segment, at tick `after`: that tick where the request begins then.
+abbrev pub issued_after : List JobDef → ℕ → Place → ℕ
+issued_after jobs after p = if p.ticks + 1 == (segment_in jobs p.job p.segment).local then after else p.issued
+
+-- The place of task x after its job has executed one more tick, at tick `after`: further in the segment, at the next
+-- segment, or at the task's next job.
 pub record StepsTo (jobs : List JobDef) (after x : ℕ) (p n : Place) : Type 0 where
   pub further : p.ticks + 1 < segment_ticks (segment_in jobs p.job p.segment)
-      → n ≡ record { job = p.job; segment = p.segment; ticks = p.ticks + 1; issued = if p.ticks + 1 == (segment_in jobs p.job p.segment).local then after else p.issued }
+      → n ≡ record { job = p.job; segment = p.segment; ticks = p.ticks + 1; issued = issued_after jobs after p }
   pub next : segment_ticks (segment_in jobs p.job p.segment) ≤ p.ticks + 1 → p.segment + 1 < length (job_of jobs p.job).script
       → n ≡ record { job = p.job; segment = p.segment + 1; ticks = 0; issued = p.issued }
   pub over : segment_ticks (segment_in jobs p.job p.segment) ≤ p.ticks + 1 → length (job_of jobs p.job).script ≤ p.segment + 1

@@ -1,28 +1,35 @@
 ghost use Rattle.std.specs.Prelude.{◌≡◌, ℕ, ◌<◌, length, ◌↔◌};
-ghost use Rattle.schedule_model.specs.RowDef.{RowDef, held_before};
+ghost use Rattle.sporadic_model.specs.Accepted.{IsAccepted};
+ghost use Rattle.schedule_model.specs.LawfulJobs.{AreLawfulJobs};
+ghost use Rattle.schedule_model.specs.RowDef.{RowDef, Trace, jobs_of, held_before};
 ghost use Rattle.schedule_model.specs.Phase.{phase_of};
 ghost use Rattle.schedule_model.specs.Activity.{active_job_of, is_active, is_requester};
-ghost use Rattle.schedule_model.specs.TakenRows.{CanBeTaken};
+ghost use Rattle.schedule_model.specs.TakenRows.{CanBeTaken, CanBeTakenBefore};
 ghost use Rattle.phase_machine.specs.MachineDef.{MachineDef, under};
-ghost use Rattle.phase_machine.specs.Now.{phase_now, current_now, active_now, holder_now, ready_now, waiting_now, requester_now, issued_now, is_ready_before, is_waiting_before, issue_of};
+ghost use Rattle.phase_machine.specs.Now.{phase_now, current_now, active_now, holder_now, ready_now, waiting_now, requester_now, issued_now};
+ghost use Rattle.phase_machine.specs.Now.{is_ready_before, is_waiting_before, issue_of};
 ghost use Rattle.phase_machine.specs.Taking.{CanTake};
-ghost use Rattle.phase_machine.specs.Shows.{Shows};
+ghost use Rattle.phase_machine.specs.Shows.{Shows, Shown};
 
 /// What a machine answers is what the definitions say of each schedule that it shows, at the tick that it stands at;
 /// who is ready and who waits goes by the holders of the row before. This says so, and does nothing.
 pub fn machines_show_the_definitions()
     ensures phase { (m : MachineDef) (rows : ℕ → RowDef) → Shows m rows → (j : ℕ) → j < length m.list.jobs
         → phase_now m j ≡ phase_of (under m rows) m.tick j }
-    ensures active { (m : MachineDef) (rows : ℕ → RowDef) → Shows m rows → (j : ℕ) → active_now m j ≡ is_active (under m rows) m.tick j }
+    ensures active { (m : MachineDef) (rows : ℕ → RowDef) → Shows m rows → (j : ℕ)
+        → active_now m j ≡ is_active (under m rows) m.tick j }
     ensures current { (m : MachineDef) (rows : ℕ → RowDef) → Shows m rows → (x : ℕ) → x < length m.list.set.tasks
         → current_now m x ≡ active_job_of (under m rows) m.tick x }
     ensures requester { (m : MachineDef) (rows : ℕ → RowDef) → Shows m rows → (q j : ℕ)
         → requester_now m q j ≡ is_requester (under m rows) m.tick q j }
     ensures issued { (m : MachineDef) (rows : ℕ → RowDef) → Shows m rows → (j : ℕ) → j < length m.list.jobs
         → issued_now m j ≡ issue_of (under m rows) m.tick j }
-    ensures holder { (m : MachineDef) (rows : ℕ → RowDef) → Shows m rows → (q : ℕ) → holder_now m q ≡ held_before (under m rows) m.tick q }
-    ensures ready { (m : MachineDef) (rows : ℕ → RowDef) → Shows m rows → (j : ℕ) → ready_now m j ≡ is_ready_before (under m rows) m.tick j }
-    ensures waiting { (m : MachineDef) (rows : ℕ → RowDef) → Shows m rows → (j : ℕ) → waiting_now m j ≡ is_waiting_before (under m rows) m.tick j }
+    ensures holder { (m : MachineDef) (rows : ℕ → RowDef) → Shows m rows → (q : ℕ)
+        → holder_now m q ≡ held_before (under m rows) m.tick q }
+    ensures ready { (m : MachineDef) (rows : ℕ → RowDef) → Shows m rows → (j : ℕ)
+        → ready_now m j ≡ is_ready_before (under m rows) m.tick j }
+    ensures waiting { (m : MachineDef) (rows : ℕ → RowDef) → Shows m rows → (j : ℕ)
+        → waiting_now m j ≡ is_waiting_before (under m rows) m.tick j }
 {}
 
 /// A machine can take a row exactly where the row can stand at that tick of each schedule that the machine shows and that
@@ -35,4 +42,10 @@ pub fn machines_take_what_can_be_taken()
 /// Which schedules a machine shows depends on their rows before its tick alone. This says so, and does nothing.
 pub fn machines_read_earlier_rows()
     ensures { (m : MachineDef) (rows more : ℕ → RowDef) → ((t : ℕ) → t < m.tick → rows t ≡ more t) → Shows m rows → Shows m more }
+{}
+
+/// Each schedule of lawful jobs of an accepted set is shown by a machine, as far as its rows can be taken. This says so, and
+/// does nothing.
+pub fn each_schedule_is_shown()
+    ensures { (w : Trace) (n : ℕ) → IsAccepted w.set → AreLawfulJobs (jobs_of w) → CanBeTakenBefore w n → Shown w n }
 {}

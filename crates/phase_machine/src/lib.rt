@@ -10,10 +10,13 @@ mod place;
 mod script;
 mod starting;
 mod stepping;
+#[cfg(test)]
+mod tests;
 
 pub use judge::Judge;
 pub use laws::{
-    machines_read_earlier_rows, machines_show_the_definitions, machines_take_what_can_be_taken,
+    each_schedule_is_shown, machines_read_earlier_rows, machines_show_the_definitions,
+    machines_take_what_can_be_taken,
 };
 pub use machine::Machine;
 pub use phase::Phase;

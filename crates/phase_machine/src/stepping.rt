@@ -20,7 +20,11 @@ fn stepped(jobs: &JobList, after: u64, x: u32, place: &Place) -> Place
     let segment = segment_at(jobs, place.job, place.segment);
     let ticks = place.ticks + 1;
     if ticks < ticks_of(&segment) {
-        let issued = if ticks == segment.local { after } else { place.issued };
+        let issued = if ticks == segment.local {
+            after
+        } else {
+            place.issued
+        };
         return Place {
             job: place.job,
             segment: place.segment,
@@ -53,24 +57,21 @@ fn step_one(jobs: &JobList, after: u64, j: JobId, places: &mut [Place])
     ensures len { length places.new ≡ length places.old }
     ensures own { StepsTo jobs.now.jobs after (task_in jobs.now.jobs j.0)
         (slice_index_or places.old (task_in jobs.now.jobs j.0) no_place) (slice_index_or places.new (task_in jobs.now.jobs j.0) no_place) }
-    ensures others { (x : ℕ) → (x ≡ task_in jobs.now.jobs j.0 → ⊥) → slice_index_or places.new x no_place ≡ slice_index_or places.old x no_place }
+    ensures others { (x : ℕ) → (x ≡ task_in jobs.now.jobs j.0 → ⊥)
+        → slice_index_or places.new x no_place ≡ slice_index_or places.old x no_place }
 {
     let x = task_of(jobs, j.0);
     places[x.0 as usize] = stepped(jobs, after, x.0, &places[x.0 as usize]);
 }
 
 /// Moves the places of the tasks whose jobs run in the columns.
-pub(crate) fn step_all(
-    jobs: &JobList,
-    after: u64,
-    running: &[Option<JobId>],
-    places: &mut [Place],
-)
+pub(crate) fn step_all(jobs: &JobList, after: u64, running: &[Option<JobId>], places: &mut [Place])
     requires places { ArePlaces jobs.now places.old }
     requires running { AreCurrent jobs.now.jobs places.old (map place_seen running.now) }
     ensures len { length places.new ≡ length places.old }
     ensures moved { (x : ℕ) → x < length jobs.now.set.tasks
-        → MovesTo jobs.now.jobs after (map place_seen running.now) x (slice_index_or places.old x no_place) (slice_index_or places.new x no_place) }
+        → MovesTo jobs.now.jobs after (map place_seen running.now) x
+        (slice_index_or places.old x no_place) (slice_index_or places.new x no_place) }
 {
     list_is_lawful(jobs);
     for named in running {

@@ -7,9 +7,9 @@ use Rattle.program_form.specs.Certificate.{DualDef, dual_seen}
 use Rattle.program_form.specs.Duals.{IsOptimalDual}
 use Rattle.sporadic_model.specs.SetDef.{SetDef, task_at}
 use Rattle.response_fixpoint.specs.Range.{IsInRange}
-use Rattle.response_fixpoint.specs.Rounds.{Schedulable, NotShown, Wide, Found, Passes, Reaches, ComesTo, EndsIn}
+use Rattle.response_fixpoint.specs.Rounds.{Ending, Schedulable, NotShown, Wide, Allowance, Found, Passes, Reaches, ComesTo, EndsIn}
 use Rattle.response_fixpoint.specs.Response.{IsResponse, AreFitting, AreLeastFitting, AreOptimalDuals, empty_dual, no_columns, rounds_of, slack_of}
-use Rattle.response_fixpoint.specs.Answers.{Answers, IsRight, IsSchedulable, GivesRound, IsVerdictOf, answer_at}
+use Rattle.response_fixpoint.specs.Answers.{Answers, IsAnswerOf, IsRight, IsSchedulable, GivesRound, IsVerdictOf, answer_at}
 use Rattle.response_fixpoint.specs.declared.verdict.Verdict.{Verdict}
 use Rattle.response_fixpoint.specs.declared.verdict.Verdict.TheVariants as verdict
 use Rattle.response_fixpoint.specs.declared.verdict.Stop.{Stop}
@@ -17,7 +17,7 @@ use Rattle.response_fixpoint.specs.declared.verdict.Stop.TheVariants as stop
 use Rattle.response_fixpoint.specs.declared.rounds.RoundStop.{RoundStop}
 use Rattle.response_fixpoint.specs.declared.rounds.RoundStop.TheVariants as round_stop
 use Rattle.response_fixpoint.proofs.RoundLaws.{schedulable_least, not_shown_none, values_length}
-use Rattle.response_fixpoint.proofs.ResponseLaws.{sound, never_short, found_by, round_value}
+use Rattle.response_fixpoint.proofs.ResponseLaws.{sound, one_ending, never_short, found_by, round_value}
 
 -- Each task that passed has the empty dual.
 duals_found : (set : SetDef) (r : List ℕ) (left i : ℕ) (found : Found) → Passes (rounds_of set) r left i found → found.duals ≡ replicate i empty_dual
@@ -61,9 +61,20 @@ schedulable_right set allowance bounds duals (left, found, comes, same, rest) =
 pub not_shown_right : (set : SetDef) (allowance i value : ℕ) → EndsIn (rounds_of set) allowance (NotShown i value) → (s : List ℕ) → AreFitting set s → ⊥
 not_shown_right set allowance i value ends = not_shown_none (rounds_of set) (IsResponse set) allowance i value (sound set) ends
 
+-- Rounds end in one way, so their end is the one of the answer.
+pub only_of : (set : SetDef) (allowance : ℕ) (r : Result Verdict Stop) (e : Ending) → Answers r set allowance → EndsIn (rounds_of set) allowance e → IsAnswerOf r e
+only_of set allowance (Ok (verdict.Schedulable certificate)) e answers ends =
+    one_ending set allowance e (Schedulable certificate.bounds.items (map dual_seen certificate.duals.items)) ends answers
+only_of set allowance (Ok (verdict.NotShown task bound)) e answers ends = one_ending set allowance e (NotShown task.0 bound) ends answers
+only_of set allowance (Err (stop.Wide task)) e answers ends = one_ending set allowance e (Wide task.0) ends answers
+only_of set allowance (Err stop.Allowance) e answers ends = one_ending set allowance e Allowance ends answers
+only_of set allowance (Err stop.Memory) e answers ends = tt
+
 -- The verdict of rounds that end so is right.
 pub right_of : (set : SetDef) (allowance : ℕ) (r : Result Verdict Stop) → Answers r set allowance → IfOk r (λ v. IsRight v set)
-right_of set allowance (Ok (verdict.Schedulable certificate)) ends = schedulable_right set allowance certificate.bounds.items (map dual_seen certificate.duals.items) ends
+right_of set allowance (Ok (verdict.Schedulable certificate)) ends =
+    let right = schedulable_right set allowance certificate.bounds.items (map dual_seen certificate.duals.items) ends in
+    (right.0, λ nothing. right.1, right.2)
 right_of set allowance (Ok (verdict.NotShown task bound)) ends = not_shown_right set allowance task.0 bound ends
 right_of set allowance (Err e) ends = tt
 

@@ -3,8 +3,8 @@ use Rattle.std.specs.Prelude.{◌≡◌, ℕ, ◌-◌, ◌<◌, ◌≤◌, List,
 use Rattle.std.specs.Global.{Global}
 use Rattle.program_form.specs.Certificate.{dual_seen}
 use Rattle.sporadic_model.specs.SetDef.{SetDef}
-use Rattle.response_fixpoint.specs.Rounds.{Valued, Schedulable, NotShown, Wide, Allowance, Found, Passes, EndsIn}
-use Rattle.response_fixpoint.specs.Response.{AreFitting, AreLeastFitting, AreOptimalDuals, RunsOf, empty_dual, deadline_of, rounds_of}
+use Rattle.response_fixpoint.specs.Rounds.{Valued, Ending, Schedulable, NotShown, Wide, Allowance, Found, Passes, EndsIn}
+use Rattle.response_fixpoint.specs.Response.{RequestsNothing, AreFitting, AreLeastFitting, AreOptimalDuals, RunsOf, empty_dual, deadline_of, rounds_of}
 use Rattle.response_fixpoint.specs.declared.verdict.Verdict.{Verdict}
 use Rattle.response_fixpoint.specs.declared.verdict.Verdict.TheVariants as verdict
 use Rattle.response_fixpoint.specs.declared.verdict.Stop.{Stop}
@@ -20,11 +20,19 @@ Answers (Err (stop.Wide task)) set allowance = EndsIn (rounds_of set) allowance 
 Answers (Err stop.Allowance) set allowance = EndsIn (rounds_of set) allowance Allowance
 Answers (Err stop.Memory) set allowance = Unit {0}
 
+-- Is this the answer that rounds of this ending give? But for want of memory there is no other.
+abbrev pub IsAnswerOf : Result Verdict Stop → Ending → Type 0
+IsAnswerOf (Ok (verdict.Schedulable certificate)) e = e ≡ Schedulable certificate.bounds.items (map dual_seen certificate.duals.items)
+IsAnswerOf (Ok (verdict.NotShown task bound)) e = e ≡ NotShown task.0 bound
+IsAnswerOf (Err (stop.Wide task)) e = e ≡ Wide task.0
+IsAnswerOf (Err stop.Allowance) e = e ≡ Allowance
+IsAnswerOf (Err stop.Memory) e = Unit {0}
+
 -- Is the verdict right: are the bounds the least that fit, with an optimal dual for each task, which has no
--- numerator over 1, or does nothing fit where the verdict is that the set isn't shown?
+-- numerator over 1 where no task requests anything, or does nothing fit where the verdict is that the set isn't shown?
 abbrev pub IsRight : Verdict → SetDef → Type 0
 IsRight (verdict.Schedulable certificate) set = (AreLeastFitting set certificate.bounds.items)
-    × (map dual_seen certificate.duals.items ≡ replicate (length set.tasks) empty_dual)
+    × (RequestsNothing set → map dual_seen certificate.duals.items ≡ replicate (length set.tasks) empty_dual)
     × (AreOptimalDuals set (map dual_seen certificate.duals.items))
 IsRight (verdict.NotShown task bound) set = (s : List ℕ) → AreFitting set s → ⊥
 

@@ -2,8 +2,9 @@ ghost use Rattle.std.specs.Prelude.{◌≡◌, ℕ, ◌+◌, ◌*◌, ◌<◌, �
 ghost use Rattle.program_form.specs.Certificate.{dual_seen};
 ghost use Rattle.sporadic_model.specs.SetDef.{task_at};
 ghost use Rattle.response_fixpoint.specs.Range.{IsInRange};
+ghost use Rattle.response_fixpoint.specs.Rounds.{Ending, EndsIn};
 ghost use Rattle.response_fixpoint.specs.Response.{RequestsNothing, AreFitting, empty_dual, slack_of, rounds_of};
-ghost use Rattle.response_fixpoint.specs.Answers.{Answers, IsRight, IsSchedulable, IsVerdictOf, answer_at};
+ghost use Rattle.response_fixpoint.specs.Answers.{Answers, IsAnswerOf, IsRight, IsSchedulable, IsVerdictOf, answer_at};
 
 use crate::rounds::{RoundStop, round};
 use crate::verdict::{Stop, Verdict};
@@ -85,8 +86,8 @@ fn take_rounds(alloc: Global, set: &TaskSet, allowance: u64) -> Result<Verdict, 
 /// Finds the least bounds within all deadlines that satisfy the recurrence, or shows that there are none.
 ///
 /// Bounds are in ticks. `allowance` is the number of units that all programs together may take; a program
-/// without columns takes one. `Stop::Allowance` comes where they want more, and `Stop::Memory` for want of
-/// memory alone. This is the fixed-point iteration of response-time analysis (Joseph and Pandya 1986; Audsley
+/// without columns takes one. `Stop::Allowance` comes exactly where they want more, but for `Stop::Memory`, which
+/// comes for want of memory alone. This is the fixed-point iteration of response-time analysis (Joseph and Pandya 1986; Audsley
 /// et al. 1993), taken over the bounds of all tasks at once.
 pub fn analyse<R: Threads + Sync>(
     _rt: &R,
@@ -101,13 +102,16 @@ pub fn analyse<R: Threads + Sync>(
     // The answer, its stops among them, is how the rounds end.
     ensures rounds { Answers result set.now allowance }
 
+    // And each end of the rounds gives just that answer: each verdict and each stop comes exactly where they end so.
+    ensures only { (e : Ending) → EndsIn (rounds_of set.now) allowance e → IsAnswerOf result e }
+
     // Schedulable: the least fitting bounds. Not shown: nothing fits. So each comes exactly there.
     ensures right { IfOk result (λ verdict. IsRight verdict set.now) }
     ensures exactly { IfOk result (λ verdict. IsSchedulable verdict ↔ ((s : List ℕ) × AreFitting set.now s)) }
 
-    // The stops that don't come.
-    ensures never_wide { (task : ℕ) → IsErrOf result (Stop.Wide (record { 0 = task })) → ⊥ }
-    ensures enough { length set.now.tasks * (1 + slack_of set.now) ≤ allowance → IsErrOf result Stop.Allowance → ⊥ }
+    // The stops that don't come for a set that requests nothing.
+    ensures never_wide { RequestsNothing set.now → (task : ℕ) → IsErrOf result (Stop.Wide (record { 0 = task })) → ⊥ }
+    ensures enough { RequestsNothing set.now → length set.now.tasks * (1 + slack_of set.now) ≤ allowance → IsErrOf result Stop.Allowance → ⊥ }
 {
     let _tasks = set.tasks();
     take_rounds(alloc, set, allowance)

@@ -8,5 +8,6 @@ pub mod KeepingTests
 pub mod DpcpTests
 pub mod ChoiceTests
 pub mod WorkedFiles
+pub mod JobExamples
 pub mod SharedExamples
 pub mod DpcpExamples

@@ -1,4 +1,8 @@
 pub mod Cells
+pub mod Listed
+pub mod Merging
+pub mod Dividing
+pub mod Sparse
 pub mod Ratios
 pub mod Taking
 pub mod Stepping

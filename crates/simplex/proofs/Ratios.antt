@@ -1,10 +1,13 @@
 -- The least ratio of the rows so far, and one row more.
-use Rattle.std.proofs.Common.{◌≡◌, inl, inr, ℕ, ◌≤◌, ◌+◌, ℤ, pos, ◌≤ℤ◌, ◌<ℤ◌, Option, Some, None, subst, arith}
+use Rattle.std.proofs.Common.{◌≡◌, inl, inr, ℕ, ◌<◌, ◌≤◌, ◌+◌, ℤ, pos, ◌≤ℤ◌, ◌<ℤ◌, Option, Some, None, subst, arith}
 use Rattle.std.proofs.lemmas.Int.{ints}
 use Rattle.std.proofs.lemmas.Bool.{cases_eq}
 use Rattle.fraction128.specs.Fraction.{Fraction, IsForm, IsAtMost, IsBelow, IsQuotient}
+use Rattle.std.specs.Prelude.{IfSome}
 use Rattle.exchange_runs.specs.Table.{Table}
 use Rattle.exchange_runs.specs.Exchange.{HasRatio, IsRatio}
+use Rattle.fraction128.specs.Gives.{HasNoForm}
+use Rattle.exchange_runs.specs.WideExchange.{IsWideRatio}
 use Rattle.exchange_runs.proofs.Loops.{least_skip}
 use Rattle.simplex.specs.Choice.{IsLeastSoFar}
 
@@ -36,3 +39,18 @@ ratio_read place t e i a b f p q form h = record {
 
 pub has_read : (t : Table) (e i : ℕ) (b : Fraction) → b ≡ t.cell i e → pos 0 <ℤ b.num → HasRatio t e i
 has_read t e i b q h = record { above = subst (λ (y : Fraction). pos 0 <ℤ y.num) q h }
+
+-- the least so far is of a row so far
+pub so_far_within : (place : ℕ) (t : Table) (e k : ℕ) (best : Option (ℕ × Fraction)) → IsLeastSoFar place t e k best → IfSome best (λ b. b.0 < k)
+so_far_within place t e k None h = tt
+so_far_within place t e k (Some best) h = h.within
+
+-- a ratio that has no form, at the cells that were read
+pub wide_ratio : (place : ℕ) (t : Table) (e i k : ℕ) (a b : Fraction) → a ≡ t.cell i place → b ≡ t.cell i e → i < k → HasRatio t e i → HasNoForm (IsQuotient a b)
+    → IsWideRatio place k t e
+wide_ratio place t e i k a b p q l has h = record {
+  of_row = i;
+  within = l;
+  has = has;
+  wide = subst (λ (y : Fraction). HasNoForm (IsQuotient (t.cell i place) y)) q (subst (λ (x : Fraction). HasNoForm (IsQuotient x b)) p h);
+}

@@ -1,18 +1,20 @@
 -- What an answer of the run says of the program.
-use Rattle.std.proofs.Common.{inl, ℕ, ◌<◌, ◌+◌, List, slice_index, Result, Ok, Err}
+use Rattle.std.proofs.Common.{inl, inr, ℕ, ◌<◌, ◌+◌, List, slice_index, Result, Ok, Err}
 use Rattle.std.specs.Prelude.{IfOk}
 use Rattle.fraction128.specs.Scaling.{IsScaled}
 use Rattle.program_form.specs.Program.{ProgramDef, IsProgram}
 use Rattle.program_form.specs.Certificate.{dual_seen}
 use Rattle.program_form.specs.Points.{IsGreatestReached}
 use Rattle.program_form.specs.Duals.{IsOptimalDual, dual_total, dual_value}
-use Rattle.exchange_runs.specs.Exchange.{IsEntering}
+use Rattle.exchange_runs.specs.Table.{Table}
+use Rattle.exchange_runs.specs.Exchange.{IsEntering, IsLast}
 use Rattle.exchange_runs.specs.Run.{Reached}
 use Rattle.exchange_runs.specs.Feasible.{IsOptimumValue, IsPointWorth}
 use Rattle.exchange_runs.proofs.Finals.{ends_at_optimum, ends_at_point, ends_with_dual, ends_equal, ends_greatest, ends_not_wide, ends_not_more, wide_not_more}
 use Rattle.simplex.specs.Rows.{RowDef}
 use Rattle.simplex.specs.Tables.{table_of}
 use Rattle.simplex.specs.Exchanges.{Steps}
+use Rattle.simplex.specs.Ends.{Finishes}
 use Rattle.simplex.specs.Solves.{Solves, IsOnlyAnswer}
 use Rattle.simplex.specs.declared.Solved.{Solved}
 use Rattle.simplex.specs.declared.SolveStop.{SolveStop}
@@ -28,6 +30,23 @@ solve_stop Wide p units k e rows basis rows' basis' l reached enters h = record 
   wide = inl (l, record { entering = e; enters = enters; wide = h });
 }
 solve_stop Units p units k e rows basis rows' basis' l reached enters h = absurd h
+
+-- the end of the run is the end of the solving
+pub finished : (r : Result Solved SolveStop) (p : ProgramDef) (units k : ℕ) (t : Table) → k < units → Reached p k t → IsLast p t → Finishes r p t k → Solves r p units
+finished (Ok s) p units k t l reached last h = rw h.0 (record {
+  table = t;
+  run = record { reached = reached; last = last };
+  within = l;
+  read_off = h.1;
+})
+finished (Err Memory) p units k t l reached last h = tt
+finished (Err Wide) p units k t l reached last h = record {
+  exchanges = k;
+  table = t;
+  reached = reached;
+  wide = inr (l, record { reached = reached; last = last }, h);
+}
+finished (Err Units) p units k t l reached last h = absurd h
 
 -- no two answers hold
 pub only_answer : (r : Result Solved SolveStop) (p : ProgramDef) (units : ℕ) → IsProgram p → Solves r p units → IsOnlyAnswer r p units

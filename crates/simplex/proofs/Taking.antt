@@ -1,96 +1,115 @@
 -- The rows while the pivot row is taken from them.
-use Rattle.std.proofs.Common.{◌≡◌, ◌≢◌, ℕ, ◌<◌, ◌≤◌, ◌+◌, inl, inr, List, length, pos, Err, set, refl, sym, ◌∙◌, arith, get_or-set_same, get_or-set_other, length-set}
+use Rattle.std.proofs.Common.{◌≡◌, ◌≢◌, ℕ, ◌<◌, ◌≤◌, ◌+◌, inl, inr, List, length, pos, Err, set, refl, ◌∙◌, arith, get_or-set_same, get_or-set_other, length-set}
 use Rattle.std.proofs.lemmas.Bool.{cases_eq}
 use Rattle.fraction128.specs.Fraction.{Fraction}
-use Rattle.simplex.specs.Rows.{RowDef, cell_at, no_row, HasForms}
-use Rattle.simplex.specs.RowSteps.{IsDividedRow, IsLessRow, TakesRow}
-use Rattle.simplex.specs.Tables.{row_of}
+use Rattle.fraction128.specs.Scaling.{fraction_at}
+use Rattle.simplex.specs.Rows.{RowDef, cell_at, no_row, HasForms, IsSparseRow}
+use Rattle.simplex.specs.RowSteps.{IsDividedRow, IsLeftRow, TakesRow}
+use Rattle.simplex.specs.Tables.{row_of, IsColumn}
 use Rattle.simplex.specs.Exchanges.{AreTaken, TakesAll, AreExchanged, ExchangesIn}
 use Rattle.simplex.specs.declared.SolveStop.{SolveStop}
 use Rattle.simplex.specs.declared.SolveStop.TheVariants.{Memory, Wide, Units}
 use Rattle.exchange_runs.proofs.Loops.{less_of_zero}
+use Rattle.simplex.proofs.Cells.{form_of_zero}
+use Rattle.simplex.proofs.Listed.{sparse_none}
+use Rattle.simplex.proofs.Sparse.{forms_of}
 
 -- the rows below k have lost theirs, and the others are as before
-pub record AreTakenTo (k : ℕ) (before now : List RowDef) (e r : ℕ) (pivot : RowDef) : Type 0 where
+pub record AreTakenTo (k : ℕ) (before now : List RowDef) (column : List Fraction) (r : ℕ) (pivot : RowDef) : Type 0 where
   pub as_many : length now ≡ length before
-  pub taken : (i : ℕ) → i < k → i ≢ r → IsLessRow (row_of before i) (cell_at (row_of before i) e) pivot (row_of now i)
+  pub taken : (i : ℕ) → i < k → i ≢ r → IsLeftRow (row_of before i) (fraction_at column i) pivot (row_of now i)
   pub rest : (i : ℕ) → k ≤ i → row_of now i ≡ row_of before i
-  pub kept : row_of now r ≡ row_of before r
 
--- one row more, which is written
-pub taken_more : (k : ℕ) (before now : List RowDef) (e r : ℕ) (pivot next : RowDef) → k < length now → k ≢ r → AreTakenTo k before now e r pivot
-    → IsLessRow (row_of before k) (cell_at (row_of before k) e) pivot next → AreTakenTo (k + 1) before (set now k next) e r pivot
-taken_more k before now e r pivot next l apart h is = record {
-  as_many = length-set now k next ∙ h.as_many;
+-- one row more, from which it is taken
+pub taken_more : (k : ℕ) (before now : List RowDef) (column : List Fraction) (r : ℕ) (pivot left : RowDef) → k < length now → AreTakenTo k before now column r pivot
+    → IsLeftRow (row_of before k) (fraction_at column k) pivot left → AreTakenTo (k + 1) before (set now k left) column r pivot
+taken_more k before now column r pivot left l h is = record {
+  as_many = length-set now k left ∙ h.as_many;
   taken = λ i li ai. elim (cases_eq i k) [
-    | inl here ↦ rw (here, get_or-set_same now k next no_row l) is
-    | inr other ↦ rw (get_or-set_other now k i next no_row other) (h.taken i (omega arith) ai)
+    | inl here ↦ rw (here, get_or-set_same now k left no_row l) is
+    | inr other ↦ rw (get_or-set_other now k i left no_row other) (h.taken i (omega arith) ai)
   ];
-  rest = λ i li. let other : i ≢ k = omega arith in get_or-set_other now k i next no_row other ∙ h.rest i (omega arith);
-  kept = let other : r ≢ k = λ q. apart (sym q) in get_or-set_other now k r next no_row other ∙ h.kept;
+  rest = λ i li. let other : i ≢ k = omega arith in get_or-set_other now k i left no_row other ∙ h.rest i (omega arith);
 }
 
--- one row more, which stays since its cell at e is zero
-pub taken_same : (k : ℕ) (before now : List RowDef) (e r : ℕ) (pivot : RowDef) → AreTakenTo k before now e r pivot
-    → HasForms (row_of before k) → (cell_at (row_of before k) e).num ≡ pos 0 → AreTakenTo (k + 1) before now e r pivot
-taken_same k before now e r pivot h forms none = record {
+-- one row more, which stays since its cell in the column is zero
+pub taken_same : (k : ℕ) (before now : List RowDef) (column : List Fraction) (r : ℕ) (pivot : RowDef) → AreTakenTo k before now column r pivot
+    → HasForms (row_of before k) → (fraction_at column k).num ≡ pos 0 → AreTakenTo (k + 1) before now column r pivot
+taken_same k before now column r pivot h forms none = record {
   as_many = h.as_many;
   taken = λ i li ai. elim (cases_eq i k) [
     | inl here ↦ rw (here, h.rest k (omega arith))
-        (record { as_many = refl; each = λ v. less_of_zero (cell_at (row_of before k) v) (cell_at (row_of before k) e) (cell_at pivot v) none (forms v) })
+        (record { as_many = refl; each = λ v. less_of_zero (cell_at (row_of before k) v) (fraction_at column k) (cell_at pivot v) none (forms v) })
     | inr other ↦ h.taken i (omega arith) ai
   ];
   rest = λ i li. h.rest i (omega arith);
-  kept = h.kept;
 }
 
 -- row r is passed over
-pub taken_past : (k : ℕ) (before now : List RowDef) (e r : ℕ) (pivot : RowDef) → k ≡ r → AreTakenTo k before now e r pivot → AreTakenTo (k + 1) before now e r pivot
-taken_past k before now e r pivot here h = record {
+pub taken_past : (k : ℕ) (before now : List RowDef) (column : List Fraction) (r : ℕ) (pivot : RowDef) → k ≡ r → AreTakenTo k before now column r pivot
+    → AreTakenTo (k + 1) before now column r pivot
+taken_past k before now column r pivot here h = record {
   as_many = h.as_many;
   taken = λ i li ai. h.taken i (omega arith) ai;
   rest = λ i li. h.rest i (omega arith);
-  kept = h.kept;
 }
 
--- what is taken from a row that was read
-pub less_read : (before : List RowDef) (e k : ℕ) (pivot row next : RowDef) (f : Fraction) → row_of before k ≡ row → f ≡ cell_at row e
-    → IsLessRow row f pivot next → IsLessRow (row_of before k) (cell_at (row_of before k) e) pivot next
-less_read before e k pivot row next f is at h = rw (is, ← at) h
+-- what is left of a row that was read
+pub left_read : (before : List RowDef) (k : ℕ) (column : List Fraction) (pivot row left : RowDef) (f : Fraction) → row_of before k ≡ row → fraction_at column k ≡ f
+    → IsLeftRow row f pivot left → IsLeftRow (row_of before k) (fraction_at column k) pivot left
+left_read before k column pivot row left f is at h = rw (is, at) h
 
 -- the stop of a row is that of all
-pub takes_stop : (stop : SolveStop) (before now : List RowDef) (e r k : ℕ) (pivot row : RowDef) (f : Fraction) → k < length before → k ≢ r
-    → row_of before k ≡ row → f ≡ cell_at row e → TakesRow (Err stop) row f pivot → TakesAll (Err stop) before now e r pivot
-takes_stop Memory before now e r k pivot row f l apart is at h = tt
-takes_stop Wide before now e r k pivot row f l apart is at h = (k, h.0, l, apart, rw (is, ← at) h.1)
-takes_stop Units before now e r k pivot row f l apart is at h = h
+pub takes_stop : (stop : SolveStop) (before now : List RowDef) (column : List Fraction) (r k : ℕ) (pivot row left : RowDef) (f : Fraction) → k < length before → k ≢ r
+    → row_of before k ≡ row → fraction_at column k ≡ f → TakesRow (Err stop) row f pivot left → TakesAll (Err stop) before now column r pivot
+takes_stop Memory before now column r k pivot row left f l apart is at h = tt
+takes_stop Wide before now column r k pivot row left f l apart is at h = (k, h.0, l, apart, rw (is, at) h.1)
+takes_stop Units before now column r k pivot row left f l apart is at h = h
+
+-- another row is as it was before one was put aside
+pub put_aside : (before : List RowDef) (r i : ℕ) (row : RowDef) → i ≢ r → row_of (set before r row) i ≡ row_of before i
+put_aside before r i row other = get_or-set_other before r i row no_row other
+
+-- its place is taken by the row without variables
+pub forms_aside : (before : List RowDef) (r i : ℕ) → ((k : ℕ) → k < length before → HasForms (row_of before k)) → i < length (set before r no_row)
+    → HasForms (row_of (set before r no_row) i)
+forms_aside before r i forms l = elim (cases_eq i r) [
+  | inl here ↦ rw (here, get_or-set_same before r no_row no_row (omega (arith, length-set before r no_row))) (forms_of no_row no_row_sparse)
+  | inr other ↦ rw (put_aside before r i no_row other) (forms i (omega (arith, length-set before r no_row)))
+]
+  where
+    no_row_sparse : IsSparseRow no_row
+    no_row_sparse = record { sparse = sparse_none; below = λ k lk. absurd (omega arith); limit_form = form_of_zero }
 
 -- the stop of the taking is that of the exchange
-pub exchange_stop : (stop : SolveStop) (before mid after : List RowDef) (e r : ℕ) (pivot row : RowDef) (by : Fraction)
-    → row_of before r ≡ row → by ≡ cell_at row e → IsDividedRow row by pivot
-    → TakesAll (Err stop) before mid e r pivot → ExchangesIn (Err stop) before after e r
-exchange_stop Memory before mid after e r pivot row by is at divided h = tt
-exchange_stop Wide before mid after e r pivot row by is at divided h =
+pub exchange_stop : (stop : SolveStop) (before mid after : List RowDef) (column : List Fraction) (e r : ℕ) (pivot row : RowDef) → r < length before
+    → IsColumn before e column → IsDividedRow (row_of before r) (fraction_at column r) pivot
+    → TakesAll (Err stop) (set before r row) mid column r pivot → ExchangesIn (Err stop) before after e r
+exchange_stop Memory before mid after column e r pivot row l is divided h = tt
+exchange_stop Wide before mid after column e r pivot row l is divided h =
+    let within : h.0 < length before = omega (arith, h.2, length-set before r row) in
     λ most basis size. inr (record {
       divided = cell_at pivot;
       divided_form = divided.form;
-      is_divided = rw (is, ← at) divided.quotient;
+      is_divided = rw (← is.each r l) divided.quotient;
       of_row = h.0;
       at_place = h.1;
-      within = omega (arith, h.2);
+      within = omega (arith, h.2, length-set before r row);
       other = h.3;
-      wide = h.4;
+      wide = rw (← is.each h.0 within) (rw (put_aside before r h.0 row h.3) at h.4);
     })
-exchange_stop Units before mid after e r pivot row by is at divided h = h
+exchange_stop Units before mid after column e r pivot row l is divided h = h
 
 -- the rows with the pivot row in its place
-pub exchanged : (before mid : List RowDef) (e r : ℕ) (pivot row : RowDef) (by : Fraction) → r < length before
-    → row_of before r ≡ row → by ≡ cell_at row e → IsDividedRow row by pivot
-    → AreTaken before mid e r pivot → AreExchanged before (set mid r pivot) e r
-exchanged before mid e r pivot row by l is at divided h =
-    let here : row_of (set mid r pivot) r ≡ pivot = get_or-set_same mid r pivot no_row (omega (arith, h.as_many)) in
+pub exchanged : (before mid : List RowDef) (column : List Fraction) (e r : ℕ) (pivot row : RowDef) → r < length before
+    → IsColumn before e column → IsDividedRow (row_of before r) (fraction_at column r) pivot
+    → AreTaken (set before r row) mid column r pivot → AreExchanged before (set mid r pivot) e r
+exchanged before mid column e r pivot row l is divided h =
+    let here : row_of (set mid r pivot) r ≡ pivot = get_or-set_same mid r pivot no_row (omega (arith, h.as_many, length-set before r row)) in
     record {
-      as_many = length-set mid r pivot ∙ h.as_many;
-      divided = rw (here, is, ← at) divided;
-      taken = λ i li ai. rw (here, get_or-set_other mid r i pivot no_row ai) (h.taken i li ai);
+      as_many = length-set mid r pivot ∙ (h.as_many ∙ length-set before r row);
+      divided = rw (here, ← is.each r l) divided;
+      taken = λ i li ai.
+          let within : i < length (set before r row) = omega (arith, length-set before r row) in
+          rw (here, get_or-set_other mid r i pivot no_row ai, ← is.each i li) (rw (put_aside before r i row ai) at (h.taken i within ai));
     }

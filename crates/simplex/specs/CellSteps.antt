@@ -1,42 +1,43 @@
--- What the steps of an exchange answer at one cell, and at a list of cells.
-use Rattle.std.specs.Prelude.{◌≡◌, ℕ, List, length, Result, Ok, Err}
+-- What the steps of an exchange answer at one cell, and at a list of nonzero cells.
+use Rattle.std.specs.Prelude.{◌≡◌, ℕ, ◌<◌, List, length, Result, Ok, Err}
 use Rattle.std.specs.Global.{Global}
 use Rattle.std.specs.declared.vec.Vec.{Vec}
-use Rattle.fraction128.specs.Fraction.{Fraction, IsForm, IsQuotient}
+use Rattle.fraction128.specs.Fraction.{Fraction, IsQuotient}
 use Rattle.fraction128.specs.Gives.{HasNoForm}
-use Rattle.fraction128.specs.Scaling.{fraction_at}
 use Rattle.fraction128.specs.declared.Wide.{Wide}
 use Rattle.exchange_runs.specs.Exchange.{IsLess}
 use Rattle.exchange_runs.specs.WideExchange.{IsWideLess}
+use Rattle.simplex.specs.Entries.{listed_at, AreSparse, AreBelow}
+use Rattle.simplex.specs.declared.entries.Entry.{Entry}
 use Rattle.simplex.specs.declared.SolveStop.{SolveStop}
 use Rattle.simplex.specs.declared.SolveStop.TheVariants.{Memory, Wide as WideStop, Units}
 
--- a less f times y, or Wide exactly where the product or the difference has no form
-abbrev pub GivesLess : Result Fraction Wide → Fraction → Fraction → Fraction → Type 0
-GivesLess (Ok b) a f y = IsLess a f y b
-GivesLess (Err w) a f y = IsWideLess a f y
+-- What is left of a when f times y is taken away, or Wide exactly where the product or the difference has no form
+abbrev pub TakesCell : Result Fraction Wide → Fraction → Fraction → Fraction → Type 0
+TakesCell (Ok b) a f y = IsLess a f y b
+TakesCell (Err w) a f y = IsWideLess a f y
 
--- Is each fraction of the list `divided` the one of `cells` at its place, divided by `by`?
-pub record AreDivided (cells : List Fraction) (by : Fraction) (divided : List Fraction) : Type 0 where
-  pub as_many : length divided ≡ length cells
-  pub form : (v : ℕ) → IsForm (fraction_at divided v)
-  pub quotient : (v : ℕ) → IsQuotient (fraction_at cells v) by (fraction_at divided v)
+-- Is `divided` the list with each value divided?
+pub record AreDivided (entries : List Entry) (by : Fraction) (divided : List Entry) : Type 0 where
+  pub as_many : length divided ≡ length entries
+  pub sparse : AreSparse divided
+  pub below : (end : ℕ) → AreBelow end entries → AreBelow end divided
+  pub quotient : (v : ℕ) → IsQuotient (listed_at entries v) by (listed_at divided v)
 
--- Each cell divided, or Wide exactly where a quotient has no form.
-abbrev pub Divides : Result (Vec Fraction Global) SolveStop → List Fraction → Fraction → Type 0
-Divides (Ok divided) cells by = AreDivided cells by divided.items
-Divides (Err Memory) cells by = Unit {0}
-Divides (Err WideStop) cells by = (v : ℕ) × HasNoForm (IsQuotient (fraction_at cells v) by)
-Divides (Err Units) cells by = ⊥
+-- Each value divided, or Wide exactly where a quotient has no form.
+abbrev pub DividesAll : Result (Unit {0}) Wide → List Entry → Fraction → List Entry → Type 0
+DividesAll (Ok u) entries by divided = AreDivided entries by divided
+DividesAll (Err w) entries by divided = (v : ℕ) × ((end : ℕ) → AreBelow end entries → v < end) × HasNoForm (IsQuotient (listed_at entries v) by)
 
--- Is each fraction of the list `less` the one of `cells` at its place, less f times that of `pivot`?
-pub record AreLess (cells : List Fraction) (f : Fraction) (pivot less : List Fraction) : Type 0 where
-  pub as_many : length less ≡ length cells
-  pub each : (v : ℕ) → IsLess (fraction_at cells v) f (fraction_at pivot v) (fraction_at less v)
+-- Is `left` what is left of a list when f times another is taken away, at every variable?
+pub record AreLeft (end : ℕ) (entries : List Entry) (f : Fraction) (pivot left : List Entry) : Type 0 where
+  pub sparse : AreSparse left
+  pub below : AreBelow end left
+  pub each : (v : ℕ) → IsLess (listed_at entries v) f (listed_at pivot v) (listed_at left v)
 
 -- f times the pivot's cell taken from each cell, or Wide exactly where a product or a difference has no form.
-abbrev pub TakesAway : Result (Vec Fraction Global) SolveStop → List Fraction → Fraction → List Fraction → Type 0
-TakesAway (Ok less) cells f pivot = AreLess cells f pivot less.items
-TakesAway (Err Memory) cells f pivot = Unit {0}
-TakesAway (Err WideStop) cells f pivot = (v : ℕ) × IsWideLess (fraction_at cells v) f (fraction_at pivot v)
-TakesAway (Err Units) cells f pivot = ⊥
+abbrev pub TakesAway : Result (Vec Entry Global) SolveStop → ℕ → List Entry → Fraction → List Entry → Type 0
+TakesAway (Ok left) end entries f pivot = AreLeft end entries f pivot left.items
+TakesAway (Err Memory) end entries f pivot = Unit {0}
+TakesAway (Err WideStop) end entries f pivot = (v : ℕ) × (v < end) × IsWideLess (listed_at entries v) f (listed_at pivot v)
+TakesAway (Err Units) end entries f pivot = ⊥

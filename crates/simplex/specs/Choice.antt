@@ -8,10 +8,10 @@ use Rattle.exchange_runs.specs.Exchange.{IsEntering, IsLast, HasRatio, IsLeastOf
 use Rattle.exchange_runs.specs.WideExchange.{IsWideRatio}
 use Rattle.simplex.specs.Rows.{RowDef, cell_at}
 
--- The first of n variables whose cell is above zero, or None where there is none.
-abbrev pub IsFirstAbove : Option ℕ → ℕ → RowDef → Type 0
-IsFirstAbove (Some e) n row = (e < n) × (pos 0 <ℤ (cell_at row e).num) × ((v : ℕ) → v < e → (cell_at row v).num ≤ℤ pos 0)
-IsFirstAbove None n row = (v : ℕ) → v < n → (cell_at row v).num ≤ℤ pos 0
+-- The first variable whose cell is above zero, or None where there is none.
+abbrev pub IsFirstAbove : Option ℕ → RowDef → Type 0
+IsFirstAbove (Some e) row = (e < row.place) × (pos 0 <ℤ (cell_at row e).num) × ((v : ℕ) → v < e → (cell_at row v).num ≤ℤ pos 0)
+IsFirstAbove None row = (v : ℕ) → v < row.place → (cell_at row v).num ≤ℤ pos 0
 
 -- The entering variable, or None where the table is the last.
 abbrev pub Enters : Option ℕ → ProgramDef → Table → Type 0

@@ -1,9 +1,9 @@
--- What the parts of a `Row` are as a row, and what every `Row` keeps.
-use Rattle.simplex.specs.Rows.{RowDef, HasForms}
-use Rattle.simplex.specs.declared.row.Row.TheInside.{Inside}
+-- What the parts of a `SparseRow` are as a row, and what every `SparseRow` keeps.
+use Rattle.simplex.specs.Rows.{RowDef, IsSparseRow}
+use Rattle.simplex.specs.declared.row.SparseRow.TheInside.{Inside}
 
 abbrev pub row_view : Inside → RowDef
-row_view row = record { cells = row.cells.items }
+row_view row = record { entries = row.entries.items; place = row.place; limit = row.limit }
 
 abbrev pub IsKept : Inside → Type 0
-IsKept row = HasForms (row_view row)
+IsKept row = IsSparseRow (row_view row)

@@ -1,28 +1,37 @@
 -- What contracts see of a row of a table. Everything else reads it by its places and its cells alone.
-use Rattle.std.specs.Prelude.{◌≡◌, ℕ, ◌+◌, List, [], length}
-use Rattle.fraction128.specs.Fraction.{Fraction, IsForm}
-use Rattle.fraction128.specs.Scaling.{fraction_at}
+use Rattle.std.specs.Prelude.{◌≡◌, ℕ, ◌+◌, ◌==◌, if◌then◌else◌, List, [], pos}
+use Rattle.fraction128.specs.Fraction.{Fraction, IsForm, whole}
+use Rattle.simplex.specs.declared.entries.Entry.{Entry}
+use Rattle.simplex.specs.Entries.{listed_at, AreSparse, AreBelow}
 
--- The cell at each variable, and behind them the limit.
+-- The nonzero cells in order of their variables, and beside them the limit, which stands at the place behind all variables.
 pub record RowDef : Type 0 where
-  pub cells : List Fraction
+  pub entries : List Entry
+  pub place : ℕ
+  pub limit : Fraction
 
 -- How many places has the row?
 abbrev pub places : RowDef → ℕ
-places row = length row.cells
+places row = row.place + 1
 
--- Which fraction stands at place v? Past the places it is zero.
+-- Which fraction stands at place v? Where none is listed it is zero, past the places too.
 abbrev pub cell_at : RowDef → ℕ → Fraction
-cell_at row v = fraction_at row.cells v
+cell_at row v = if row.place == v then row.limit else listed_at row.entries v
 
 -- Has the row a place for each of so many variables, and one for its limit?
 abbrev pub Fits : ℕ → RowDef → Type 0
 Fits variables row = places row ≡ variables + 1
 
+-- Do the variables rise up to the place of the limit, is no cell zero but the limit, and can a `Frac` hold each?
+pub record IsSparseRow (row : RowDef) : Type 0 where
+  pub sparse : AreSparse row.entries
+  pub below : AreBelow row.place row.entries
+  pub limit_form : IsForm row.limit
+
 -- Can a `Frac` hold each cell?
 abbrev pub HasForms : RowDef → Type 0
 HasForms row = (v : ℕ) → IsForm (cell_at row v)
 
--- The row without places.
+-- The row without variables, whose limit is zero.
 abbrev pub no_row : RowDef
-no_row = record { cells = [] }
+no_row = record { entries = []; place = 0; limit = whole (pos 0) }

@@ -3,8 +3,16 @@ use Rattle.std.specs.Prelude.{◌≡◌, ℕ, ◌+◌, ◌<◌, List, length, sl
 use Rattle.fraction128.specs.Fraction.{whole}
 use Rattle.program_form.specs.Program.{ProgramDef, height}
 use Rattle.exchange_runs.specs.Table.{variables, slack, first_number}
+use Rattle.simplex.specs.declared.entries.Entry.{Entry}
+use Rattle.simplex.specs.Entries.{listed_at, AreSparse, AreBelow}
 use Rattle.simplex.specs.Rows.{RowDef, Fits, cell_at}
 use Rattle.simplex.specs.Tables.{row_of}
+
+-- Are these the nonzero numbers of the first n variables in row i of the first table of p?
+pub record AreFirstEntries (p : ProgramDef) (i n : ℕ) (entries : List Entry) : Type 0 where
+  pub sparse : AreSparse entries
+  pub below : AreBelow n entries
+  pub numbers : (v : ℕ) → v < n → listed_at entries v ≡ whole (pos (first_number p i v))
 
 -- Is it row i of the first table of p?
 pub record IsFirstRow (p : ProgramDef) (i : ℕ) (row : RowDef) : Type 0 where

@@ -1,40 +1,25 @@
 //! Which variable enters the basis, and which row leaves it.
 
-ghost use Rattle.std.specs.Prelude.{◌≡◌, ℕ, ◌+◌, ◌<◌, ◌≤◌, List, length, slice_index, IfSome};
+ghost use Rattle.std.specs.Prelude.{◌≡◌, ℕ, ◌+◌, ◌<◌, ◌≤◌, List, length, slice_index, IfOk, IfSome};
 ghost use Rattle.program_form.specs.Program.{height};
 ghost use Rattle.exchange_runs.specs.Table.{Table, variables};
 ghost use Rattle.exchange_runs.specs.Exchange.{HasRatio, IsRatio, IsLeastOf};
-ghost use Rattle.simplex.specs.Rows.{places, Fits};
-ghost use Rattle.simplex.specs.Tables.{row_of, table_of};
-ghost use Rattle.simplex.specs.Choice.{IsFirstAbove, Enters, Comes, IsLeastSoFar, Leaves};
+ghost use Rattle.simplex.specs.Rows.{Fits};
+ghost use Rattle.simplex.specs.Tables.{row_of, table_of, IsColumn};
+ghost use Rattle.simplex.specs.Choice.{Enters, Comes, IsLeastSoFar, Leaves};
 
-use crate::row::Row;
+use crate::row::SparseRow;
 use fraction128::{Frac, Wide};
 use program_form::Program;
 use std::cmp::Ordering;
 
 // The least variable whose objective cell is above 0.
-pub(crate) fn entering(program: &Program, rows: &[Row]) -> Option<usize>
+pub(crate) fn entering(program: &Program, rows: &[SparseRow]) -> Option<usize>
     requires rows { length rows.now ≡ height program.now + 1 }
     requires fits { Fits (variables program.now) (row_of rows.now (height program.now)) }
     ensures { (basis : List ℕ) → Enters result program.now (table_of rows.now basis) }
 {
-    let objective = program.rows() as usize;
-    let variables = program.columns() as usize + objective;
-    first_above(&rows[objective], variables)
-}
-
-// The first of the variables whose cell is above 0.
-fn first_above(objective: &Row, variables: usize) -> Option<usize>
-    requires { variables ≤ places objective.now }
-    ensures { IsFirstAbove result variables objective.now }
-{
-    for v in 0..variables {
-        if objective.cell(v).is_above_zero() {
-            return Some(v);
-        }
-    }
-    None
+    rows[program.rows() as usize].first_above()
 }
 
 // Whether the ratio g of a row whose basic variable is j comes before the ratio f of one whose basic variable is i.
@@ -77,21 +62,23 @@ fn chosen(best: Option<(usize, Frac)>, i: usize, ratio: Frac, basis: &[usize]) -
     }
 }
 
-// The row that leaves where the variable e enters, with its ratio. The limits stand at `place`.
+// The row that leaves where the variable of the column enters, with its ratio. The limits stand at `place`.
 pub(crate) fn leaving(
-    rows: &[Row],
+    rows: &[SparseRow],
     basis: &[usize],
-    e: usize,
+    column: &[Frac],
     place: usize,
 ) -> Result<Option<(usize, Frac)>, Wide>
     requires rows { length basis.now ≤ length rows.now }
-    requires fits { (i : ℕ) → i < length rows.now → Fits place (row_of rows.now i) }
-    requires within { e < place }
-    ensures { Leaves result place (table_of rows.now basis.now) e (length basis.now) }
+    requires column { length column.now ≡ length rows.now }
+    requires read { (e : ℕ) × IsColumn rows.now e column.now }
+    ensures least { (e : ℕ) → IsColumn rows.now e column.now
+        → Leaves result place (table_of rows.now basis.now) e (length basis.now) }
+    ensures within { IfOk result (λ best. IfSome best (λ b. b.0 < length basis.now)) }
 {
     let mut best = None;
     for i in 0..basis.len() {
-        let cell = rows[i].cell(e);
+        let cell = column[i];
         if cell.is_above_zero() {
             let ratio = match rows[i].cell(place).div(cell) {
                 Ok(ratio) => ratio,

@@ -11,14 +11,19 @@ ghost use Rattle.simplex.specs.Rows.{Fits, places, cell_at};
 ghost use Rattle.simplex.specs.Tables.{row_of, table_of, HasSize};
 ghost use Rattle.simplex.specs.Ends.{AreMinus, WritesDual, Finishes};
 
-use crate::row::Row;
+use crate::row::SparseRow;
 use crate::{SolveStop, Solved};
 use fraction128::{Frac, Scaled, ScalingError, scale};
 use program_form::{Dual, Program};
 use std::alloc::{AllocError, Global};
 
 // Minus the cells of a row, from one place up to another.
-fn minus_cells(alloc: Global, row: &Row, first: usize, last: usize) -> Result<Vec<Frac>, AllocError>
+fn minus_cells(
+    alloc: Global,
+    row: &SparseRow,
+    first: usize,
+    last: usize,
+) -> Result<Vec<Frac>, AllocError>
     requires order { first ≤ last }
     requires within { last ≤ places row.now }
     ensures { IfOk result (λ list. AreMinus row.now first (last - first) list.items) }
@@ -31,7 +36,7 @@ fn minus_cells(alloc: Global, row: &Row, first: usize, last: usize) -> Result<Ve
 }
 
 // The dual that is written for the objective row of a last table.
-fn dual_of(alloc: Global, program: &Program, row: &Row) -> Result<Dual, SolveStop>
+fn dual_of(alloc: Global, program: &Program, row: &SparseRow) -> Result<Dual, SolveStop>
     requires fits { Fits (variables program.now) row.now }
     requires last { (v : ℕ) → v < variables program.now → (cell_at row.now v).num ≤ℤ pos 0 }
     ensures { (t : Table) → ((v : ℕ) → t.cell (height program.now) v ≡ cell_at row.now v) → WritesDual result program.now t }
@@ -49,20 +54,20 @@ fn dual_of(alloc: Global, program: &Program, row: &Row) -> Result<Dual, SolveSto
     }
 }
 
-// Zero for each column.
-fn zeros(alloc: Global, columns: usize) -> Result<Vec<Frac>, AllocError>
-    ensures len { IfOk result (λ v. length v.items ≡ columns) }
+// So many zeros.
+pub(crate) fn zeros(alloc: Global, count: usize) -> Result<Vec<Frac>, AllocError>
+    ensures len { IfOk result (λ v. length v.items ≡ count) }
     ensures zero { IfOk result (λ v. (c : ℕ) → fraction_at v.items c ≡ whole (pos 0)) }
 {
     let mut list = Vec::new(alloc);
-    for _ in 0..columns {
+    for _ in 0..count {
         list.push(Frac::whole(0))?;
     }
     Ok(list)
 }
 
 // Writes the limit of each row whose basic variable is a column at that column.
-fn write_limits(values: &mut [Frac], rows: &[Row], basis: &[usize], place: usize)
+fn write_limits(values: &mut [Frac], rows: &[SparseRow], basis: &[usize], place: usize)
     requires zero { (c : ℕ) → fraction_at values.old c ≡ whole (pos 0) }
     requires rows { length basis.now ≤ length rows.now }
     requires fits { (i : ℕ) → i < length rows.now → Fits place (row_of rows.now i) }
@@ -81,7 +86,7 @@ fn write_limits(values: &mut [Frac], rows: &[Row], basis: &[usize], place: usize
 fn primal_of(
     alloc: Global,
     program: &Program,
-    rows: &[Row],
+    rows: &[SparseRow],
     basis: &[usize],
 ) -> Result<Vec<Frac>, AllocError>
     requires size { HasSize program.now rows.now basis.now }
@@ -98,7 +103,7 @@ fn primal_of(
 pub(crate) fn finish(
     alloc: Global,
     program: &Program,
-    rows: &[Row],
+    rows: &[SparseRow],
     basis: &[usize],
     exchanges: u64,
 ) -> Result<Solved, SolveStop>

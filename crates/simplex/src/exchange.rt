@@ -1,61 +1,81 @@
 //! One exchange of a table.
 
 ghost use Rattle.std.specs.Prelude.{◌≡◌, ◌≢◌, ℕ, ◌+◌, ◌<◌, length, pos};
+ghost use Rattle.fraction128.specs.Scaling.{fraction_at};
 ghost use Rattle.exchange_runs.specs.Exchange.{IsEntering};
 ghost use Rattle.exchange_runs.specs.Run.{Reached};
-ghost use Rattle.simplex.specs.Rows.{places, cell_at, HasForms};
-ghost use Rattle.simplex.specs.Tables.{row_of, table_of, HasSize};
+ghost use Rattle.simplex.specs.Rows.{places, HasForms};
+ghost use Rattle.simplex.specs.Tables.{row_of, table_of, IsColumn, HasSize};
 ghost use Rattle.simplex.specs.Exchanges.{TakesAll, ExchangesIn, Steps};
 
 use crate::SolveStop;
 use crate::choice::leaving;
-use crate::row::Row;
-use fraction128::Wide;
+use crate::entries::Entry;
+use crate::row::SparseRow;
+use fraction128::{Frac, Wide};
 use program_form::Program;
 use std::alloc::Global;
+use std::mem;
 
-// Takes from each row but r its cell at e times the pivot row. A row whose cell there is zero stays.
+// Reads the cell of each row at the variable e.
+fn read_column(column: &mut [Frac], rows: &[SparseRow], e: usize)
+    requires { length column.old ≡ length rows.now }
+    ensures { IsColumn rows.now e column.new }
+{
+    for i in 0..column.len() {
+        column[i] = rows[i].cell(e);
+    }
+}
+
+// Takes from each row but r its cell in the column times the pivot row. A row whose cell there is zero isn't touched.
 fn take_all(
     alloc: Global,
-    rows: &mut [Row],
-    e: usize,
+    rows: &mut [SparseRow],
+    column: &[Frac],
     r: usize,
-    pivot: &Row,
+    pivot: &SparseRow,
+    spare: &mut Vec<Entry>,
 ) -> Result<(), SolveStop>
-    requires even { (i : ℕ) → i < length rows.old → places (row_of rows.old i) ≡ places pivot.now }
-    requires within { e < places pivot.now }
-    requires forms { HasForms pivot.now }
-    ensures { TakesAll result rows.old rows.new e r pivot.now }
+    requires column { length column.now ≡ length rows.old }
+    requires even { (i : ℕ) → i < length rows.old → i ≢ r → places (row_of rows.old i) ≡ places pivot.now }
+    requires forms { (i : ℕ) → i < length rows.old → HasForms (row_of rows.old i) }
+    ensures { TakesAll result rows.old rows.new column.now r pivot.now }
 {
     for i in 0..rows.len() {
         if i != r {
-            let f = rows[i].cell(e);
+            let f = column[i];
             if !f.is_zero() {
-                let next = match rows[i].less(alloc, f, pivot) {
-                    Ok(next) => next,
+                match rows[i].take_away(alloc, f, pivot, spare) {
+                    Ok(()) => {}
                     Err(stop) => return Err(stop),
-                };
-                rows[i] = next;
+                }
             }
         }
     }
     Ok(())
 }
 
-// Divides row r by its cell at e, and takes it from each other row its cell there times.
-fn exchange(alloc: Global, rows: &mut [Row], e: usize, r: usize) -> Result<(), SolveStop>
+// Divides row r by its cell in the entering column, and takes it from each other row its cell there times.
+fn exchange(
+    alloc: Global,
+    rows: &mut [SparseRow],
+    column: &[Frac],
+    r: usize,
+    spare: &mut Vec<Entry>,
+) -> Result<(), SolveStop>
     requires row { r < length rows.old }
     requires even { (i : ℕ) → i < length rows.old → places (row_of rows.old i) ≡ places (row_of rows.old r) }
-    requires within { e < places (row_of rows.old r) }
-    requires pivot { (cell_at (row_of rows.old r) e).num ≢ pos 0 }
-    ensures { ExchangesIn result rows.old rows.new e r }
+    requires forms { (i : ℕ) → i < length rows.old → HasForms (row_of rows.old i) }
+    requires pivot { (fraction_at column.now r).num ≢ pos 0 }
+    requires column { (e : ℕ) × IsColumn rows.old e column.now }
+    ensures { (e : ℕ) → IsColumn rows.old e column.now → ExchangesIn result rows.old rows.new e r }
 {
-    let by = rows[r].cell(e);
-    let pivot = match rows[r].divided(alloc, by) {
+    let row = mem::replace(&mut rows[r], SparseRow::empty(alloc));
+    let pivot = match row.divided(column[r]) {
         Ok(pivot) => pivot,
-        Err(stop) => return Err(stop),
+        Err(Wide) => return Err(SolveStop::Wide),
     };
-    match take_all(alloc, rows, e, r, &pivot) {
+    match take_all(alloc, rows, column, r, &pivot, spare) {
         Ok(()) => {}
         Err(stop) => return Err(stop),
     }
@@ -63,26 +83,30 @@ fn exchange(alloc: Global, rows: &mut [Row], e: usize, r: usize) -> Result<(), S
     Ok(())
 }
 
-// The exchange of the run where the variable e enters.
+// The exchange of the run where the variable e enters. Its column is read into `column`.
 pub(crate) fn step(
     alloc: Global,
     program: &Program,
-    rows: &mut [Row],
+    rows: &mut [SparseRow],
     basis: &mut [usize],
     e: usize,
+    column: &mut [Frac],
+    spare: &mut Vec<Entry>,
 ) -> Result<(), SolveStop>
     requires size { HasSize program.now rows.old basis.old }
+    requires column { length column.old ≡ length rows.old }
     requires enters { IsEntering program.now (table_of rows.old basis.old) e }
     requires reached { (k : ℕ) × Reached program.now k (table_of rows.old basis.old) }
     ensures { Steps result program.now e rows.old basis.old rows.new basis.new }
 {
     let variables = program.columns() as usize + program.rows() as usize;
-    let r = match leaving(rows, basis, e, variables) {
+    read_column(column, rows, e);
+    let r = match leaving(rows, basis, column, variables) {
         Ok(Some((r, _))) => r,
         Ok(None) => unreachable!(),
         Err(Wide) => return Err(SolveStop::Wide),
     };
-    match exchange(alloc, rows, e, r) {
+    match exchange(alloc, rows, column, r, spare) {
         Ok(()) => {}
         Err(stop) => return Err(stop),
     }

@@ -20,12 +20,13 @@ use thiserror::Error;
 
 mod choice;
 mod end;
+mod entries;
 mod exchange;
 mod row;
 mod start;
 
 use choice::entering;
-use end::finish;
+use end::{finish, zeros};
 use exchange::step;
 use start::{first_basis, first_rows};
 
@@ -85,6 +86,11 @@ fn run(alloc: Global, program: &Program, units: u64) -> Result<Solved, SolveStop
         Ok(basis) => basis,
         Err(AllocError) => return Err(SolveStop::Memory),
     };
+    let mut column = match zeros(alloc, rows.len()) {
+        Ok(column) => column,
+        Err(AllocError) => return Err(SolveStop::Memory),
+    };
+    let mut spare = Vec::new(alloc);
     for exchanges in 0..units {
         let e = match entering(program, &rows) {
             Some(e) => e,
@@ -93,7 +99,15 @@ fn run(alloc: Global, program: &Program, units: u64) -> Result<Solved, SolveStop
         if exchanges + 1 == units {
             return Err(SolveStop::Units);
         }
-        match step(alloc, program, &mut rows, &mut basis, e) {
+        match step(
+            alloc,
+            program,
+            &mut rows,
+            &mut basis,
+            e,
+            &mut column,
+            &mut spare,
+        ) {
             Ok(()) => {}
             Err(stop) => return Err(stop),
         }

@@ -1,25 +1,28 @@
 //! A row of a table, and what an exchange does to it.
 
-ghost use Rattle.std.specs.Prelude.{◌≡◌, ◌≢◌, ℕ, ◌<◌, pos, length};
-ghost use Rattle.fraction128.specs.Fraction.{IsForm, IsQuotient};
-ghost use Rattle.fraction128.specs.Gives.{Gives};
-ghost use Rattle.fraction128.specs.Scaling.{fraction_at};
-ghost use Rattle.simplex.specs.Rows.{RowDef, places, cell_at, HasForms};
-ghost use Rattle.simplex.specs.CellSteps.{GivesLess, Divides, TakesAway};
-ghost use Rattle.simplex.specs.RowSteps.{DividesRow, TakesRow};
+ghost use Rattle.std.specs.Prelude.{◌≡◌, ◌≢◌, ℕ, ◌<◌, pos};
+ghost use Rattle.fraction128.specs.Fraction.{IsForm};
+ghost use Rattle.simplex.specs.Entries.{AreSparse, AreBelow};
+ghost use Rattle.simplex.specs.Choice.{IsFirstAbove};
+ghost use Rattle.simplex.specs.Rows.{RowDef, places, cell_at, no_row, HasForms, IsSparseRow};
+ghost use Rattle.simplex.specs.RowSteps.{DividesRow, LeavesRow, TakesRow};
 
 use crate::SolveStop;
+use crate::entries::{Entry, divide_all, first_above, take_away, taken, value_at};
 use fraction128::{Frac, Wide};
 use std::alloc::Global;
 use std::marker::Model;
+use std::mem;
 
-// A row: its cell at each variable, and behind them its limit.
+// A row: its nonzero cells in order of their variables, and its limit, whose place is behind all variables.
 #[derive(Drop)]
-pub(crate) struct Row {
-    cells: Vec<Frac>,
+pub(crate) struct SparseRow {
+    entries: Vec<Entry>,
+    place: usize,
+    limit: Frac,
 }
 
-impl Model for Row {
+impl Model for SparseRow {
     ghost use Rattle.simplex.specs.Rows.{RowDef};
 
     ghost Value = { RowDef };
@@ -31,112 +34,104 @@ impl Model for Row {
     ghost invariant = { IsKept };
 }
 
-impl Row {
-    // The row of these cells, the limit last.
-    pub(crate) fn new(cells: Vec<Frac>) -> Row
-        requires { HasForms (record { cells = cells.items }) }
-        ensures { result ≡ record { cells = cells.items } }
+impl SparseRow {
+    // The row of these cells.
+    pub(crate) fn new(entries: Vec<Entry>, place: usize, limit: Frac) -> SparseRow
+        requires sparse { AreSparse entries.items }
+        requires below { AreBelow place entries.items }
+        requires form { IsForm limit }
+        ensures { result ≡ record { entries = entries.items; place = place; limit = limit } }
     {
-        Row { cells }
+        SparseRow {
+            entries,
+            place,
+            limit,
+        }
+    }
+
+    // The row without variables. It takes no memory.
+    pub(crate) fn empty(alloc: Global) -> SparseRow
+        ensures { result ≡ no_row }
+    {
+        SparseRow::new(Vec::new(alloc), 0, Frac::whole(0))
     }
 
     // The cell at a place.
     pub(crate) fn cell(&self, v: usize) -> Frac
-        requires { v < places self.now }
         ensures value { result ≡ cell_at self.now v }
         ensures forms { HasForms self.now }
     {
-        self.cells[v]
-    }
-
-    // The row with each cell divided.
-    pub(crate) fn divided(&self, alloc: Global, by: Frac) -> Result<Row, SolveStop>
-        requires { by.num ≢ pos 0 }
-        ensures { DividesRow result self.now by }
-    {
-        match quotients(alloc, &self.cells, by) {
-            Ok(cells) => Ok(Row { cells }),
-            Err(stop) => Err(stop),
+        if self.place == v {
+            self.limit
+        } else {
+            value_at(&self.entries, v)
         }
     }
 
-    // The row less f times another.
-    pub(crate) fn less(&self, alloc: Global, f: Frac, pivot: &Row) -> Result<Row, SolveStop>
+    // The first variable whose cell is above 0.
+    pub(crate) fn first_above(&self) -> Option<usize>
+        ensures { IsFirstAbove result self.now }
+    {
+        first_above(&self.entries)
+    }
+
+    // The row with each cell divided, in its own memory.
+    pub(crate) fn divided(self, by: Frac) -> Result<SparseRow, Wide>
+        requires divisor { by.num ≢ pos 0 }
+        requires form { IsForm by }
+        ensures { DividesRow result self by }
+    {
+        let mut entries = self.entries;
+        match divide_all(&mut entries, by) {
+            Ok(()) => {}
+            Err(Wide) => return Err(Wide),
+        }
+        match self.limit.div(by) {
+            Ok(limit) => Ok(SparseRow {
+                entries,
+                place: self.place,
+                limit,
+            }),
+            Err(Wide) => Err(Wide),
+        }
+    }
+
+    // What is left of the row when f times another is taken away. It is made in `spare`.
+    fn left(&self, f: Frac, pivot: &SparseRow, spare: Vec<Entry>) -> Result<SparseRow, SolveStop>
         requires { places self.now ≡ places pivot.now }
-        ensures { TakesRow result self.now f pivot.now }
+        ensures { LeavesRow result self.now f pivot.now }
     {
-        match differences(alloc, &self.cells, f, &pivot.cells) {
-            Ok(cells) => Ok(Row { cells }),
+        let limit = match taken(self.limit, f, pivot.limit) {
+            Ok(limit) => limit,
+            Err(Wide) => return Err(SolveStop::Wide),
+        };
+        match take_away(&self.entries, f, &pivot.entries, self.place, spare) {
+            Ok(entries) => Ok(SparseRow {
+                entries,
+                place: self.place,
+                limit,
+            }),
             Err(stop) => Err(stop),
         }
     }
-}
 
-// A cell divided. Many cells of a table are zero, and stay so.
-fn quotient(a: Frac, by: Frac) -> Result<Frac, Wide>
-    requires { by.num ≢ pos 0 }
-    ensures { Gives result (IsQuotient a by) }
-{
-    if a.is_zero() {
-        return Ok(Frac::whole(0));
-    }
-    a.div(by)
-}
-
-// Each cell divided.
-fn quotients(alloc: Global, cells: &[Frac], by: Frac) -> Result<Vec<Frac>, SolveStop>
-    requires { by.num ≢ pos 0 }
-    ensures { Divides result cells.now by }
-{
-    let mut divided = Vec::new(alloc);
-    for cell in cells {
-        let value = match quotient(*cell, by) {
-            Ok(value) => value,
-            Err(Wide) => return Err(SolveStop::Wide),
+    // Takes f times another row away. What is left is made in `spare`, which then gets the old list's memory.
+    pub(crate) fn take_away(
+        &mut self,
+        alloc: Global,
+        f: Frac,
+        pivot: &SparseRow,
+        spare: &mut Vec<Entry>,
+    ) -> Result<(), SolveStop>
+        requires { places self.old ≡ places pivot.now }
+        ensures { TakesRow result self.old f pivot.now self.new }
+    {
+        let list = mem::replace(spare, Vec::new(alloc));
+        let left = match self.left(f, pivot, list) {
+            Ok(left) => left,
+            Err(stop) => return Err(stop),
         };
-        match divided.push(value) {
-            Ok(()) => {}
-            Err(_) => return Err(SolveStop::Memory),
-        }
+        *spare = mem::replace(self, left).entries;
+        Ok(())
     }
-    Ok(divided)
-}
-
-// a less f times y. Where y is zero, a stays.
-fn less(a: Frac, f: Frac, y: Frac) -> Result<Frac, Wide>
-    requires { IsForm a }
-    ensures { GivesLess result a f y }
-{
-    if y.is_zero() {
-        return Ok(a);
-    }
-    match f.mul(y) {
-        Ok(product) => a.sub(product),
-        Err(Wide) => Err(Wide),
-    }
-}
-
-// Each cell less f times the pivot's.
-fn differences(
-    alloc: Global,
-    cells: &[Frac],
-    f: Frac,
-    pivot: &[Frac],
-) -> Result<Vec<Frac>, SolveStop>
-    requires as_many { length cells.now ≡ length pivot.now }
-    requires forms { (v : ℕ) → IsForm (fraction_at cells.now v) }
-    ensures { TakesAway result cells.now f pivot.now }
-{
-    let mut left = Vec::new(alloc);
-    for v in 0..cells.len() {
-        let value = match less(cells[v], f, pivot[v]) {
-            Ok(value) => value,
-            Err(Wide) => return Err(SolveStop::Wide),
-        };
-        match left.push(value) {
-            Ok(()) => {}
-            Err(_) => return Err(SolveStop::Memory),
-        }
-    }
-    Ok(left)
 }

@@ -2,31 +2,14 @@
 
 ghost use Rattle.std.specs.Prelude.{◌≡◌, ◌<◌, ◌≤◌, ◌^◌, slice_index, IfOk};
 ghost use Rattle.program_form.specs.Program.{IsProgram, columns, height};
-ghost use Rattle.exchange_runs.specs.Table.{variables, first_entries, first_limit, first_number};
-ghost use Rattle.simplex.specs.Starts.{IsFirstRow, AreFirstRows, IsFirstBasis};
+ghost use Rattle.exchange_runs.specs.Table.{variables, first_entries, first_limit};
+ghost use Rattle.simplex.specs.Starts.{AreFirstEntries, IsFirstRow, AreFirstRows, IsFirstBasis};
 
-use crate::row::Row;
+use crate::entries::Entry;
+use crate::row::SparseRow;
 use fraction128::Frac;
 use program_form::Program;
 use std::alloc::{AllocError, Global};
-
-// The number that row i of the first table has at place v.
-fn number_at(program: &Program, i: usize, v: usize) -> u64
-    requires row { i ≤ height program.now }
-    requires place { v ≤ variables program.now }
-    ensures value { result ≡ first_number program.now i v }
-    ensures small { result < 2 ^ 63 }
-{
-    let columns = program.columns() as usize;
-    let variables = columns + program.rows() as usize;
-    if v < columns {
-        entry_at(program, i, v)
-    } else if v < variables {
-        if v == columns + i { 1 } else { 0 }
-    } else {
-        bound_of(program, i)
-    }
-}
 
 // The coefficient of a column in row i, or its cost in the objective row.
 fn entry_at(program: &Program, i: usize, c: usize) -> u64
@@ -55,21 +38,51 @@ fn bound_of(program: &Program, i: usize) -> u64
     }
 }
 
+// The nonzero numbers of the columns in row i of the first table.
+fn column_entries(alloc: Global, program: &Program, i: usize) -> Result<Vec<Entry>, AllocError>
+    requires { i ≤ height program.now }
+    ensures { IfOk result (λ v. AreFirstEntries program.now i (columns program.now) v.items) }
+{
+    let mut entries = Vec::new(alloc);
+    for c in 0..program.columns() as usize {
+        let number = entry_at(program, i, c);
+        if number != 0 {
+            entries.push(Entry {
+                variable: c,
+                value: Frac::whole(number),
+            })?;
+        }
+    }
+    Ok(entries)
+}
+
+// The nonzero numbers of row i of the first table: behind the columns each row but the objective has its own slack.
+fn first_entries(alloc: Global, program: &Program, i: usize) -> Result<Vec<Entry>, AllocError>
+    requires { i ≤ height program.now }
+    ensures { IfOk result (λ v. AreFirstEntries program.now i (variables program.now) v.items) }
+{
+    let mut entries = column_entries(alloc, program, i)?;
+    if i < program.rows() as usize {
+        entries.push(Entry {
+            variable: program.columns() as usize + i,
+            value: Frac::whole(1),
+        })?;
+    }
+    Ok(entries)
+}
+
 // Row i of the first table.
-fn first_row(alloc: Global, program: &Program, i: usize) -> Result<Row, AllocError>
+pub(crate) fn first_row(alloc: Global, program: &Program, i: usize) -> Result<SparseRow, AllocError>
     requires { i ≤ height program.now }
     ensures { IfOk result (IsFirstRow program.now i) }
 {
-    let places = program.columns() as usize + program.rows() as usize + 1;
-    let mut cells = Vec::new(alloc);
-    for v in 0..places {
-        cells.push(Frac::whole(number_at(program, i, v)))?;
-    }
-    Ok(Row::new(cells))
+    let entries = first_entries(alloc, program, i)?;
+    let variables = program.columns() as usize + program.rows() as usize;
+    Ok(SparseRow::new(entries, variables, Frac::whole(bound_of(program, i))))
 }
 
 // The rows of the first table, the objective row last.
-pub(crate) fn first_rows(alloc: Global, program: &Program) -> Result<Vec<Row>, AllocError>
+pub(crate) fn first_rows(alloc: Global, program: &Program) -> Result<Vec<SparseRow>, AllocError>
     ensures rows { IfOk result (λ rows. AreFirstRows program.now rows.items) }
     ensures program { IsProgram program.now }
 {

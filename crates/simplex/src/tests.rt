@@ -1,5 +1,6 @@
 ghost use Rattle.std.specs.Prelude.{◌≡◌, length, vec_len, IfOk};
 
+use crate::start::first_row;
 use crate::{SolveStop, Solved, solve};
 use fraction128::Frac;
 use program_form::Program;
@@ -166,6 +167,68 @@ fn runs_of_no_exchange_and_of_a_large_denominator(rt: HostRuntime) -> Result<(),
         exchanges: 1,
     };
     fine.holds(&rt, rt.alloc())
+}
+
+#[test]
+fn a_cell_that_becomes_zero_comes_back(rt: HostRuntime) -> Result<(), AllocError> {
+    // The first exchange takes 1 from the first cell of row 0 and leaves nothing there; the second leaves 1/2.
+    let case = Case {
+        costs: &[1, 3],
+        rows: &[&[1, 1], &[1, 2]],
+        limits: &[2, 1],
+        value: (3, 2),
+        primal: &[(0, 1), (1, 2)],
+        den: 2,
+        num: &[0, 3],
+        exchanges: 2,
+    };
+    case.holds(&rt, rt.alloc())
+}
+
+#[test]
+fn a_row_less_itself_is_all_zero_and_comes_back(rt: HostRuntime) -> Result<(), AllocError> {
+    let alloc = rt.alloc();
+    let program = program_of(&rt, alloc, &[1, 1, 1], &[&[2, 0, 5], &[0, 1, 0]], &[7, 1])?;
+    let mut row = first_row(alloc, &program, 0)?;
+    let same = first_row(alloc, &program, 0)?;
+    let mut spare = Vec::new(alloc);
+    let one = Frac::whole(1);
+    assert_eq!(rt; row.take_away(alloc, one, &same, &mut spare), Ok(()));
+    for place in 0..6 {
+        assert_eq!(rt; row.cell(place), Frac::whole(0));
+    }
+    assert_eq!(rt; row.take_away(alloc, one.neg(), &same, &mut spare), Ok(()));
+    for (place, number) in [2, 0, 5, 1, 0, 7].iter().enumerate() {
+        assert_eq!(rt; row.cell(place), Frac::whole(*number));
+    }
+    Ok(())
+}
+
+// So many columns of cost 1, each below 1 by a row of its own.
+fn columns_apart(rt: &impl Abort, alloc: Global, count: usize) -> Result<Program, AllocError> {
+    let mut rows = Vec::new(alloc);
+    for r in 0..count {
+        let mut row = Vec::from_elem(alloc, 0, count)?;
+        row[r] = 1;
+        rows.push(row)?;
+    }
+    assert!(rt; count < 1000 && rows.len() < 1000);
+    let costs = Vec::from_elem(alloc, 1, count)?;
+    let limits = Vec::from_elem(alloc, 1, count)?;
+    Ok(Program::new(costs, rows, limits).expect(rt, "a program"))
+}
+
+#[test]
+fn four_hundred_columns_apart(rt: HostRuntime) -> Result<(), AllocError> {
+    let alloc = rt.alloc();
+    let program = columns_apart(&rt, alloc, 400)?;
+    assert_eq!(rt; solve(alloc, &program, 400).err(), Some(SolveStop::Units));
+    let solved = solve(alloc, &program, 401).expect(&rt, "a solution");
+    assert_eq!(rt; (solved.value, solved.exchanges), (Frac::whole(400), 400));
+    assert_eq!(rt; (solved.primal.len(), solved.dual.num.len()), (400, 400));
+    assert!(rt; solved.primal.iter().all(|value| *value == Frac::whole(1)));
+    assert!(rt; solved.dual.den == 1 && solved.dual.num.iter().all(|number| *number == 1));
+    Ok(())
 }
 
 #[test]

@@ -1,8 +1,8 @@
 //! Pieces of the texts that the program answers: numbers in decimal digits, and columns of a fixed width.
-//! Each call adds its piece at the end of a text, and answers an error for want of memory alone.
+//! Each call adds its piece at the end of a text. The one error is want of memory, and it leaves the text as it was.
 #![tactic(auto)]
 
-ghost use Rattle.std.specs.Prelude.{◌≡◌, ◌++◌, decimal, replicate, OnOk};
+ghost use Rattle.std.specs.Prelude.{◌≡◌, ◌++◌, decimal, replicate, OnOk, OnErr};
 ghost use Rattle.text_pieces.specs.Columns.{space, left, right};
 
 use itoa::Buffer;
@@ -10,7 +10,8 @@ use std::alloc::AllocError;
 
 /// Adds a number in decimal digits.
 pub fn push_number(text: &mut Vec<u8>, n: u64) -> Result<(), AllocError>
-    ensures { OnOk result (text.new.items ≡ text.old.items ++ decimal n) }
+    ensures adds { OnOk result (text.new.items ≡ text.old.items ++ decimal n) }
+    ensures kept { OnErr result (text.new.items ≡ text.old.items) }
 {
     let mut buffer = Buffer::new();
     text.extend_from_slice(buffer.format(n).as_bytes())
@@ -18,33 +19,58 @@ pub fn push_number(text: &mut Vec<u8>, n: u64) -> Result<(), AllocError>
 
 /// Adds so many spaces.
 fn push_spaces(text: &mut Vec<u8>, count: usize) -> Result<(), AllocError>
-    ensures { OnOk result (text.new.items ≡ text.old.items ++ replicate count space) }
+    ensures adds { OnOk result (text.new.items ≡ text.old.items ++ replicate count space) }
+    ensures kept { OnErr result (text.new.items ≡ text.old.items) }
 {
+    let before = text.len();
     for _ in 0..count {
-        text.push(b' ')?;
+        match text.push(b' ') {
+            Ok(()) => {}
+            Err(_) => {
+                text.truncate(before);
+                return Err(AllocError);
+            }
+        }
     }
     Ok(())
 }
 
 /// Adds a piece on the left of so many places.
 pub fn push_left(text: &mut Vec<u8>, width: usize, piece: &[u8]) -> Result<(), AllocError>
-    ensures { OnOk result (text.new.items ≡ text.old.items ++ left width piece.now) }
+    ensures adds { OnOk result (text.new.items ≡ text.old.items ++ left width piece.now) }
+    ensures kept { OnErr result (text.new.items ≡ text.old.items) }
 {
+    let before = text.len();
     text.extend_from_slice(piece)?;
-    push_spaces(text, width.saturating_sub(piece.len()))
+    match push_spaces(text, width.saturating_sub(piece.len())) {
+        Ok(()) => Ok(()),
+        Err(AllocError) => {
+            text.truncate(before);
+            Err(AllocError)
+        }
+    }
 }
 
 /// Adds a piece on the right of so many places.
 pub fn push_right(text: &mut Vec<u8>, width: usize, piece: &[u8]) -> Result<(), AllocError>
-    ensures { OnOk result (text.new.items ≡ text.old.items ++ right width piece.now) }
+    ensures adds { OnOk result (text.new.items ≡ text.old.items ++ right width piece.now) }
+    ensures kept { OnErr result (text.new.items ≡ text.old.items) }
 {
+    let before = text.len();
     push_spaces(text, width.saturating_sub(piece.len()))?;
-    text.extend_from_slice(piece)
+    match text.extend_from_slice(piece) {
+        Ok(()) => Ok(()),
+        Err(AllocError) => {
+            text.truncate(before);
+            Err(AllocError)
+        }
+    }
 }
 
 /// Adds a number in decimal digits on the right of so many places.
 pub fn push_right_number(text: &mut Vec<u8>, width: usize, n: u64) -> Result<(), AllocError>
-    ensures { OnOk result (text.new.items ≡ text.old.items ++ right width (decimal n)) }
+    ensures adds { OnOk result (text.new.items ≡ text.old.items ++ right width (decimal n)) }
+    ensures kept { OnErr result (text.new.items ≡ text.old.items) }
 {
     let mut buffer = Buffer::new();
     push_right(text, width, buffer.format(n).as_bytes())

@@ -1,4 +1,4 @@
-use Rattle.fraction128.proofs.Reduced.{gcd_positive, reduced, reduced_by_one}
+use Rattle.fraction128.proofs.Reduced.{gcd_positive, reduced, reduced_by_one, whole_is_lowest}
 use Rattle.fraction128.proofs.divisor.reduce.Goals as goal
 
 pub nonzero_div-result : goal.nonzero_div-result
@@ -12,3 +12,6 @@ returns c = reduced _ _ _ c.requires c.gcd-common.ensures
 
 pub returns-then-common-eq1 : goal.returns-then-common-eq1
 returns-then-common-eq1 c = reduced_by_one _ _ _ c.requires c.if-common-eq1.true c.gcd-common.ensures
+
+pub returns-then-den-eq1 : goal.returns-then-den-eq1
+returns-then-den-eq1 c = whole_is_lowest _ _ c.if-den-eq1.true

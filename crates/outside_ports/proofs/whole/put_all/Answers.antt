@@ -1,4 +1,4 @@
-use Rattle.std.proofs.Common.{arith, ◌∙◌, ◌-◌, subst, length}
+use Rattle.std.proofs.Common.{arith, ◌∙◌, ◌-◌, ◌≤◌, subst, length, take, drop}
 use Rattle.outside_ports.proofs.Pieces.{Appends-next, length-rest, sub_sub}
 use Rattle.outside_ports.proofs.whole.put_all.Goals as goal
 
@@ -8,9 +8,11 @@ loop-sent-preserved g c = record {
   tells = c.in-Ok.ensures.tells ∙ c.loop-sent.invariant.tells;
   later = omega arith;
   calls = omega (arith, c.in-Ok.ensures.some, c.in-Ok.ensures.one_call);
-  takes = λ held.
-      let before = c.loop-sent.invariant.takes held in
-      let after = c.in-Ok.ensures.takes (length c.args.text.now - c.loop-sent.sent) (length-rest _ _) before.0 in
+  takes = λ room fits held.
+      let before = c.loop-sent.invariant.takes room fits held in
+      let piece : length (take (length c.args.text.now - c.loop-sent.sent) (drop c.loop-sent.sent c.args.text.now)) ≤ room - c.loop-sent.sent =
+      omega (arith, length-rest c.args.text.now c.loop-sent.sent, fits) in
+      let after = c.in-Ok.ensures.takes (room - c.loop-sent.sent) piece before.0 in
       (subst (g.K.Sink.takes c.write.new.self) (sub_sub _ _ _) after.0, after.1 ∙ before.1);
   appended = Appends-next _ _ _ _ _ _ c.loop-sent.invariant.appended c.in-Ok.ensures.appends;
 }

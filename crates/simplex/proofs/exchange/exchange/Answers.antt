@@ -1,21 +1,35 @@
-use Rattle.std.proofs.Common.{sym, ap, ◌∙◌, slice_index_or}
-use Rattle.simplex.specs.Rows.{cell_at, RowDef}
-use Rattle.simplex.proofs.Cells.{row_same}
-use Rattle.simplex.proofs.Taking.{exchange_stop, exchanged}
+use Rattle.std.proofs.Common.{◌<◌, length, arith}
+use Rattle.fraction128.specs.Scaling.{fraction_at}
+use Rattle.simplex.specs.RowSteps.{IsDividedRow}
+use Rattle.simplex.specs.Tables.{row_of}
+use Rattle.simplex.proofs.Cells.{row_same, fraction_read}
+use Rattle.simplex.proofs.Taking.{exchange_stop, exchanged, forms_aside}
 use Rattle.simplex.proofs.exchange.exchange.Goals as goal
 
+pub take_all-requires-clause-forms : goal.take_all-requires-clause-forms
+take_all-requires-clause-forms c = rw (c.replace-row.ensures.after, c.empty.ensures) (λ i. forms_aside c.args.rows.now c.args.r i c.requires.forms)
+
 pub returns-in-Err-take_all : goal.returns-in-Err-take_all
-returns-in-Err-take_all c =
-    let first = row_same c.args.rows.now c.args.r c.index-rows-r.result c.requires.row in
-    let second = row_same c.args.rows.now c.args.r c.index-rows-r-2.result c.requires.row in
-    exchange_stop c.in-Err-take_all.stop c.args.rows.now c.take_all.new.rows c.take_all.new.rows c.args.e c.args.r c.in-Ok.pivot
-    (slice_index_or c.args.rows.now c.args.r c.index-rows-r-2.result) c.cell-by.result second
-    (c.cell-by.ensures.value ∙ ap (λ (row : RowDef). cell_at row c.args.e) (sym first ∙ second)) c.in-Ok.ensures c.in-Err-take_all.ensures
+returns-in-Err-take_all c e column =
+    let in_column : c.args.r < length c.args.column.now = omega (arith, column.as_many, c.requires.row) in
+    let divided : IsDividedRow (row_of c.args.rows.now c.args.r) (fraction_at c.args.column.now c.args.r) c.in-Ok.pivot
+    = rw (
+      row_same c.args.rows.now c.args.r c.index-rows-r.result c.requires.row,
+      fraction_read c.args.column.now c.args.r c.index-column-r.result in_column c.index-column-r.is,
+      ← c.replace-row.ensures.value,
+    )
+    c.in-Ok.ensures in
+    exchange_stop c.in-Err-take_all.stop c.args.rows.now c.take_all.new.rows c.take_all.new.rows c.args.column.now e c.args.r c.in-Ok.pivot
+    c.replace-row.new.dest c.requires.row column divided c.in-Err-take_all.ensures
 
 pub returns : goal.returns
-returns c =
-    let first = row_same c.args.rows.now c.args.r c.index-rows-r.result c.requires.row in
-    let second = row_same c.args.rows.now c.args.r c.index-rows-r-2.result c.requires.row in
-    exchanged c.args.rows.now c.take_all.new.rows c.args.e c.args.r c.in-Ok.pivot
-    (slice_index_or c.args.rows.now c.args.r c.index-rows-r-2.result) c.cell-by.result c.requires.row second
-    (c.cell-by.ensures.value ∙ ap (λ (row : RowDef). cell_at row c.args.e) (sym first ∙ second)) c.in-Ok.ensures c.in-Ok-take_all.ensures
+returns c e column =
+    let in_column : c.args.r < length c.args.column.now = omega (arith, column.as_many, c.requires.row) in
+    let divided : IsDividedRow (row_of c.args.rows.now c.args.r) (fraction_at c.args.column.now c.args.r) c.in-Ok.pivot
+    = rw (
+      row_same c.args.rows.now c.args.r c.index-rows-r.result c.requires.row,
+      fraction_read c.args.column.now c.args.r c.index-column-r.result in_column c.index-column-r.is,
+      ← c.replace-row.ensures.value,
+    )
+    c.in-Ok.ensures in
+    exchanged c.args.rows.now c.take_all.new.rows c.args.column.now e c.args.r c.in-Ok.pivot c.replace-row.new.dest c.requires.row column divided c.in-Ok-take_all.ensures

@@ -1,26 +1,50 @@
-use Rattle.std.proofs.Common.{arith}
+use Rattle.std.proofs.Common.{sym, ◌∙◌, arith}
 use Rattle.simplex.specs.Tables.{table_of}
 use Rattle.exchange_runs.proofs.Bounded.{has_ratio}
-use Rattle.simplex.proofs.Stepping.{step_stop, step_done}
+use Rattle.exchange_runs.proofs.Once.{forms}
+use Rattle.simplex.proofs.Stepping.{step_stop, step_done, pivot_apart}
 use Rattle.simplex.proofs.exchange.step.Goals as goal
 
 pub unreachable-requires : goal.unreachable-requires
 unreachable-requires c =
-    let none = rw c.in-Ok-None.field-0-is at c.in-Ok-None.ensures in
+    let none = rw c.in-Ok-None.field-0-is at (c.in-Ok-None.ensures.least c.args.e c.read_column.ensures) in
     let some = has_ratio c.args.program.now c.requires.reached.0 (table_of c.args.rows.now c.args.basis.now) c.args.e
     c.rows.ensures.program c.requires.reached.1 c.requires.enters.within in
     none some.0 (omega (arith, some.1, c.requires.size.basic_each)) some.2
 
 pub returns-in-Err-exchange : goal.returns-in-Err-exchange
 returns-in-Err-exchange c =
-    let chosen = rw c.in-Ok-Some.field-0-is at c.in-Ok-Some.ensures in
+    let chosen = rw c.in-Ok-Some.field-0-is at (c.in-Ok-Some.ensures.least c.args.e c.read_column.ensures) in
     let least = rw (c.columns.ensures.value, c.rows.ensures.value, c.requires.size.basic_each) at chosen in
     step_stop c.in-Err-exchange.stop c.args.program.now c.args.e c.in-Ok-Some.r c.args.rows.now c.args.basis.now c.exchange.new.rows c.args.basis.now
-    c.requires.size (record { ratio = c.in-Ok-Some.field-0-0-1; least = least }) c.in-Err-exchange.ensures
+    c.requires.size (record { ratio = c.in-Ok-Some.field-0-0-1; least = least }) (c.in-Err-exchange.ensures c.args.e c.read_column.ensures)
 
 pub returns : goal.returns
 returns c =
-    let chosen = rw c.in-Ok-Some.field-0-is at c.in-Ok-Some.ensures in
+    let chosen = rw c.in-Ok-Some.field-0-is at (c.in-Ok-Some.ensures.least c.args.e c.read_column.ensures) in
     let least = rw (c.columns.ensures.value, c.rows.ensures.value, c.requires.size.basic_each) at chosen in
     step_done c.args.program.now c.args.e c.in-Ok-Some.r c.args.rows.now c.exchange.new.rows c.args.basis.now c.requires.size c.requires.enters
-    (record { ratio = c.in-Ok-Some.field-0-0-1; least = least }) c.in-Ok.ensures
+    (record { ratio = c.in-Ok-Some.field-0-0-1; least = least }) (c.in-Ok.ensures c.args.e c.read_column.ensures)
+
+pub exchange-requires-clause-row : goal.exchange-requires-clause-row
+exchange-requires-clause-row c =
+    let within = rw c.in-Ok-Some.field-0-is at c.in-Ok-Some.ensures.within in
+    omega (arith, within, c.requires.size.basic_each, c.requires.size.row_each)
+
+pub exchange-requires-clause-even : goal.exchange-requires-clause-even
+exchange-requires-clause-even c i l =
+    let within = rw c.in-Ok-Some.field-0-is at c.in-Ok-Some.ensures.within in
+    let size = c.requires.size in
+    size.fits i (omega (arith, l, size.row_each)) ∙ sym (size.fits c.in-Ok-Some.r (omega (arith, within, size.basic_each)))
+
+pub exchange-requires-clause-forms : goal.exchange-requires-clause-forms
+exchange-requires-clause-forms c i l v =
+    forms c.args.program.now c.requires.reached.0 (table_of c.args.rows.now c.args.basis.now) c.rows.ensures.program c.requires.reached.1 i v
+    (omega (arith, l, c.requires.size.row_each))
+
+pub exchange-requires-clause-pivot : goal.exchange-requires-clause-pivot
+exchange-requires-clause-pivot c =
+    let chosen = rw c.in-Ok-Some.field-0-is at (c.in-Ok-Some.ensures.least c.args.e c.read_column.ensures) in
+    let within = rw c.in-Ok-Some.field-0-is at c.in-Ok-Some.ensures.within in
+    pivot_apart c.args.rows.now c.args.basis.now c.read_column.new.column c.args.e c.in-Ok-Some.r c.read_column.ensures
+    (omega (arith, within, c.requires.size.basic_each, c.requires.size.row_each)) chosen.has

@@ -1,23 +1,12 @@
-use Rattle.std.proofs.Common.{◌≡◌, ◌+◌, length, arith}
+use Rattle.std.proofs.Common.{◌+◌, ◌≡◌, ap, ap₂, pos, ◌∙◌}
+use Rattle.fraction128.specs.Fraction.{whole}
 use Rattle.exchange_runs.specs.Table.{variables}
-use Rattle.simplex.proofs.Ending.{numbers_all, first_forms}
+use Rattle.simplex.proofs.Ending.{first_row_is}
 use Rattle.simplex.proofs.start.first_row.Goals as goal
-
-pub new-requires : goal.new-requires
-new-requires c =
-    let len : length c.loop-v.cells.items ≡ variables c.args.program.now + 1
-    = omega (arith, c.loop-v.cells.ok.0, c.loop-v.invariant.len, c.loop-v.auto.v-end, c.loop-v-test.false, c.columns.ensures.value, c.rows.ensures.value) in
-    first_forms c.args.program.now c.args.i c.loop-v.cells.items c.rows.ensures.program
-    (numbers_all c.args.program.now c.args.i c.loop-v.cells.items len
-    (λ v l. c.loop-v.invariant.numbers v (omega (arith, c.loop-v-test.false, c.columns.ensures.value, c.rows.ensures.value))))
 
 pub returns : goal.returns
 returns c =
-    let len : length c.loop-v.cells.items ≡ variables c.args.program.now + 1
-    = omega (arith, c.loop-v.cells.ok.0, c.loop-v.invariant.len, c.loop-v.auto.v-end, c.loop-v-test.false, c.columns.ensures.value, c.rows.ensures.value) in
-    rw c.new.ensures
-    (record {
-      fits = len;
-      numbers = numbers_all c.args.program.now c.args.i c.loop-v.cells.items len
-          (λ v l. c.loop-v.invariant.numbers v (omega (arith, c.loop-v-test.false, c.columns.ensures.value, c.rows.ensures.value)));
-    })
+    let places : c.columns.result + c.rows.result ≡ variables c.args.program.now = ap₂ ◌+◌ c.columns.ensures.value c.rows.ensures.value in
+    rw (c.new.ensures, places)
+    (first_row_is c.args.program.now c.args.i c.in_ok-entries.entries.items c.whole.result c.in_ok-entries.ensures
+    (c.whole.ensures ∙ ap (λ n. whole (pos n)) c.bound_of.ensures.value))

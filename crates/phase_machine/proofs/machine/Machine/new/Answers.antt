@@ -9,8 +9,8 @@ invariant_of-result c =
     let m : MachineDef = record { list = c.args.jobs.now; tick = 0; places = c.in_ok-places.places.items; holders = map place_seen c.in_ok-holders.holders.items; coming = c.in_ok-coming.coming.items } in
     record {
       machine = machine_at_first m refl c.list_is_lawful.ensures.lawful c.list_is_lawful.ensures.numbers c.in_ok-places.ensures.len c.in_ok-places.ensures.each
-      (c.in_ok-holders.ensures ∙ ap (λ n. replicate n None) (c.resources.ensures.value ∙ ap (λ set. length set.resources) c.set.ensures))
-      c.in_ok-coming.ensures.len c.in_ok-coming.ensures.each;
+          (c.in_ok-holders.ensures ∙ ap (λ n. replicate n None) (c.resources.ensures.value ∙ ap (λ set. length set.resources) c.set.ensures))
+          c.in_ok-coming.ensures.len c.in_ok-coming.ensures.each;
       limits = record { list = c.list_is_lawful.ensures.listed; most = omega arith };
     }
 

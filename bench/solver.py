@@ -1,0 +1,327 @@
+#!/usr/bin/env python3
+"""Times `simplex::solve` on the programs of a file beside other solvers, compares the optima, and prints the ratios of the times.
+
+    python3 bench/solver.py [FILE]
+
+It wants `rt` on the path. The others are measured where they are installed, and a word is printed where they are not:
+    plain   the same run in plain Rust over rows of nonzero cells (bench/plain_run.rs), by `rustc`; timed around its run alone
+    glpk    `glpsol` of the package glpk-utils, in floating point, and with --exact
+    qsopt   `esolver` of the package qsopt-ex, which is exact
+The last two are timed as processes, less the time of a process that solves one column. Where `cc` is installed the memory that the
+exchanges take is counted too: the allocations of a whole run, less those of a run that ends before its first exchange.
+The program that solves is built in a temporary directory; building proves it and the crates below it, which takes some minutes.
+FILE is bench/programs.txt where none is given. A line of it is a program: the costs, then for each row, after a semicolon, its limit
+and its coefficients, each as COLUMN:NUMBER with columns counted from 0. Lines that begin with # are comments. A program of 768
+columns and 701 rows, the most that a set gives, is measured beside them.
+It is no test: no gate runs it, and it bounds nothing.
+"""
+import os
+import shutil
+import subprocess
+import sys
+import tempfile
+import time
+from fractions import Fraction
+from pathlib import Path
+
+from commands import run
+
+TOP = Path(__file__).resolve().parent.parent
+CRATES = ["number_laws", "bounded_sums", "fraction128", "program_form", "exchange_runs", "simplex"]
+UNITS = 1_000_000
+
+RATTLE = r"""//! Solves the programs of a file, one after the other, and writes a line for each.
+#![tactic(auto)]
+
+use program_form::Program;
+use simplex::solve;
+use std::alloc::{AllocError, Global};
+use std::time::Instant;
+use std::{fs, io};
+
+#[derive(Drop)]
+struct Numbers {
+    all: Vec<u64>,
+    at: usize,
+}
+
+impl Numbers {
+    fn next(&mut self) -> u64 {
+        match self.all.get(self.at) {
+            Some(number) => {
+                let number = *number;
+                self.at = self.at.saturating_add(1);
+                number
+            }
+            None => 0,
+        }
+    }
+
+    fn list(&mut self, alloc: Global, count: u64) -> Result<Vec<u64>, AllocError> {
+        let mut list = Vec::new(alloc);
+        for _ in 0..count {
+            list.push(self.next())?;
+        }
+        Ok(list)
+    }
+
+    fn program(&mut self, alloc: Global) -> Result<Option<Program>, AllocError> {
+        let columns = self.next();
+        let height = self.next();
+        let costs = self.list(alloc, columns)?;
+        let mut rows = Vec::new(alloc);
+        for _ in 0..height {
+            rows.push(self.list(alloc, columns)?)?;
+        }
+        let limits = self.list(alloc, height)?;
+        if costs.len() > 1000 || rows.len() > 1000 {
+            return Ok(None);
+        }
+        Ok(Program::new(costs, rows, limits).ok())
+    }
+}
+
+fn numbers_of(alloc: Global, text: &str) -> Result<Numbers, AllocError> {
+    let mut all = Vec::new(alloc);
+    for word in text.split_whitespace() {
+        all.push(word.parse::<u64>().unwrap_or(0))?;
+    }
+    Ok(Numbers { all, at: 0 })
+}
+
+fn main(rt: HostRuntime) -> io::Result<()> {
+    let text = fs::read_to_string(&rt, "numbers.txt")?;
+    let mut numbers = numbers_of(rt.alloc(), text.as_str())?;
+    let units = numbers.next();
+    let count = numbers.next();
+    for _ in 0..count {
+        let Some(program) = numbers.program(rt.alloc())? else {
+            println!(rt; "refused 0 0 0")?;
+            continue;
+        };
+        let start = Instant::now(&rt)?;
+        let outcome = solve(rt.alloc(), &program, units);
+        let took = start.elapsed(&rt)?.as_nanos();
+        match outcome {
+            Ok(solved) => {
+                let value = solved.value;
+                let exchanges = solved.exchanges;
+                println!(rt; "{value} {exchanges} {took}")?;
+            }
+            Err(stop) => println!(rt; "stop {took} {stop}")?,
+        }
+    }
+    Ok(())
+}
+"""
+
+# Counts what takes memory, and writes the count to the file that COUNTED names.
+COUNTER = r"""
+#define _GNU_SOURCE
+#include <dlfcn.h>
+#include <stdio.h>
+#include <stdlib.h>
+static unsigned long taken;
+void *malloc(size_t n) {
+    static void *(*next)(size_t);
+    if (!next) next = dlsym(RTLD_NEXT, "malloc");
+    taken++;
+    return next(n);
+}
+void *realloc(void *p, size_t n) {
+    static void *(*next)(void *, size_t);
+    if (!next) next = dlsym(RTLD_NEXT, "realloc");
+    taken++;
+    return next(p, n);
+}
+__attribute__((destructor)) static void tell(void) {
+    unsigned long count = taken;
+    FILE *f = fopen(getenv("COUNTED"), "w");
+    if (f) { fprintf(f, "%lu", count); fclose(f); }
+}
+"""
+
+
+def read(path):
+    """The programs of a file: costs, and rows as (limit, {column: coefficient})."""
+    programs = []
+    for line in path.read_text().splitlines():
+        if not line or line.startswith("#"):
+            continue
+        costs, *rows = line.split(";")
+        parsed = []
+        for row in rows:
+            limit, *entries = row.split()
+            parsed.append((int(limit), dict(tuple(map(int, entry.split(":"))) for entry in entries)))
+        programs.append(([int(cost) for cost in costs.split()], parsed))
+    return programs
+
+
+def largest():
+    """A program of 768 columns, 12 for each of 64 tasks, and 701 rows: one for each resource, each task and each of 625 columns."""
+    seed = 1
+    def number(most):
+        nonlocal seed
+        seed = (seed * 6364136223846793005 + 1442695040888963407) % 2**64
+        return 1 + (seed >> 33) % most
+    columns = range(768)
+    costs = [number(50) for _ in columns]
+    rows = [(number(40), {c: 1 for c in columns if c % 12 == resource}) for resource in range(12)]
+    rows += [(number(60), {c: number(2) for c in columns if c // 12 == task}) for task in range(64)]
+    rows += [(number(8), {c: 1}) for c in range(625)]
+    return costs, rows
+
+
+def numbers(programs, units):
+    """The units and the programs as the numbers that our program reads."""
+    words = [units, len(programs)]
+    for costs, rows in programs:
+        words += [len(costs), len(rows), *costs]
+        for _, entries in rows:
+            words += [entries.get(column, 0) for column in range(len(costs))]
+        words += [limit for limit, _ in rows]
+    return " ".join(map(str, words))
+
+
+def as_line(costs, rows):
+    """A program as a line of a file of programs."""
+    parts = [f"{limit} " + " ".join(f"{column}:{number}" for column, number in entries.items()) for limit, entries in rows]
+    return "; ".join([" ".join(map(str, costs)), *parts])
+
+
+def as_lp(costs, rows):
+    """A program in the format that glpsol reads with --lp."""
+    lines = ["Maximize", " value: " + " + ".join(f"{cost} x{column}" for column, cost in enumerate(costs)), "Subject To"]
+    for limit, entries in rows:
+        lines.append(" " + " + ".join(f"{number} x{column}" for column, number in entries.items()) + f" <= {limit}")
+    return "\n".join(lines + ["End", ""])
+
+
+def build(folder):
+    for name in CRATES:
+        shutil.copytree(TOP / "crates" / name, folder / "crates" / name, ignore=shutil.ignore_patterns("out", "must-fail"))
+    crate = folder / "crates" / "solver_bench"
+    (crate / "src").mkdir(parents=True)
+    (crate / "src" / "main.rt").write_text(RATTLE)
+    lines = [line for line in (TOP / "crates.txt").read_text().splitlines() if line.split(":")[0] in CRATES]
+    (folder / "crates.txt").write_text("\n".join(lines) + "\nsolver_bench: simplex program_form fraction128\n")
+    # the run that builds it finds no program
+    (crate / "numbers.txt").write_text("0 0")
+    run(["rt", "run"], crate)
+    return crate / "out" / "solver_bench"
+
+
+def solve_ours(program, folder):
+    """For each program its optimum, or None where its run is wide, its exchanges and its nanoseconds."""
+    answers = []
+    for line in run([program], folder).splitlines():
+        words = line.split()
+        stopped = words[0] in ("stop", "refused")
+        answers.append((None, 0, int(words[1])) if stopped else (Fraction(words[0]), int(words[1]), int(words[2])))
+    return answers
+
+
+def solve_plain(folder, programs):
+    """The same by the run in plain Rust."""
+    run(["rustc", "-O", TOP / "bench" / "plain_run.rs", "-o", "plain_run"], folder)
+    (folder / "programs.txt").write_text("\n".join(as_line(*program) for program in programs) + "\n")
+    answers = []
+    for line in run([folder / "plain_run", "programs.txt"], folder).splitlines():
+        value, exchanges, took = line.split()
+        answers.append((None if value == "wide" else Fraction(value), int(exchanges), int(took)))
+    return answers
+
+
+def solve_glpk(folder, costs, rows, words):
+    """glpsol's optimum and the nanoseconds of its process."""
+    (folder / "program.lp").write_text(as_lp(costs, rows))
+    start = time.perf_counter_ns()
+    run(["glpsol", "--lp", "program.lp", *words, "-w", "solution.txt"], folder)
+    took = time.perf_counter_ns() - start
+    for line in (folder / "solution.txt").read_text().splitlines():
+        words = line.split()
+        if words[:2] == ["s", "bas"]:
+            return Fraction(words[-1]), took
+    sys.exit("glpsol wrote no optimum")
+
+
+def solve_qsopt(folder, costs, rows):
+    """esolver's optimum and the nanoseconds of its process."""
+    (folder / "program.lp").write_text(as_lp(costs, rows))
+    start = time.perf_counter_ns()
+    run(["esolver", "-O", "solution", "-L", "program.lp"], folder)
+    took = time.perf_counter_ns() - start
+    for line in (folder / "solution").read_text().splitlines():
+        if line.strip().startswith("Value"):
+            return Fraction(line.split("=")[1].strip()), took
+    sys.exit("esolver wrote no optimum")
+
+
+def allocations(program, folder, programs, units):
+    """How many times a run of the programs with so many units takes memory."""
+    (folder / "numbers.txt").write_text(numbers(programs, units))
+    environment = {**os.environ, "LD_PRELOAD": str(folder / "counter.so"), "COUNTED": str(folder / "counted.txt")}
+    subprocess.run([program], cwd=folder, env=environment, capture_output=True, check=True)
+    return int((folder / "counted.txt").read_text())
+
+
+def count_memory(program, folder, programs, exchanges):
+    if shutil.which("cc") is None:
+        print("cc is missing: the memory that exchanges take isn't counted")
+        return
+    (folder / "counter.c").write_text(COUNTER)
+    run(["cc", "-O1", "-shared", "-fPIC", "counter.c", "-o", "counter.so", "-ldl"], folder)
+    whole = allocations(program, folder, programs, UNITS)
+    tables = allocations(program, folder, programs, 0)
+    print(f"memory        {(whole - tables) / max(exchanges, 1):10.2f} times taken per exchange, with what the answer takes; {tables} times before the first")
+
+
+def compare(name, ours, theirs, exact):
+    """Prints a line for another solver, over the programs that ours solves."""
+    solved = [i for i, answer in enumerate(ours) if answer[0] is not None]
+    for i in solved:
+        apart = abs(ours[i][0] - theirs[i][0])
+        if apart > (0 if exact else Fraction(1, 10**9) * max(1, abs(ours[i][0]))):
+            sys.exit(f"program {i}: {ours[i][0]}, and {name} says {theirs[i][0]}")
+    spent = sum(ours[i][2] for i in solved)
+    other = sum(theirs[i][-1] for i in solved)
+    print(f"{name:13} {other / 1e6:10.2f} ms, all optima agree; simplex / {name} = {spent / max(other, 1):.2f}")
+
+
+def measure(program, folder, programs):
+    (folder / "numbers.txt").write_text(numbers(programs, UNITS))
+    ours = solve_ours(program, folder)
+    solved = [i for i, answer in enumerate(ours) if answer[0] is not None]
+    exchanges = sum(ours[i][1] for i in solved)
+    print(f"{len(programs)} programs, {len(solved)} solved by {exchanges} exchanges, {len(programs) - len(solved)} wide")
+    print(f"simplex       {sum(ours[i][2] for i in solved) / 1e6:10.2f} ms")
+    count_memory(program, folder, programs, exchanges)
+    if shutil.which("rustc") is None:
+        print("rustc is missing: no run in plain Rust to compare with")
+    else:
+        compare("plain", ours, solve_plain(folder, programs), True)
+    one = ([1], [(1, {0: 1})])
+    for name, tool, package, exact, solver in (
+        ("glpk", "glpsol", "glpk-utils", False, lambda p: solve_glpk(folder, *p, [])),
+        ("glpk --exact", "glpsol", "glpk-utils", False, lambda p: solve_glpk(folder, *p, ["--exact"])),
+        ("qsopt", "esolver", "qsopt-ex", True, lambda p: solve_qsopt(folder, *p)),
+    ):
+        if shutil.which(tool) is None:
+            print(f"{tool} is missing (package {package}): nothing to compare with")
+            continue
+        start = min(solver(one)[1] for _ in range(5))
+        theirs = [solver(p) if ours[i][0] is not None else (None, 0) for i, p in enumerate(programs)]
+        compare(name, ours, [(value, max(took - start, 0)) for value, took in theirs], exact)
+
+
+def main():
+    programs = read(Path(sys.argv[1]) if len(sys.argv) > 1 else TOP / "bench" / "programs.txt")
+    with tempfile.TemporaryDirectory() as name:
+        folder = Path(name)
+        program = build(folder)
+        measure(program, folder, programs)
+        print("the largest program:")
+        measure(program, folder, [largest()])
+
+
+main()

@@ -1,0 +1,95 @@
+ghost use Rattle.std.specs.Prelude.{◌≡◌, is_some, IfOk};
+ghost use Rattle.block_top.specs.Words.{Analyse, Report, words_seen};
+ghost use Rattle.block_top.specs.FormSeen.{form_seen, IsServed};
+ghost use Rattle.block_top.specs.Commands.{plan_of};
+ghost use Rattle.block_top.specs.Outcome.{IsReplyOf, IsReply};
+ghost use Rattle.block_top.specs.Replies.{reply_seen, Answered, Keeps};
+
+use crate::halt::{Halt, Reply, settled};
+use crate::input::get_set;
+use crate::words::{Command, command_of};
+use crate::work::{analysis, no_form, table};
+use outside_ports::Shelf;
+use sporadic_model::Protocol;
+use std::alloc::{AllocError, Global};
+use std::thread::Threads;
+
+/// Reads the inputs of `analyse`, and does its work.
+fn analyse_reply<R: Threads + Sync, S: Shelf>(
+    rt: &R,
+    alloc: Global,
+    shelf: &mut S,
+    protocol: Protocol,
+    name: &str,
+    allowance: u64,
+) -> Result<Reply, Halt>
+    requires { protocol ≡ Protocol.FmlpPlus }
+    ensures reply { Answered result (IsReplyOf
+        (record { names = S.names shelf.old; before = S.faults shelf.old; now = S.faults shelf.new; given = S.given shelf.new })
+        (plan_of (Analyse protocol name.now allowance))) }
+    ensures keeps { Keeps (S.names shelf.old) (S.names shelf.new) (is_some (S.rest shelf.old)) (is_some (S.rest shelf.new))
+        (S.faults shelf.old) (S.faults shelf.new) (S.steady shelf.old) (S.steady shelf.new) }
+{
+    let (_bytes, set) = get_set(alloc, shelf, protocol, name)?;
+    analysis(rt, alloc, &set, protocol, allowance)
+}
+
+/// Reads the inputs of `report`, and does its work.
+fn report_reply<S: Shelf>(
+    alloc: Global,
+    shelf: &mut S,
+    protocol: Protocol,
+    name: &str,
+) -> Result<Reply, Halt>
+    ensures reply { Answered result (IsReplyOf
+        (record { names = S.names shelf.old; before = S.faults shelf.old; now = S.faults shelf.new; given = S.given shelf.new })
+        (plan_of (Report protocol name.now))) }
+    ensures keeps { Keeps (S.names shelf.old) (S.names shelf.new) (is_some (S.rest shelf.old)) (is_some (S.rest shelf.new))
+        (S.faults shelf.old) (S.faults shelf.new) (S.steady shelf.old) (S.steady shelf.new) }
+{
+    let (_bytes, set) = get_set(alloc, shelf, protocol, name)?;
+    table(alloc, &set)
+}
+
+/// Does what the words ask for.
+fn command_reply<R: Threads + Sync, S: Shelf>(
+    rt: &R,
+    alloc: Global,
+    shelf: &mut S,
+    command: Command<'_>,
+) -> Result<Reply, Halt>
+    requires { IsServed (form_seen command) }
+    ensures reply { Answered result (IsReplyOf
+        (record { names = S.names shelf.old; before = S.faults shelf.old; now = S.faults shelf.new; given = S.given shelf.new })
+        (plan_of (form_seen command.entry))) }
+    ensures keeps { Keeps (S.names shelf.old) (S.names shelf.new) (is_some (S.rest shelf.old)) (is_some (S.rest shelf.new))
+        (S.faults shelf.old) (S.faults shelf.new) (S.steady shelf.old) (S.steady shelf.new) }
+{
+    match command {
+        Command::Analyse {
+            protocol,
+            set,
+            allowance,
+        } => analyse_reply(rt, alloc, shelf, protocol, set, allowance),
+        Command::Report { protocol, set } => report_reply(alloc, shelf, protocol, set),
+    }
+}
+
+/// The reply to words: all that comes before the first write. An error is want of memory.
+pub fn reply_to<R: Threads + Sync, S: Shelf>(
+    rt: &R,
+    alloc: Global,
+    words: &[String],
+    shelf: &mut S,
+) -> Result<Reply, AllocError>
+    ensures reply { IfOk result (λ r. IsReply
+        (record { names = S.names shelf.old; before = S.faults shelf.old; now = S.faults shelf.new; given = S.given shelf.new })
+        (words_seen words.now) (reply_seen r)) }
+    ensures keeps { Keeps (S.names shelf.old) (S.names shelf.new) (is_some (S.rest shelf.old)) (is_some (S.rest shelf.new))
+        (S.faults shelf.old) (S.faults shelf.new) (S.steady shelf.old) (S.steady shelf.new) }
+{
+    match command_of(words) {
+        Some(command) => settled(command_reply(rt, alloc, shelf, command)),
+        None => settled(no_form(alloc)),
+    }
+}

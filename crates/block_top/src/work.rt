@@ -1,0 +1,137 @@
+ghost use Rattle.std.specs.Prelude.{◌≡◌, ◌<◌, length, map, IfOk};
+ghost use Rattle.program_form.specs.Certificate.{dual_seen};
+ghost use Rattle.response_fixpoint.specs.Rounds.{Schedulable, NotShown, Wide, Allowance};
+ghost use Rattle.block_top.specs.Commands.{requests_later, ending_answer, IsAnalysis, IsTable};
+ghost use Rattle.block_top.specs.Outcome.{refused_words};
+ghost use Rattle.block_top.specs.Replies.{reply_seen, HaltsWith, Answered, RepliesTo};
+ghost use Rattle.block_top.specs.Reached.{NamesTask};
+
+use crate::halt::{Halt, Reply, refusal};
+use crate::texts::{certificate_line, not_shown_line, wide_line};
+use program_form::Certificate;
+use report::set_table;
+use response_fixpoint::{Stop, Verdict, analyse, first_requester};
+use sporadic_model::{Protocol, TaskId, TaskSet};
+use std::alloc::{AllocError, Global};
+use std::thread::Threads;
+
+/// The reply to a set with requests, which is not analysed yet.
+fn later(alloc: Global, x: TaskId) -> Halt
+    ensures { HaltsWith result (λ answer. answer ≡ requests_later x.0) }
+{
+    let number = u64::from(x.0) + 1;
+    match format!(in alloc; "requestslater task {number}") {
+        Ok(reason) => refusal(alloc, "set", reason.as_str()),
+        Err(AllocError) => Halt::Memory,
+    }
+}
+
+/// The reply with a certificate.
+fn certificate_reply(
+    alloc: Global,
+    set: &TaskSet,
+    certificate: &Certificate,
+) -> Result<Reply, AllocError>
+    ensures { IfOk result (λ r. reply_seen r
+        ≡ ending_answer set.now (Schedulable certificate.now.bounds.items (map dual_seen certificate.now.duals.items))) }
+{
+    let _tasks = set.tasks();
+    Ok(Reply {
+        status: 0,
+        text: certificate_line(alloc, certificate)?,
+    })
+}
+
+/// The reply where a task's value passes its deadline.
+fn not_shown_reply(
+    alloc: Global,
+    set: &TaskSet,
+    task: TaskId,
+    bound: u64,
+) -> Result<Reply, AllocError>
+    requires { task.0 < length set.now.tasks }
+    ensures { IfOk result (λ r. reply_seen r ≡ ending_answer set.now (NotShown task.0 bound)) }
+{
+    Ok(Reply {
+        status: 1,
+        text: not_shown_line(alloc, set.task_name(task), bound, set.deadline(task))?,
+    })
+}
+
+/// The reply where a task's program is too wide.
+fn wide_reply(alloc: Global, set: &TaskSet, task: TaskId) -> Result<Reply, AllocError>
+    requires { task.0 < length set.now.tasks }
+    ensures { IfOk result (λ r. reply_seen r ≡ ending_answer set.now (Wide task.0)) }
+{
+    Ok(Reply {
+        status: 5,
+        text: wide_line(alloc, set.task_name(task))?,
+    })
+}
+
+/// The reply where the programs want more units than the allowance.
+fn allowance_reply(alloc: Global, set: &TaskSet) -> Result<Reply, AllocError>
+    ensures { IfOk result (λ r. reply_seen r ≡ ending_answer set.now Allowance) }
+{
+    let _tasks = set.tasks();
+    Ok(Reply {
+        status: 6,
+        text: Vec::from_slice(alloc, b"allowance\n")?,
+    })
+}
+
+/// The reply to an analysis of the set.
+fn verdict_reply(
+    alloc: Global,
+    set: &TaskSet,
+    verdict: Result<Verdict, Stop>,
+) -> Result<Reply, AllocError>
+    requires { NamesTask set.now verdict }
+    ensures { IfOk result (λ r. RepliesTo set.now verdict (reply_seen r)) }
+{
+    match verdict {
+        Ok(Verdict::Schedulable(certificate)) => certificate_reply(alloc, set, &certificate),
+        Ok(Verdict::NotShown { task, bound }) => not_shown_reply(alloc, set, task, bound),
+        Err(Stop::Wide(task)) => wide_reply(alloc, set, task),
+        Err(Stop::Allowance) => allowance_reply(alloc, set),
+        Err(Stop::Memory) => Err(AllocError),
+    }
+}
+
+/// The work of `analyse`.
+pub fn analysis<R: Threads + Sync>(
+    rt: &R,
+    alloc: Global,
+    set: &TaskSet,
+    protocol: Protocol,
+    allowance: u64,
+) -> Result<Reply, Halt>
+    requires { protocol ≡ Protocol.FmlpPlus }
+    ensures { Answered result (IsAnalysis set.now allowance) }
+{
+    if let Some(x) = first_requester(set) {
+        return Err(later(alloc, x));
+    }
+    let verdict = analyse(rt, alloc, set, protocol, allowance);
+    Ok(verdict_reply(alloc, set, verdict)?)
+}
+
+/// The work of `report`.
+pub fn table(alloc: Global, set: &TaskSet) -> Result<Reply, Halt>
+    ensures { Answered result (IsTable set.now) }
+{
+    Ok(Reply {
+        status: 0,
+        text: set_table(alloc, set)?,
+    })
+}
+
+/// The reply to words that have no form.
+pub fn no_form(alloc: Global) -> Result<Reply, Halt>
+    ensures { Answered result (λ answer. answer ≡ refused_words) }
+{
+    Ok(Reply {
+        status: 2,
+        text: Vec::from_slice(alloc, b"refused words\n")?,
+    })
+}

@@ -1,0 +1,5 @@
+pub mod SharedCharging
+pub mod DpcpCharging
+pub mod Windows
+pub mod Interference
+pub mod Counting

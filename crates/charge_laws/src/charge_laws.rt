@@ -1,0 +1,25 @@
+ghost use Rattle.std.specs.Prelude.{◌≡◌, ℕ, true, Some};
+ghost use Rattle.schedule_model.specs.RowDef.{Trace};
+ghost use Rattle.schedule_model.specs.SharedRules.{Ranks};
+ghost use Rattle.schedule_model.specs.Protocols.{shared_rule, dpcp_rule};
+ghost use Rattle.schedule_model.specs.Keeping.{KeepsRow};
+ghost use Rattle.schedule_model.specs.BlockedTicks.{is_shared_interference, is_dpcp_interference, is_blocked};
+ghost use Rattle.charge_model.specs.Charges.{Charge, shared_charge, dpcp_charge, Executes};
+
+/// Where requests run on their own task's processor, whatever the order of grants and runs, so under MPCP and FMLP+:
+/// in a row that keeps the rules each blocked tick is charged to one request, which executes at that tick. No other
+/// tick is charged.
+pub fn shared_memory_charges_blocked_ticks()
+    ensures charged { (o : Ranks) (w : Trace) (t j : ℕ) → KeepsRow (shared_rule o) w t → is_blocked is_shared_interference w t j ≡ true
+        → (charge : Charge) × (shared_charge w t j ≡ Some charge) × Executes w t charge }
+    ensures only { (w : Trace) (t j : ℕ) (charge : Charge) → shared_charge w t j ≡ Some charge
+        → is_blocked is_shared_interference w t j ≡ true }
+{}
+
+/// Under DPCP too.
+pub fn dpcp_charges_blocked_ticks()
+    ensures charged { (w : Trace) (t j : ℕ) → KeepsRow dpcp_rule w t → is_blocked is_dpcp_interference w t j ≡ true
+        → (charge : Charge) × (dpcp_charge w t j ≡ Some charge) × Executes w t charge }
+    ensures only { (w : Trace) (t j : ℕ) (charge : Charge) → dpcp_charge w t j ≡ Some charge
+        → is_blocked is_dpcp_interference w t j ≡ true }
+{}

@@ -1,0 +1,4 @@
+pub mod Charges
+pub mod Windows
+pub mod Interferers
+pub mod Fractions

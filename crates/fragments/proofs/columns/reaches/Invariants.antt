@@ -1,0 +1,7 @@
+use Rattle.std.proofs.Common.{◌≡◌, false, length}
+use Rattle.bounded_sums.specs.Tests.{any_below}
+use Rattle.fragments.specs.Columns.{is_path}
+use Rattle.fragments.proofs.columns.reaches.Given as goal
+
+abbrev pub invariant-loop-y : goal.invariant-loop-y
+invariant-loop-y l = any_below l.y (λ y. any_below (length l.set.resources) (λ r. is_path l.protocol l.set l.i.0 l.c.task.0 l.c.resource.0 y r)) ≡ false

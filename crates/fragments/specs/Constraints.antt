@@ -1,0 +1,52 @@
+-- Rows of a blocking program as data: a row is a coefficient for each column, and a limit that the bounds give.
+use Rattle.std.specs.Prelude.{ℕ, Bool, nat_lt, List, [], ◌∷◌, ◌++◌, map, if◌then◌else◌, slice_index}
+use Rattle.std.specs.List.{filter, list_any}
+use Rattle.bounded_sums.specs.Sums.{collect_below}
+use Rattle.program_form.specs.RowBlock.{RowBlockDef}
+use Rattle.fragments.specs.ColumnDef.{ColumnDef}
+
+-- A row: each column's coefficient, and the limit where `bounds x` is task x's bound.
+pub record ConstraintDef : Type 0 where
+  pub coefficient : ColumnDef → ℕ
+  pub limit : (ℕ → ℕ) → ℕ
+
+-- One row for each number below n; for each number below n that passes the test; for each pair of numbers below m and n.
+abbrev pub per : ℕ → (ℕ → ConstraintDef) → List ConstraintDef
+per n row = collect_below n (λ k. row k ∷ [])
+
+abbrev pub per_where : (ℕ → Bool) → ℕ → (ℕ → ConstraintDef) → List ConstraintDef
+per_where test n row = collect_below n (λ k. if test k then row k ∷ [] else [])
+
+abbrev pub per_pair : ℕ → ℕ → (ℕ → ℕ → ConstraintDef) → List ConstraintDef
+per_pair m n row = collect_below m (λ k. per n (row k))
+
+-- Has some column a coefficient above zero in the row?
+abbrev pub holds_some : List ColumnDef → ConstraintDef → Bool
+holds_some columns row = list_any (λ c. nat_lt 0 (row.coefficient c)) columns
+
+-- The rows that are there: those with a coefficient above zero.
+abbrev pub rows_there : List ColumnDef → List ConstraintDef → List ConstraintDef
+rows_there columns rows = filter (holds_some columns) rows
+
+-- The numbers of these rows: their coefficients, and their limits at bounds.
+abbrev pub coefficients_of : List ColumnDef → List ConstraintDef → List (List ℕ)
+coefficients_of columns rows = map (λ row. map row.coefficient columns) (rows_there columns rows)
+
+abbrev pub limits_of : List ColumnDef → List ConstraintDef → List ℕ → List ℕ
+limits_of columns rows bounds = map (λ row. row.limit (slice_index bounds)) (rows_there columns rows)
+
+-- The block of the rows that are there.
+abbrev pub block_of : List ColumnDef → List ConstraintDef → List ℕ → RowBlockDef
+block_of columns rows bounds = record { rows = coefficients_of columns rows; limits = limits_of columns rows bounds }
+
+-- A block with these rows behind its own.
+abbrev pub with_rows : RowBlockDef → List ColumnDef → List ConstraintDef → List ℕ → RowBlockDef
+with_rows block columns rows bounds = record { rows = block.rows ++ coefficients_of columns rows; limits = block.limits ++ limits_of columns rows bounds }
+
+-- A block without rows.
+abbrev pub no_rows : RowBlockDef
+no_rows = record { rows = []; limits = [] }
+
+-- A block with one more row, of these coefficients and this limit.
+abbrev pub pushed_row : RowBlockDef → List ℕ → ℕ → RowBlockDef
+pushed_row block coefficients limit = record { rows = block.rows ++ coefficients ∷ []; limits = block.limits ++ limit ∷ [] }

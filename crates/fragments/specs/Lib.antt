@@ -1,0 +1,5 @@
+pub mod Ceilings
+pub mod ColumnDef
+pub mod Columns
+pub mod Windows
+pub mod Constraints

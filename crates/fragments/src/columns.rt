@@ -1,0 +1,333 @@
+ghost use Rattle.std.specs.Prelude.{◌≡◌, ◌<◌, ◌++◌, map, length, OnOk, IfOk, [], ◌∷◌, not, ◌==◌, ◌&&◌, nat_lt, nat_le, ◌||◌};
+ghost use Rattle.std.specs.List.{filter};
+ghost use Rattle.bounded_sums.specs.Sums.{collect_below};
+ghost use Rattle.bounded_sums.specs.Tests.{any_below};
+ghost use Rattle.sporadic_model.specs.Users.{is_user};
+ghost use Rattle.sporadic_model.specs.Homes.{HasHomesFor, home_in};
+ghost use Rattle.fragments.specs.ColumnDef.{column_seen, classes_of, is_direct, is_indirect, is_preemption};
+ghost use Rattle.fragments.specs.Columns.{have_one_processor, may_run_before, is_path, has_path, requests_beside, blocks_by_sharing, blocks_at_home, may_block, is_column, columns_of};
+
+use crate::places::{boost_place, ceiling_place, home, lower_local, share_processor, uses};
+use sporadic_model::{Protocol, ResourceId, TaskId, TaskSet};
+use std::alloc::{AllocError, Global};
+
+/// How a request blocks a job that it is charged to.
+#[derive(Clone, Copy, Debug, PartialEq, Eq)]
+pub enum Class {
+    /// The job waits for the resource that the request holds.
+    Direct,
+    /// The job waits for another resource, whose holder cannot run while the request does.
+    Indirect,
+    /// The job is ready, or under DPCP runs no request, and the request runs on its processor.
+    Preemption,
+}
+
+impl Class {
+    /// Is it direct blocking?
+    pub fn is_direct(self) -> bool
+        ensures { result ≡ is_direct self }
+    {
+        match self {
+            Class::Direct => true,
+            Class::Indirect | Class::Preemption => false,
+        }
+    }
+
+    /// Is it indirect blocking?
+    pub fn is_indirect(self) -> bool
+        ensures { result ≡ is_indirect self }
+    {
+        match self {
+            Class::Indirect => true,
+            Class::Direct | Class::Preemption => false,
+        }
+    }
+
+    /// Is it preemption blocking?
+    pub fn is_preemption(self) -> bool
+        ensures { result ≡ is_preemption self }
+    {
+        match self {
+            Class::Preemption => true,
+            Class::Direct | Class::Indirect => false,
+        }
+    }
+}
+
+/// A column of a task's blocking program: the requests of a resource by another task that block in one way.
+#[derive(Clone, Copy, Debug, PartialEq, Eq)]
+pub struct Fragment {
+    /// The task that makes the requests.
+    pub task: TaskId,
+    /// The resource that it requests.
+    pub resource: ResourceId,
+    /// How the requests block.
+    pub class: Class,
+}
+
+// While a holder of `r` is ready on processor `k`, may a holder of `q` run there?
+fn runs_before(set: &TaskSet, protocol: Protocol, k: u32, q: ResourceId, r: ResourceId) -> bool
+    requires resource { q.0 < length set.now.resources }
+    requires other { r.0 < length set.now.resources }
+    ensures { result ≡ may_run_before protocol set.now k q.0 r.0 }
+{
+    match protocol {
+        Protocol::Mpcp => boost_place(set, q, k) <= boost_place(set, r, k),
+        Protocol::FmlpPlus => true,
+        Protocol::Dpcp => false,
+    }
+}
+
+// Is the task `y` beside `x`, and neither `x` nor `i`?
+fn stands_beside(set: &TaskSet, i: TaskId, x: TaskId, y: TaskId) -> bool
+    requires task { x.0 < length set.now.tasks }
+    requires other { y.0 < length set.now.tasks }
+    ensures { result ≡ (have_one_processor set.now y.0 x.0 && (not (y.0 == x.0) && not (y.0 == i.0))) }
+{
+    share_processor(set, y, x) && y.0 != x.0 && y.0 != i.0
+}
+
+// Is the task `y` with the resource `r` a path from `i` to the requests?
+fn leads(
+    set: &TaskSet,
+    protocol: Protocol,
+    i: TaskId,
+    c: Fragment,
+    y: TaskId,
+    r: ResourceId,
+) -> bool
+    requires task { i.0 < length set.now.tasks }
+    requires column { c.task.0 < length set.now.tasks }
+    requires resource { c.resource.0 < length set.now.resources }
+    requires other { y.0 < length set.now.tasks }
+    requires by { r.0 < length set.now.resources }
+    ensures { result ≡ is_path protocol set.now i.0 c.task.0 c.resource.0 y.0 r.0 }
+{
+    stands_beside(set, i, c.task, y)
+        && r.0 != c.resource.0
+        && uses(set, i, r)
+        && uses(set, y, r)
+        && runs_before(set, protocol, set.processor(c.task), c.resource, r)
+}
+
+// Is it one with some resource?
+fn leads_by(set: &TaskSet, protocol: Protocol, i: TaskId, c: Fragment, y: TaskId) -> bool
+    requires task { i.0 < length set.now.tasks }
+    requires column { c.task.0 < length set.now.tasks }
+    requires resource { c.resource.0 < length set.now.resources }
+    requires other { y.0 < length set.now.tasks }
+    ensures { result ≡ any_below (length set.now.resources) (λ r. is_path protocol set.now i.0 c.task.0 c.resource.0 y.0 r) }
+{
+    if !stands_beside(set, i, c.task, y) {
+        return false;
+    }
+    for r in 0..set.resources() {
+        if leads(set, protocol, i, c, y, ResourceId(r)) {
+            return true;
+        }
+    }
+    false
+}
+
+// Is there a path from `i` to the requests?
+fn reaches(set: &TaskSet, protocol: Protocol, i: TaskId, c: Fragment) -> bool
+    requires task { i.0 < length set.now.tasks }
+    requires column { c.task.0 < length set.now.tasks }
+    requires resource { c.resource.0 < length set.now.resources }
+    ensures { result ≡ has_path protocol set.now i.0 c.task.0 c.resource.0 }
+{
+    for y in 0..set.tasks() {
+        if leads_by(set, protocol, i, c, TaskId(y)) {
+            return true;
+        }
+    }
+    false
+}
+
+// Is the resource `r` another one than `q`, of the same home, and does the task request it?
+fn asks_for(set: &TaskSet, i: TaskId, q: ResourceId, r: ResourceId) -> bool
+    requires task { i.0 < length set.now.tasks }
+    requires resource { q.0 < length set.now.resources }
+    requires other { r.0 < length set.now.resources }
+    ensures { result ≡ (not (r.0 == q.0) && (is_user set.now r.0 i.0 && (home_in set.now r.0 == home_in set.now q.0))) }
+{
+    r.0 != q.0 && uses(set, i, r) && home(set, r) == home(set, q)
+}
+
+// Does the task request another resource of the same home?
+fn asks_beside(set: &TaskSet, i: TaskId, q: ResourceId) -> bool
+    requires task { i.0 < length set.now.tasks }
+    requires resource { q.0 < length set.now.resources }
+    ensures { result ≡ requests_beside set.now i.0 q.0 }
+{
+    for r in 0..set.resources() {
+        if asks_for(set, i, q, ResourceId(r)) {
+            return true;
+        }
+    }
+    false
+}
+
+// Under MPCP and FMLP+, may the requests block `i` in this way?
+fn blocks_shared(set: &TaskSet, protocol: Protocol, i: TaskId, c: Fragment) -> bool
+    requires task { i.0 < length set.now.tasks }
+    requires column { c.task.0 < length set.now.tasks }
+    requires resource { c.resource.0 < length set.now.resources }
+    ensures { result ≡ blocks_by_sharing protocol set.now i.0 c.task.0 c.resource.0 c.class }
+{
+    match c.class {
+        Class::Direct => uses(set, i, c.resource),
+        Class::Indirect => reaches(set, protocol, i, c),
+        Class::Preemption => lower_local(set, i, c.task),
+    }
+}
+
+// Under DPCP, may they?
+fn blocks_distributed(set: &TaskSet, i: TaskId, c: Fragment) -> bool
+    requires task { i.0 < length set.now.tasks }
+    requires column { c.task.0 < length set.now.tasks }
+    requires resource { c.resource.0 < length set.now.resources }
+    ensures { result ≡ blocks_at_home set.now i.0 c.task.0 c.resource.0 c.class }
+{
+    match c.class {
+        Class::Direct => uses(set, i, c.resource),
+        Class::Indirect => {
+            asks_beside(set, i, c.resource)
+                && (c.task.0 <= i.0 || ceiling_place(set, c.resource) <= i.0)
+        }
+        Class::Preemption => home(set, c.resource) == set.processor(i),
+    }
+}
+
+// May they under the protocol?
+fn blocks(set: &TaskSet, protocol: Protocol, i: TaskId, c: Fragment) -> bool
+    requires task { i.0 < length set.now.tasks }
+    requires column { c.task.0 < length set.now.tasks }
+    requires resource { c.resource.0 < length set.now.resources }
+    ensures { result ≡ may_block protocol set.now i.0 c.task.0 c.resource.0 c.class }
+{
+    match protocol {
+        Protocol::Mpcp | Protocol::FmlpPlus => {
+            !set.higher_local(i, c.task) && blocks_shared(set, protocol, i, c)
+        }
+        Protocol::Dpcp => blocks_distributed(set, i, c),
+    }
+}
+
+// Is it a column of `i`'s program?
+fn is_fragment(set: &TaskSet, protocol: Protocol, i: TaskId, c: Fragment) -> bool
+    requires task { i.0 < length set.now.tasks }
+    requires column { c.task.0 < length set.now.tasks }
+    requires resource { c.resource.0 < length set.now.resources }
+    ensures { result ≡ is_column protocol set.now i.0 (column_seen c) }
+{
+    c.task.0 != i.0 && uses(set, c.task, c.resource) && blocks(set, protocol, i, c)
+}
+
+// Adds the column, if it is one.
+fn add_column(
+    columns: &mut Vec<Fragment>,
+    set: &TaskSet,
+    protocol: Protocol,
+    i: TaskId,
+    c: Fragment,
+) -> Result<(), AllocError>
+    requires task { i.0 < length set.now.tasks }
+    requires column { c.task.0 < length set.now.tasks }
+    requires resource { c.resource.0 < length set.now.resources }
+    ensures { OnOk result (map column_seen columns.new.items ≡ map column_seen columns.old.items ++ filter (is_column protocol set.now i.0) (column_seen c ∷ [])) }
+{
+    if is_fragment(set, protocol, i, c) {
+        columns.push(c)?;
+    }
+    Ok(())
+}
+
+// Adds the columns of the requests of `resource` by `task`.
+fn add_classes(
+    columns: &mut Vec<Fragment>,
+    set: &TaskSet,
+    protocol: Protocol,
+    i: TaskId,
+    of: (TaskId, ResourceId),
+) -> Result<(), AllocError>
+    requires task { i.0 < length set.now.tasks }
+    requires other { of.0.0 < length set.now.tasks }
+    requires resource { of.1.0 < length set.now.resources }
+    ensures { OnOk result (map column_seen columns.new.items ≡ map column_seen columns.old.items ++ filter (is_column protocol set.now i.0) (classes_of of.0.0 of.1.0)) }
+{
+    let (task, resource) = of;
+    let class = Class::Direct;
+    add_column(
+        columns,
+        set,
+        protocol,
+        i,
+        Fragment {
+            task,
+            resource,
+            class,
+        },
+    )?;
+    let class = Class::Indirect;
+    add_column(
+        columns,
+        set,
+        protocol,
+        i,
+        Fragment {
+            task,
+            resource,
+            class,
+        },
+    )?;
+    let class = Class::Preemption;
+    add_column(
+        columns,
+        set,
+        protocol,
+        i,
+        Fragment {
+            task,
+            resource,
+            class,
+        },
+    )
+}
+
+// Adds the columns of the requests by task `x`.
+fn add_task(
+    columns: &mut Vec<Fragment>,
+    set: &TaskSet,
+    protocol: Protocol,
+    i: TaskId,
+    x: TaskId,
+) -> Result<(), AllocError>
+    requires task { i.0 < length set.now.tasks }
+    requires other { x.0 < length set.now.tasks }
+    ensures { OnOk result (map column_seen columns.new.items ≡ map column_seen columns.old.items ++ filter (is_column protocol set.now i.0) (collect_below (length set.now.resources) (λ q. classes_of x.0 q))) }
+{
+    for q in 0..set.resources() {
+        add_classes(columns, set, protocol, i, (x, ResourceId(q)))?;
+    }
+    Ok(())
+}
+
+/// The columns of task `i`'s blocking program: requests of other tasks, by resource and by how they block. They stand in
+/// order of the task, then the resource, then the class, and do not depend on any bounds.
+pub fn fragments(
+    alloc: Global,
+    set: &TaskSet,
+    protocol: Protocol,
+    i: TaskId,
+) -> Result<Vec<Fragment>, AllocError>
+    requires task { i.0 < length set.now.tasks }
+    requires suits { HasHomesFor protocol set.now }
+    ensures { IfOk result (λ v. map column_seen v.items ≡ columns_of protocol set.now i.0) }
+{
+    let mut columns = Vec::new(alloc);
+    for x in 0..set.tasks() {
+        add_task(&mut columns, set, protocol, i, TaskId(x))?;
+    }
+    Ok(columns)
+}

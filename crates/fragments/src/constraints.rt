@@ -1,0 +1,103 @@
+ghost use Rattle.std.specs.Prelude.{◌≡◌, ℕ, ◌<◌, ◌≤◌, map, nat_lt, length, OnOk, IfOk, [], ◌∷◌, slice_index};
+ghost use Rattle.std.specs.List.{list_any};
+ghost use Rattle.program_form.specs.RowBlock.{block_seen};
+ghost use Rattle.sporadic_model.specs.SetDef.{SetDef};
+ghost use Rattle.program_sources.specs.Bounds.{AreWithinDeadlines};
+ghost use Rattle.fragments.specs.ColumnDef.{column_seen, AreKnown};
+ghost use Rattle.fragments.specs.Constraints.{ConstraintDef, with_rows, pushed_row};
+
+use crate::columns::Fragment;
+use program_form::RowBlock;
+use sporadic_model::{TaskId, TaskSet};
+use std::alloc::{AllocError, Global};
+
+/// A row of the blocking program of a task `i`: a coefficient for each column, and a limit that the bounds give.
+pub trait Constraint {
+    /// The row, for a set and the analysed task.
+    ghost row_of: { Self → SetDef → ℕ → ConstraintDef };
+
+    /// Does the row speak of tasks and resources of the set?
+    ghost fits: { Self → SetDef → Type 0 };
+
+    /// The column's coefficient.
+    fn coefficient(&self, set: &TaskSet, i: TaskId, column: Fragment) -> u64
+        requires fits { fits self.now set.now }
+        requires task { i.0 < length set.now.tasks }
+        requires column { column.task.0 < length set.now.tasks }
+        requires resource { column.resource.0 < length set.now.resources }
+        ensures { result ≡ (row_of self.now set.now i.0).coefficient (column_seen column) };
+
+    /// What the row's sum may be at most, where these are the bounds.
+    fn limit(&self, set: &TaskSet, i: TaskId, bounds: &[u64]) -> u64
+        requires fits { fits self.now set.now }
+        requires task { i.0 < length set.now.tasks }
+        requires within { AreWithinDeadlines set.now bounds.now }
+        ensures { result ≡ (row_of self.now set.now i.0).limit (slice_index bounds.now) };
+}
+
+// Has some column a coefficient above zero in the row?
+fn holds<K: Constraint>(kind: &K, set: &TaskSet, i: TaskId, columns: &[Fragment]) -> bool
+    requires fits { K.fits kind.now set.now }
+    requires task { i.0 < length set.now.tasks }
+    requires known { AreKnown (length set.now.tasks) (length set.now.resources) columns.now }
+    ensures { result ≡ list_any (λ c. nat_lt 0 ((K.row_of kind.now set.now i.0).coefficient (column_seen c))) columns.now }
+{
+    for column in columns {
+        if kind.coefficient(set, i, *column) > 0 {
+            return true;
+        }
+    }
+    false
+}
+
+// The coefficients of the columns.
+fn coefficients<K: Constraint>(
+    alloc: Global,
+    kind: &K,
+    set: &TaskSet,
+    i: TaskId,
+    columns: &[Fragment],
+) -> Result<Vec<u64>, AllocError>
+    requires fits { K.fits kind.now set.now }
+    requires task { i.0 < length set.now.tasks }
+    requires known { AreKnown (length set.now.tasks) (length set.now.resources) columns.now }
+    ensures { IfOk result (λ v. v.items ≡ map (λ c. (K.row_of kind.now set.now i.0).coefficient (column_seen c)) columns.now) }
+{
+    let mut list = Vec::with_capacity(alloc, columns.len())?;
+    for column in columns {
+        list.push(kind.coefficient(set, i, *column))?;
+    }
+    Ok(list)
+}
+
+// Adds the row with these coefficients and this limit.
+fn push_row(block: &mut RowBlock, list: Vec<u64>, limit: u64) -> Result<(), AllocError>
+    ensures { OnOk result (block_seen block.new ≡ pushed_row (block_seen block.old) list.items limit) }
+{
+    block.rows.push(list)?;
+    block.limits.push(limit)?;
+    Ok(())
+}
+
+/// Adds the row to the block, if some column has a coefficient above zero in it.
+pub fn add_row<K: Constraint>(
+    alloc: Global,
+    block: &mut RowBlock,
+    kind: &K,
+    set: &TaskSet,
+    i: TaskId,
+    bounds: &[u64],
+    columns: &[Fragment],
+) -> Result<(), AllocError>
+    requires fits { K.fits kind.now set.now }
+    requires task { i.0 < length set.now.tasks }
+    requires within { AreWithinDeadlines set.now bounds.now }
+    requires known { AreKnown (length set.now.tasks) (length set.now.resources) columns.now }
+    ensures { OnOk result (block_seen block.new ≡ with_rows (block_seen block.old) (map column_seen columns.now) (K.row_of kind.now set.now i.0 ∷ []) bounds.now) }
+{
+    if holds(kind, set, i, columns) {
+        let list = coefficients(alloc, kind, set, i, columns)?;
+        push_row(block, list, kind.limit(set, i, bounds))?;
+    }
+    Ok(())
+}

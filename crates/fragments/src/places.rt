@@ -1,0 +1,67 @@
+ghost use Rattle.std.specs.Prelude.{◌≡◌, ◌<◌, ◌≤◌, length};
+ghost use Rattle.sporadic_model.specs.Users.{is_user};
+ghost use Rattle.sporadic_model.specs.Homes.{home_in};
+ghost use Rattle.fragments.specs.Ceilings.{ceiling_rank, remote_ceiling_rank};
+ghost use Rattle.fragments.specs.Columns.{have_one_processor, is_lower_local};
+
+use sporadic_model::{ResourceId, TaskId, TaskSet};
+
+/// Does the task use the resource?
+pub fn uses(set: &TaskSet, x: TaskId, q: ResourceId) -> bool
+    requires task { x.0 < length set.now.tasks }
+    requires resource { q.0 < length set.now.resources }
+    ensures { result ≡ is_user set.now q.0 x.0 }
+{
+    set.count(x, q) > 0
+}
+
+/// Do the two tasks share a processor?
+pub fn share_processor(set: &TaskSet, x: TaskId, y: TaskId) -> bool
+    requires task { x.0 < length set.now.tasks }
+    requires other { y.0 < length set.now.tasks }
+    ensures { result ≡ have_one_processor set.now x.0 y.0 }
+{
+    set.processor(x) == set.processor(y)
+}
+
+/// Is `x` a task of lower base priority on `i`'s processor?
+pub fn lower_local(set: &TaskSet, i: TaskId, x: TaskId) -> bool
+    requires task { i.0 < length set.now.tasks }
+    requires other { x.0 < length set.now.tasks }
+    ensures { result ≡ is_lower_local set.now i.0 x.0 }
+{
+    i.0 < x.0 && share_processor(set, x, i)
+}
+
+/// The processor at which the resource's requests run; 0, which is no processor, where it has no home.
+pub fn home(set: &TaskSet, q: ResourceId) -> u32
+    requires { q.0 < length set.now.resources }
+    ensures { result ≡ home_in set.now q.0 }
+{
+    match set.home(q) {
+        Some(processor) => processor,
+        None => 0,
+    }
+}
+
+/// The position of the resource's highest user; the number of tasks where it has none.
+pub(crate) fn ceiling_place(set: &TaskSet, q: ResourceId) -> u32
+    requires { q.0 < length set.now.resources }
+    ensures { result ≡ ceiling_rank set.now q.0 }
+{
+    match set.ceiling(q) {
+        Some(task) => task.0,
+        None => set.tasks(),
+    }
+}
+
+/// The position of the resource's ceiling as processor `k` sees it; the number of tasks where it has no user.
+pub(crate) fn boost_place(set: &TaskSet, q: ResourceId, k: u32) -> u32
+    requires { q.0 < length set.now.resources }
+    ensures { result ≡ remote_ceiling_rank set.now q.0 k }
+{
+    match set.boost(q, k) {
+        Some(task) => task.0,
+        None => set.tasks(),
+    }
+}

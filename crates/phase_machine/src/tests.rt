@@ -1,0 +1,439 @@
+ghost use Rattle.std.specs.Prelude.{◌≡◌, ℕ, ◌<◌, true, false, Some, None, map, length, slice_index_or};
+ghost use Rattle.std.specs.List.{list_all};
+ghost use Rattle.schedule_model.specs.LawfulJobs.{is_resource_in, are_resources_in};
+ghost use Rattle.schedule_model.specs.Fitting.{is_below};
+ghost use Rattle.schedule_model.specs.Seen.{place_seen, segment_seen, row_seen};
+ghost use Rattle.phase_machine.specs.Now.{active_now};
+ghost use Rattle.phase_machine.specs.Taking.{CanTake};
+
+use super::*;
+use schedule_model::{Job, JobId, JobList, Row, Segment};
+use sporadic_model::{Parts, RequestPart, ResourceId, ResourcePart, TaskId, TaskPart, TaskSet};
+use std::alloc::{AllocError, Global};
+use std::test::Fail;
+
+const Q: ResourceId = ResourceId(0);
+
+/// A task by its processor, its period and cost, and the length of its one request of `q`, if it may make one.
+type Task = (u64, u64, u64, Option<u64>);
+
+fn task_of(alloc: Global, name: &str, task: &Task) -> Result<TaskPart, AllocError> {
+    let (processor, period, cost, length) = *task;
+    let mut requests = Vec::new(alloc);
+    if let Some(length) = length {
+        requests.push(RequestPart {
+            resource: String::from_str(alloc, "q")?,
+            count: 1,
+            length,
+        })?;
+    }
+    Ok(TaskPart {
+        name: String::from_str(alloc, name)?,
+        processor,
+        period,
+        deadline: period,
+        cost,
+        local: cost,
+        requests,
+    })
+}
+
+/// Two tasks, `t1` the higher, and a resource `q`.
+fn set_of(alloc: Global, processors: u64, tasks: &[Task; 2]) -> Result<TaskSet, Fail> {
+    let mut parts = Parts {
+        processors,
+        resources: Vec::new(alloc),
+        tasks: Vec::new(alloc),
+    };
+    let name = String::from_str(alloc, "q")?;
+    parts.resources.push(ResourcePart { name, home: None })?;
+    parts.tasks.push(task_of(alloc, "t1", &tasks[0])?)?;
+    parts.tasks.push(task_of(alloc, "t2", &tasks[1])?)?;
+    match TaskSet::new(alloc, parts) {
+        Ok(set) => Ok(set),
+        Err(_) => Err("refused".into()),
+    }
+}
+
+/// The local ticks of a segment, and the length of its request of `q`, if it has one.
+type Part = (u64, Option<u64>);
+
+/// A job by its task, its release and its script.
+type Work = (u32, u64, &'static [Part]);
+
+fn job_of(alloc: Global, work: &Work) -> Result<Job, AllocError> {
+    let (task, release, parts) = *work;
+    let mut script = Vec::new(alloc);
+    for (local, length) in parts {
+        let request = match *length {
+            Some(length) => Some((Q, length)),
+            None => None,
+        };
+        script.push(Segment {
+            local: *local,
+            request,
+        })?;
+    }
+    Ok(Job {
+        task: TaskId(task),
+        release,
+        script,
+    })
+}
+
+fn requests_below(segment: &Segment, resources: u32) -> bool
+    ensures { result ≡ is_resource_in resources (segment_seen segment.now) }
+{
+    match segment.request {
+        Some((q, _)) => q.0 < resources,
+        None => true,
+    }
+}
+
+fn each_requests_below(script: &[Segment], resources: u32) -> bool
+    ensures { result ≡ list_all (λ s. is_resource_in resources (segment_seen s)) script.now }
+{
+    script
+        .iter()
+        .all(|segment| requests_below(segment, resources))
+}
+
+fn request_below(script: &[Segment], resources: u32) -> bool
+    ensures { result ≡ are_resources_in resources (map segment_seen script.now) }
+{
+    each_requests_below(script, resources)
+}
+
+fn list_of<'a>(alloc: Global, set: &'a TaskSet, work: &[Work]) -> Result<JobList<'a>, Fail> {
+    let mut jobs = JobList::new(alloc, set);
+    for one in work {
+        let job = job_of(alloc, one)?;
+        let set = jobs.set();
+        if job.task.0 >= set.tasks() || !request_below(&job.script, set.resources()) {
+            return Err("no such task or resource".into());
+        }
+        match jobs.push(job) {
+            Ok(()) => {}
+            Err(_) => return Err("refused".into()),
+        }
+    }
+    Ok(jobs)
+}
+
+fn are_below(places: &[Option<JobId>], jobs: u32) -> bool
+    ensures { result ≡ list_all (λ o. is_below jobs (place_seen o)) places.now }
+{
+    places.iter().all(|place| match place {
+        Some(job) => job.0 < jobs,
+        None => true,
+    })
+}
+
+/// Does one of the first columns run the job?
+fn runs_before(running: &[Option<JobId>], c: usize, j: JobId) -> bool
+    requires { c < length running.now }
+    ensures { result ≡ false → (b : ℕ) → b < c → slice_index_or running.now b None ≡ Some j → ⊥ }
+{
+    for b in 0..c {
+        if running[b] == Some(j) {
+            return true;
+        }
+    }
+    false
+}
+
+/// Is each of these running jobs active, and in one column only?
+fn run_well(machine: &Machine, running: &[Option<JobId>]) -> bool
+    requires { (c : ℕ) (j : JobId) → slice_index_or running.now c None ≡ Some j → j.0 < length machine.now.list.jobs }
+    ensures active { result ≡ true → (c : ℕ) (j : JobId) → c < length running.now → slice_index_or running.now c None ≡ Some j
+        → active_now machine.now j.0 ≡ true }
+    ensures once { result ≡ true → (b c : ℕ) (j : JobId) → b < c → c < length running.now → slice_index_or running.now c None ≡ Some j
+        → slice_index_or running.now b None ≡ Some j → ⊥ }
+{
+    for c in 0..running.len() {
+        if !runs_alone(machine, running, c) {
+            return false;
+        }
+    }
+    true
+}
+
+/// Is the job in this column, if there is one, active, and in no column before?
+fn runs_alone(machine: &Machine, running: &[Option<JobId>], c: usize) -> bool
+    requires column { c < length running.now }
+    requires listed { (c : ℕ) (j : JobId) → slice_index_or running.now c None ≡ Some j → j.0 < length machine.now.list.jobs }
+    ensures active { result ≡ true → (j : JobId) → slice_index_or running.now c None ≡ Some j → active_now machine.now j.0 ≡ true }
+    ensures once { result ≡ true → (b : ℕ) (j : JobId) → b < c → slice_index_or running.now c None ≡ Some j
+        → slice_index_or running.now b None ≡ Some j → ⊥ }
+{
+    match running[c] {
+        Some(j) => machine.active(j) && !runs_before(running, c, j),
+        None => true,
+    }
+}
+
+/// Can the machine take the row?
+fn can_take(machine: &Machine, row: &Row) -> bool
+    ensures { result ≡ true → CanTake machine.now (row_seen row.now) }
+{
+    let jobs = machine.jobs();
+    let set = jobs.set();
+    if row.running.len() != set.processors() as usize {
+        return false;
+    }
+    if row.holders.len() != set.resources() as usize {
+        return false;
+    }
+    if !are_below(&row.running, jobs.len()) {
+        return false;
+    }
+    if !are_below(&row.holders, jobs.len()) {
+        return false;
+    }
+    run_well(machine, &row.running)
+}
+
+/// What the machine answers of a job: its phase, whether it is active, ready and waiting, and its issue tick.
+type Answers = (Phase, bool, bool, bool, Option<u64>);
+
+const RUNS: Answers = (Phase::Local, true, true, false, None);
+
+const COMES: Answers = (Phase::Local, false, false, false, None);
+
+const WAITS: Answers = (Phase::Asking(0, Q), true, false, true, Some(1));
+
+const HOLDS: Answers = (Phase::Asking(0, Q), true, true, false, Some(1));
+
+const ENDED: Answers = (Phase::Finished, false, false, false, None);
+
+/// What is answered at a tick of each job, of the current job of both tasks and of the resource's holder, and the row that
+/// is then taken: what runs in each column, and who holds the resource.
+type Tick = (
+    &'static [Answers],
+    [Option<u32>; 2],
+    Option<u32>,
+    &'static [Option<u32>],
+    Option<u32>,
+);
+
+fn named(job: Option<u32>) -> Option<JobId> {
+    match job {
+        Some(job) => Some(JobId(job)),
+        None => None,
+    }
+}
+
+fn row_of(alloc: Global, running: &[Option<u32>], holder: Option<u32>) -> Result<Row, AllocError> {
+    let mut row = Row {
+        running: Vec::new(alloc),
+        holders: Vec::new(alloc),
+    };
+    for job in running {
+        row.running.push(named(*job))?;
+    }
+    row.holders.push(named(holder))?;
+    Ok(row)
+}
+
+fn answers(machine: &Machine, j: u32) -> Option<Answers> {
+    if j >= machine.jobs().len() {
+        return None;
+    }
+    let j = JobId(j);
+    Some((
+        machine.phase(j),
+        machine.active(j),
+        machine.ready(j),
+        machine.waiting(j),
+        machine.issued(j),
+    ))
+}
+
+/// Does the machine answer this of the jobs, of both tasks and of the resource?
+fn shows(
+    machine: &Machine,
+    jobs: &[Answers],
+    current: [Option<u32>; 2],
+    holder: Option<u32>,
+) -> bool {
+    let set = machine.jobs().set();
+    if set.tasks() != 2 || set.resources() != 1 || machine.jobs().len() as usize != jobs.len() {
+        return false;
+    }
+    for (j, wanted) in jobs.iter().enumerate() {
+        if answers(machine, j as u32) != Some(*wanted) {
+            return false;
+        }
+    }
+    machine.current(TaskId(0)) == named(current[0])
+        && machine.current(TaskId(1)) == named(current[1])
+        && machine.holder(Q) == named(holder)
+}
+
+/// The first tick at which something else is answered than what the table says, or at which the row can't be taken.
+fn first_other(alloc: Global, jobs: &JobList, ticks: &[Tick]) -> Result<Option<usize>, Fail> {
+    let mut machine = Machine::new(alloc, jobs)?;
+    for (t, tick) in ticks.iter().enumerate() {
+        let (answers, current, holder, running, holds) = *tick;
+        let row = row_of(alloc, running, holds)?;
+        let early = machine.tick() == t as u64 && t < 1_000_000_000;
+        if !early || !shows(&machine, answers, current, holder) || !can_take(&machine, &row) {
+            return Ok(Some(t));
+        }
+        machine.advance(&row);
+    }
+    Ok(None)
+}
+
+const PAIR: [Task; 2] = [(1, 10, 3, Some(1)), (2, 10, 4, Some(2))];
+
+const PAIR_JOBS: [Work; 2] = [
+    (0, 0, &[(1, Some(1)), (1, None)]),
+    (1, 0, &[(1, Some(2)), (1, None)]),
+];
+
+/// Both requests are issued at tick 1, and the lower task's is served first.
+const LOWER_FIRST: [Tick; 6] = [
+    (
+        &[RUNS, RUNS],
+        [Some(0), Some(1)],
+        None,
+        &[Some(0), Some(1)],
+        None,
+    ),
+    (
+        &[WAITS, WAITS],
+        [Some(0), Some(1)],
+        None,
+        &[None, Some(1)],
+        Some(1),
+    ),
+    (
+        &[WAITS, HOLDS],
+        [Some(0), Some(1)],
+        Some(1),
+        &[None, Some(1)],
+        Some(1),
+    ),
+    (
+        &[WAITS, RUNS],
+        [Some(0), Some(1)],
+        Some(1),
+        &[Some(0), Some(1)],
+        Some(0),
+    ),
+    (
+        &[RUNS, ENDED],
+        [Some(0), None],
+        Some(0),
+        &[Some(0), None],
+        None,
+    ),
+    (&[ENDED, ENDED], [None, None], None, &[None, None], None),
+];
+
+/// The same where the higher task's is served first.
+const HIGHER_FIRST: [Tick; 6] = [
+    (
+        &[RUNS, RUNS],
+        [Some(0), Some(1)],
+        None,
+        &[Some(0), Some(1)],
+        None,
+    ),
+    (
+        &[WAITS, WAITS],
+        [Some(0), Some(1)],
+        None,
+        &[Some(0), None],
+        Some(0),
+    ),
+    (
+        &[RUNS, WAITS],
+        [Some(0), Some(1)],
+        Some(0),
+        &[Some(0), Some(1)],
+        Some(1),
+    ),
+    (
+        &[ENDED, HOLDS],
+        [None, Some(1)],
+        Some(1),
+        &[None, Some(1)],
+        Some(1),
+    ),
+    (
+        &[ENDED, RUNS],
+        [None, Some(1)],
+        Some(1),
+        &[None, Some(1)],
+        None,
+    ),
+    (&[ENDED, ENDED], [None, None], None, &[None, None], None),
+];
+
+const ONE_PROCESSOR: [Task; 2] = [(1, 10, 3, Some(1)), (1, 2, 2, None)];
+
+const IN_TURN: [Work; 3] = [
+    (0, 0, &[(1, Some(1))]),
+    (1, 0, &[(2, None)]),
+    (1, 2, &[(1, None)]),
+];
+
+/// The first job's script ends with its request; the last job is released at tick 2, and active once the one before it of
+/// its task is finished.
+const ONE_AT_A_TIME: [Tick; 6] = [
+    (
+        &[RUNS, RUNS, COMES],
+        [Some(0), Some(1)],
+        None,
+        &[Some(0)],
+        None,
+    ),
+    (
+        &[WAITS, RUNS, COMES],
+        [Some(0), Some(1)],
+        None,
+        &[Some(0)],
+        Some(0),
+    ),
+    (
+        &[ENDED, RUNS, COMES],
+        [None, Some(1)],
+        Some(0),
+        &[Some(1)],
+        None,
+    ),
+    (
+        &[ENDED, RUNS, COMES],
+        [None, Some(1)],
+        None,
+        &[Some(1)],
+        None,
+    ),
+    (
+        &[ENDED, ENDED, RUNS],
+        [None, Some(2)],
+        None,
+        &[Some(2)],
+        None,
+    ),
+    (&[ENDED, ENDED, ENDED], [None, None], None, &[None], None),
+];
+
+#[test]
+fn answers_of_the_rows_that_it_took(rt: HostRuntime) -> Result<(), Fail> {
+    let set = set_of(rt.alloc(), 2, &PAIR)?;
+    let jobs = list_of(rt.alloc(), &set, &PAIR_JOBS)?;
+    assert_eq!(rt; first_other(rt.alloc(), &jobs, &LOWER_FIRST)?, None);
+    assert_eq!(rt; first_other(rt.alloc(), &jobs, &HIGHER_FIRST)?, None);
+    Ok(())
+}
+
+#[test]
+fn carries_one_job_of_a_task_after_the_other(rt: HostRuntime) -> Result<(), Fail> {
+    let set = set_of(rt.alloc(), 1, &ONE_PROCESSOR)?;
+    let jobs = list_of(rt.alloc(), &set, &IN_TURN)?;
+    assert_eq!(rt; first_other(rt.alloc(), &jobs, &ONE_AT_A_TIME)?, None);
+    Ok(())
+}

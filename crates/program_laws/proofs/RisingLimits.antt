@@ -1,0 +1,50 @@
+-- No limit of a row falls where bounds rise.
+use Rattle.std.proofs.Common.{ℕ, ◌+◌, ◌<◌, ◌≤◌, Bool, true, false, List, length, arith}
+use Rattle.std.specs.Prelude.{slice_index}
+use Rattle.std.proofs.Math.Nat.{mul-le-mul_left}
+use Rattle.bounded_sums.specs.Sums.{only_if}
+use Rattle.bounded_sums.proofs.SumLaws.{sum_below-monotone}
+use Rattle.sporadic_model.specs.SetDef.{SetDef, task_at}
+use Rattle.sporadic_model.specs.Users.{count_of, is_user}
+use Rattle.sporadic_model.specs.declared.ids.Protocol.{Protocol}
+use Rattle.program_sources.specs.Bounds.{AtMost}
+use Rattle.program_sources.proofs.RecurrenceLaws.{div_ceil_rises}
+use Rattle.fragments.specs.Windows.{jobs_in, requests_in}
+use Rattle.fragments.specs.Constraints.{ConstraintDef}
+use Rattle.indirect_constraints.specs.Rows.{is_beside, higher_holdings, lower_holdings, holdings}
+use Rattle.program_laws.proofs.RowKinds.{EachKind}
+
+-- Is the row's limit at the bounds r at most that at s?
+abbrev pub Rises : List ℕ → List ℕ → ConstraintDef → Type 0
+Rises r s row = row.limit (slice_index r) ≤ row.limit (slice_index s)
+
+jobs_rise : (set : SetDef) (r s : List ℕ) (i x : ℕ) → slice_index r i ≤ slice_index s i → slice_index r x ≤ slice_index s x
+    → jobs_in set (slice_index r) i x ≤ jobs_in set (slice_index s) i x
+jobs_rise set r s i x own other = div_ceil_rises (slice_index r i + slice_index r x) (slice_index s i + slice_index s x) (task_at set x).period (omega arith)
+
+requests_rise : (set : SetDef) (r s : List ℕ) (i x q : ℕ) → slice_index r i ≤ slice_index s i → slice_index r x ≤ slice_index s x
+    → requests_in set (slice_index r) i x q ≤ requests_in set (slice_index s) i x q
+requests_rise set r s i x q own other = mul-le-mul_left (count_of set x q) (jobs_rise set r s i x own other)
+
+only_if_rises : (b : Bool) (m n : ℕ) → m ≤ n → only_if b m ≤ only_if b n
+only_if_rises true m n h = h
+only_if_rises false m n h = omega arith
+
+holdings_rise : (set : SetDef) (r s : List ℕ) (i x : ℕ) → i < length set.tasks → AtMost (length set.tasks) r s
+    → holdings set (slice_index r) i x ≤ holdings set (slice_index s) i x
+holdings_rise set r s i x here h = sum_below-monotone (length set.resources) _ _ (λ q l.
+    let higher : higher_holdings set (slice_index r) i x q ≤ higher_holdings set (slice_index s) i x q =
+    sum_below-monotone i _ _ (λ y a. only_if_rises (is_beside set x y) _ _ (requests_rise set r s i y q (h i here) (h y (omega arith)))) in
+    only_if_rises (is_user set q i) (higher_holdings set (slice_index r) i x q + lower_holdings set i x q) (higher_holdings set (slice_index s) i x q + lower_holdings set i x q) (omega arith))
+
+pub limits_rise : (p : Protocol) (set : SetDef) (i : ℕ) (r s : List ℕ) → i < length set.tasks → AtMost (length set.tasks) r s → EachKind (Rises r s) p set i
+limits_rise p set i r s here h = record {
+  request = λ x q a b. requests_rise set r s i x q (h i here) (h x a);
+  time = λ x a. mul-le-mul_left (task_at set x).cost (jobs_rise set r s i x (h i here) (h x a));
+  interval = λ x a local. omega arith;
+  turn = λ e x q a b. omega arith;
+  queue = λ e x a. omega arith;
+  lower_holder = λ e q b. omega arith;
+  holding = λ e x a. holdings_rise set r s i x here h;
+  home = λ e k b. omega arith;
+}

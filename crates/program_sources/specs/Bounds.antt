@@ -1,0 +1,22 @@
+-- Vectors of bounds on response times: lists with one number of ticks for each task.
+use Rattle.std.specs.Prelude.{◌≡◌, ℕ, ◌<◌, ◌≤◌, List, length, slice_index}
+use Rattle.sporadic_model.specs.SetDef.{SetDef, task_at}
+
+-- Is r at most s in each of the first n places?
+abbrev pub AtMost : ℕ → List ℕ → List ℕ → Type 0
+AtMost n r s = (i : ℕ) → i < n → slice_index r i ≤ slice_index s i
+
+-- Does r have a bound for each task, none of them above the task's deadline?
+pub record AreWithinDeadlines (set : SetDef) (r : List ℕ) : Type 0 where
+  pub one_each : length r ≡ length set.tasks
+  pub to_deadline : (i : ℕ) → i < length set.tasks → slice_index r i ≤ (task_at set i).deadline
+
+-- Are the bounds of all tasks higher than i at least their costs?
+abbrev pub AreFromCostsAbove : SetDef → List ℕ → ℕ → Type 0
+AreFromCostsAbove set r i = (h : ℕ) → h < i → (task_at set h).cost ≤ slice_index r h
+
+-- Does r have a bound for each task, from the task's cost to its deadline?
+pub record IsInRange (set : SetDef) (r : List ℕ) : Type 0 where
+  pub one_each : length r ≡ length set.tasks
+  pub from_cost : (i : ℕ) → i < length set.tasks → (task_at set i).cost ≤ slice_index r i
+  pub to_deadline : (i : ℕ) → i < length set.tasks → slice_index r i ≤ (task_at set i).deadline

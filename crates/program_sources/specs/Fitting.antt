@@ -1,0 +1,38 @@
+-- Which bounds satisfy the recurrence of a source of programs within the deadlines, and which of them are the least.
+--
+-- These definitions compare all vectors and know of no way to find one. They do not rest on a greatest blocking: every
+-- response time that comes up is to be within the bound.
+use Rattle.std.specs.Prelude.{◌≡◌, ℕ, ◌<◌, ◌≤◌, List, length, slice_index}
+use Rattle.sporadic_model.specs.SetDef.{task_at}
+use Rattle.program_sources.specs.Bounds.{AtMost}
+use Rattle.program_sources.specs.Recurrence.{SourceDef, ComesUp, IsResponse}
+
+-- How many tasks has the source's set?
+abbrev pub tasks_of : SourceDef → ℕ
+tasks_of f = length f.set.tasks
+
+abbrev pub deadline_of : SourceDef → ℕ → ℕ
+deadline_of f i = (task_at f.set i).deadline
+
+-- Do the bounds fit: is each response time that comes up at them at most its bound, and each bound at most the deadline?
+pub record AreFitting (f : SourceDef) (s : List ℕ) : Type 0 where
+  pub one_each : length s ≡ tasks_of f
+  pub kept : (i v : ℕ) → i < tasks_of f → ComesUp f s i v → v ≤ slice_index s i
+  pub within : (i : ℕ) → i < tasks_of f → slice_index s i ≤ deadline_of f i
+
+-- Are the bounds r at most every fitting vector, in each place?
+abbrev pub AreBelowAllFitting : SourceDef → List ℕ → Type 0
+AreBelowAllFitting f r = (s : List ℕ) → AreFitting f s → AtMost (tasks_of f) r s
+
+-- Do the bounds fit, and are they at most every fitting vector in each place?
+pub record AreLeastFitting (f : SourceDef) (s : List ℕ) : Type 0 where
+  pub fitting : AreFitting f s
+  pub least : AreBelowAllFitting f s
+
+-- Does the recurrence never fall where its bounds rise?
+abbrev pub NeverFalls : SourceDef → Type 0
+NeverFalls f = (r s : List ℕ) (i v w : ℕ) → i < tasks_of f → AtMost (tasks_of f) r s → IsResponse f r i v → IsResponse f s i w → v ≤ w
+
+-- And does with each response time that comes up at some bounds one that is no less come up at greater bounds?
+abbrev pub ComesUpAbove : SourceDef → Type 0
+ComesUpAbove f = (r s : List ℕ) (i v : ℕ) → i < tasks_of f → AtMost (tasks_of f) r s → ComesUp f r i v → (w : ℕ) × (ComesUp f s i w) × (v ≤ w)

@@ -1,0 +1,4 @@
+pub mod Bounds
+pub mod Recurrence
+pub mod Fitting
+pub mod Valid

@@ -1,0 +1,51 @@
+-- The response-time recurrence over any source of blocking programs: a task's cost, its greatest whole blocking, and the
+-- interference of higher tasks on its processor.
+use Rattle.std.specs.Prelude.{◌≡◌, refl, ℕ, ◌+◌, ◌-◌, ◌*◌, List, [], ◌∷◌, slice_index}
+use Rattle.bounded_sums.specs.Sums.{sum_below, only_if}
+use Rattle.program_form.specs.Program.{ProgramDef}
+use Rattle.program_form.specs.Points.{Reaches, IsGreatestReached}
+use Rattle.sporadic_model.specs.SetDef.{SetDef, TaskDef, task_at, is_higher_local, jobs_within}
+
+-- The programs of a set: the blocking program of each task at a vector of bounds, and each task's interfering cost, which
+-- is how many ticks of one of its jobs count as interference for lower tasks.
+pub record SourceDef : Type 0 where
+  pub set : SetDef
+  pub program : ℕ → List ℕ → ProgramDef
+  pub interfering : ℕ → ℕ
+
+-- What does the recurrence count, in ticks, for jobs of task h within the bound of a job of task i, where r are the bounds
+-- and g are the interfering costs? A job of h may start as late as its bound less its interfering cost.
+abbrev pub interference_by : (ℕ → ℕ) → SetDef → List ℕ → ℕ → ℕ → ℕ
+interference_by g set r i h = jobs_within (slice_index r i) (slice_index r h - g h) (task_at set h).period * g h
+
+-- And for jobs of all higher tasks on i's processor together?
+abbrev pub interference_of : (ℕ → ℕ) → SetDef → List ℕ → ℕ → ℕ
+interference_of g set r i = sum_below i (λ h. only_if (is_higher_local set i h) (interference_by g set r i h))
+
+-- What is the response time of task i where its job is blocked for b ticks?
+abbrev pub response_with : SourceDef → List ℕ → ℕ → ℕ → ℕ
+response_with f r i b = (task_at f.set i).cost + b + interference_of f.interfering f.set r i
+
+-- Does v come up for task i at the bounds r: is it a response time with a whole blocking that some scaled point of the
+-- task's program reaches?
+pub record ComesUp (f : SourceDef) (r : List ℕ) (i v : ℕ) : Type 0 where
+  pub blocking : ℕ
+  pub reached : Reaches (f.program i r) blocking
+  pub response : v ≡ response_with f r i blocking
+
+-- Is v the recurrence's value for task i at the bounds r: the response time with the greatest whole blocking that is reached?
+pub record IsResponse (f : SourceDef) (r : List ℕ) (i v : ℕ) : Type 0 where
+  pub blocking : ℕ
+  pub greatest : IsGreatestReached (f.program i r) blocking
+  pub response : v ≡ response_with f r i blocking
+
+abbrev with_numbers : ℕ → ℕ → TaskDef
+with_numbers period cost = record { name = []; processor = 1; period = period; deadline = period; cost = cost; local = cost; requests = [] }
+
+-- A higher task of cost 2 and a lower task of cost 4, both of processor 1, with periods 10 and 20.
+abbrev two_tasks : SetDef
+two_tasks = record { processors = 1; resources = []; tasks = with_numbers 10 2 ∷ with_numbers 20 4 ∷ [] }
+
+-- At the bounds 4 and 9 two jobs of the higher one count: the quotient of 9 + (4 - 2) and 10, rounded up, is 2.
+pub two_jobs_count : interference_of (λ h. (task_at two_tasks h).cost) two_tasks (4 ∷ 9 ∷ []) 1 ≡ 4
+two_jobs_count = refl

@@ -1,0 +1,36 @@
+-- Which certificates prove their bounds: a reader can judge them from the programs alone.
+use Rattle.std.specs.Prelude.{◌≡◌, ℕ, ◌<◌, ◌≤◌, List, [], length, slice_index, slice_index_or}
+use Rattle.program_form.specs.Certificate.{DualDef, CertificateDef}
+use Rattle.program_form.specs.Duals.{IsFeasibleDual, IsOptimalDual, dual_value}
+use Rattle.program_sources.specs.Recurrence.{SourceDef, response_with}
+use Rattle.program_sources.specs.Fitting.{tasks_of, deadline_of}
+
+-- What a look-up past the last dual gives: no dual, since its denominator is 0.
+abbrev pub no_dual : DualDef
+no_dual = record { den = 0; num = [] }
+
+-- The dual of task i in a list of duals.
+abbrev pub dual_at : List DualDef → ℕ → DualDef
+dual_at duals i = slice_index_or duals i no_dual
+
+-- The value of task i's dual, for its program at the certificate's bounds.
+abbrev pub value_at : SourceDef → CertificateDef → ℕ → ℕ
+value_at f c i = dual_value (f.program i c.bounds) (dual_at c.duals i).den (λ r. slice_index (dual_at c.duals i).num r)
+
+-- Does the certificate prove task i's bound? It is at most the deadline, the dual is feasible for the task's program at the
+-- certificate's bounds, and the response time with the dual's value as blocking is at most the bound.
+pub record IsProvedBound (f : SourceDef) (c : CertificateDef) (i : ℕ) : Type 0 where
+  pub within : slice_index c.bounds i ≤ deadline_of f i
+  pub feasible : IsFeasibleDual (f.program i c.bounds) (dual_at c.duals i)
+  pub enough : response_with f c.bounds i (value_at f c i) ≤ slice_index c.bounds i
+
+-- Is the certificate valid: has it one bound and one dual for each task, and does it prove each bound?
+pub record IsValid (f : SourceDef) (c : CertificateDef) : Type 0 where
+  pub bound_each : length c.bounds ≡ tasks_of f
+  pub dual_each : length c.duals ≡ tasks_of f
+  pub proved : (i : ℕ) → i < tasks_of f → IsProvedBound f c i
+
+-- Is there a dual for each task, optimal for the task's program at the bounds?
+pub record AreOptimalDuals (f : SourceDef) (bounds : List ℕ) (duals : List DualDef) : Type 0 where
+  pub one_each : length duals ≡ tasks_of f
+  pub optimal : (i : ℕ) → i < tasks_of f → IsOptimalDual (f.program i bounds) (dual_at duals i)

@@ -1,0 +1,37 @@
+//! What follows from the laws of sources alone. Each function is a law: it does nothing, and what it ensures holds for every
+//! source and every set that suits it.
+
+ghost use Rattle.std.specs.Prelude.{◌≡◌, ℕ, ◌<◌, ◌≤◌, List, slice_index};
+ghost use Rattle.program_form.specs.Certificate.{CertificateDef};
+ghost use Rattle.sporadic_model.specs.SetDef.{SetDef, task_at};
+ghost use Rattle.program_sources.specs.Recurrence.{SourceDef, ComesUp, IsResponse};
+ghost use Rattle.program_sources.specs.Fitting.{AreFitting, NeverFalls, ComesUpAbove, tasks_of};
+ghost use Rattle.program_sources.specs.Valid.{IsValid};
+
+use crate::source::ProgramSource;
+
+/// The recurrence never falls where its bounds rise, and with each response time that comes up at some bounds one that is
+/// no less comes up at greater bounds.
+pub fn recurrence_is_monotone<P: ProgramSource>()
+    ensures value { (p : P) (set : SetDef) → P.suits p set
+        → NeverFalls (record { set = set; program = P.program_of p set; interfering = P.interfering p set }) }
+    ensures reached { (p : P) (set : SetDef) → P.suits p set
+        → ComesUpAbove (record { set = set; program = P.program_of p set; interfering = P.interfering p set }) }
+{}
+
+/// The recurrence has one value, which comes up, and no other value that comes up passes it.
+pub fn the_recurrence_has_one_value()
+    ensures one { (f : SourceDef) (r : List ℕ) (i v w : ℕ) → IsResponse f r i v → IsResponse f r i w → v ≡ w }
+    ensures comes_up { (f : SourceDef) (r : List ℕ) (i v : ℕ) → IsResponse f r i v → ComesUp f r i v }
+    ensures greatest { (f : SourceDef) (r : List ℕ) (i v w : ℕ) → IsResponse f r i v → ComesUp f r i w → w ≤ v }
+{}
+
+/// Fitting bounds are at least the costs, since a blocking of zero is always reached.
+pub fn fitting_bounds_are_from_the_costs()
+    ensures { (f : SourceDef) (s : List ℕ) (i : ℕ) → AreFitting f s → i < tasks_of f → (task_at f.set i).cost ≤ slice_index s i }
+{}
+
+/// A valid certificate's bounds fit, whatever its duals are.
+pub fn valid_certificates_fit()
+    ensures { (f : SourceDef) (c : CertificateDef) → IsValid f c → AreFitting f c.bounds }
+{}

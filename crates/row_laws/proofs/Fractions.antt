@@ -1,0 +1,249 @@
+-- From ticks to fractions: where the ticks of a window meet each row, the fractions are a scaled point of the program.
+use Rattle.std.proofs.Common.{◌≡◌, ℕ, zero, suc, ◌*◌, ◌/◌, ◌<◌, ◌≤◌, Bool, true, List, [], ◌∷◌, length, get_or, map, refl, sym, ap, ◌∙◌, arith, suc-mul, Some, sum_by}
+use Rattle.std.specs.Prelude.{slice_index}
+use Rattle.std.specs.List.{All, Contains}
+use Rattle.std.proofs.Math.Nat.{mul_comm, mul_assoc, mul-div_cancel_left, div-mul-le_self, mul-le-mul_right}
+use Rattle.std.proofs.lemmas.List.{get_or-map, length-map}
+use Rattle.std.proofs.lemmas.List.Elements.{All-filter, All-get_or, All-head, All-tail}
+use Rattle.bounded_sums.specs.Sums.{sum_below}
+use Rattle.bounded_sums.specs.Tests.{count_below}
+use Rattle.bounded_sums.proofs.SumLaws.{sum_below-agree, sum_below-list_by, sum_below-times_right}
+use Rattle.program_form.specs.Program.{ProgramDef, columns, height, cost, entry, limit}
+use Rattle.program_form.specs.Points.{IsScaledPoint, worth}
+use Rattle.sporadic_model.specs.SetDef.{SetDef}
+use Rattle.sporadic_model.specs.Users.{length_of}
+use Rattle.sporadic_model.specs.declared.ids.Protocol.{Protocol}
+use Rattle.schedule_model.specs.RowDef.{Trace}
+use Rattle.schedule_model.specs.Activity.{task_of}
+use Rattle.fragments.specs.ColumnDef.{ColumnDef}
+use Rattle.fragments.specs.Columns.{is_column, columns_of}
+use Rattle.fragments.specs.Constraints.{ConstraintDef, holds_some, rows_there}
+use Rattle.program_laws.specs.Programs.{cost_of, rows_of, program_of}
+use Rattle.program_laws.proofs.RowKinds.{EachKind, each_row}
+use Rattle.charge_model.specs.Windows.{window_end}
+use Rattle.charge_model.specs.Fractions.{charged_column, is_in, ticks_in, product_of_lengths, fractions_of, no_column}
+use Rattle.row_laws.proofs.Brings.{Charges, brings, TicksMeet}
+use Rattle.row_laws.proofs.ColumnSums.{columns_bring, columns_hold}
+
+-- Has each of these columns requests of some length?
+abbrev pub HaveLengths : SetDef → List ColumnDef → Type 0
+HaveLengths set cs = All (λ c. 0 < length_of set c.task c.resource) cs
+
+product_some : (a b : ℕ) → 0 < a → 0 < b → 0 < a * b
+product_some zero b x y = absurd (omega arith)
+product_some (suc a) zero x y = absurd (omega arith)
+product_some (suc a) (suc b) x y = omega (arith, suc-mul a (suc b))
+
+-- The product of positive lengths is positive.
+pub product_positive : (set : SetDef) (cs : List ColumnDef) → HaveLengths set cs → 0 < product_of_lengths set cs
+product_positive set [] h = omega arith
+product_positive set (c ∷ cs) h =
+    product_some (length_of set c.task c.resource) (product_of_lengths set cs)
+    (All-head (λ (d : ColumnDef). 0 < length_of set d.task d.resource) c cs h)
+    (product_positive set cs (All-tail (λ (d : ColumnDef). 0 < length_of set d.task d.resource) c cs h))
+
+-- Each of the lengths is a factor of it.
+factor_of : (set : SetDef) (cs : List ColumnDef) (k : ℕ) (d : ColumnDef) → k < length cs
+    → (m : ℕ) × (product_of_lengths set cs ≡ length_of set (get_or cs k d).task (get_or cs k d).resource * m)
+factor_of set [] k d l = absurd (omega arith)
+factor_of set (c ∷ cs) zero d l = (product_of_lengths set cs, refl)
+factor_of set (c ∷ cs) (suc k) d l =
+    let back : (m : ℕ) × (product_of_lengths set cs ≡ length_of set (get_or cs k d).task (get_or cs k d).resource * m) =
+    factor_of set cs k d (omega arith) in (
+      length_of set c.task c.resource * back.0,
+      turned (length_of set c.task c.resource) (product_of_lengths set cs)
+          (length_of set (get_or cs k d).task (get_or cs k d).resource) back.0 back.1,
+    ) where
+      turned : (a s l m : ℕ) → s ≡ l * m → a * s ≡ l * (a * m)
+      turned a s l m e = ap (λ z. a * z) e ∙ sym (mul_assoc a l m) ∙ ap (λ z. z * m) (mul_comm a l) ∙ mul_assoc l a m
+
+-- A whole of scale s, shared out over a length: what each tick is worth.
+abbrev pub share_of : SetDef → ℕ → ℕ → ℕ → ℕ
+share_of set s x q = s / length_of set x q
+
+-- A column's fraction is its ticks times its share, and its share times its length a whole.
+record WholeShare (set : SetDef) (s ticks : ℕ) (c : ColumnDef) : Type 0 where
+  fraction : (ticks * s) / length_of set c.task c.resource ≡ ticks * share_of set s c.task c.resource
+  whole : length_of set c.task c.resource * share_of set s c.task c.resource ≡ s
+
+turned : (t l m : ℕ) → t * (l * m) ≡ l * (t * m)
+turned t l m = sym (mul_assoc t l m) ∙ ap (λ z. z * m) (mul_comm t l) ∙ mul_assoc l t m
+
+quotient : (l s m : ℕ) → 0 < l → s ≡ l * m → s / l ≡ m
+quotient l s m some e = ap (λ z. z / l) e ∙ mul-div_cancel_left m some
+
+whole_share : (set : SetDef) (s ticks : ℕ) (c : ColumnDef) (m : ℕ) → 0 < length_of set c.task c.resource
+    → s ≡ length_of set c.task c.resource * m → WholeShare set s ticks c
+whole_share set s ticks c m some e =
+    record { fraction = fraction (length_of set c.task c.resource) some e; whole = whole (length_of set c.task c.resource) some e } where
+      fraction : (l : ℕ) → 0 < l → s ≡ l * m → (ticks * s) / l ≡ ticks * (s / l)
+      fraction l b f =
+          ap (λ z. (ticks * z) / l) f ∙ ap (λ z. z / l) (turned ticks l m) ∙ mul-div_cancel_left (ticks * m) b
+          ∙ ap (λ z. ticks * z) (sym (quotient l s m b f))
+
+      whole : (l : ℕ) → 0 < l → s ≡ l * m → l * (s / l) ≡ s
+      whole l b f = ap (λ z. l * z) (quotient l s m b f) ∙ sym f
+
+-- What is known of the columns, the scale and the ticks of a job's program.
+abbrev scale_of : Protocol → SetDef → ℕ → ℕ
+scale_of p set i = product_of_lengths set (columns_of p set i)
+
+column_share : (p : Protocol) (set : SetDef) (i k ticks : ℕ) → HaveLengths set (columns_of p set i) → k < length (columns_of p set i)
+    → WholeShare set (scale_of p set i) ticks (get_or (columns_of p set i) k no_column)
+column_share p set i k ticks have l =
+    let f : (m : ℕ) × (product_of_lengths set cs ≡ length_of set (get_or cs k no_column).task (get_or cs k no_column).resource * m) =
+    factor_of set cs k no_column l in
+    whole_share set (scale_of p set i) ticks (get_or cs k no_column) f.0
+    (All-get_or (λ (c : ColumnDef). 0 < length_of set c.task c.resource) cs k no_column l have) f.1 where
+      cs : List ColumnDef
+      cs = columns_of p set i
+
+-- A row of the program that is there.
+no_row : ConstraintDef
+no_row = record { coefficient = λ c. 0; limit = λ b. 0 }
+
+-- The fractions' sum in a row, as the columns' ticks.
+row_ticks : (charges : Charges) (p : Protocol) (w : Trace) (bound : ℕ → ℕ) (n j : ℕ) (k : ConstraintDef)
+    → HaveLengths w.set (columns_of p w.set (task_of w j))
+    → sum_below (length (columns_of p w.set (task_of w j)))
+    (λ c. k.coefficient (get_or (columns_of p w.set (task_of w j)) c no_column) * fractions_of charges w bound n j
+    (columns_of p w.set (task_of w j)) c)
+    ≤ sum_below (window_end w bound n j)
+    (λ t. brings charges w (λ c. k.coefficient c * share_of w.set (scale_of p w.set (task_of w j)) c.task c.resource) j t)
+unfolding ticks_in
+row_ticks charges p w bound n j k have =
+    let parts : sum_below (length cs) (λ c. k.coefficient (get_or cs c no_column) * fractions_of charges w bound n j cs c)
+    ≡ sum_below (length cs) (λ c. part (get_or cs c no_column)) =
+    sum_below-agree (length cs) (λ c. k.coefficient (get_or cs c no_column) * fractions_of charges w bound n j cs c)
+    (λ c. part (get_or cs c no_column)) (λ c l. of_column c l) in
+    omega (
+      arith,
+      parts,
+      sum_below-list_by part no_column cs,
+      columns_bring (λ c. k.coefficient c * share c) (λ t. charged_column charges w t j) (window_end w bound n j) (length w.set.tasks)
+          (length w.set.resources) (is_column p w.set (task_of w j)),
+    ) where
+      cs : List ColumnDef
+      cs = columns_of p w.set (task_of w j)
+
+      share : ColumnDef → ℕ
+      share = λ c. share_of w.set (scale_of p w.set (task_of w j)) c.task c.resource
+
+      ticks : ColumnDef → ℕ
+      ticks = λ c. count_below (window_end w bound n j) (λ t. is_in c (charged_column charges w t j))
+
+      part : ColumnDef → ℕ
+      part = λ c. ticks c * (k.coefficient c * share c)
+
+      of_column : (c : ℕ) → c < length cs
+          → k.coefficient (get_or cs c no_column) * fractions_of charges w bound n j cs c ≡ part (get_or cs c no_column)
+      of_column c l =
+          let d : ColumnDef = get_or cs c no_column in
+          let a : WholeShare w.set (scale_of p w.set (task_of w j)) (ticks d) d = column_share p w.set (task_of w j) c (ticks d) have l in
+          ap (λ z. k.coefficient d * z) a.fraction ∙ turned (k.coefficient d) (ticks d) (share d)
+
+-- So where the ticks meet each kind of row, the fractions are a scaled point.
+pub fractions_are_point : (charges : Charges) (p : Protocol) (w : Trace) (bounds : List ℕ) (n j : ℕ)
+    → HaveLengths w.set (columns_of p w.set (task_of w j))
+    → EachKind (TicksMeet charges w (slice_index bounds) n j) p w.set (task_of w j)
+    → IsScaledPoint (program_of p w.set (task_of w j) bounds) (product_of_lengths w.set (columns_of p w.set (task_of w j)))
+    (fractions_of charges w (slice_index bounds) n j (columns_of p w.set (task_of w j)))
+fractions_are_point charges p w bounds n j have each = record { positive = product_positive w.set cs have; kept = kept } where
+  i : ℕ
+  i = task_of w j
+
+  cs : List ColumnDef
+  cs = columns_of p w.set i
+
+  there : List ConstraintDef
+  there = rows_there cs (rows_of p w.set i)
+
+  met : All (TicksMeet charges w (slice_index bounds) n j) there
+  met = All-filter (holds_some cs) (TicksMeet charges w (slice_index bounds) n j) (rows_of p w.set i)
+      (each_row (TicksMeet charges w (slice_index bounds) n j) p w.set i each)
+
+  term : ℕ → ℕ → ℕ
+  term r c = entry (program_of p w.set i bounds) r c * fractions_of charges w (slice_index bounds) n j cs c
+
+  coefficient : (r c : ℕ) → r < length there → c < length cs
+      → entry (program_of p w.set i bounds) r c ≡ (get_or there r no_row).coefficient (get_or cs c no_column)
+  coefficient r c here b =
+      ap (λ (row : List ℕ). slice_index row c) (get_or-map (λ (k : ConstraintDef). map k.coefficient cs) there r no_row [] here)
+      ∙ get_or-map (get_or there r no_row).coefficient cs c no_column 0 b
+
+  kept : (r : ℕ) → r < height (program_of p w.set i bounds)
+      → sum_below (columns (program_of p w.set i bounds))
+      (λ c. entry (program_of p w.set i bounds) r c * fractions_of charges w (slice_index bounds) n j cs c)
+      ≤ product_of_lengths w.set cs * limit (program_of p w.set i bounds) r
+  kept r l =
+      let here : r < length there = rw (← length-map there (λ (k : ConstraintDef). map k.coefficient cs)) l in
+      let k : ConstraintDef = get_or there r no_row in
+      let meets : TicksMeet charges w (slice_index bounds) n j k =
+      All-get_or (TicksMeet charges w (slice_index bounds) n j) there r no_row here met in
+      let ticks : sum_below (window_end w (slice_index bounds) n j)
+      (λ t. brings charges w (λ c. k.coefficient c * share_of w.set (scale_of p w.set i) c.task c.resource) j t)
+      ≤ scale_of p w.set i * k.limit (slice_index bounds) =
+      meets (scale_of p w.set i) (share_of w.set (scale_of p w.set i))
+      (λ x q. div-mul-le_self (scale_of p w.set i) (length_of w.set x q)) in
+      let number : sum_below (columns (program_of p w.set i bounds)) (term r) ≡ sum_below (length cs) (term r) =
+      ap (λ z. sum_below z (term r)) (length-map cs (cost_of w.set)) in
+      let same : sum_below (length cs) (term r)
+      ≡ sum_below (length cs) (λ c. k.coefficient (get_or cs c no_column) * fractions_of charges w (slice_index bounds) n j cs c) =
+      sum_below-agree (length cs) (term r)
+      (λ c. k.coefficient (get_or cs c no_column) * fractions_of charges w (slice_index bounds) n j cs c)
+      (λ c b. ap (λ z. z * fractions_of charges w (slice_index bounds) n j cs c) (coefficient r c here b)) in
+      let limits : limit (program_of p w.set i bounds) r ≡ k.limit (slice_index bounds) =
+      get_or-map (λ (row : ConstraintDef). row.limit (slice_index bounds)) there r no_row 0 here in
+      let whole : scale_of p w.set i * limit (program_of p w.set i bounds) r ≡ scale_of p w.set i * k.limit (slice_index bounds) =
+      ap (λ z. scale_of p w.set i * z) limits in
+      omega (arith, number, same, row_ticks charges p w (slice_index bounds) n j k have, ticks, whole)
+
+-- The fractions are worth at least the blocked ticks, where each of these lies in one of the program's columns.
+pub fractions_worth : (charges : Charges) (p : Protocol) (w : Trace) (bounds : List ℕ) (n j : ℕ) (counts : ℕ → Bool)
+    → HaveLengths w.set (columns_of p w.set (task_of w j))
+    → ((t : ℕ) → t < window_end w (slice_index bounds) n j → counts t ≡ true
+    → (d : ColumnDef) × (charged_column charges w t j ≡ Some d) × Contains (columns_of p w.set (task_of w j)) d)
+    → count_below (window_end w (slice_index bounds) n j) counts * product_of_lengths w.set (columns_of p w.set (task_of w j))
+    ≤ worth (program_of p w.set (task_of w j) bounds) (fractions_of charges w (slice_index bounds) n j (columns_of p w.set (task_of w j)))
+unfolding ticks_in
+fractions_worth charges p w bounds n j counts have placed =
+    let number : sum_below (columns program) term ≡ sum_below (length cs) term =
+    ap (λ z. sum_below z term) (length-map cs (cost_of w.set)) in
+    let same : sum_below (length cs) term ≡ sum_below (length cs) (λ c. ticks (get_or cs c no_column) * scale) =
+    sum_below-agree (length cs) term (λ c. ticks (get_or cs c no_column) * scale) (λ c l. of_column c l) in
+    let times : sum_below (length cs) (λ c. ticks (get_or cs c no_column) * scale)
+    ≡ sum_below (length cs) (λ c. ticks (get_or cs c no_column)) * scale =
+    sum_below-times_right (length cs) scale (λ c. ticks (get_or cs c no_column)) in
+    let list : sum_below (length cs) (λ c. ticks (get_or cs c no_column)) * scale ≡ sum_by ticks cs * scale =
+    ap (λ z. z * scale) (sum_below-list_by ticks no_column cs) in
+    let most : count_below e counts ≤ sum_by ticks cs = columns_hold (λ t. charged_column charges w t j) counts e cs placed in
+    omega (arith, number, same, times, list, mul-le-mul_right scale most) where
+      i : ℕ
+      i = task_of w j
+
+      cs : List ColumnDef
+      cs = columns_of p w.set i
+
+      program : ProgramDef
+      program = program_of p w.set i bounds
+
+      scale : ℕ
+      scale = product_of_lengths w.set cs
+
+      e : ℕ
+      e = window_end w (slice_index bounds) n j
+
+      ticks : ColumnDef → ℕ
+      ticks = λ c. count_below e (λ t. is_in c (charged_column charges w t j))
+
+      term : ℕ → ℕ
+      term = λ c. cost program c * fractions_of charges w (slice_index bounds) n j cs c
+
+      of_column : (c : ℕ) → c < length cs → term c ≡ ticks (get_or cs c no_column) * scale
+      of_column c l =
+          let d : ColumnDef = get_or cs c no_column in
+          let a : WholeShare w.set scale (ticks d) d = column_share p w.set i c (ticks d) have l in
+          let costs : cost program c ≡ length_of w.set d.task d.resource = get_or-map (cost_of w.set) cs c no_column 0 l in
+          ap (λ z. z * fractions_of charges w (slice_index bounds) n j cs c) costs
+          ∙ ap (λ z. length_of w.set d.task d.resource * z) a.fraction
+          ∙ turned (length_of w.set d.task d.resource) (ticks d) (share_of w.set scale d.task d.resource) ∙ ap (λ z. ticks d * z) a.whole

@@ -1,0 +1,212 @@
+-- Row of holdings, under MPCP: the parts by resource and by holder, summed.
+use Rattle.std.proofs.Common.{◌≡◌, ℕ, ◌+◌, ◌*◌, ◌<◌, ◌≤◌, ◌==◌, ◌&&◌, not, Bool, true, false, length, refl, sym, ap, ◌∙◌, arith, inl, inr, nat_lt}
+use Rattle.std.proofs.Math.Nat.{mul_assoc, mul_comm, mul-add, mul-le-mul_right}
+use Rattle.std.proofs.lemmas.Bool.{cases_lt, cases_Bool, both_ways, and_from, eqb-true, eq-eqb, ltb-false, not-true}
+use Rattle.bounded_sums.specs.Sums.{sum_below, only_if}
+use Rattle.bounded_sums.specs.Tests.{count_below, any_below}
+use Rattle.bounded_sums.proofs.SumLaws.{sum_below-agree, sum_below-monotone, sum_below-plus, sum_below-times, sum_below-zero}
+use Rattle.bounded_sums.proofs.SlotLaws.{sum_below-slots}
+use Rattle.bounded_sums.proofs.TestLaws.{any_below-none}
+use Rattle.sporadic_model.specs.Users.{count_of, is_user}
+use Rattle.schedule_model.specs.JobDef.{job_of}
+use Rattle.schedule_model.specs.LawfulJobs.{IsLawfulJob}
+use Rattle.schedule_model.specs.RowDef.{Trace}
+use Rattle.schedule_model.specs.Activity.{task_of, is_active}
+use Rattle.schedule_model.specs.Ranks.{mpcp}
+use Rattle.schedule_model.specs.Protocols.{shared_rule}
+use Rattle.schedule_model.specs.Keeping.{KeepsBefore}
+use Rattle.schedule_laws.proofs.ActiveJobs.{Active, active_is}
+use Rattle.schedule_laws.proofs.Holders.{open_active}
+use Rattle.fragments.specs.Windows.{jobs_in, requests_in}
+use Rattle.indirect_constraints.specs.Rows.{is_beside, higher_holdings, lower_holdings, holding_row}
+use Rattle.charge_model.specs.Charges.{shared_charge}
+use Rattle.charge_model.specs.Windows.{window_end}
+use Rattle.row_laws.proofs.Brings.{Window, TicksMeet, only_if-parts, sum_below-passing}
+use Rattle.row_laws.proofs.JobRows.{product_turned, is_near, Near, near_is, active_near, near_jobs}
+use Rattle.row_laws.proofs.Holdings.{own_resource, first_holder}
+use Rattle.row_laws.proofs.HoldingParts.{Holding, amount, for_resource, is_low, low_part, high_part, task_part, ForResource, for_resource_is, low_paid, job_paid}
+
+-- What a tick that counts while y holds q says.
+record HeldBy (w : Trace) (j x : ℕ) (share : ℕ → ℕ → ℕ) (q y t : ℕ) : Type 0 where
+  task : task_of w (first_holder w j t) ≡ y
+  low : is_low w j t ≡ false
+  for : ForResource w j x share q t
+
+held_by_is : (w : Trace) (bound : ℕ → ℕ) (n j x s : ℕ) (share : ℕ → ℕ → ℕ) (q y t : ℕ) → Holding w bound n j x s share
+    → t < window_end w bound n j → 0 < task_part w j x share q y t → HeldBy w j x share q y t
+held_by_is w bound n j x s share q y t c l some =
+    let two : ((task_of w (first_holder w j t) == y) ≡ true) × (0 < high_part w j x share q t) =
+    only_if-parts (task_of w (first_holder w j t) == y) (high_part w j x share q t) some in
+    let three : (not (is_low w j t) ≡ true) × (0 < for_resource w j x share q t) =
+    only_if-parts (not (is_low w j t)) (for_resource w j x share q t) two.1 in
+    record { task = eqb-true _ _ two.0; low = not-true _ three.0; for = for_resource_is w bound n j x s share q t c l three.1 }
+
+-- A holder is active, and so near.
+holder_near : (w : Trace) (bound : ℕ → ℕ) (n j x s : ℕ) (share : ℕ → ℕ → ℕ) (q y t : ℕ) → Holding w bound n j x s share
+    → t < window_end w bound n j → HeldBy w j x share q y t
+    → is_near w bound j y (first_holder w j t) ≡ true
+holder_near w bound n j x s share q y t c l a =
+    let own : Active w t j = active_is w t j a.for.facts.active in
+    let lawful : IsLawfulJob w.set (job_of w.jobs (first_holder w j t)) = c.window.lawful.each (first_holder w j t) a.for.facts.listed in
+    let active : is_active w t (first_holder w j t) ≡ true =
+    open_active w n t (first_holder w j t) a.for.facts.holding (own_resource w j t) c.window.active
+    (omega arith) lawful.script a.for.facts.held in
+    active_near shared_charge w bound n j y (first_holder w j t) t c.window active a.task own.released l
+
+-- While task y holds q, there is one for each request of q that its jobs make in the window, where y is beside x.
+task_paid : (w : Trace) (bound : ℕ → ℕ) (n j x s : ℕ) (share : ℕ → ℕ → ℕ) (q y : ℕ) → Holding w bound n j x s share
+    → y < length w.set.tasks
+    → sum_below (window_end w bound n j) (λ t. task_part w j x share q y t)
+    ≤ s * only_if (is_beside w.set x y) (requests_in w.set bound (task_of w j) y q)
+task_paid w bound n j x s share q y c l = elim (cases_Bool (is_beside w.set x y)) [
+  | inr off ↦
+      let none : sum_below (window_end w bound n j) (λ t. task_part w j x share q y t) ≡ 0 =
+      sum_below-zero (window_end w bound n j) (λ t. task_part w j x share q y t) (λ t b. nothing off t b) in
+      omega arith
+  | inl on ↦
+      let paid : sum_below (window_end w bound n j) (λ t. task_part w j x share q y t)
+      ≤ count_below (length w.jobs) (is_near w bound j y) * (count_of w.set y q * s) =
+      sum_below-passing (window_end w bound n j) (length w.jobs) (count_of w.set y q * s) (λ t. first_holder w j t)
+      (λ t. task_part w j x share q y t) (is_near w bound j y)
+      (λ t b some. let a : HeldBy w j x share q y t = held_by_is w bound n j x s share q y t c b some in
+      (a.for.facts.listed, holder_near w bound n j x s share q y t c b a))
+      (λ z b near. let a : Near w bound j y z = near_is w bound j y z near in job_paid w bound n j x s share q y z c b a.task) in
+      let jobs : count_below (length w.jobs) (is_near w bound j y) ≤ jobs_in w.set bound (task_of w j) y =
+      near_jobs shared_charge w bound n j y c.window l in
+      rw on (omega (
+        arith,
+        paid,
+        mul-le-mul_right (count_of w.set y q * s) jobs,
+        product_turned (jobs_in w.set bound (task_of w j) y)
+            (count_of w.set y q) s,
+      ))
+] where
+  nothing : is_beside w.set x y ≡ false → (t : ℕ) → t < window_end w bound n j → task_part w j x share q y t ≡ 0
+  nothing off t b = elim (cases_lt 0 (task_part w j x share q y t)) [
+    | inr none ↦ omega arith
+    | inl some ↦
+        let a : HeldBy w j x share q y t = held_by_is w bound n j x s share q y t c b some in
+        let beside : is_beside w.set x y ≡ true = ap (is_beside w.set x) (sym a.task) ∙ a.for.facts.beside in
+        absurd (both_ways _ off beside)
+  ]
+
+-- While higher tasks hold q.
+high_paid : (w : Trace) (bound : ℕ → ℕ) (n j x s : ℕ) (share : ℕ → ℕ → ℕ) (q : ℕ) → Holding w bound n j x s share
+    → sum_below (window_end w bound n j) (λ t. high_part w j x share q t) ≤ s * higher_holdings w.set bound (task_of w j) x q
+high_paid w bound n j x s share q c =
+    let parts : sum_below (window_end w bound n j) (λ t. high_part w j x share q t)
+    ≡ sum_below (task_of w j) (λ y. sum_below (window_end w bound n j) (λ t. task_part w j x share q y t)) =
+    sum_below-slots (window_end w bound n j) (task_of w j) (λ t. task_of w (first_holder w j t)) (λ t. high_part w j x share q t)
+    (λ t l some. higher t l some) in
+    let each : sum_below (task_of w j) (λ y. sum_below (window_end w bound n j) (λ t. task_part w j x share q y t))
+    ≤ sum_below (task_of w j) (λ y. s * only_if (is_beside w.set x y) (requests_in w.set bound (task_of w j) y q)) =
+    sum_below-monotone (task_of w j) (λ y. sum_below (window_end w bound n j) (λ t. task_part w j x share q y t))
+    (λ y. s * only_if (is_beside w.set x y) (requests_in w.set bound (task_of w j) y q))
+    (λ y l. task_paid w bound n j x s share q y c (omega (arith, listed))) in
+    let times : sum_below (task_of w j) (λ y. s * only_if (is_beside w.set x y) (requests_in w.set bound (task_of w j) y q))
+    ≡ s * higher_holdings w.set bound (task_of w j) x q =
+    sum_below-times (task_of w j) s (λ y. only_if (is_beside w.set x y) (requests_in w.set bound (task_of w j) y q)) in
+    omega (arith, parts, each, times) where
+      listed : task_of w j < length w.set.tasks
+      listed = (c.window.lawful.each j c.window.listed).task
+
+      higher : (t : ℕ) → t < window_end w bound n j → 0 < high_part w j x share q t → task_of w (first_holder w j t) < task_of w j
+      higher t l some =
+          let three : (not (is_low w j t) ≡ true) × (0 < for_resource w j x share q t) =
+          only_if-parts (not (is_low w j t)) (for_resource w j x share q t) some in
+          let a : ForResource w j x share q t = for_resource_is w bound n j x s share q t c l three.1 in
+          let most : task_of w (first_holder w j t) ≤ task_of w j = ltb-false _ _ (not-true _ three.0) in
+          elim (cases_lt (task_of w (first_holder w j t)) (task_of w j)) [
+            | inl less ↦ less
+            | inr same ↦ absurd (a.facts.other (omega arith))
+          ]
+
+-- While lower tasks hold q, where there is one beside x that uses it.
+lower_paid : (w : Trace) (bound : ℕ → ℕ) (n j x s : ℕ) (share : ℕ → ℕ → ℕ) (q : ℕ) → Holding w bound n j x s share
+    → sum_below (window_end w bound n j) (λ t. low_part w j x share q t) ≤ s * lower_holdings w.set (task_of w j) x q
+lower_paid w bound n j x s share q c =
+    elim (cases_Bool (any_below (length w.set.tasks) (λ y. nat_lt (task_of w j) y && (is_beside w.set x y && is_user w.set q y)))) [
+      | inl on ↦ rw on (omega (arith, low_paid w bound n j x s share q c, mul_comm (count_of w.set (task_of w j) q) s))
+      | inr off ↦
+          let none : sum_below (window_end w bound n j) (λ t. low_part w j x share q t) ≡ 0 =
+          sum_below-zero (window_end w bound n j) (λ t. low_part w j x share q t) (λ t b. nothing off t b) in
+          omega arith
+    ] where
+      nothing : any_below (length w.set.tasks) (λ y. nat_lt (task_of w j) y && (is_beside w.set x y && is_user w.set q y)) ≡ false → (t : ℕ)
+          → t < window_end w bound n j → low_part w j x share q t ≡ 0
+      nothing off t b = elim (cases_lt 0 (low_part w j x share q t)) [
+        | inr none ↦ omega arith
+        | inl some ↦
+            let parts : (is_low w j t ≡ true) × (0 < for_resource w j x share q t) =
+            only_if-parts (is_low w j t) (for_resource w j x share q t) some in
+            let a : ForResource w j x share q t = for_resource_is w bound n j x s share q t c b parts.1 in
+            let z : ℕ = first_holder w j t in
+            let uses : is_user w.set q (task_of w z) ≡ true = ap (λ r. is_user w.set r (task_of w z)) (sym a.resource) ∙ a.facts.uses in
+            absurd (both_ways (nat_lt (task_of w j) (task_of w z) && (is_beside w.set x (task_of w z) && is_user w.set q (task_of w z)))
+            (any_below-none (length w.set.tasks) (λ y. nat_lt (task_of w j) y && (is_beside w.set x y && is_user w.set q y)) off (task_of w z)
+            (c.window.lawful.each z a.facts.listed).task)
+            (and_from _ _ parts.0 (and_from _ _ a.facts.beside uses)))
+      ]
+
+split_parts : (b : Bool) (n : ℕ) → n ≡ only_if b n + only_if (not b) n
+split_parts true n = omega arith
+split_parts false n = omega arith
+
+-- Of what is waited for q.
+resource_paid : (w : Trace) (bound : ℕ → ℕ) (n j x s : ℕ) (share : ℕ → ℕ → ℕ) (q : ℕ) → Holding w bound n j x s share
+    → sum_below (window_end w bound n j) (λ t. for_resource w j x share q t)
+    ≤ s * only_if (is_user w.set q (task_of w j)) (higher_holdings w.set bound (task_of w j) x q + lower_holdings w.set (task_of w j) x q)
+resource_paid w bound n j x s share q c = elim (cases_Bool (is_user w.set q (task_of w j))) [
+  | inr off ↦
+      let none : sum_below (window_end w bound n j) (λ t. for_resource w j x share q t) ≡ 0 =
+      sum_below-zero (window_end w bound n j) (λ t. for_resource w j x share q t) (λ t b. nothing off t b) in
+      omega arith
+  | inl on ↦
+      let split : sum_below (window_end w bound n j) (λ t. for_resource w j x share q t)
+      ≡ sum_below (window_end w bound n j) (λ t. low_part w j x share q t + high_part w j x share q t) =
+      sum_below-agree (window_end w bound n j) (λ t. for_resource w j x share q t)
+      (λ t. low_part w j x share q t + high_part w j x share q t) (λ t l. split_parts (is_low w j t) (for_resource w j x share q t)) in
+      let plus : sum_below (window_end w bound n j) (λ t. low_part w j x share q t + high_part w j x share q t)
+      ≡ sum_below (window_end w bound n j) (λ t. low_part w j x share q t) + sum_below (window_end w bound n j)
+      (λ t. high_part w j x share q t) =
+      sum_below-plus (window_end w bound n j) (λ t. low_part w j x share q t) (λ t. high_part w j x share q t) in
+      let both : s * (higher_holdings w.set bound (task_of w j) x q + lower_holdings w.set (task_of w j) x q)
+      ≡ s * higher_holdings w.set bound (task_of w j) x q + s * lower_holdings w.set (task_of w j) x q =
+      mul-add s (higher_holdings w.set bound (task_of w j) x q) (lower_holdings w.set (task_of w j) x q) in
+      rw on (omega (arith, split, plus, both, high_paid w bound n j x s share q c, lower_paid w bound n j x s share q c))
+] where
+  nothing : is_user w.set q (task_of w j) ≡ false → (t : ℕ) → t < window_end w bound n j → for_resource w j x share q t ≡ 0
+  nothing off t b = elim (cases_lt 0 (for_resource w j x share q t)) [
+    | inr none ↦ omega arith
+    | inl some ↦
+        let a : ForResource w j x share q t = for_resource_is w bound n j x s share q t c b some in
+        let user : is_user w.set q (task_of w j) ≡ true = ap (λ r. is_user w.set r (task_of w j)) (sym a.resource) ∙ a.facts.user in
+        absurd (both_ways _ off user)
+  ]
+
+-- The row of holdings.
+pub holding_row_met : (w : Trace) (bound : ℕ → ℕ) (n j x : ℕ) → Window shared_charge w bound n j → KeepsBefore (shared_rule mpcp) w n
+    → TicksMeet shared_charge w bound n j (holding_row w.set (task_of w j) x)
+holding_row_met w bound n j x window keeps s share fair =
+    let parts : sum_below (window_end w bound n j) (λ t. amount w j x share t)
+    ≡ sum_below (length w.set.resources) (λ q. sum_below (window_end w bound n j) (λ t. for_resource w j x share q t)) =
+    sum_below-slots (window_end w bound n j) (length w.set.resources) (λ t. own_resource w j t) (λ t. amount w j x share t)
+    (λ t l some. within t l some) in
+    let each : sum_below (length w.set.resources) (λ q. sum_below (window_end w bound n j) (λ t. for_resource w j x share q t))
+    ≤ sum_below (length w.set.resources) (λ q. s * limits q) =
+    sum_below-monotone (length w.set.resources) (λ q. sum_below (window_end w bound n j) (λ t. for_resource w j x share q t))
+    (λ q. s * limits q) (λ q l. resource_paid w bound n j x s share q c) in
+    omega (arith, parts, each, sum_below-times (length w.set.resources) s limits) where
+      c : Holding w bound n j x s share
+      c = record { window = window; keeps = keeps; fair = fair }
+
+      limits : ℕ → ℕ
+      limits = λ q. only_if (is_user w.set q (task_of w j))
+          (higher_holdings w.set bound (task_of w j) x q + lower_holdings w.set (task_of w j) x q)
+
+      within : (t : ℕ) → t < window_end w bound n j → 0 < amount w j x share t → own_resource w j t < length w.set.resources
+      within t l some =
+          let a : ForResource w j x share (own_resource w j t) t =
+          for_resource_is w bound n j x s share (own_resource w j t) t c l
+          (rw (eq-eqb (own_resource w j t) (own_resource w j t) refl) some) in
+          a.facts.within

@@ -1,0 +1,267 @@
+-- Row of intervals: from one request of its own to the next a job is preempted by at most one request of a lower task of
+-- its processor, since that task runs no local tick meanwhile.
+use Rattle.std.proofs.Common.{◌≡◌, ℕ, suc, ◌+◌, ◌*◌, ◌<◌, ◌≤◌, ◌==◌, ◌&&◌, true, false, length, refl, sym, ap, subst, ◌∙◌, arith, inl, inr, Some}
+use Rattle.std.proofs.Math.Nat.{mul_comm, mul-le-mul_right}
+use Rattle.std.proofs.lemmas.Bool.{cases_Bool, both_ways, and_parts, eqb-true, ltb-true}
+use Rattle.bounded_sums.specs.Sums.{sum_below, flag}
+use Rattle.bounded_sums.specs.Tests.{count_below}
+use Rattle.bounded_sums.proofs.CountLaws.{count_below-at_most}
+use Rattle.sporadic_model.specs.SetDef.{task_at}
+use Rattle.sporadic_model.specs.Users.{count_of, length_of}
+use Rattle.schedule_model.specs.declared.rule.Rule.TheVariants as rule
+use Rattle.schedule_model.specs.JobDef.{job_of}
+use Rattle.schedule_model.specs.LawfulJobs.{IsLawfulJob}
+use Rattle.schedule_model.specs.RowDef.{Trace, running_on, holder_in, runs_in}
+use Rattle.schedule_model.specs.Phase.{Phase, is_local, is_finished, phase_of}
+use Rattle.schedule_model.specs.Phase.Phase.{Local, Asking, Finished}
+use Rattle.schedule_model.specs.Activity.{task_of, processor_of, is_active, is_ready}
+use Rattle.schedule_model.specs.SharedRules as shared
+use Rattle.schedule_model.specs.SharedRules.{Ranks}
+use Rattle.schedule_model.specs.DpcpRules as distributed
+use Rattle.schedule_model.specs.DpcpRules.{has_requests}
+use Rattle.schedule_model.specs.Protocols.{shared_rule, dpcp_rule}
+use Rattle.schedule_model.specs.Keeping.{KeepsRow, KeepsBefore}
+use Rattle.schedule_laws.specs.Counting.{requests_in, requests_begun}
+use Rattle.schedule_laws.proofs.Ticks.{finished_true, finished_stays}
+use Rattle.schedule_laws.proofs.ActiveJobs.{Active, active_is, active_listed, active_stays, active_local_from, active_local_is, ActiveLocal}
+use Rattle.schedule_laws.proofs.Rows.{runs_where, ReadyHolder, ready_holder_is, ready_holder_from, ready_is, ready_local, ready_holding, ready_active}
+use Rattle.schedule_laws.proofs.Begun.{requests_begun_up, requests_begun_at_most, open_if_begun}
+use Rattle.schedule_laws.proofs.Holders.{shared_holder_stays}
+use Rattle.schedule_laws.proofs.OwnRequests.{all_requests}
+use Rattle.fragments.specs.declared.columns.Class.{Class}
+use Rattle.fragments.specs.declared.columns.Class.TheVariants.{Preemption}
+use Rattle.fragments.specs.ColumnDef.{ColumnDef, is_preemption}
+use Rattle.fragments.specs.Columns.{is_lower_local, have_one_processor}
+use Rattle.preempt_constraints.specs.Rows.{interval_row}
+use Rattle.charge_model.specs.Charges.{shared_charge, dpcp_charge}
+use Rattle.charge_model.specs.Windows.{window_end}
+use Rattle.charge_laws.proofs.SharedCharging.{PreemptedBy, SharedReason, shared_reason, runner_holds}
+use Rattle.charge_laws.proofs.DpcpCharging.{LocalBlocked, RunsRequest, DpcpReason, dpcp_reason, requests_run}
+use Rattle.row_laws.proofs.Brings.{Charges, Window, brings, Hit, TicksMeet, flag_times-at_most, flag_times-passes}
+use Rattle.row_laws.proofs.SlotRow.{OneRequest, slot_row}
+use Rattle.row_laws.proofs.Requests.{preemption_is, one_request}
+
+-- A lower task of i's processor.
+pub record LowerLocal (w : Trace) (i x : ℕ) : Type 0 where
+  pub lower : i < x
+  pub processor : (task_at w.set x).processor ≡ (task_at w.set i).processor
+
+pub lower_local_is : (w : Trace) (i x : ℕ) → is_lower_local w.set i x ≡ true → LowerLocal w i x
+lower_local_is w i x h = let parts : _ × (have_one_processor w.set x i ≡ true) = and_parts _ _ h in
+    record { lower = ltb-true _ _ parts.0; processor = eqb-true _ _ parts.1 }
+
+-- A job is active between two ticks at which it is, and isn't finished.
+unfinished_between : (w : Trace) (u t v j : ℕ) → is_active w u j ≡ true → is_active w v j ≡ true → u ≤ t → t ≤ v
+    → (is_finished (phase_of w t j) ≡ false) × (is_active w t j ≡ true)
+unfinished_between w u t v j early late a b = elim (cases_Bool (is_finished (phase_of w t j))) [
+  | inr more ↦ (more, active_stays w u t j early a more)
+  | inl finished ↦
+      let there : Active w v j = active_is w v j late in
+      let e : phase_of w v j ≡ Finished = finished_stays w t v j b (finished_true (phase_of w t j) finished) in
+      let x : is_finished (phase_of w v j) ≡ true = rw e refl in
+      absurd (both_ways _ there.unfinished x)
+]
+
+-- As many requests begun at t as at u, where as many are begun at v.
+begun_between : (w : Trace) (u t v j : ℕ) → u ≤ t → t ≤ v → requests_begun w u j ≡ requests_begun w v j
+    → requests_begun w u j ≡ requests_begun w t j
+begun_between w u t v j a b same = omega (arith, requests_begun_up w u t j a, requests_begun_up w t v j b)
+
+-- A job that is ready at u, and begins no request up to v, is ready in between.
+pub ready_between : (o : Ranks) (w : Trace) (n u t v j : ℕ) → KeepsBefore (shared_rule o) w n → u ≤ t → t ≤ v → v < n
+    → is_ready w u j ≡ true → is_active w v j ≡ true
+    → requests_begun w u j ≡ requests_begun w v j → is_ready w t j ≡ true
+ready_between o w n u t v j keeps a b l early late same = go (phase_of w t j) refl where
+  rest : (is_finished (phase_of w t j) ≡ false) × (is_active w t j ≡ true)
+  rest = unfinished_between w u t v j (ready_active w u j early) late a b
+
+  go : (p : Phase) → phase_of w t j ≡ p → is_ready w t j ≡ true
+  go Local e = ready_local w t j (active_local_from w t j rest.1 e)
+  go Finished e = let x : is_finished (phase_of w t j) ≡ true = rw e refl in absurd (both_ways _ rest.0 x)
+  go (Asking m q) e =
+      let opened : phase_of w u j ≡ Asking m q = open_if_begun w u t j m q a (begun_between w u t v j a b same) e in
+      elim (ready_is w u j early) [
+        | inl local ↦ let h : ActiveLocal w u j = active_local_is w u j local in let x : Local ≡ Asking m q = sym h.phase ∙ opened in
+            absurd (cc)
+        | inr holds ↦
+            let h : ReadyHolder w u j = ready_holder_is w u j holds in
+            let x : Asking h.number h.resource ≡ Asking m q = sym h.phase ∙ opened in
+            let resource : h.resource ≡ q = cc in
+            let held : holder_in (w.row u) q ≡ Some j = rw (← resource) h.holds in
+            ready_holding w t j (ready_holder_from w t j m q rest.1 e
+            (shared_holder_stays o w n u t q j m q keeps a (omega arith) opened e held))
+      ]
+
+-- Under shared memory a job of a lower local task runs no Local tick while job j is ready.
+no_lower_local : (o : Ranks) (w : Trace) (t j y : ℕ) → shared.KeepsRun w t → shared.KeepsPriority o w t → is_ready w t j ≡ true
+    → task_of w j < task_of w y → processor_of w y ≡ processor_of w j
+    → phase_of w t y ≡ Local → runs_in (w.row t) y ≡ true → ⊥
+no_lower_local o w t j y run priority ready lower processor local runs =
+    let at : (k : ℕ) × (running_on (w.row t) k ≡ Some y) = runs_where (w.row t) y runs in
+    let place : at.0 ≡ processor_of w j = run.column at.0 y at.1 ∙ processor in
+    let here : running_on (w.row t) (processor_of w j) ≡ Some y = rw (← place) at.1 in
+    let h : ReadyHolder w t y = ready_holder_is w t y (runner_holds o w t j y priority ready here lower) in
+    let x : Local ≡ Asking h.number h.resource = sym local ∙ h.phase in
+    cc
+
+-- Why a tick of class Preemption is charged, under shared memory and under DPCP.
+preempted_by : (o : Ranks) (w : Trace) (t j y : ℕ) (c : Class) → c ≡ Preemption → SharedReason o w t j c y → PreemptedBy w t j y
+preempted_by o w t j y c e why = subst (λ (d : Class). SharedReason o w t j d y) e why
+
+blocked_by : (w : Trace) (t j y : ℕ) (c : Class) → c ≡ Preemption → DpcpReason w t j c y → LocalBlocked w t j y
+blocked_by w t j y c e why = subst (λ (d : Class). DpcpReason w t j d y) e why
+
+-- What the row counts of a column.
+abbrev interval_share : ℕ → (ℕ → ℕ → ℕ) → ColumnDef → ℕ
+interval_share x share c = flag ((c.task == x) && is_preemption c.class) * share c.task c.resource
+
+-- What counts is of x, and of class Preemption.
+interval_hit : (charges : Charges) (w : Trace) (x j t : ℕ) (share : ℕ → ℕ → ℕ) → (h : Hit charges w (interval_share x share) j t)
+    → (task_of w h.charge.job ≡ x) × (h.charge.class ≡ Preemption)
+interval_hit charges w x j t share h =
+    let both : ((task_of w h.charge.job == x) ≡ true) × (is_preemption h.charge.class ≡ true) =
+    and_parts _ _ (flag_times-passes ((task_of w h.charge.job == x) && is_preemption h.charge.class)
+    (share (task_of w h.charge.job) h.resource) h.some) in
+    (eqb-true _ _ both.0, preemption_is h.charge.class both.1)
+
+-- Each interval, told by the number of requests begun, is paid for once.
+interval_limit : (charges : Charges) (w : Trace) (bound : ℕ → ℕ) (n j x s : ℕ) (share : ℕ → ℕ → ℕ) → Window charges w bound n j
+    → ((x q : ℕ) → share x q * length_of w.set x q ≤ s)
+    → ((u v : ℕ) → u ≤ v → v < window_end w bound n j → (a : Hit charges w (interval_share x share) j u)
+    → (b : Hit charges w (interval_share x share) j v) → requests_begun w u j ≡ requests_begun w v j
+    → OneRequest w u v a.charge.job b.charge.job)
+    → sum_below (window_end w bound n j) (λ t. brings charges w (interval_share x share) j t)
+    ≤ s * (1 + sum_below (length w.set.resources) (λ q. count_of w.set (task_of w j) q))
+interval_limit charges w bound n j x s share window fair one =
+    let most : sum_below (window_end w bound n j) (λ t. brings charges w (interval_share x share) j t)
+    ≤ count_below (suc (requests_in (job_of w.jobs j).script)) (λ k. true) * s =
+    slot_row charges w bound n j (suc (requests_in (job_of w.jobs j).script)) s share (interval_share x share) (λ t. requests_begun w t j)
+    (λ k. true) window
+    (record { within = λ t l h. omega (arith, requests_begun_at_most w t j); passes = λ t l h. refl; one = one })
+    (record { fair = fair; small = λ c. flag_times-at_most ((c.task == x) && is_preemption c.class) (share c.task c.resource) }) in
+    let number : count_below (suc (requests_in (job_of w.jobs j).script)) (λ k. true)
+    ≤ 1 + sum_below (length w.set.resources) (λ q. count_of w.set (task_of w j) q) =
+    omega (
+      arith,
+      count_below-at_most (suc (requests_in (job_of w.jobs j).script)) (λ k. true),
+      all_requests w.set (job_of w.jobs j)
+          (window.lawful.each j window.listed),
+    ) in
+    omega (
+      arith,
+      most,
+      mul-le-mul_right s number,
+      mul_comm
+          (1 + sum_below (length w.set.resources) (λ q. count_of w.set (task_of w j) q)) s,
+    )
+
+-- The row of intervals under shared memory.
+pub shared_interval_row_met : (o : Ranks) (w : Trace) (bound : ℕ → ℕ) (n j x : ℕ) → Window shared_charge w bound n j
+    → KeepsBefore (shared_rule o) w n → is_lower_local w.set (task_of w j) x ≡ true
+    → TicksMeet shared_charge w bound n j (interval_row w.set (task_of w j) x)
+shared_interval_row_met o w bound n j x window keeps lower s share fair =
+    interval_limit shared_charge w bound n j x s share window fair one where
+      f : ColumnDef → ℕ
+      f = interval_share x share
+
+      low : LowerLocal w (task_of w j) x
+      low = lower_local_is w (task_of w j) x lower
+
+      by : (t : ℕ) → t < n → (h : Hit shared_charge w f j t) → PreemptedBy w t j h.charge.job
+      by t l h = preempted_by o w t j h.charge.job h.charge.class (interval_hit shared_charge w x j t share h).1
+          (shared_reason o w t j h.charge (keeps t l) h.is_it)
+
+      one : (u v : ℕ) → u ≤ v → v < window_end w bound n j → (a : Hit shared_charge w f j u) → (b : Hit shared_charge w f j v)
+          → requests_begun w u j ≡ requests_begun w v j → OneRequest w u v a.charge.job b.charge.job
+      one u v order l a b same =
+          let early : PreemptedBy w u j a.charge.job = by u (omega arith) a in
+          let late : PreemptedBy w v j b.charge.job = by v (omega arith) b in
+          let task_a : task_of w a.charge.job ≡ x = (interval_hit shared_charge w x j u share a).0 in
+          let task_b : task_of w b.charge.job ≡ x = (interval_hit shared_charge w x j v share b).0 in
+          let processor : processor_of w b.charge.job ≡ processor_of w j = ap (λ z. (task_at w.set z).processor) task_b ∙ low.processor in
+          let holder_a : ReadyHolder w u a.charge.job = ready_holder_is w u a.charge.job early.holds in
+          let listed : b.charge.job < length w.jobs =
+          active_listed w v b.charge.job (ready_active w v b.charge.job (ready_holding w v b.charge.job late.holds)) in
+          let lawful : IsLawfulJob w.set (job_of w.jobs b.charge.job) = window.lawful.each b.charge.job listed in
+          one_request w n u v a.charge.job b.charge.job b.number b.resource window.active (omega arith) order lawful.script holder_a.active
+          (task_a ∙ sym task_b) b.request
+          (λ t from before local runs. no_lower_local o w t j b.charge.job (keeps t (omega arith) rule.Run)
+          (keeps t (omega arith) rule.Priority)
+          (ready_between o w n u t v j keeps from (omega arith) (omega arith) early.ready
+          (ready_active w v j late.ready) same) late.lower processor local runs)
+
+-- Under DPCP a job that is Local at u, and begins no request up to v, is Local in between.
+local_between : (w : Trace) (u t v j : ℕ) → u ≤ t → t ≤ v → is_active w u j ≡ true → is_active w v j ≡ true → phase_of w u j ≡ Local
+    → requests_begun w u j ≡ requests_begun w v j → phase_of w t j ≡ Local
+local_between w u t v j a b early late local same = go (phase_of w t j) refl where
+  rest : (is_finished (phase_of w t j) ≡ false) × (is_active w t j ≡ true)
+  rest = unfinished_between w u t v j early late a b
+
+  go : (p : Phase) → phase_of w t j ≡ p → phase_of w t j ≡ Local
+  go Local e = e
+  go Finished e = let x : is_finished (phase_of w t j) ≡ true = rw e refl in absurd (both_ways _ rest.0 x)
+  go (Asking m q) e =
+      let opened : phase_of w u j ≡ Asking m q = open_if_begun w u t j m q a (begun_between w u t v j a b same) e in
+      let x : Local ≡ Asking m q = sym local ∙ opened in
+      absurd (cc)
+
+-- Under DPCP a job of a lower local task runs no Local tick while job j is Local.
+no_lower_local_dpcp : (w : Trace) (t j y : ℕ) → KeepsRow dpcp_rule w t → is_active w t j ≡ true → phase_of w t j ≡ Local
+    → task_of w j < task_of w y → processor_of w y ≡ processor_of w j
+    → phase_of w t y ≡ Local → runs_in (w.row t) y ≡ true → ⊥
+no_lower_local_dpcp w t j y keeps active waits lower processor local runs = elim (cases_Bool (has_requests w t (processor_of w j))) [
+  | inl some ↦
+      let r : RunsRequest w t (processor_of w j) y = requests_run w t (processor_of w j) y keeps some here in
+      let x : Local ≡ Asking r.number r.resource = sym local ∙ r.request in
+      cc
+  | inr none ↦ omega (
+    arith,
+    priority.locals (processor_of w j) y here none j (active_listed w t j active) refl
+        (active_local_from w t j active waits),
+  )
+] where
+  run : distributed.KeepsRun w t
+  run = keeps rule.Run
+
+  priority : distributed.KeepsPriority w t
+  priority = keeps rule.Priority
+
+  here : running_on (w.row t) (processor_of w j) ≡ Some y
+  here =
+      let at : (k : ℕ) × (running_on (w.row t) k ≡ Some y) = runs_where (w.row t) y runs in
+      let is : is_local (phase_of w t y) ≡ true = rw local refl in
+      let place : at.0 ≡ processor_of w j = run.local at.0 y at.1 is ∙ processor in
+      rw (← place) at.1
+
+-- The row of intervals under DPCP.
+pub dpcp_interval_row_met : (w : Trace) (bound : ℕ → ℕ) (n j x : ℕ) → Window dpcp_charge w bound n j → KeepsBefore dpcp_rule w n
+    → is_lower_local w.set (task_of w j) x ≡ true
+    → TicksMeet dpcp_charge w bound n j (interval_row w.set (task_of w j) x)
+dpcp_interval_row_met w bound n j x window keeps lower s share fair =
+    interval_limit dpcp_charge w bound n j x s share window fair one where
+      f : ColumnDef → ℕ
+      f = interval_share x share
+
+      low : LowerLocal w (task_of w j) x
+      low = lower_local_is w (task_of w j) x lower
+
+      by : (t : ℕ) → t < n → (h : Hit dpcp_charge w f j t) → LocalBlocked w t j h.charge.job
+      by t l h = blocked_by w t j h.charge.job h.charge.class (interval_hit dpcp_charge w x j t share h).1
+          (dpcp_reason w t j h.charge (keeps t l) h.is_it)
+
+      one : (u v : ℕ) → u ≤ v → v < window_end w bound n j → (a : Hit dpcp_charge w f j u) → (b : Hit dpcp_charge w f j v)
+          → requests_begun w u j ≡ requests_begun w v j → OneRequest w u v a.charge.job b.charge.job
+      one u v order l a b same =
+          let early : LocalBlocked w u j a.charge.job = by u (omega arith) a in
+          let late : LocalBlocked w v j b.charge.job = by v (omega arith) b in
+          let task_a : task_of w a.charge.job ≡ x = (interval_hit dpcp_charge w x j u share a).0 in
+          let task_b : task_of w b.charge.job ≡ x = (interval_hit dpcp_charge w x j v share b).0 in
+          let processor : processor_of w b.charge.job ≡ processor_of w j = ap (λ z. (task_at w.set z).processor) task_b ∙ low.processor in
+          let lawful : IsLawfulJob w.set (job_of w.jobs b.charge.job) =
+          window.lawful.each b.charge.job (active_listed w v b.charge.job late.runner.active) in
+          one_request w n u v a.charge.job b.charge.job b.number b.resource window.active
+          (omega arith) order lawful.script early.runner.active (task_a ∙ sym task_b) b.request
+          (λ t from before local runs. no_lower_local_dpcp w t j b.charge.job (keeps t (omega arith))
+          (unfinished_between w u t v j early.active late.active from (omega arith)).1
+          (local_between w u t v j from (omega arith) early.active late.active early.local same)
+          (omega (arith, low.lower, task_b)) processor local runs)

@@ -1,0 +1,13 @@
+pub mod Numbers
+pub mod Fields
+pub mod Rests
+pub mod Sized
+pub mod Reading
+pub mod Examples
+pub mod Dividing
+pub mod Tokens
+pub mod JobsTaken
+pub mod RowsTaken
+pub mod Runs
+pub mod Decimals
+pub mod RoundTrip

@@ -1,0 +1,79 @@
+-- Lines of a file of jobs: the job that a line writes, and when the line is refused.
+use Rattle.std.specs.Prelude.{ℕ, ◌+◌, not, Bool, true, List, [], ◌∷◌, map, take, Option, None, Some, option_map, is_some, is_none, unwrap_or, if◌then◌else◌}
+use Rattle.std.specs.Option.{option_or, option_map_or}
+use Rattle.std.specs.List.{list_all}
+use Rattle.sporadic_model.specs.SetDef.{SetDef}
+use Rattle.sporadic_model.specs.Users.{task_with_name, resource_with_name}
+use Rattle.sporadic_model.specs.declared.limits.TheConstants.{MOST_TICKS}
+use Rattle.schedule_model.specs.JobDef.{SegmentDef, JobDef, JobsDef, no_job}
+use Rattle.schedule_model.specs.JobLists.{first_refusal}
+use Rattle.schedule_model.specs.declared.refusal.JobRefusal.{JobRefusal}
+use Rattle.schedule_model.specs.declared.refusal.JobRefusal.TheVariants as push
+use Rattle.trace_csv.specs.declared.refusal.JobsRefusal.{JobsRefusal}
+use Rattle.trace_csv.specs.declared.refusal.JobsRefusal.TheVariants as refusal
+use Rattle.trace_csv.specs.Numbers.{number_between}
+use Rattle.trace_csv.specs.Records.{Fields, line_at}
+use Rattle.trace_csv.specs.Scripts.{NamedRequest, PartDef, script_in}
+
+-- The release that a field writes: a number from 0 to 10^9.
+abbrev pub release_in : List ℕ → Option ℕ
+release_in field = number_between 0 MOST_TICKS field
+
+-- The segment that a part of a script writes, where its resource is one of the set's.
+abbrev pub resource_written : SetDef → NamedRequest → ℕ
+resource_written set r = unwrap_or (resource_with_name set r.resource) 0
+
+abbrev pub segment_written : SetDef → PartDef → SegmentDef
+segment_written set part = record { local = part.local; request = option_map (λ r. (resource_written set r, r.ticks)) part.request }
+
+-- Is the resource that the part requests, if it does, one of the set's?
+abbrev pub has_known_resource : SetDef → PartDef → Bool
+has_known_resource set part = option_map_or (λ r. is_some (resource_with_name set r.resource)) part.request true
+
+-- The job that a line writes: the name of its task, its release and its script.
+abbrev pub job_of_fields : SetDef → List ℕ → List ℕ → List ℕ → JobDef
+job_of_fields set name release script = record {
+  task = unwrap_or (task_with_name set name) 0;
+  release = unwrap_or (release_in release) 0;
+  script = map (segment_written set) (unwrap_or (script_in script) []);
+}
+
+abbrev pub job_written : SetDef → Fields → JobDef
+job_written set (name ∷ release ∷ script ∷ []) = job_of_fields set name release script
+job_written set _ = no_job
+
+-- Why line number k is refused for its form and its names, if it is. The reasons are tried in this order.
+abbrev pub fields_refusal : SetDef → List ℕ → List ℕ → List ℕ → ℕ → Option JobsRefusal
+fields_refusal set name release script k =
+    if is_none (release_in release) then Some (refusal.Number k)
+    else if is_none (task_with_name set name) then Some (refusal.UnknownName k)
+    else if is_none (script_in script) then Some (refusal.Script k)
+    else if not (list_all (has_known_resource set) (unwrap_or (script_in script) [])) then Some (refusal.UnknownName k)
+    else None
+
+abbrev pub form_refusal : SetDef → Fields → ℕ → Option JobsRefusal
+form_refusal set (name ∷ release ∷ script ∷ []) k = fields_refusal set name release script k
+form_refusal set _ k = Some (refusal.Fields k)
+
+-- What a refusal by the list of jobs is for the line of this number.
+abbrev pub at_line : ℕ → JobRefusal → JobsRefusal
+at_line k push.Script = refusal.Script k
+at_line k push.OverBudget = refusal.OverBudget k
+at_line k push.TooClose = refusal.TooClose k
+at_line k push.TooMany = refusal.TooMany k
+at_line k push.Memory = refusal.Memory
+
+-- Why a line is refused after the jobs that are listed, if it is: for its form and names, or else as the list
+-- refuses the job that it writes.
+abbrev pub line_refusal : JobsDef → Fields → ℕ → Option JobsRefusal
+line_refusal before line k =
+    option_or (form_refusal before.set line k) (option_map (at_line k) (first_refusal before (job_written before.set line)))
+
+-- The jobs that lines write.
+abbrev pub jobs_written : SetDef → List Fields → JobsDef
+jobs_written set lines = record { set = set; jobs = map (job_written set) lines }
+
+-- Why line i of the lines is refused after those before it, if it is. Lines count from 0 here, and their
+-- numbers from 1.
+abbrev pub refusal_at : SetDef → List Fields → ℕ → Option JobsRefusal
+refusal_at set lines i = line_refusal (jobs_written set (take i lines)) (line_at lines i) (i + 1)

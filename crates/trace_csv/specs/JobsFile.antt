@@ -1,0 +1,57 @@
+-- Files of jobs in CSV, and what the answer of reading one says.
+use Rattle.std.specs.Prelude.{◌≡◌, ℕ, ◌<◌, ◌⊎◌, codes, List, [], ◌∷◌, length, drop, slice_get, None, Some, Result, Ok, Err}
+use Rattle.sporadic_model.specs.SetDef.{SetDef}
+use Rattle.schedule_model.specs.JobDef.{JobsDef}
+use Rattle.trace_csv.specs.declared.refusal.JobsRefusal.{JobsRefusal}
+use Rattle.trace_csv.specs.declared.refusal.JobsRefusal.TheVariants as refusal
+use Rattle.trace_csv.specs.Records.{Fields, records_in}
+use Rattle.trace_csv.specs.JobLines.{jobs_written, refusal_at}
+
+-- The header of a file of jobs.
+abbrev pub jobs_header : Fields
+jobs_header = codes "task" ∷ codes "release" ∷ codes "script" ∷ []
+
+-- Do the records begin with the header?
+abbrev pub HasJobsHeader : List Fields → Type 0
+HasJobsHeader records = slice_get records 0 ≡ Some jobs_header
+
+-- The records of a file of jobs: the header, and lines of which none is refused after those before it.
+pub record AreJobsRecords (set : SetDef) (records : List Fields) : Type 0 where
+  pub header : HasJobsHeader records
+  pub lines : (i : ℕ) → i < length (drop 1 records) → refusal_at set (drop 1 records) i ≡ None
+
+-- Is the text a file of jobs?
+abbrev pub IsJobsFile : SetDef → List ℕ → Type 0
+IsJobsFile set bytes = AreJobsRecords set (records_in bytes)
+
+-- Line i is the first one that is refused, and this is why.
+pub record IsFirstRefused (set : SetDef) (lines : List Fields) (i : ℕ) (r : JobsRefusal) : Type 0 where
+  pub within : i < length lines
+  pub earlier : (j : ℕ) → j < i → refusal_at set lines j ≡ None
+  pub here : refusal_at set lines i ≡ Some r
+
+-- What the answer says of the text's lines after the header: the jobs that they write, none of which is
+-- refused, or the first line that is. Only want of memory says nothing of them.
+abbrev pub LinesRead : Result JobsDef JobsRefusal → SetDef → List Fields → Type 0
+LinesRead (Ok list) set lines = ((i : ℕ) → i < length lines → refusal_at set lines i ≡ None) × (list ≡ jobs_written set lines)
+LinesRead (Err refusal.Memory) set lines = Unit {0}
+LinesRead (Err r) set lines = (i : ℕ) × IsFirstRefused set lines i r
+
+-- What the answer of reading says of the records: they are those of a file of jobs, and these are the jobs
+-- that they write; or the header is missing; or what is said of the lines.
+abbrev pub RecordsRead : Result JobsDef JobsRefusal → SetDef → List Fields → Type 0
+RecordsRead (Ok list) set records = AreJobsRecords set records × (list ≡ jobs_written set (drop 1 records))
+RecordsRead (Err refusal.Memory) set records = Unit {0}
+RecordsRead (Err r) set records =
+    ((r ≡ refusal.Fields 0) × (HasJobsHeader records → ⊥))
+    ⊎ (HasJobsHeader records × ((i : ℕ) × IsFirstRefused set (drop 1 records) i r))
+
+-- What it says of the text: the same of its records.
+abbrev pub JobsRead : Result JobsDef JobsRefusal → SetDef → List ℕ → Type 0
+JobsRead answer set bytes = RecordsRead answer set (records_in bytes)
+
+-- The answer is the jobs, or want of memory.
+abbrev pub IsUnrefused : Result JobsDef JobsRefusal → Type 0
+IsUnrefused (Ok list) = Unit {0}
+IsUnrefused (Err refusal.Memory) = Unit {0}
+IsUnrefused (Err _) = ⊥

@@ -1,0 +1,11 @@
+pub mod Numbers
+pub mod Records
+pub mod Scripts
+pub mod PartsSeen
+pub mod JobLines
+pub mod JobAnswers
+pub mod JobsFile
+pub mod RowLines
+pub mod RowsFile
+pub mod RowAnswers
+pub mod Written

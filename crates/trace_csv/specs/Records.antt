@@ -1,0 +1,16 @@
+-- The records of a text in CSV, and the lines of a file that begins with a header.
+use Rattle.std.specs.Prelude.{ℕ, List, [], slice_index_or}
+use Rattle.csv.specs.Reading.{default_config, records, strip_bom}
+
+-- A record: its fields, each the list of its bytes.
+abbrev pub Fields : Type 0
+Fields = List (List ℕ)
+
+-- The records of a text, as `csv` reads it: commas between fields, double quotes around them, nothing
+-- trimmed. A blank line is no record.
+abbrev pub records_in : List ℕ → List Fields
+records_in bytes = records default_config (strip_bom bytes)
+
+-- Line i, counted from 0.
+abbrev pub line_at : List Fields → ℕ → Fields
+line_at lines i = slice_index_or lines i []

@@ -1,0 +1,206 @@
+ghost use Rattle.std.specs.Prelude.{◌≡◌, ◌↔◌, map, IfOk, IsTrue};
+ghost use Rattle.csv.specs.Records.{fields_of};
+ghost use Rattle.trace_csv.specs.PartsSeen.{part_seen};
+ghost use Rattle.trace_csv.specs.JobLines.{at_line};
+ghost use Rattle.trace_csv.specs.JobsFile.{jobs_header, IsJobsFile, LinesRead, RecordsRead, JobsRead, IsUnrefused};
+ghost use Rattle.trace_csv.specs.JobAnswers.{SegmentOf, SegmentsRead, ScriptRead, FieldsRead, LineRead, LineTaken};
+
+use crate::header::are_same;
+use crate::number::number_between;
+use crate::refusal::JobsRefusal;
+use crate::script::{Part, Request, ScriptFault, parts_in};
+use crate::table::{fields_in, records_of};
+use csv::ByteRecord;
+use schedule_model::{Job, JobList, JobRefusal, Segment};
+use sporadic_model::{MOST_TICKS, ResourceId, TaskId, TaskSet};
+use std::alloc::{AllocError, Global};
+
+/// Why a script is not read as segments.
+#[derive(Clone, Copy, Debug, PartialEq, Eq)]
+enum SegmentFault {
+    /// The text is no script.
+    Form,
+    /// A request names no resource of the set.
+    UnknownName,
+    /// Memory was refused.
+    Memory,
+}
+
+/// The segment that a part of a script writes; none where it names no resource of the set.
+fn segment_of(set: &TaskSet, part: &Part) -> Option<Segment>
+    ensures { SegmentOf result set.now (part_seen part.now) }
+{
+    let local = part.local;
+    let Some(request) = part.request else {
+        let request = None;
+        return Some(Segment { local, request });
+    };
+    match set.resource_named(request.resource) {
+        Some(resource) => Some(Segment {
+            local,
+            request: Some((resource, request.ticks)),
+        }),
+        None => None,
+    }
+}
+
+/// The segments that the parts of a script write.
+fn segments_of(alloc: Global, set: &TaskSet, parts: &[Part]) -> Result<Vec<Segment>, SegmentFault>
+    ensures { SegmentsRead result set.now (map part_seen parts.now) }
+{
+    let mut segments = Vec::new(alloc);
+    for part in parts {
+        let Some(segment) = segment_of(set, part) else {
+            return Err(SegmentFault::UnknownName);
+        };
+        match segments.push(segment) {
+            Ok(()) => {}
+            Err(_) => return Err(SegmentFault::Memory),
+        }
+    }
+    Ok(segments)
+}
+
+/// The segments that a script writes.
+fn script_of(alloc: Global, set: &TaskSet, text: &[u8]) -> Result<Vec<Segment>, SegmentFault>
+    ensures { ScriptRead result set.now text.now }
+{
+    match parts_in(alloc, text) {
+        Ok(parts) => segments_of(alloc, set, &parts),
+        Err(ScriptFault::Form) => Err(SegmentFault::Form),
+        Err(ScriptFault::Memory) => Err(SegmentFault::Memory),
+    }
+}
+
+/// The job that three fields write, or why their line, which has this number, is refused.
+fn job_of_fields(
+    alloc: Global,
+    set: &TaskSet,
+    name: &[u8],
+    release: &[u8],
+    script: &[u8],
+    line: u64,
+) -> Result<Job, JobsRefusal>
+    ensures { FieldsRead result set.now name.now release.now script.now line }
+{
+    let Some(release) = number_between(release, 0, MOST_TICKS) else {
+        return Err(JobsRefusal::Number(line));
+    };
+    let Some(task) = set.task_named(name) else {
+        return Err(JobsRefusal::UnknownName(line));
+    };
+    match script_of(alloc, set, script) {
+        Ok(script) => Ok(Job {
+            task,
+            release,
+            script,
+        }),
+        Err(SegmentFault::Form) => Err(JobsRefusal::Script(line)),
+        Err(SegmentFault::UnknownName) => Err(JobsRefusal::UnknownName(line)),
+        Err(SegmentFault::Memory) => Err(JobsRefusal::Memory),
+    }
+}
+
+/// The job that a line writes, or why the line, which has this number, is refused for its form and names.
+fn job_of(alloc: Global, set: &TaskSet, row: &ByteRecord, line: u64) -> Result<Job, JobsRefusal>
+    ensures { LineRead result set.now (fields_of row.now) line }
+{
+    let fields = match fields_in(alloc, row) {
+        Ok(fields) => fields,
+        Err(AllocError) => return Err(JobsRefusal::Memory),
+    };
+    match fields.as_slice() {
+        [name, release, script] => job_of_fields(alloc, set, name, release, script, line),
+        _ => Err(JobsRefusal::Fields(line)),
+    }
+}
+
+/// What a refusal by the list of jobs is for the line of this number.
+fn refused_at(line: u64, refusal: JobRefusal) -> JobsRefusal
+    ensures { result ≡ at_line line refusal }
+{
+    match refusal {
+        JobRefusal::Script => JobsRefusal::Script(line),
+        JobRefusal::OverBudget => JobsRefusal::OverBudget(line),
+        JobRefusal::TooClose => JobsRefusal::TooClose(line),
+        JobRefusal::TooMany => JobsRefusal::TooMany(line),
+        JobRefusal::Memory => JobsRefusal::Memory,
+    }
+}
+
+/// Takes the job that a line writes into the list, or says why the line, which has this number, is refused.
+fn take_line(
+    jobs: &mut JobList,
+    alloc: Global,
+    row: &ByteRecord,
+    line: u64,
+) -> Result<(), JobsRefusal>
+    ensures { LineTaken result jobs.old jobs.new (fields_of row.now) line }
+{
+    let job = job_of(alloc, jobs.set(), row, line)?;
+    match jobs.push(job) {
+        Ok(()) => Ok(()),
+        Err(refusal) => Err(refused_at(line, refusal)),
+    }
+}
+
+/// The jobs that lines write, or the first line that is refused.
+fn jobs_of<'a>(
+    alloc: Global,
+    set: &'a TaskSet,
+    lines: &[ByteRecord],
+) -> Result<JobList<'a>, JobsRefusal>
+    ensures { LinesRead result set.now (map fields_of lines.now) }
+{
+    let mut jobs = JobList::new(alloc, set);
+    for (i, row) in lines.iter().enumerate() {
+        take_line(&mut jobs, alloc, row, i as u64 + 1)?;
+    }
+    Ok(jobs)
+}
+
+/// Is the record the header of a file of jobs?
+fn is_jobs_header(alloc: Global, row: &ByteRecord) -> Result<bool, AllocError>
+    ensures { IfOk result (λ same. IsTrue same ↔ (fields_of row.now ≡ jobs_header)) }
+{
+    let fields = fields_in(alloc, row)?;
+    let header: [&[u8]; 3] = [b"task", b"release", b"script"];
+    Ok(are_same(&fields, &header))
+}
+
+/// The jobs that a file's records write, or why it is refused.
+fn jobs_under_header<'a>(
+    alloc: Global,
+    set: &'a TaskSet,
+    rows: &[ByteRecord],
+) -> Result<JobList<'a>, JobsRefusal>
+    ensures { RecordsRead result set.now (map fields_of rows.now) }
+{
+    let [header, lines @ ..] = rows else {
+        return Err(JobsRefusal::Fields(0));
+    };
+    match is_jobs_header(alloc, header) {
+        Ok(true) => jobs_of(alloc, set, lines),
+        Ok(false) => Err(JobsRefusal::Fields(0)),
+        Err(AllocError) => Err(JobsRefusal::Memory),
+    }
+}
+
+/// Reads jobs of a task set from CSV: the header `task,release,script`, and then a line for each job, with
+/// the name of its task, its release and its script. A line is a record as `csv` gives it, so that blank
+/// lines are none. The answer is the list of the jobs exactly where the text is such a file whose jobs are
+/// taken, each after those before it, by [`JobList::push`]; else it names the first line that is refused
+/// and the first reason on it, in the order of [`JobsRefusal`].
+pub fn read_jobs<'a>(
+    alloc: Global,
+    set: &'a TaskSet,
+    bytes: &[u8],
+) -> Result<JobList<'a>, JobsRefusal>
+    ensures read { JobsRead result set.now bytes.now }
+    ensures accepts { IsJobsFile set.now bytes.now → IsUnrefused result }
+{
+    match records_of(alloc, bytes) {
+        Ok(rows) => jobs_under_header(alloc, set, &rows),
+        Err(AllocError) => Err(JobsRefusal::Memory),
+    }
+}

@@ -1,0 +1,18 @@
+//! Jobs and rows in CSV: reading them with the number of the first line that is refused, and writing rows.
+#![tactic(auto)]
+
+mod header;
+mod jobs;
+mod number;
+mod refusal;
+mod rows;
+mod script;
+mod table;
+#[cfg(test)]
+mod tests;
+mod writing;
+
+pub use jobs::read_jobs;
+pub use refusal::{JobsRefusal, RowsRefusal};
+pub use rows::read_rows;
+pub use writing::write_rows;

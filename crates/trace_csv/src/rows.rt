@@ -1,0 +1,204 @@
+ghost use Rattle.std.specs.Prelude.{◌≡◌, ◌≤◌, map, length, IfOk};
+ghost use Rattle.std.specs.List.{list_all};
+ghost use Rattle.csv.specs.Records.{fields_of};
+ghost use Rattle.schedule_model.specs.Seen.{place_seen, row_seen};
+ghost use Rattle.trace_csv.specs.RowLines.{is_cell, is_listed, job_in, row_of_cells};
+ghost use Rattle.trace_csv.specs.RowsFile.{IsRowsFile, LinesRead, RecordsRead, RowsRead, IsUnrefused};
+ghost use Rattle.trace_csv.specs.RowAnswers.{CellsRead, LineRead, LineTaken, at_line, IsMade};
+
+use crate::header::is_rows_header;
+use crate::number::{is_number, number_between};
+use crate::refusal::RowsRefusal;
+use crate::table::{fields_in, records_of};
+use csv::ByteRecord;
+use schedule_model::{JobId, JobList, Row, RowList, RowRefusal, RowRun};
+use sporadic_model::MOST_TICKS;
+use std::alloc::{AllocError, Global};
+
+/// Is the cell empty, or a number?
+fn is_cell(cell: &[u8]) -> bool
+    ensures { result ≡ is_cell cell.now }
+{
+    cell.is_empty() || is_number(cell)
+}
+
+fn each_is_cell(cells: &[&[u8]]) -> bool
+    ensures { result ≡ list_all (λ c. is_cell c.now) cells.now }
+{
+    cells.iter().all(|cell| is_cell(cell))
+}
+
+/// Is each cell empty, or a number?
+fn are_cells(cells: &[&[u8]]) -> bool
+    ensures { result ≡ list_all is_cell (map (λ c. c.now) cells.now) }
+{
+    each_is_cell(cells)
+}
+
+/// The job that a cell names among the first ones; none where it is empty.
+fn job_in(cell: &[u8], jobs: u32) -> Option<JobId>
+    ensures { place_seen result ≡ job_in jobs cell.now }
+{
+    match number_between(cell, 1, jobs as u64) {
+        Some(number) => Some(JobId((number - 1) as u32)),
+        None => None,
+    }
+}
+
+/// Is the cell empty, or does it name one of the first jobs?
+fn is_listed(cell: &[u8], jobs: u32) -> bool
+    ensures { result ≡ is_listed jobs cell.now }
+{
+    cell.is_empty() || job_in(cell, jobs).is_some()
+}
+
+fn each_is_listed(cells: &[&[u8]], jobs: u32) -> bool
+    ensures { result ≡ list_all (λ c. is_listed jobs c.now) cells.now }
+{
+    cells.iter().all(|cell| is_listed(cell, jobs))
+}
+
+/// Is each cell empty, or does it name one of the first jobs?
+fn are_listed(cells: &[&[u8]], jobs: u32) -> bool
+    ensures { result ≡ list_all (is_listed jobs) (map (λ c. c.now) cells.now) }
+{
+    each_is_listed(cells, jobs)
+}
+
+/// The jobs that cells name among the first ones.
+fn places_of(alloc: Global, cells: &[&[u8]], jobs: u32) -> Result<Vec<Option<JobId>>, AllocError>
+    ensures { IfOk result (λ places. map place_seen places.items ≡ map (job_in jobs) (map (λ c. c.now) cells.now)) }
+{
+    let mut places = Vec::new(alloc);
+    for cell in cells {
+        places.push(job_in(cell, jobs))?;
+    }
+    Ok(places)
+}
+
+/// The row that cells write: per processor the job that runs, and then per resource the job that holds it.
+fn row_of(alloc: Global, cells: &[&[u8]], processors: usize, jobs: u32) -> Result<Row, AllocError>
+    requires { processors ≤ length cells.now }
+    ensures { IfOk result (λ row. row_seen row ≡ row_of_cells processors jobs (map (λ c. c.now) cells.now)) }
+{
+    let running = places_of(alloc, &cells[..processors], jobs)?;
+    let holders = places_of(alloc, &cells[processors..], jobs)?;
+    Ok(Row { running, holders })
+}
+
+/// The run that a field of ticks and cells write, or why their line, which has this number, is refused.
+fn run_of_cells(
+    alloc: Global,
+    jobs: &JobList,
+    ticks: &[u8],
+    cells: &[&[u8]],
+    line: u64,
+) -> Result<RowRun, RowsRefusal>
+    ensures { CellsRead result jobs.now ticks.now (map (λ c. c.now) cells.now) line }
+{
+    let processors = jobs.set().processors() as usize;
+    if cells.len() != processors + jobs.set().resources() as usize {
+        return Err(RowsRefusal::Fields(line));
+    }
+    let Some(ticks) = number_between(ticks, 1, MOST_TICKS) else {
+        return Err(RowsRefusal::Number(line));
+    };
+    if !are_cells(cells) {
+        return Err(RowsRefusal::Number(line));
+    }
+    if !are_listed(cells, jobs.len()) {
+        return Err(RowsRefusal::UnknownJob(line));
+    }
+    match row_of(alloc, cells, processors, jobs.len()) {
+        Ok(row) => Ok(RowRun { ticks, row }),
+        Err(AllocError) => Err(RowsRefusal::Memory),
+    }
+}
+
+/// The run that a line writes, or why the line, which has this number, is refused for what stands on it.
+fn run_of(alloc: Global, jobs: &JobList, row: &ByteRecord, line: u64) -> Result<RowRun, RowsRefusal>
+    ensures { LineRead result jobs.now (fields_of row.now) line }
+{
+    let fields = match fields_in(alloc, row) {
+        Ok(fields) => fields,
+        Err(AllocError) => return Err(RowsRefusal::Memory),
+    };
+    match fields.as_slice() {
+        [ticks, cells @ ..] => run_of_cells(alloc, jobs, ticks, cells, line),
+        [] => Err(RowsRefusal::Fields(line)),
+    }
+}
+
+/// What a refusal by the list of rows is for the line of this number.
+fn refused_at(line: u64, refusal: RowRefusal) -> RowsRefusal
+    ensures { result ≡ at_line line refusal }
+{
+    match refusal {
+        RowRefusal::Number => RowsRefusal::Number(line),
+        RowRefusal::UnknownJob => RowsRefusal::UnknownJob(line),
+        RowRefusal::TooLong => RowsRefusal::TooLong(line),
+        RowRefusal::Memory => RowsRefusal::Memory,
+    }
+}
+
+/// Takes the run that a line writes into the list, or says why the line, which has this number, is refused.
+fn take_line(
+    rows: &mut RowList,
+    alloc: Global,
+    jobs: &JobList,
+    row: &ByteRecord,
+    line: u64,
+) -> Result<(), RowsRefusal>
+    requires { IsMade rows.old jobs.now }
+    ensures { LineTaken result jobs.now rows.old rows.new (fields_of row.now) line }
+{
+    let run = run_of(alloc, jobs, row, line)?;
+    match rows.push(run) {
+        Ok(()) => Ok(()),
+        Err(refusal) => Err(refused_at(line, refusal)),
+    }
+}
+
+/// The runs that lines write, or the first line that is refused.
+fn rows_of(alloc: Global, jobs: &JobList, lines: &[ByteRecord]) -> Result<RowList, RowsRefusal>
+    ensures { LinesRead result jobs.now (map fields_of lines.now) }
+{
+    let mut rows = RowList::new(alloc, jobs);
+    for (i, row) in lines.iter().enumerate() {
+        take_line(&mut rows, alloc, jobs, row, i as u64 + 1)?;
+    }
+    Ok(rows)
+}
+
+/// The rows that a file's records write, or why it is refused.
+fn rows_under_header(
+    alloc: Global,
+    jobs: &JobList,
+    records: &[ByteRecord],
+) -> Result<RowList, RowsRefusal>
+    ensures { RecordsRead result jobs.now (map fields_of records.now) }
+{
+    let [header, lines @ ..] = records else {
+        return Err(RowsRefusal::Fields(0));
+    };
+    match is_rows_header(alloc, jobs.set(), header) {
+        Ok(true) => rows_of(alloc, jobs, lines),
+        Ok(false) => Err(RowsRefusal::Fields(0)),
+        Err(AllocError) => Err(RowsRefusal::Memory),
+    }
+}
+
+/// Reads rows of jobs from CSV: the header, and then a line for each run of equal rows, with its number of
+/// ticks, per processor the job that runs and per resource the job that holds it. A job is named by its
+/// number in the list, counted from 1, and an empty cell names none. A line is a record as `csv` gives it,
+/// so that blank lines are none. The answer is the list of the runs exactly where the text is such a file;
+/// else it names the first line that is refused and the first reason on it, in the order of [`RowsRefusal`].
+pub fn read_rows(alloc: Global, jobs: &JobList, bytes: &[u8]) -> Result<RowList, RowsRefusal>
+    ensures read { RowsRead result jobs.now bytes.now }
+    ensures accepts { IsRowsFile jobs.now bytes.now → IsUnrefused result }
+{
+    match records_of(alloc, bytes) {
+        Ok(records) => rows_under_header(alloc, jobs, &records),
+        Err(AllocError) => Err(RowsRefusal::Memory),
+    }
+}

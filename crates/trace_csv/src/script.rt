@@ -1,0 +1,109 @@
+ghost use Rattle.std.specs.Prelude.{◌≡◌, ◌==◌, option_map, position};
+ghost use Rattle.trace_csv.specs.Scripts.{request_in, script_in};
+ghost use Rattle.trace_csv.specs.PartsSeen.{request_seen, part_seen, Divides, IsFirstToken, IsFirstPart, PartsRead};
+
+use crate::number::number_between;
+use sporadic_model::{MOST_NAME, MOST_TICKS};
+use std::alloc::{AllocError, Global};
+
+/// A request by the name of its resource, and for how many ticks.
+#[derive(Clone, Copy, Debug)]
+pub(crate) struct Request<'a> {
+    pub(crate) resource: &'a [u8],
+    pub(crate) ticks: u64,
+}
+
+/// A part of a script: local ticks, and then maybe a request.
+#[derive(Clone, Copy, Debug)]
+pub(crate) struct Part<'a> {
+    pub(crate) local: u64,
+    pub(crate) request: Option<Request<'a>>,
+}
+
+/// Why a text is not read as a script.
+#[derive(Clone, Copy, Debug, PartialEq, Eq)]
+pub(crate) enum ScriptFault {
+    /// It is none.
+    Form,
+    /// Memory was refused.
+    Memory,
+}
+
+/// Where is the first such byte?
+fn place_of(text: &[u8], byte: u8) -> Option<usize>
+    ensures { result ≡ position (λ b. b == byte) text.now }
+{
+    text.iter().position(|b| *b == byte)
+}
+
+/// What stands before the first such byte, and what stands after it.
+fn divided(text: &[u8], byte: u8) -> Option<(&[u8], &[u8])>
+    ensures { Divides result text.now byte }
+{
+    match place_of(text, byte) {
+        Some(i) => Some((&text[..i], &text[i + 1..])),
+        None => None,
+    }
+}
+
+/// The text up to its first space, and what stands after the space.
+fn first_token(text: &[u8]) -> (&[u8], Option<&[u8]>)
+    ensures { IsFirstToken result text.now }
+{
+    match divided(text, b' ') {
+        Some((token, rest)) => (token, Some(rest)),
+        None => (text, None),
+    }
+}
+
+/// The request that a token is.
+fn request_of(token: &[u8]) -> Option<Request<'_>>
+    ensures { option_map request_seen result ≡ request_in token.now }
+{
+    let Some((resource, ticks)) = divided(token, b':') else {
+        return None;
+    };
+    if resource.is_empty() || resource.len() as u64 > MOST_NAME {
+        return None;
+    }
+    let ticks = number_between(ticks, 1, MOST_TICKS)?;
+    Some(Request { resource, ticks })
+}
+
+/// The first part of a script, and what stands after it, if that is not the end.
+fn first_part(text: &[u8]) -> Option<(Part<'_>, Option<&[u8]>)>
+    ensures { IsFirstPart result text.now }
+{
+    let (token, rest) = first_token(text);
+    let local = number_between(token, 1, MOST_TICKS)?;
+    let Some(text) = rest else {
+        let request = None;
+        return Some((Part { local, request }, None));
+    };
+    let (token, rest) = first_token(text);
+    let request = request_of(token)?;
+    let part = Part {
+        local,
+        request: Some(request),
+    };
+    Some((part, rest))
+}
+
+/// The parts of a script.
+pub(crate) fn parts_in(alloc: Global, text: &[u8]) -> Result<Vec<Part<'_>>, ScriptFault>
+    ensures { PartsRead result text.now }
+{
+    let mut parts = Vec::new(alloc);
+    let mut rest = Some(text);
+    while let Some(text) = rest {
+        let Some((part, after)) = first_part(text) else {
+            return Err(ScriptFault::Form);
+        };
+        match parts.push(part) {
+            Ok(()) => {}
+            Err(_) => return Err(ScriptFault::Memory),
+        }
+        rest = after;
+    }
+    Ok(parts)
+}
