@@ -11,7 +11,8 @@ use Rattle.phase_machine.proofs.Facts.{issued_shown}
 use Rattle.shared_rules.specs.Order.{GivesRanks}
 use Rattle.fmlp_rules.specs.IssueOrder.{issue_now}
 
-issue_given : (m : MachineDef) (rows : ℕ → RowDef) → Shows m rows → (q j : ℕ) → is_requester (under m rows) m.tick q j ≡ true → issue_now m j ≡ issue_tick_of (under m rows) m.tick j
+issue_given : (m : MachineDef) (rows : ℕ → RowDef) → Shows m rows → (q j : ℕ) → is_requester (under m rows) m.tick q j ≡ true
+    → issue_now m j ≡ issue_tick_of (under m rows) m.tick j
 unfolding issue_of
 issue_given m rows shows q j asks =
     let r : Requester (under m rows) m.tick q j = requester_is (under m rows) m.tick q j asks in

@@ -5,10 +5,12 @@
 mod blocking;
 mod choosing;
 mod judging;
+mod laws;
 mod lookup;
 mod order;
 
 pub use blocking::blocked_shared;
 pub use choosing::choose_shared;
 pub use judging::judge_shared;
+pub use laws::each_schedule_has_a_next_row;
 pub use order::Order;
