@@ -5,7 +5,7 @@ use Rattle.schedule_model.specs.Activity.{is_requester, issue_tick_of}
 use Rattle.schedule_model.specs.Ranks.{fmlp_plus}
 use Rattle.schedule_laws.proofs.ActiveJobs.{Requester, requester_is, requester_listed}
 use Rattle.phase_machine.specs.MachineDef.{MachineDef, under}
-use Rattle.phase_machine.specs.Now.{issued_in, issued_now, issue_of}
+use Rattle.phase_machine.specs.Now.{issued_in, issue_of}
 use Rattle.phase_machine.specs.Shows.{Shows}
 use Rattle.phase_machine.proofs.Facts.{issued_shown}
 use Rattle.shared_rules.specs.Order.{GivesRanks}
