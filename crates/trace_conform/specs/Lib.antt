@@ -3,3 +3,4 @@ pub mod Counts
 pub mod Reached
 pub mod Measured
 pub mod Conforming
+pub mod ByProtocol

@@ -7,5 +7,5 @@ mod judging;
 mod measures;
 mod runs;
 
-pub use conforming::{Unlawful, conform_with};
+pub use conforming::{Unlawful, conform, conform_with};
 pub use measures::{Measured, TaskMeasure};
