@@ -1,6 +1,6 @@
 -- Counting a tick: for the active job of each task in turn, and what the counts then say.
-use Rattle.std.proofs.Common.{◌≡◌, ℕ, suc, ◌+◌, ◌<◌, ◌≤◌, ◌&&◌, not, Bool, true, false, List, length, refl, ap, sym, ◌∙◌, subst, arith, inl, inr, Option, Some, None}
-use Rattle.std.proofs.lemmas.Bool.{cases_lt, cases_eq, cases_Bool, both_ways, false_from_ne_true}
+use Rattle.std.proofs.Common.{◌≡◌, ℕ, suc, ◌+◌, ◌<◌, ◌≤◌, Bool, true, false, List, length, refl, ap, sym, ◌∙◌, subst, arith, inl, inr, Option, Some, None}
+use Rattle.std.proofs.lemmas.Bool.{cases_lt, cases_eq, cases_Bool, both_ways}
 use Rattle.bounded_sums.specs.Sums.{flag}
 use Rattle.schedule_model.specs.RowDef.{Trace, RowDef, runs_in}
 use Rattle.schedule_model.specs.Phase.{is_finished, phase_of}

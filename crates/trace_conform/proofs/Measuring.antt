@@ -1,5 +1,5 @@
 -- The measures by the counts are those of the schedule.
-use Rattle.std.proofs.Common.{◌≡◌, ℕ, zero, suc, ◌+◌, ◌-◌, ◌<◌, ◌==◌, ◌&&◌, Bool, true, false, List, length, refl, ap, sym, ◌∙◌, subst, arith, get_or, Option, None, Some, max}
+use Rattle.std.proofs.Common.{◌≡◌, ℕ, zero, suc, ◌+◌, ◌-◌, ◌<◌, ◌==◌, ◌&&◌, Bool, true, false, List, length, refl, ap, ◌∙◌, subst, arith, get_or, None, Some, max}
 use Rattle.std.specs.Prelude.{if◌then◌else◌}
 use Rattle.std.proofs.lemmas.Bool.{and_parts}
 use Rattle.bounded_sums.specs.Sums.{only_if}
@@ -10,10 +10,9 @@ use Rattle.schedule_model.specs.JobDef.{JobsDef}
 use Rattle.schedule_model.specs.RowDef.{Trace, RowDef, RunDef, row_in, ticks_of, trace_in}
 use Rattle.schedule_model.specs.Keeping.{KeepsBefore}
 use Rattle.schedule_model.specs.declared.rule.Rule.{Rule}
-use Rattle.schedule_model.specs.Phase.{is_finished, phase_of}
-use Rattle.schedule_model.specs.Measures.{MeasuresDef, greatest_below, has_finished, finish_of, response_of, blocking_of, counts_for, finished_jobs, measures_of}
+use Rattle.schedule_model.specs.Phase.{is_finished}
+use Rattle.schedule_model.specs.Measures.{MeasuresDef, greatest_below, has_finished, response_of, blocking_of, counts_for, finished_jobs, measures_of}
 use Rattle.phase_machine.specs.MachineDef.{MachineDef, task_in, under}
-use Rattle.phase_machine.specs.Now.{phase_now}
 use Rattle.phase_machine.specs.Shows.{Shows}
 use Rattle.phase_machine.proofs.Facts.{phase_shown}
 use Rattle.trace_conform.specs.declared.counts.JobCount.{JobCount}
@@ -74,7 +73,7 @@ measured interferes m rows counts x shows are =
     ap (λ n. measures_from n (greatest_below (length m.list.jobs) (response_now m counts x)) (greatest_below (length m.list.jobs) (blocking_now m counts x))) a
     ∙ ap (λ n. measures_from (count_below (length m.list.jobs) (counts_for (under m rows) m.tick x)) n (greatest_below (length m.list.jobs) (blocking_now m counts x))) b
     ∙ ap (measures_from (count_below (length m.list.jobs) (counts_for (under m rows) m.tick x))
-        (greatest_below (length m.list.jobs) (λ j. only_if (counts_for (under m rows) m.tick x j) (response_of (under m rows) m.tick j)))) c
+    (greatest_below (length m.list.jobs) (λ j. only_if (counts_for (under m rows) m.tick x j) (response_of (under m rows) m.tick j)))) c
 
 -- What a schedule that was judged to its end conforms to.
 pub conforming : (keeps : Rule → Trace → ℕ → Type 0) (interferes : Trace → ℕ → ℕ → Bool) (jobs : JobsDef) (runs : List RunDef) (m : MachineDef) (counts seen : List JobCount) (answer : Measured)
@@ -86,8 +85,7 @@ conforming keeps interferes jobs runs m counts seen answer list tick reached sam
     let measures : AreMeasures interferes (over m.list rows) m.tick answer = record {
       size = size;
       each = λ x l. each x l ∙ ap (λ c. measures_now m c x) same ∙ measured interferes m rows counts x reached.shows reached.counted;
-    } in
-    (
+    } in (
       subst (λ (t : ℕ). KeepsBefore keeps (over jobs rows) t) tick (subst (λ (l : JobsDef). KeepsBefore keeps (over l rows) m.tick) list reached.keeps_before),
-      subst (λ (t : ℕ). AreMeasures interferes (over jobs rows) t answer) tick (subst (λ (l : JobsDef). AreMeasures interferes (over l rows) m.tick answer) list measures)
+      subst (λ (t : ℕ). AreMeasures interferes (over jobs rows) t answer) tick (subst (λ (l : JobsDef). AreMeasures interferes (over l rows) m.tick answer) list measures),
     )

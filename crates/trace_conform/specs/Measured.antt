@@ -1,5 +1,5 @@
 -- The measures of a task, by the counts of its jobs and by what the machine says of them at the end.
-use Rattle.std.specs.Prelude.{ℕ, ◌-◌, ◌==◌, ◌&&◌, Bool, List, length, Option, None, Some, if◌then◌else◌}
+use Rattle.std.specs.Prelude.{ℕ, ◌-◌, ◌==◌, ◌&&◌, Bool, List, length, None, Some, if◌then◌else◌}
 use Rattle.bounded_sums.specs.Sums.{only_if}
 use Rattle.bounded_sums.specs.Tests.{count_below}
 use Rattle.schedule_model.specs.JobDef.{job_of}

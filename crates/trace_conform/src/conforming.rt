@@ -33,7 +33,12 @@ pub enum Unlawful {
 
 /// Judges each row by the protocol's rules and measures each task: Ok exactly where every row keeps all five rules; else
 /// the first row that breaks one.
-pub fn conform_with<P: Judge>(alloc: Global, protocol: &P, jobs: &JobList, rows: &RowList) -> Result<Measured, Unlawful>
+pub fn conform_with<P: Judge>(
+    alloc: Global,
+    protocol: &P,
+    jobs: &JobList,
+    rows: &RowList,
+) -> Result<Measured, Unlawful>
     requires suits { P.suits protocol.now jobs.now.set }
     requires fits { is_fitting rows.now jobs.now ≡ true }
     ensures { Conforms (P.keeps protocol.now) (P.interferes protocol.now) (trace_in jobs.now rows.now.runs) (ticks_of rows.now.runs) result }
@@ -62,7 +67,12 @@ pub fn conform_with<P: Judge>(alloc: Global, protocol: &P, jobs: &JobList, rows:
 }
 
 /// The same by the protocol's name, of those whose rules are built: MPCP and FMLP+.
-pub fn conform(alloc: Global, protocol: Protocol, jobs: &JobList, rows: &RowList) -> Result<Measured, Unlawful>
+pub fn conform(
+    alloc: Global,
+    protocol: Protocol,
+    jobs: &JobList,
+    rows: &RowList,
+) -> Result<Measured, Unlawful>
     requires served { IsServed protocol }
     requires fits { is_fitting rows.now jobs.now ≡ true }
     ensures { Conforms (rules_of protocol) (interference_of protocol) (trace_in jobs.now rows.now.runs) (ticks_of rows.now.runs) result }

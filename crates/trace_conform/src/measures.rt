@@ -46,7 +46,9 @@ fn response_for(machine: &Machine, counts: &[JobCount], x: TaskId, j: JobId) -> 
     ensures { result ≡ response_now machine.now counts.now x.0 j.0 }
 {
     if is_finished_job(machine, x, j) {
-        return counts[j.0 as usize].end.saturating_sub(machine.jobs().job(j).release);
+        return counts[j.0 as usize]
+            .end
+            .saturating_sub(machine.jobs().job(j).release);
     }
     0
 }
@@ -88,7 +90,11 @@ fn measure_task(machine: &Machine, counts: &[JobCount], x: TaskId) -> TaskMeasur
 }
 
 /// The measures of all tasks, after all rows were taken and counted.
-pub(crate) fn measure_all(alloc: Global, machine: &Machine, counts: &[JobCount]) -> Result<Vec<TaskMeasure>, AllocError>
+pub(crate) fn measure_all(
+    alloc: Global,
+    machine: &Machine,
+    counts: &[JobCount],
+) -> Result<Vec<TaskMeasure>, AllocError>
     requires size { length counts.now ≡ length machine.now.list.jobs }
     ensures size { IfOk result (λ v. length v.items ≡ length machine.now.list.set.tasks) }
     ensures each { IfOk result (λ v. (x : ℕ) → x < length machine.now.list.set.tasks

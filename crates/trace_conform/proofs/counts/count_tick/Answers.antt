@@ -1,4 +1,4 @@
-use Rattle.std.proofs.Common.{◌≡◌, ◌<◌, ◌∙◌, true, length, sym, ap, arith, Some, None}
+use Rattle.std.proofs.Common.{◌≡◌, ◌∙◌, true, sym, ap, arith, Some}
 use Rattle.schedule_model.specs.RowDef.{row_in}
 use Rattle.schedule_model.specs.Activity.{is_active}
 use Rattle.schedule_model.specs.Seen.{place_seen}
@@ -6,7 +6,7 @@ use Rattle.phase_machine.specs.MachineDef.{under, task_in}
 use Rattle.phase_machine.specs.Now.{current_now}
 use Rattle.phase_machine.proofs.Facts.{current_shown}
 use Rattle.trace_conform.specs.Counts.{count_at}
-use Rattle.trace_conform.proofs.Counting.{none_counted, none_more, one_more, all_counted}
+use Rattle.trace_conform.proofs.Counting.{none_more, one_more, all_counted}
 use Rattle.trace_conform.proofs.counts.count_tick.Goals.{in-Some, in_default}
 use Rattle.trace_conform.proofs.counts.count_tick.Goals as goal
 

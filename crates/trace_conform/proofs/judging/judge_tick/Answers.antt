@@ -1,7 +1,6 @@
-use Rattle.std.proofs.Common.{◌≡◌, ◌∙◌, ℕ, sym, ap, arith}
+use Rattle.std.proofs.Common.{◌≡◌, ◌∙◌, ℕ, sym, ap}
 use Rattle.schedule_model.specs.RowDef.{RowDef, row_in}
 use Rattle.schedule_model.specs.Seen.{row_seen}
-use Rattle.schedule_model.specs.Keeping.{KeepsRow}
 use Rattle.schedule_model.specs.TakenRows.{CanBeTaken}
 use Rattle.phase_machine.specs.MachineDef.{MachineDef, under}
 use Rattle.phase_machine.specs.Taking.{IsRowFor}
@@ -34,9 +33,8 @@ returns-clause-judged g c =
     let fits : IsRowFor m.list row = rw (ap (λ r. r.row) c.run_at.ensures.value) (row_fits c.args.rows.now m.list c.args.i c.requires.at.fits c.requires.at.within) in
     let can : CanBeTaken (under m rows) m.tick =
     row_stands (g.P.BlockingProtocol.interferes c.args.protocol.now) rows m row here fits
-    (g.P.BlockingProtocol.sound_row c.args.protocol.now (under m rows) m.tick c.requires.suits (c.in-Ok.ensures rows c.requires.reached.shows here)) in
-    (
+    (g.P.BlockingProtocol.sound_row c.args.protocol.now (under m rows) m.tick c.requires.suits (c.in-Ok.ensures rows c.requires.reached.shows here)) in (
       c.advance.ensures.tick,
       reached_next (g.P.BlockingProtocol.keeps c.args.protocol.now) (g.P.BlockingProtocol.interferes c.args.protocol.now) rows m c.advance.new.self c.args.counts.now c.count_tick.new.counts
-      c.requires.reached c.advance.ensures.list c.advance.ensures.tick (c.advance.ensures.shows rows c.requires.reached.shows here) (c.in-Ok.ensures rows c.requires.reached.shows here) can c.count_tick.ensures
+          c.requires.reached c.advance.ensures.list c.advance.ensures.tick (c.advance.ensures.shows rows c.requires.reached.shows here) (c.in-Ok.ensures rows c.requires.reached.shows here) can c.count_tick.ensures,
     )
