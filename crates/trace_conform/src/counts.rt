@@ -4,7 +4,6 @@ ghost use Rattle.schedule_model.specs.RowDef.{row_in};
 ghost use Rattle.schedule_model.specs.BlockedTicks.{is_blocked};
 ghost use Rattle.schedule_model.specs.Keeping.{KeepsRow};
 ghost use Rattle.phase_machine.specs.MachineDef.{under};
-ghost use Rattle.phase_machine.specs.Now.{active_now};
 ghost use Rattle.phase_machine.specs.Shows.{Shows};
 ghost use Rattle.trace_conform.specs.Runs.{IsAtRun};
 ghost use Rattle.trace_conform.specs.Counts.{count_at, no_count, counted_once, AddsTick};

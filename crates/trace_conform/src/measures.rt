@@ -1,8 +1,4 @@
-ghost use Rattle.std.specs.Prelude.{◌≡◌, ℕ, ◌+◌, ◌-◌, ◌<◌, ◌==◌, length, IfOk, slice_index_or};
-ghost use Rattle.bounded_sums.specs.Sums.{only_if};
-ghost use Rattle.schedule_model.specs.JobDef.{job_of};
-ghost use Rattle.phase_machine.specs.MachineDef.{task_in};
-ghost use Rattle.trace_conform.specs.Counts.{count_at};
+ghost use Rattle.std.specs.Prelude.{◌≡◌, ℕ, ◌<◌, length, IfOk, slice_index_or};
 ghost use Rattle.trace_conform.specs.Measured.{no_measure, measure_seen, counts_now, response_now, blocking_now, measures_now};
 
 use crate::counts::JobCount;
