@@ -9,13 +9,14 @@ use Rattle.outside_ports.specs.declared.whole.TheConstants.{GREATEST_INPUT_BYTES
 use Rattle.sporadic_model.specs.SetDef.{SetDef}
 use Rattle.sporadic_model.specs.Users.{count_of}
 use Rattle.sporadic_model.specs.Refusals.{first_refusal}
-use Rattle.sporadic_model.specs.Accepted.{IsAccepted}
+use Rattle.sporadic_model.proofs.Acceptance.{free_from_accepted}
 use Rattle.sporadic_model.specs.declared.ids.Protocol.{Protocol}
 use Rattle.sporadic_model.specs.declared.refusal.Place.{Place}
 use Rattle.sporadic_model.specs.declared.refusal.ModelRefusal.{ModelRefusal}
 use Rattle.sporadic_model.specs.declared.refusal.ModelRefusal.TheVariants as model
 use Rattle.taskset_json.specs.Answers.{Reads, IsValue, JudgesValue, first_homeless}
-use Rattle.taskset_json.specs.Form.{first_misshapen}
+use Rattle.taskset_json.specs.FormFaults.{first_misshapen}
+use Rattle.taskset_json.proofs.FormRelation.{none_from_form}
 use Rattle.taskset_json.specs.Written.{set_written}
 use Rattle.taskset_json.specs.declared.refusal.SetRefusal.{SetRefusal}
 use Rattle.taskset_json.specs.declared.refusal.SetRefusal.TheVariants as refusal
@@ -49,12 +50,13 @@ judgement d = judge_form (first_misshapen d) (set_written d)
 model_judged : (m : ModelRefusal) (d : Data) → JudgesValue (Err (refusal.Model m)) d → Err (refusal.Model m) ≡ judgement d
 unfolding judgement judge_form judge_set
 model_judged model.Memory d j = absurd j
-model_judged m d (shape, due) = rw (shape, due) refl
+model_judged m d (form, due) = let shape : first_misshapen d ≡ None = none_from_form d form in rw (shape, due) refl
 
 judged : (r : Result SetDef SetRefusal) (d : Data) → JudgesValue r d → Tells r → r ≡ judgement d
-unfolding judgement judge_form judge_set IsAccepted
-judged (Ok set) d (shape, accepted, same) tells =
-    let none : first_refusal (set_written d) ≡ None = accepted in
+unfolding judgement judge_form judge_set
+judged (Ok set) d (form, accepted, same) tells =
+    let shape : first_misshapen d ≡ None = none_from_form d form in
+    let none : first_refusal (set_written d) ≡ None = free_from_accepted (set_written d) accepted in
     rw (shape, none) (ap (λ s. Ok s) same)
 judged (Err refusal.NotJson) d j tells = absurd j
 judged (Err (refusal.Shape place)) d shape tells = rw shape refl

@@ -5,7 +5,7 @@ use Rattle.sporadic_model.specs.SetDef.{SetDef, task_at}
 use Rattle.sporadic_model.specs.Users.{count_of, length_of}
 use Rattle.sporadic_model.specs.declared.ids.Protocol.{Protocol}
 use Rattle.sporadic_model.specs.declared.ids.Protocol.TheVariants as protocol
-use Rattle.fragments.specs.ColumnDef.{ColumnDef, is_direct}
+use Rattle.fragments.specs.ColumnDef.{is_direct}
 use Rattle.fragments.specs.Windows.{jobs_in, requests_in}
 use Rattle.fragments.specs.Constraints.{ConstraintDef, per, per_pair}
 

@@ -94,10 +94,7 @@ impl Constraint for LowerHolderRow {
     ghost fits = { λ k set. k.resource.0 < length set.resources };
 
     fn coefficient(&self, _set: &TaskSet, i: TaskId, column: Fragment) -> u64 {
-        if column.resource.0 == self.resource.0
-            && column.class.is_direct()
-            && i.0 < column.task.0
-        {
+        if column.resource.0 == self.resource.0 && column.class.is_direct() && i.0 < column.task.0 {
             1
         } else {
             0

@@ -36,7 +36,10 @@ fn add_request_rows_of(
     ensures { OnOk result (block_seen block.new ≡ with_rows (block_seen block.old) (map column_seen columns.now) (per (length set.now.resources) (request_row set.now i.0 x.0)) bounds.now) }
 {
     for q in 0..set.resources() {
-        let row = RequestRow { task: x, resource: ResourceId(q) };
+        let row = RequestRow {
+            task: x,
+            resource: ResourceId(q),
+        };
         add_row(alloc, block, &row, set, i, bounds, columns)?;
     }
     Ok(())
@@ -77,7 +80,15 @@ fn add_time_rows(
     ensures { OnOk result (block_seen block.new ≡ with_rows (block_seen block.old) (map column_seen columns.now) (per (length set.now.tasks) (time_row set.now i.0)) bounds.now) }
 {
     for x in 0..set.tasks() {
-        add_row(alloc, block, &TimeRow { task: TaskId(x) }, set, i, bounds, columns)?;
+        add_row(
+            alloc,
+            block,
+            &TimeRow { task: TaskId(x) },
+            set,
+            i,
+            bounds,
+            columns,
+        )?;
     }
     Ok(())
 }
@@ -125,7 +136,10 @@ fn add_turn_rows_of(
     ensures { OnOk result (block_seen block.new ≡ with_rows (block_seen block.old) (map column_seen columns.now) (per (length set.now.resources) (turn_row set.now i.0 x.0)) bounds.now) }
 {
     for q in 0..set.resources() {
-        let row = TurnRow { task: x, resource: ResourceId(q) };
+        let row = TurnRow {
+            task: x,
+            resource: ResourceId(q),
+        };
         add_row(alloc, block, &row, set, i, bounds, columns)?;
     }
     Ok(())
@@ -166,7 +180,9 @@ fn add_lower_holder_rows(
     ensures { OnOk result (block_seen block.new ≡ with_rows (block_seen block.old) (map column_seen columns.now) (per (length set.now.resources) (lower_holder_row set.now i.0)) bounds.now) }
 {
     for q in 0..set.resources() {
-        let row = LowerHolderRow { resource: ResourceId(q) };
+        let row = LowerHolderRow {
+            resource: ResourceId(q),
+        };
         add_row(alloc, block, &row, set, i, bounds, columns)?;
     }
     Ok(())

@@ -1,7 +1,7 @@
 -- What is known of each column of a task: it is a column by its own test, of a task and a resource of the set.
-use Rattle.std.proofs.Common.{◌≡◌, ℕ, zero, suc, ◌<◌, ◌≤◌, Bool, true, List, [], ◌∷◌, ◌++◌, map, length, refl, sym, subst, arith}
+use Rattle.std.proofs.Common.{◌≡◌, ℕ, zero, suc, ◌<◌, true, List, [], ◌∷◌, map, length, arith}
 use Rattle.std.proofs.lemmas.List.Elements.{All-nil, All-cons, All-head, All-tail, All-append, All-filter, All-same, filter_passes}
-use Rattle.std.specs.List.{All, filter}
+use Rattle.std.specs.List.{All}
 use Rattle.bounded_sums.specs.Sums.{collect_below}
 use Rattle.sporadic_model.specs.SetDef.{SetDef}
 use Rattle.sporadic_model.specs.declared.ids.Protocol.{Protocol}
@@ -28,7 +28,7 @@ classes_known n m x q a b =
     let indirect : ColumnDef = record { task = x; resource = q; class = class.Indirect } in
     let preemption : ColumnDef = record { task = x; resource = q; class = class.Preemption } in
     All-cons (IsKnown n m) direct (indirect ∷ preemption ∷ []) (a, b)
-        (All-cons (IsKnown n m) indirect (preemption ∷ []) (a, b) (All-cons (IsKnown n m) preemption [] (a, b) (All-nil (IsKnown n m))))
+    (All-cons (IsKnown n m) indirect (preemption ∷ []) (a, b) (All-cons (IsKnown n m) preemption [] (a, b) (All-nil (IsKnown n m))))
 
 all_known : (n m : ℕ) → All (IsKnown n m) (all_columns n m)
 all_known n m = all_collected (IsKnown n m) n (λ x. collect_below m (λ q. classes_of x q)) (λ x a.

@@ -1,19 +1,21 @@
 ghost use Rattle.std.specs.Prelude.{◌≡◌, ◌<◌, ◌≤◌, length, slice_index};
 ghost use Rattle.program_sources.specs.Bounds.{AreWithinDeadlines};
-ghost use Rattle.fragments.specs.Windows.{jobs_in, requests_in, all_requests};
+ghost use Rattle.fragments.specs.Windows.{jobs_in as jobs_in_window, requests_in, all_requests};
 
-use sporadic_model::{ResourceId, TaskId, TaskSet};
+use sporadic_model::{ResourceId, TaskId, TaskSet, jobs_in};
 
 /// How many jobs of task `x` can run within the bound of a job of task `i`: the bounds of both over `x`'s period, rounded up.
 pub fn jobs(set: &TaskSet, i: TaskId, x: TaskId, bounds: &[u64]) -> u64
     requires task { i.0 < length set.now.tasks }
     requires other { x.0 < length set.now.tasks }
     requires within { AreWithinDeadlines set.now bounds.now }
-    ensures value { result ≡ jobs_in set.now (slice_index bounds.now) i.0 x.0 }
+    ensures value { result ≡ jobs_in_window set.now (slice_index bounds.now) i.0 x.0 }
     ensures most { result ≤ 2000000000 }
 {
     let _tasks = set.tasks();
-    sporadic_model::jobs_in(bounds[i.0 as usize], bounds[x.0 as usize], set.period(x))
+    let window = bounds[i.0 as usize];
+    let bound = bounds[x.0 as usize];
+    jobs_in(window, bound, set.period(x))
 }
 
 /// How many requests one job of task `i` can make, over all resources.

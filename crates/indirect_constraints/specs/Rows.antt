@@ -2,12 +2,12 @@
 use Rattle.std.specs.Prelude.{ℕ, ◌+◌, ◌==◌, ◌&&◌, not, nat_lt, Bool, List, length}
 use Rattle.bounded_sums.specs.Sums.{flag, only_if, sum_below}
 use Rattle.bounded_sums.specs.Tests.{any_below}
-use Rattle.sporadic_model.specs.SetDef.{SetDef, task_at}
+use Rattle.sporadic_model.specs.SetDef.{SetDef}
 use Rattle.sporadic_model.specs.Users.{count_of, is_user}
 use Rattle.sporadic_model.specs.declared.ids.Protocol.{Protocol}
 use Rattle.sporadic_model.specs.declared.ids.Protocol.TheVariants as protocol
 use Rattle.sporadic_model.specs.Homes.{home_in}
-use Rattle.fragments.specs.ColumnDef.{ColumnDef, is_indirect, is_preemption}
+use Rattle.fragments.specs.ColumnDef.{is_indirect, is_preemption}
 use Rattle.fragments.specs.Columns.{have_one_processor}
 use Rattle.fragments.specs.Windows.{requests_in, all_requests}
 use Rattle.fragments.specs.Constraints.{ConstraintDef, per}

@@ -34,7 +34,15 @@ fn add_queue_rows(
     ensures { OnOk result (block_seen block.new ≡ with_rows (block_seen block.old) (map column_seen columns.now) (per (length set.now.tasks) (queue_row set.now i.0)) bounds.now) }
 {
     for x in 0..set.tasks() {
-        add_row(alloc, block, &QueueRow { task: TaskId(x) }, set, i, bounds, columns)?;
+        add_row(
+            alloc,
+            block,
+            &QueueRow { task: TaskId(x) },
+            set,
+            i,
+            bounds,
+            columns,
+        )?;
     }
     Ok(())
 }
@@ -54,7 +62,15 @@ fn add_holding_rows(
     ensures { OnOk result (block_seen block.new ≡ with_rows (block_seen block.old) (map column_seen columns.now) (per (length set.now.tasks) (holding_row set.now i.0)) bounds.now) }
 {
     for x in 0..set.tasks() {
-        add_row(alloc, block, &HoldingRow { task: TaskId(x) }, set, i, bounds, columns)?;
+        add_row(
+            alloc,
+            block,
+            &HoldingRow { task: TaskId(x) },
+            set,
+            i,
+            bounds,
+            columns,
+        )?;
     }
     Ok(())
 }
@@ -74,7 +90,15 @@ fn add_home_rows(
     ensures { OnOk result (block_seen block.new ≡ with_rows (block_seen block.old) (map column_seen columns.now) (per set.now.processors (λ k. home_row set.now i.0 (k + 1))) bounds.now) }
 {
     for k in 0..set.processors() {
-        add_row(alloc, block, &HomeRow { processor: k + 1 }, set, i, bounds, columns)?;
+        add_row(
+            alloc,
+            block,
+            &HomeRow { processor: k + 1 },
+            set,
+            i,
+            bounds,
+            columns,
+        )?;
     }
     Ok(())
 }

@@ -2,7 +2,7 @@
 use Rattle.std.specs.Prelude.{ℕ, ◌+◌, ◌==◌, ◌&&◌, List, length}
 use Rattle.bounded_sums.specs.Sums.{flag}
 use Rattle.sporadic_model.specs.SetDef.{SetDef}
-use Rattle.fragments.specs.ColumnDef.{ColumnDef, is_preemption}
+use Rattle.fragments.specs.ColumnDef.{is_preemption}
 use Rattle.fragments.specs.Columns.{is_lower_local}
 use Rattle.fragments.specs.Windows.{all_requests}
 use Rattle.fragments.specs.Constraints.{ConstraintDef, per_where}

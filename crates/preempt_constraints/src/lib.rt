@@ -56,7 +56,15 @@ fn add_interval_row(
     ensures { OnOk result (block_seen block.new ≡ with_rows (block_seen block.old) (map column_seen columns.now) (if is_lower_local set.now i.0 x.0 then interval_row set.now i.0 x.0 ∷ [] else []) bounds.now) }
 {
     if lower_local(set, i, x) {
-        return add_row(alloc, block, &IntervalRow { task: x }, set, i, bounds, columns);
+        return add_row(
+            alloc,
+            block,
+            &IntervalRow { task: x },
+            set,
+            i,
+            bounds,
+            columns,
+        );
     }
     Ok(())
 }

@@ -1,12 +1,12 @@
 -- Each column has a coefficient above zero in a row: in that of its requests.
-use Rattle.std.proofs.Common.{◌≡◌, ℕ, ◌<◌, ◌≤◌, ◌==◌, ◌&&◌, Bool, true, List, [], ◌∷◌, ◌++◌, map, length, refl, sym, ◌∙◌, ap, subst, arith, nat_lt, eq-eqb, rules}
+use Rattle.std.proofs.Common.{◌≡◌, ℕ, ◌<◌, ◌==◌, ◌&&◌, true, List, [], ◌∷◌, ◌++◌, map, length, refl, ◌∙◌, ap, arith, nat_lt, eq-eqb}
 use Rattle.std.specs.Prelude.{slice_index, slice_index_or}
-use Rattle.std.specs.List.{All, Contains, filter, list_any}
+use Rattle.std.specs.List.{Contains}
 use Rattle.std.proofs.lemmas.List.{get_or-map, length-map}
 use Rattle.std.proofs.lemmas.List.Folds.{list_any_at}
 use Rattle.std.proofs.lemmas.List.Elements.{All-get_or, Contains-append_left}
-use Rattle.bounded_sums.specs.Sums.{flag, collect_below}
-use Rattle.program_form.specs.Program.{ProgramDef, IsCovered, columns, height, entry}
+use Rattle.bounded_sums.specs.Sums.{flag}
+use Rattle.program_form.specs.Program.{IsCovered, columns}
 use Rattle.sporadic_model.specs.SetDef.{SetDef}
 use Rattle.sporadic_model.specs.declared.ids.Protocol.{Protocol}
 use Rattle.fragments.specs.declared.columns.Class.TheVariants as class
@@ -32,7 +32,7 @@ request_row_among p set i x q a b =
     let mine : Contains (per m (request_row set i x)) row = contains_collected m q (λ q. request_row set i x q ∷ []) row b (0, omega arith, refl) in
     let pair : Contains (per_pair n m (request_row set i)) row = contains_collected n x (λ x. per m (request_row set i x)) row a mine in
     Contains-append_left (common_rows set i) (preemption_rows set i ++ (own_rows p set i ++ indirect_rows p set i)) row
-        (Contains-append_left (per_pair n m (request_row set i)) (per n (time_row set i)) row pair)
+    (Contains-append_left (per_pair n m (request_row set i)) (per n (time_row set i)) row pair)
 
 flag_itself : (x q : ℕ) → flag ((x == x) && (q == q)) ≡ 1
 flag_itself x q = rw (eq-eqb x x refl, eq-eqb q q refl) refl
@@ -55,8 +55,8 @@ covered p set i r c within =
     let above : nat_lt 0 (row.coefficient k) ≡ true = rw one refl in
     let holds : holds_some cs row ≡ true = list_any_at (λ c. nat_lt 0 (row.coefficient c)) cs c some_column here above in
     let there : Contains (rows_there cs (rows_of p set i)) row =
-        contains_filter (holds_some cs) (rows_of p set i) row (request_row_among p set i k.task k.resource known.0 known.1) holds in
+    contains_filter (holds_some cs) (rows_of p set i) row (request_row_among p set i k.task k.resource known.0 known.1) holds in
     let entry_here : slice_index (slice_index_or (coefficients_of cs (rows_of p set i)) there.0 []) c ≡ row.coefficient k =
-        coefficient_at cs (rows_there cs (rows_of p set i)) row there.0 c some_column there.1 there.2 here in
+    coefficient_at cs (rows_there cs (rows_of p set i)) row there.0 c some_column there.1 there.2 here in
     let inside : there.0 < length (coefficients_of cs (rows_of p set i)) = rw (length-map (rows_there cs (rows_of p set i)) (λ (k : ConstraintDef). map k.coefficient cs)) there.1 in
     record { by_row = there.0; within = inside; above = rw (entry_here, one) (omega arith) }

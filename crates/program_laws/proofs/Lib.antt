@@ -5,3 +5,4 @@ pub mod SmallNumbers
 pub mod CoveredColumns
 pub mod ListLengths
 pub mod WrittenPrograms
+pub mod UsedResources

@@ -1,14 +1,14 @@
 -- How many columns and rows a program has at most.
-use Rattle.std.proofs.Common.{◌≡◌, ℕ, zero, suc, ◌+◌, ◌*◌, ◌<◌, ◌≤◌, Bool, true, false, List, [], ◌∷◌, ◌++◌, map, length, refl, arith, if◌then◌else◌}
+use Rattle.std.proofs.Common.{◌≡◌, ℕ, zero, suc, ◌+◌, ◌*◌, ◌≤◌, Bool, true, false, [], ◌∷◌, ◌++◌, length, arith, if◌then◌else◌}
 use Rattle.std.proofs.lemmas.List.{length-append}
-use Rattle.std.proofs.Math.Nat.{mul-le-mul_left, mul-le-mul_right}
+use Rattle.std.proofs.Math.Nat.{mul-le-mul_right}
 use Rattle.sporadic_model.specs.SetDef.{SetDef}
-use Rattle.sporadic_model.specs.Accepted.{IsAccepted, SetSizes}
+use Rattle.sporadic_model.specs.Accepted.{IsAccepted}
 use Rattle.sporadic_model.specs.declared.ids.Protocol.{Protocol}
 use Rattle.sporadic_model.specs.declared.ids.Protocol.TheVariants as protocol
 use Rattle.sporadic_model.proofs.Laws.{sizes_of_accepted}
 use Rattle.bounded_sums.specs.Sums.{collect_below}
-use Rattle.fragments.specs.ColumnDef.{ColumnDef, all_columns, classes_of}
+use Rattle.fragments.specs.ColumnDef.{all_columns, classes_of}
 use Rattle.fragments.specs.Columns.{is_column, columns_of, is_lower_local}
 use Rattle.fragments.specs.Constraints.{ConstraintDef, per, per_pair, per_where, holds_some, rows_there}
 use Rattle.direct_constraints.specs.Rows.{request_row, time_row, turn_row, lower_holder_row, common_rows, own_rows}
@@ -87,5 +87,15 @@ rows_few p set i accepted =
     let own = own_rows p set i in
     let indirect = indirect_rows p set i in
     let preemption = preemption_rows set i in
-    omega (arith, filter_shorter (holds_some (columns_of p set i)) (rows_of p set i), length-append (common_rows set i) (preemption ++ (own ++ indirect)), length-append preemption (own ++ indirect),
-        length-append own indirect, common_few set i f, where_at_most (is_lower_local set i) (length set.tasks) (interval_row set i), f.tasks, own_few p set i f, indirect_few p set i f)
+    omega (
+      arith,
+      filter_shorter (holds_some (columns_of p set i)) (rows_of p set i),
+      length-append (common_rows set i) (preemption ++ (own ++ indirect)),
+      length-append preemption (own ++ indirect),
+      length-append own indirect,
+      common_few set i f,
+      where_at_most (is_lower_local set i) (length set.tasks) (interval_row set i),
+      f.tasks,
+      own_few p set i f,
+      indirect_few p set i f,
+    )

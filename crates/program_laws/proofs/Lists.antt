@@ -1,11 +1,10 @@
 -- Laws of lists of numbers, of filters and of lists that are collected index by index.
-use Rattle.std.proofs.Common.{◌≡◌, ℕ, zero, suc, ◌+◌, ◌*◌, ◌<◌, ◌≤◌, Bool, true, false, List, [], ◌∷◌, ◌++◌, map, length, refl, sym, ◌∙◌, ap, subst, arith, inl, inr, cond}
+use Rattle.std.proofs.Common.{◌≡◌, ℕ, zero, suc, ◌*◌, ◌<◌, ◌≤◌, Bool, true, false, List, [], ◌∷◌, map, length, ◌∙◌, ap, subst, arith, inl, inr, cond}
 use Rattle.std.specs.Prelude.{slice_index, slice_index_or}
 use Rattle.std.specs.List.{All, Contains, filter}
 use Rattle.std.proofs.lemmas.Bool.{cases_lt}
 use Rattle.std.proofs.lemmas.List.{length-append}
 use Rattle.std.proofs.lemmas.List.Elements.{All-head, All-tail, Contains-append_left, Contains-append_right}
-use Rattle.std.proofs.Math.Nat.{mul-le-mul_right}
 use Rattle.bounded_sums.specs.Sums.{sum_below, collect_below}
 use Rattle.bounded_sums.proofs.SumLaws.{sum_below-monotone, sum_below-constant}
 
@@ -51,18 +50,18 @@ contains_filter p (y ∷ ys) x (suc k, l, e) passes = contains_behind (p y) y x 
 pub filter_shorter : {X : Type 0} (p : X → Bool) (xs : List X) → length (filter p xs) ≤ length xs
 filter_shorter p [] = omega arith
 filter_shorter p (x ∷ xs) = elim (p x) as (λ b. length (cond b (x ∷ filter p xs) (filter p xs)) ≤ length (x ∷ xs)) [
-    | true ↦ omega (arith, filter_shorter p xs)
-    | false ↦ omega (arith, filter_shorter p xs)
-  ]
+  | true ↦ omega (arith, filter_shorter p xs)
+  | false ↦ omega (arith, filter_shorter p xs)
+]
 
 pub contains_collected : {X : Type 0} (n k : ℕ) (f : ℕ → List X) (x : X) → k < n → Contains (f k) x → Contains (collect_below n f) x
 contains_collected zero k f x l h = absurd (omega arith)
 contains_collected (suc n) k f x l h = elim (cases_lt k n) [
-    | inl before ↦ Contains-append_left (collect_below n f) (f n) x (contains_collected n k f x before h)
-    | inr last ↦
-        let same : k ≡ n = omega arith in
-        Contains-append_right (collect_below n f) (f n) x (subst (λ j. Contains (f j) x) same h)
-  ]
+  | inl before ↦ Contains-append_left (collect_below n f) (f n) x (contains_collected n k f x before h)
+  | inr last ↦
+      let same : k ≡ n = omega arith in
+      Contains-append_right (collect_below n f) (f n) x (subst (λ j. Contains (f j) x) same h)
+]
 
 pub collected_at_most : {X : Type 0} (n m : ℕ) (f : ℕ → List X) → ((k : ℕ) → k < n → length (f k) ≤ m) → length (collect_below n f) ≤ n * m
 collected_at_most zero m f each = omega arith

@@ -1,5 +1,5 @@
 -- No limit of a row falls where bounds rise.
-use Rattle.std.proofs.Common.{◌≡◌, ℕ, ◌+◌, ◌*◌, ◌<◌, ◌≤◌, Bool, true, false, List, length, refl, arith}
+use Rattle.std.proofs.Common.{ℕ, ◌+◌, ◌<◌, ◌≤◌, Bool, true, false, List, length, arith}
 use Rattle.std.specs.Prelude.{slice_index}
 use Rattle.std.proofs.Math.Nat.{mul-le-mul_left}
 use Rattle.bounded_sums.specs.Sums.{only_if}
@@ -11,9 +11,7 @@ use Rattle.program_sources.specs.Bounds.{AtMost}
 use Rattle.program_sources.proofs.RecurrenceLaws.{div_ceil_rises}
 use Rattle.fragments.specs.Windows.{jobs_in, requests_in}
 use Rattle.fragments.specs.Constraints.{ConstraintDef}
-use Rattle.direct_constraints.specs.Rows.{request_row, time_row, turn_row, lower_holder_row}
-use Rattle.preempt_constraints.specs.Rows.{interval_row}
-use Rattle.indirect_constraints.specs.Rows.{queue_row, holding_row, home_row, is_beside, higher_holdings, lower_holdings, holdings}
+use Rattle.indirect_constraints.specs.Rows.{is_beside, higher_holdings, lower_holdings, holdings}
 use Rattle.program_laws.proofs.RowKinds.{EachKind}
 
 -- Is the row's limit at the bounds r at most that at s?
@@ -36,7 +34,7 @@ holdings_rise : (set : SetDef) (r s : List ℕ) (i x : ℕ) → i < length set.t
     → holdings set (slice_index r) i x ≤ holdings set (slice_index s) i x
 holdings_rise set r s i x here h = sum_below-monotone (length set.resources) _ _ (λ q l.
     let higher : higher_holdings set (slice_index r) i x q ≤ higher_holdings set (slice_index s) i x q =
-        sum_below-monotone i _ _ (λ y a. only_if_rises (is_beside set x y) _ _ (requests_rise set r s i y q (h i here) (h y (omega arith)))) in
+    sum_below-monotone i _ _ (λ y a. only_if_rises (is_beside set x y) _ _ (requests_rise set r s i y q (h i here) (h y (omega arith)))) in
     only_if_rises (is_user set q i) (higher_holdings set (slice_index r) i x q + lower_holdings set i x q) (higher_holdings set (slice_index s) i x q + lower_holdings set i x q) (omega arith))
 
 pub limits_rise : (p : Protocol) (set : SetDef) (i : ℕ) (r s : List ℕ) → i < length set.tasks → AtMost (length set.tasks) r s → EachKind (Rises r s) p set i

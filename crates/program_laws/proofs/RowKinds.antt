@@ -1,5 +1,5 @@
 -- What is true of each kind of row is true of each row of a protocol.
-use Rattle.std.proofs.Common.{◌≡◌, ℕ, zero, suc, ◌+◌, ◌<◌, ◌≤◌, Bool, true, false, List, [], ◌∷◌, ◌++◌, map, length, refl, if◌then◌else◌}
+use Rattle.std.proofs.Common.{◌≡◌, ℕ, ◌+◌, ◌<◌, Bool, true, false, [], ◌∷◌, ◌++◌, length, refl, if◌then◌else◌}
 use Rattle.std.specs.List.{All}
 use Rattle.std.proofs.lemmas.List.Elements.{All-nil, All-cons, All-append}
 use Rattle.sporadic_model.specs.SetDef.{SetDef}
@@ -50,9 +50,9 @@ indirect_each P protocol.Dpcp set i each = all_per P set.processors (λ k. home_
 pub each_row : (P : ConstraintDef → Type 0) (p : Protocol) (set : SetDef) (i : ℕ) → EachKind P p set i → All P (rows_of p set i)
 each_row P p set i each =
     All-append P (common_rows set i) (preemption_rows set i ++ (own_rows p set i ++ indirect_rows p set i))
-        (All-append P (per_pair (length set.tasks) (length set.resources) (request_row set i)) (per (length set.tasks) (time_row set i))
-            (all_per_pair P (length set.tasks) (length set.resources) (request_row set i) each.request)
-            (all_per P (length set.tasks) (time_row set i) each.time))
-        (All-append P (preemption_rows set i) (own_rows p set i ++ indirect_rows p set i)
-            (all_per_where P (is_lower_local set i) (length set.tasks) (interval_row set i) each.interval)
-            (All-append P (own_rows p set i) (indirect_rows p set i) (own_each P p set i each) (indirect_each P p set i each)))
+    (All-append P (per_pair (length set.tasks) (length set.resources) (request_row set i)) (per (length set.tasks) (time_row set i))
+    (all_per_pair P (length set.tasks) (length set.resources) (request_row set i) each.request)
+    (all_per P (length set.tasks) (time_row set i) each.time))
+    (All-append P (preemption_rows set i) (own_rows p set i ++ indirect_rows p set i)
+    (all_per_where P (is_lower_local set i) (length set.tasks) (interval_row set i) each.interval)
+    (All-append P (own_rows p set i) (indirect_rows p set i) (own_each P p set i each) (indirect_each P p set i each)))

@@ -1,5 +1,5 @@
 -- No number of a program is large, since the numbers of an accepted set are in their ranges.
-use Rattle.std.proofs.Common.{◌≡◌, ℕ, zero, suc, ◌+◌, ◌*◌, ◌<◌, ◌≤◌, Bool, true, false, List, length, refl, arith, ◌==◌, ◌&&◌, nat_lt, Option, Some, None, inl, inr}
+use Rattle.std.proofs.Common.{◌≡◌, ℕ, zero, suc, ◌+◌, ◌*◌, ◌<◌, ◌≤◌, Bool, List, length, refl, arith, ◌==◌, ◌&&◌, nat_lt, Option, Some, None, inl, inr}
 use Rattle.std.specs.Prelude.{slice_index}
 use Rattle.std.specs.Int.{div_ceil}
 use Rattle.std.specs.Option.{option_map_or}
@@ -13,7 +13,7 @@ use Rattle.bounded_sums.proofs.CountLaws.{flag-at_most}
 use Rattle.bounded_sums.proofs.SumLaws.{only_if-at_most}
 use Rattle.sporadic_model.specs.SetDef.{SetDef, RequestDef, task_at, resource_at}
 use Rattle.sporadic_model.specs.Users.{count_of, length_of, entry_of, is_user}
-use Rattle.sporadic_model.specs.Accepted.{IsAccepted, SetSizes}
+use Rattle.sporadic_model.specs.Accepted.{IsAccepted}
 use Rattle.sporadic_model.specs.Homes.{home_in}
 use Rattle.sporadic_model.specs.declared.ids.Protocol.{Protocol}
 use Rattle.sporadic_model.proofs.Laws.{numbers_of_accepted, sizes_of_accepted, entry_of_accepted}
@@ -21,9 +21,7 @@ use Rattle.program_sources.specs.Bounds.{AreWithinDeadlines}
 use Rattle.fragments.specs.ColumnDef.{ColumnDef}
 use Rattle.fragments.specs.Windows.{jobs_in, requests_in, all_requests}
 use Rattle.fragments.specs.Constraints.{ConstraintDef}
-use Rattle.direct_constraints.specs.Rows.{request_row, time_row, turn_row, lower_holder_row}
-use Rattle.preempt_constraints.specs.Rows.{interval_row}
-use Rattle.indirect_constraints.specs.Rows.{queue_row, holding_row, home_row, is_beside, higher_holdings, lower_holdings, holdings}
+use Rattle.indirect_constraints.specs.Rows.{is_beside, higher_holdings, lower_holdings, holdings}
 use Rattle.program_laws.proofs.Lists.{sum_at_most}
 use Rattle.program_laws.proofs.RowKinds.{EachKind}
 
@@ -93,7 +91,7 @@ home_small : (set : SetDef) (i : ℕ) (at : ℕ → Bool) → IsAccepted set →
 home_small set i at accepted here =
     let sizes = sizes_of_accepted set accepted in
     let sum = sum_at_most (length set.resources) 1000 (λ q. only_if (at q) (count_of set i q)) (λ q l.
-        omega (arith, only_if-at_most (at q) (count_of set i q), count_small set i q accepted here)) in
+    omega (arith, only_if-at_most (at q) (count_of set i q), count_small set i q accepted here)) in
     omega (arith, sum, sizes.resources_to)
 
 higher_small : (set : SetDef) (r : List ℕ) (i x q : ℕ) → IsAccepted set → AreWithinDeadlines set r → i < length set.tasks
@@ -101,7 +99,7 @@ higher_small : (set : SetDef) (r : List ℕ) (i x q : ℕ) → IsAccepted set �
 higher_small set r i x q accepted within here =
     let sizes = sizes_of_accepted set accepted in
     let sum = sum_at_most i 2000000000000 (λ y. only_if (is_beside set x y) (requests_in set (slice_index r) i y q)) (λ y l.
-        omega (arith, only_if-at_most (is_beside set x y) (requests_in set (slice_index r) i y q), requests_small set r i y q accepted within here (omega arith))) in
+    omega (arith, only_if-at_most (is_beside set x y) (requests_in set (slice_index r) i y q), requests_small set r i y q accepted within here (omega arith))) in
     omega (arith, sum, sizes.tasks_to)
 
 only_if_small : (b : Bool) (n m : ℕ) → n ≤ m → only_if b n ≤ m
@@ -115,8 +113,12 @@ holdings_small : (set : SetDef) (r : List ℕ) (i x : ℕ) → IsAccepted set �
 holdings_small set r i x accepted within here =
     let sizes = sizes_of_accepted set accepted in
     let sum = sum_at_most (length set.resources) 128000000001000 (λ q. only_if (is_user set q i) (higher_holdings set (slice_index r) i x q + lower_holdings set i x q)) (λ q l.
-        omega (arith, only_if-at_most (is_user set q i) (higher_holdings set (slice_index r) i x q + lower_holdings set i x q),
-            higher_small set r i x q accepted within here, lower_small set i x q accepted here)) in
+    omega (
+      arith,
+      only_if-at_most (is_user set q i) (higher_holdings set (slice_index r) i x q + lower_holdings set i x q),
+      higher_small set r i x q accepted within here,
+      lower_small set i x q accepted here,
+    )) in
     omega (arith, sum, sizes.resources_to)
 
 -- Are the row's coefficients and its limit at these bounds small?

@@ -1,20 +1,19 @@
 -- The lists of each task are a program, and its limits rise with the bounds.
-use Rattle.std.proofs.Common.{◌≡◌, ℕ, ◌+◌, ◌*◌, ◌<◌, ◌≤◌, ◌^◌, Bool, true, List, [], ◌∷◌, ◌++◌, map, length, refl, sym, ◌∙◌, ap, arith}
+use Rattle.std.proofs.Common.{ℕ, ◌<◌, ◌≤◌, List, [], ◌∷◌, map, length, refl, sym, ◌∙◌, ap, arith}
 use Rattle.std.specs.Prelude.{slice_index, slice_index_or}
-use Rattle.std.specs.List.{All, filter}
-use Rattle.std.proofs.lemmas.List.{get_or-map, length-map, length-append}
+use Rattle.std.specs.List.{All}
+use Rattle.std.proofs.lemmas.List.{get_or-map, length-map}
 use Rattle.std.proofs.lemmas.List.Elements.{All-nil, All-cons, All-filter, All-map, All-weaker}
-use Rattle.program_form.specs.Program.{ProgramDef, IsProgram, HasLengths, AreSmall, IsCovered, columns, height, row}
+use Rattle.program_form.specs.Program.{IsProgram, HasLengths, AreSmall}
 use Rattle.program_form.specs.Limits.{HasLimitsAtMost}
 use Rattle.sporadic_model.specs.SetDef.{SetDef, task_at}
-use Rattle.sporadic_model.specs.Accepted.{IsAccepted, SetSizes, TaskNumbers}
+use Rattle.sporadic_model.specs.Accepted.{IsAccepted, TaskNumbers}
 use Rattle.sporadic_model.specs.declared.ids.Protocol.{Protocol}
 use Rattle.sporadic_model.specs.declared.ids.Protocol.TheVariants as protocol
-use Rattle.sporadic_model.proofs.Laws.{sizes_of_accepted}
 use Rattle.program_sources.specs.Bounds.{AtMost, AreWithinDeadlines}
-use Rattle.fragments.specs.ColumnDef.{ColumnDef, all_columns, classes_of}
-use Rattle.fragments.specs.Columns.{is_column, columns_of, is_lower_local}
-use Rattle.fragments.specs.Constraints.{ConstraintDef, per, per_pair, per_where, holds_some, rows_there, coefficients_of, limits_of}
+use Rattle.fragments.specs.ColumnDef.{ColumnDef}
+use Rattle.fragments.specs.Columns.{columns_of}
+use Rattle.fragments.specs.Constraints.{ConstraintDef, holds_some, rows_there, limits_of}
 use Rattle.fragments.proofs.KnownColumns.{IsKnown, columns_known}
 use Rattle.program_laws.specs.Programs.{rows_of, program_of, cost_of, interfering_cost}
 use Rattle.program_laws.proofs.Lists.{index_at_most, index_rises, entries_at_most}

@@ -1,2 +1,17 @@
-//! protocol_programs.
+//! Each task's blocking program under MPCP, FMLP+ and DPCP, and the interference of higher tasks.
 #![tactic(auto)]
+
+mod counting;
+mod programs;
+mod written;
+
+pub use counting::interference;
+pub use programs::program;
+pub use program_sources::ProgramSource;
+pub use written::Written;
+
+#[cfg(test)]
+mod cases;
+#[cfg(test)]
+mod tests;
+

@@ -4,13 +4,14 @@ use Rattle.std.proofs.Math.ListN.{get_or-append}
 use Rattle.std.proofs.Math.Seq.{get_or-append_seam}
 use Rattle.std.proofs.lemmas.List.Sums.{sum_by-cons}
 use Rattle.std.proofs.lemmas.Bool.{cases_lt, lt-ltb, le-ltb}
+use Rattle.bounded_sums.specs.Tests.{found_below}
 use Rattle.bounded_sums.proofs.CountLaws.{count_below-agree}
-use Rattle.bounded_sums.proofs.TestLaws.{all_below-agree, first_below-agree}
+use Rattle.bounded_sums.proofs.TestLaws.{all_below-agree, first_below-agree, found_below-agree}
 use Rattle.sporadic_model.specs.SetDef.{task_at}
 use Rattle.schedule_model.specs.JobDef.{JobDef, JobsDef, job_of}
 use Rattle.schedule_model.specs.RowDef.{RowDef, RunDef, Trace, idle_row, row_in, ticks_of, trace_of, trace_in, running_on, holder_in, held_before, runs_in}
 use Rattle.schedule_model.specs.Phase.{is_finished, is_same_request, phase_from, executed, phase_of}
-use Rattle.schedule_model.specs.Activity.{task_of, processor_of, is_pending, is_next, is_active, is_requester, issue_tick_of, holds_by, is_active_local, is_ready_holder, is_ready}
+use Rattle.schedule_model.specs.Activity.{task_of, processor_of, is_pending, is_next, is_active, is_active_job_of, active_job_of, is_requester, issue_tick_of, holds_by, is_active_local, is_ready_holder, is_ready}
 use Rattle.schedule_laws.specs.Agreement.{AgreeBefore}
 
 -- Schedules that agree before a tick agree before each earlier one.
@@ -59,6 +60,13 @@ next_agree v w n t j a l = all_below-agree j (λ e. not (task_of v e == task_of 
 pub active_agree : (v w : Trace) (n t j : ℕ) → AgreeBefore v w n → t ≤ n → is_active v t j ≡ is_active w t j
 unfolding is_active
 active_agree v w n t j a l = rw (pending_agree v w n t j a l, next_agree v w n t j a l) refl
+
+pub active_job_agree : (v w : Trace) (n t x : ℕ) → AgreeBefore v w n → t ≤ n → active_job_of v t x ≡ active_job_of w t x
+unfolding active_job_of is_active_job_of
+active_job_agree v w n t x a l =
+    ap (λ m. found_below m (λ j. is_active v t j && (task_of v j == x))) (listed_agree v w n a)
+    ∙ found_below-agree (length w.jobs) (λ j. is_active v t j && (task_of v j == x)) (λ j. is_active w t j && (task_of w j == x))
+    (λ j b. rw (active_agree v w n t j a l, task_agree v w n j a) refl)
 
 pub requester_agree : (v w : Trace) (n t q j : ℕ) → AgreeBefore v w n → t ≤ n → is_requester v t q j ≡ is_requester w t q j
 unfolding is_requester

@@ -1,13 +1,14 @@
 -- What a tick is for a job, executing, interference or blocked, depends on the rows up to it alone.
-use Rattle.std.proofs.Common.{◌≡◌, ℕ, ◌<◌, ◌&&◌, Bool, false, refl, ap, ◌∙◌, arith, Option, Some, None}
+use Rattle.std.proofs.Common.{◌≡◌, ℕ, ◌<◌, ◌&&◌, Bool, false, length, refl, sym, ap, ◌∙◌, subst, arith, Option, Some, None}
 use Rattle.std.specs.Option.{option_map_or}
 use Rattle.sporadic_model.specs.SetDef.{is_higher_local}
-use Rattle.schedule_model.specs.RowDef.{Trace, running_on, runs_in}
+use Rattle.schedule_model.specs.RowDef.{Trace, is_job, running_on, runs_in}
 use Rattle.schedule_model.specs.Phase.{is_local, phase_of}
 use Rattle.schedule_model.specs.Activity.{task_of, processor_of}
-use Rattle.schedule_model.specs.BlockedTicks.{is_executing, is_delayed, runs_higher, runs_higher_local, is_shared_interference, is_dpcp_interference, is_blocked}
+use Rattle.schedule_model.specs.BlockedTicks.{is_executing, is_delayed, runs_higher, runs_higher_local, is_shared_interference, is_dpcp_interference, is_interferer, is_blocked}
+use Rattle.schedule_model.specs.TakenRows.{CanBeTaken}
 use Rattle.schedule_laws.specs.Agreement.{AgreeBefore, TicksReadUpTo}
-use Rattle.schedule_laws.proofs.Agreement.{task_agree, processor_agree, phase_agree, active_agree, running_agree}
+use Rattle.schedule_laws.proofs.Agreement.{listed_agree, task_agree, processor_agree, phase_agree, active_agree, running_agree, holder_agree}
 
 pub runs_in_agree : (v w : Trace) (n t j : ℕ) → AgreeBefore v w n → t < n → runs_in (v.row t) j ≡ runs_in (w.row t) j
 runs_in_agree v w n t j a l = ap (λ row. runs_in row j) (a.rows t l)
@@ -65,3 +66,24 @@ blocked_agree interferes v w n t j a l same = rw (delayed_agree v w n t j a l, s
 
 pub blocked_reads : (interferes : Trace → ℕ → ℕ → Bool) → TicksReadUpTo interferes → TicksReadUpTo (is_blocked interferes)
 blocked_reads interferes reads v w n t j a l = blocked_agree interferes v w n t j a l (reads v w n t j a l)
+
+-- So does who makes a tick interference,
+pub interferer_reads : (interferes : Trace → ℕ → ℕ → Bool) → TicksReadUpTo interferes → (v w : Trace) (n t j y : ℕ) → AgreeBefore v w n → t < n → is_interferer interferes v t j y ≡ is_interferer interferes w t j y
+unfolding is_interferer
+interferer_reads interferes reads v w n t j y a l =
+    ap (λ b. b && is_job y (running_on (v.row t) (processor_of v j))) (reads v w n t j a l) ∙ ap (λ o. interferes w t j && is_job y o) (column_agree v w n t j a l)
+
+-- and whether the row can be taken.
+pub taken_reads : (v w : Trace) (n t : ℕ) → AgreeBefore v w n → t < n → CanBeTaken v t → CanBeTaken w t
+taken_reads v w n t a l taken = record {
+  fits = record {
+    sized = record {
+      processors = sym (ap (λ r. length r.running) (a.rows t l)) ∙ taken.fits.sized.processors ∙ ap (λ s. s.processors) a.set;
+      resources = sym (ap (λ r. length r.holders) (a.rows t l)) ∙ taken.fits.sized.resources ∙ ap (λ s. length s.resources) a.set;
+    };
+    running = λ k j e. subst (λ m. j < m) (listed_agree v w n a) (taken.fits.running k j (running_agree v w n t k a l ∙ e));
+    holders = λ q j e. subst (λ m. j < m) (listed_agree v w n a) (taken.fits.holders q j (holder_agree v w n t q a l ∙ e));
+  };
+  active = λ k j e. sym (active_agree v w n t j a (omega arith)) ∙ taken.active k j (running_agree v w n t k a l ∙ e);
+  one_column = λ k m j e f. taken.one_column k m j (running_agree v w n t k a l ∙ e) (running_agree v w n t m a l ∙ f);
+}

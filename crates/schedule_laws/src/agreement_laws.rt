@@ -2,8 +2,9 @@ ghost use Rattle.std.specs.Prelude.{◌≡◌, ℕ, ◌+◌, ◌<◌, ◌≤◌,
 ghost use Rattle.schedule_model.specs.JobDef.{JobsDef};
 ghost use Rattle.schedule_model.specs.RowDef.{RowDef, RunDef, Trace, ticks_of, trace_of, trace_in, held_before};
 ghost use Rattle.schedule_model.specs.Phase.{executed, phase_of};
-ghost use Rattle.schedule_model.specs.Activity.{is_pending, is_active, is_requester, issue_tick_of, is_ready};
-ghost use Rattle.schedule_model.specs.BlockedTicks.{is_executing, is_shared_interference, is_dpcp_interference, is_blocked};
+ghost use Rattle.schedule_model.specs.Activity.{is_pending, is_active, active_job_of, is_requester, issue_tick_of, is_ready};
+ghost use Rattle.schedule_model.specs.BlockedTicks.{is_executing, is_shared_interference, is_dpcp_interference, is_interferer, is_blocked};
+ghost use Rattle.schedule_model.specs.TakenRows.{CanBeTaken};
 ghost use Rattle.schedule_model.specs.Ranks.{mpcp, fmlp_plus};
 ghost use Rattle.schedule_model.specs.Protocols.{shared_rule, dpcp_rule};
 ghost use Rattle.schedule_model.specs.Chosen.{IsSharedChoice, IsDpcpChoice};
@@ -16,6 +17,7 @@ pub fn ticks_depend_on_earlier_rows()
     ensures phase { (v w : Trace) (n t j : ℕ) → AgreeBefore v w n → t ≤ n → phase_of v t j ≡ phase_of w t j }
     ensures pending { (v w : Trace) (n t j : ℕ) → AgreeBefore v w n → t ≤ n → is_pending v t j ≡ is_pending w t j }
     ensures active { (v w : Trace) (n t j : ℕ) → AgreeBefore v w n → t ≤ n → is_active v t j ≡ is_active w t j }
+    ensures active_job { (v w : Trace) (n t x : ℕ) → AgreeBefore v w n → t ≤ n → active_job_of v t x ≡ active_job_of w t x }
     ensures requester { (v w : Trace) (n t q j : ℕ) → AgreeBefore v w n → t ≤ n → is_requester v t q j ≡ is_requester w t q j }
     ensures issue { (v w : Trace) (n t j : ℕ) → AgreeBefore v w n → t ≤ n → issue_tick_of v t j ≡ issue_tick_of w t j }
     ensures held { (v w : Trace) (n t q : ℕ) → AgreeBefore v w n → t ≤ n → held_before v t q ≡ held_before w t q }
@@ -23,7 +25,7 @@ pub fn ticks_depend_on_earlier_rows()
 {}
 
 /// Whether a row keeps each of a protocol's rules, and is the chosen one, depends on the rows up to it alone, and so does
-/// what a tick is for a job.
+/// what a tick is for a job, who makes it interference, and whether the row can be taken.
 pub fn rules_depend_on_earlier_rows()
     ensures mpcp { RulesReadUpTo (shared_rule mpcp) }
     ensures fmlp_plus { RulesReadUpTo (shared_rule fmlp_plus) }
@@ -35,6 +37,9 @@ pub fn rules_depend_on_earlier_rows()
     ensures shared_interference { TicksReadUpTo is_shared_interference }
     ensures dpcp_interference { TicksReadUpTo is_dpcp_interference }
     ensures blocked { (interferes : Trace → ℕ → ℕ → Bool) → TicksReadUpTo interferes → TicksReadUpTo (is_blocked interferes) }
+    ensures interferer { (interferes : Trace → ℕ → ℕ → Bool) → TicksReadUpTo interferes → (v w : Trace) (n t j y : ℕ)
+        → AgreeBefore v w n → t < n → is_interferer interferes v t j y ≡ is_interferer interferes w t j y }
+    ensures taken { (v w : Trace) (n t : ℕ) → AgreeBefore v w n → t < n → CanBeTaken v t → CanBeTaken w t }
 {}
 
 /// Rows that are added to a list change nothing before its end, and the first of them stands there; likewise runs of

@@ -20,7 +20,7 @@ use Rattle.schedule_model.proofs.Scripts.{number_of_requests-past, script_from}
 use Rattle.schedule_model.proofs.Releases.{IsLastAt, last_release-at, last_release-none}
 
 -- A job for which no refusal is due.
-pub record IsAccepted (jobs : JobsDef) (job : JobDef) : Type 0 where
+pub record IsFree (jobs : JobsDef) (job : JobDef) : Type 0 where
   pub script : is_listed_script job.script ≡ true
   pub budget : is_within_budget jobs.set job ≡ true
   pub apart : is_too_close jobs job ≡ false
@@ -34,7 +34,7 @@ none_due true true true d h = absurd (cc)
 none_due true true false true h = absurd (cc)
 none_due true true false false h = (refl, refl, refl, refl)
 
-pub accepted_from : (jobs : JobsDef) (job : JobDef) → first_refusal jobs job ≡ None → IsAccepted jobs job
+pub accepted_from : (jobs : JobsDef) (job : JobDef) → first_refusal jobs job ≡ None → IsFree jobs job
 accepted_from jobs job h =
     let parts : (is_listed_script job.script ≡ true) × (is_within_budget jobs.set job ≡ true) × (is_too_close jobs job ≡ false) × (is_too_many jobs.jobs job ≡ false) = none_due (is_listed_script job.script) (is_within_budget jobs.set job) (is_too_close jobs job) (is_too_many jobs.jobs job) h in
     record { script = parts.0; budget = parts.1; apart = parts.2; room = parts.3 }
@@ -63,7 +63,7 @@ within_from set job h =
       lengths = three.1;
     }
 
-lawful_from : (jobs : JobsDef) (job : JobDef) → job.task < length jobs.set.tasks → are_resources_in (length jobs.set.resources) job.script ≡ true → IsAccepted jobs job → IsLawfulJob jobs.set job
+lawful_from : (jobs : JobsDef) (job : JobDef) → job.task < length jobs.set.tasks → are_resources_in (length jobs.set.resources) job.script ≡ true → IsFree jobs job → IsLawfulJob jobs.set job
 lawful_from jobs job task resources accepted =
     let within = within_from jobs.set job accepted.budget in
     record {
@@ -120,10 +120,11 @@ after_each jobs job a lawful apart l same = go (last_release jobs.jobs job.task)
   go None e = absurd (last_release-none jobs.jobs job.task a e l same)
   go (Some r) e = beside r e (last_release-at jobs.jobs job.task r e)
 
-old_job : (jobs : List JobDef) (job : JobDef) (j : ℕ) → j < length jobs → job_of (jobs ++ job ∷ []) j ≡ job_of jobs j
+-- The jobs of a list with one more: the old ones, and that one.
+pub old_job : (jobs : List JobDef) (job : JobDef) (j : ℕ) → j < length jobs → job_of (jobs ++ job ∷ []) j ≡ job_of jobs j
 old_job jobs job j l = get_or-append jobs (job ∷ []) (record { task = 0; release = 0; script = [] }) j l
 
-new_job : (jobs : List JobDef) (job : JobDef) → job_of (jobs ++ job ∷ []) (length jobs) ≡ job
+pub new_job : (jobs : List JobDef) (job : JobDef) → job_of (jobs ++ job ∷ []) (length jobs) ≡ job
 new_job jobs job = get_or-append_seam jobs job [] (record { task = 0; release = 0; script = [] })
 
 -- What holds of each job of a list, and of one more, holds of each job of the list with that one at its end.

@@ -1,11 +1,13 @@
 pub mod Scripts
 pub mod Releases
 pub mod JobListLaws
+pub mod JobRefusalLaws
 pub mod RowListLaws
 pub mod RuleTests
 pub mod KeepingTests
 pub mod DpcpTests
 pub mod ChoiceTests
 pub mod WorkedFiles
+pub mod JobExamples
 pub mod SharedExamples
 pub mod DpcpExamples

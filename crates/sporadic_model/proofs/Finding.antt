@@ -106,3 +106,16 @@ none_in_range p a zero e y h i = absurd (omega arith)
 none_in_range p a (suc n) e y h i =
     before_more p a (a + suc n) y (first_fails p a (range_with_len (a + 1) n) e)
     (λ z j k. none_in_range p (a + 1) n (rest_fails p a (range_with_len (a + 1) n) e) z j (omega arith)) h i
+
+-- Where no element of two lists passes, none of the joined list does.
+pub none_joined : {R : Type 0} (p : R → Bool) (xs ys : List R) → find p xs ≡ None → find p ys ≡ None → find p (xs ++ ys) ≡ None
+none_joined p xs ys front back = rw (find-append p xs ys, front, back) refl
+
+-- Where what is made of no number of a range passes, none is found.
+pub none_mapped : {R : Type 0} (p : R → Bool) (f : ℕ → R) (a n : ℕ) → ((k : ℕ) → a ≤ k → k < a + n → p (f k) ≡ false) → find p (map f (range_with_len a n)) ≡ None
+none_mapped p f a zero h = refl
+none_mapped p f a (suc n) h = rw (h a (omega arith) (omega arith)) (none_mapped p f (a + 1) n (λ k l m. h k (omega arith) (omega arith)))
+
+pub none_nested : {R : Type 0} (p : R → Bool) (g : ℕ → List R) (a n : ℕ) → ((k : ℕ) → a ≤ k → k < a + n → find p (g k) ≡ None) → find p (flat_map g (range_with_len a n)) ≡ None
+none_nested p g a zero h = refl
+none_nested p g a (suc n) h = none_joined p (g a) (flat_map g (range_with_len (a + 1) n)) (h a (omega arith) (omega arith)) (none_nested p g (a + 1) n (λ k l m. h k (omega arith) (omega arith)))

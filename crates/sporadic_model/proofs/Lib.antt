@@ -1,3 +1,5 @@
 pub mod Mapped
 pub mod Finding
+pub mod Ranges
+pub mod Acceptance
 pub mod Laws

@@ -1,24 +1,12 @@
--- Which task sets are accepted, and what is true of them.
-use Rattle.std.specs.Prelude.{◌≡◌, ◌≢◌, ℕ, ◌<◌, ◌≤◌, ◌^◌, length, None, Some, Result, Ok, Err, IsTrue, ◌⊎◌}
-use Rattle.sporadic_model.specs.SetDef.{SetDef, RequestDef, task_at, resource_at}
+-- Which task sets are accepted: each name, number, entry and home stands in its range. And what follows of the users of
+-- their resources.
+use Rattle.std.specs.Prelude.{◌≡◌, ◌≢◌, ℕ, ◌<◌, ◌≤◌, ◌^◌, length, Some, IsTrue, ◌⊎◌}
+use Rattle.sporadic_model.specs.SetDef.{SetDef, RequestDef, task_at, resource_at, request_at, request_count}
+use Rattle.sporadic_model.specs.Names.{is_name}
 use Rattle.sporadic_model.specs.Users.{count_of}
-use Rattle.sporadic_model.specs.Refusals.{first_refusal, request_at, request_count, is_name}
 use Rattle.sporadic_model.specs.declared.limits.TheConstants.{MOST_PROCESSORS, MOST_TASKS, MOST_RESOURCES, MOST_REQUESTS, MOST_TICKS, MOST_COUNT}
-use Rattle.sporadic_model.specs.declared.refusal.ModelRefusal.{ModelRefusal}
-use Rattle.sporadic_model.specs.declared.refusal.ModelRefusal.TheVariants as refusal
 
--- Is the set accepted: is no refusal due, at any place?
-unfoldable pub IsAccepted : SetDef → Type 0
-IsAccepted set = first_refusal set ≡ None
-
--- What the answer on a task set says of its parts: accepted as they are, or the first refusal that is
--- due. Only want of memory says nothing of them.
-abbrev pub Judged : Result SetDef ModelRefusal → SetDef → Type 0
-Judged (Ok set) parts = IsAccepted parts × (set ≡ parts)
-Judged (Err refusal.Memory) parts = Unit {0}
-Judged (Err r) parts = first_refusal parts ≡ Some r
-
--- The sizes of an accepted set are in their ranges.
+-- The sizes of the set are in their ranges.
 pub record SetSizes (set : SetDef) : Type 0 where
   pub processors_from : 1 ≤ set.processors
   pub processors_to : set.processors ≤ MOST_PROCESSORS
@@ -51,12 +39,6 @@ pub record EntryNumbers (set : SetDef) (x : ℕ) (entry : RequestDef) : Type 0 w
 abbrev pub RequestNumbers : SetDef → ℕ → ℕ → Type 0
 RequestNumbers set x j = EntryNumbers set x (request_at set x j)
 
--- Do the positions of the set's resources, tasks and entries fit the 32 bits of an id?
-pub record FitsIds (set : SetDef) : Type 0 where
-  pub resources : length set.resources < 2 ^ 32
-  pub tasks : length set.tasks < 2 ^ 32
-  pub entries : (x : ℕ) → x < length set.tasks → length (task_at set x).requests < 2 ^ 32
-
 -- Every resource and every task of the set has a name of the right form, no two resources the same
 -- one, and no two tasks.
 pub record AreNamed (set : SetDef) : Type 0 where
@@ -74,6 +56,25 @@ pub record AreEntries (set : SetDef) (x : ℕ) : Type 0 where
 pub record AreHomes (set : SetDef) : Type 0 where
   pub homes_from : (q k : ℕ) → q < length set.resources → (resource_at set q).home ≡ Some k → 1 ≤ k
   pub homes_to : (q k : ℕ) → q < length set.resources → (resource_at set q).home ≡ Some k → k ≤ set.processors
+
+-- The sizes, names, numbers, entries and homes of the set all stand in their ranges.
+pub record KeepsRanges (set : SetDef) : Type 0 where
+  pub sizes : SetSizes set
+  pub names : AreNamed set
+  pub numbers : (x : ℕ) → x < length set.tasks → TaskNumbers set x
+  pub entries : (x : ℕ) → x < length set.tasks → AreEntries set x
+  pub requests : (x j : ℕ) → x < length set.tasks → j < length (task_at set x).requests → RequestNumbers set x j
+  pub homes : AreHomes set
+
+-- Is the set accepted? It is where all of it stands in its range.
+unfoldable pub IsAccepted : SetDef → Type 0
+IsAccepted set = KeepsRanges set
+
+-- Do the positions of the set's resources, tasks and entries fit the 32 bits of an id?
+pub record FitsIds (set : SetDef) : Type 0 where
+  pub resources : length set.resources < 2 ^ 32
+  pub tasks : length set.tasks < 2 ^ 32
+  pub entries : (x : ℕ) → x < length set.tasks → length (task_at set x).requests < 2 ^ 32
 
 -- Task x is the highest user of resource q: a user, and no higher task is one.
 pub record IsHighestUser (set : SetDef) (q x : ℕ) : Type 0 where

@@ -1,4 +1,5 @@
 pub mod SetDef
+pub mod Names
 pub mod Seen
 pub mod Users
 pub mod Homes

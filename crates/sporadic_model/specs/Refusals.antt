@@ -1,33 +1,18 @@
 -- When is each refusal due, and in which order are they tried?
-use Rattle.std.specs.Prelude.{ℕ, ◌==◌, ◌&&◌, ◌||◌, not, Bool, false, nat_lt, List, [], ◌∷◌, ◌++◌, length, map, take, slice_index_or, sum_by, Option, find}
-use Rattle.std.specs.List.{flat_map, list_any, list_all}
+use Rattle.std.specs.Prelude.{◌≡◌, ℕ, ◌==◌, ◌&&◌, not, Bool, false, nat_lt, List, [], ◌∷◌, ◌++◌, length, map, take, Option, Some, Result, Ok, Err, find}
+use Rattle.std.specs.List.{flat_map, list_any}
 use Rattle.std.specs.Option.{option_map_or}
 use Rattle.std.specs.Int.{is_in_range}
-use Rattle.std.specs.Char.{is_ascii_alphanumeric}
 use Rattle.std.specs.Str.{bytes_eq}
-use Rattle.sporadic_model.specs.SetDef.{SetDef, TaskDef, RequestDef, ResourceDef, task_at, resource_at}
+use Rattle.sporadic_model.specs.SetDef.{SetDef, TaskDef, RequestDef, ResourceDef, task_at, resource_at, request_at, request_count}
+use Rattle.sporadic_model.specs.Names.{is_name}
 use Rattle.sporadic_model.specs.Users.{numbers}
-use Rattle.sporadic_model.specs.declared.limits.TheConstants.{MOST_PROCESSORS, MOST_TASKS, MOST_RESOURCES, MOST_REQUESTS, MOST_TICKS, MOST_COUNT, MOST_NAME}
+use Rattle.sporadic_model.specs.Accepted.{IsAccepted}
+use Rattle.sporadic_model.specs.declared.limits.TheConstants.{MOST_PROCESSORS, MOST_TASKS, MOST_RESOURCES, MOST_REQUESTS, MOST_TICKS, MOST_COUNT}
 use Rattle.sporadic_model.specs.declared.refusal.Place.TheVariants as place
 use Rattle.sporadic_model.specs.declared.refusal.SizeOf.TheVariants as size
 use Rattle.sporadic_model.specs.declared.refusal.ModelRefusal.{ModelRefusal}
 use Rattle.sporadic_model.specs.declared.refusal.ModelRefusal.TheVariants as refusal
-
--- A look-up past the end gives an entry without a resource, without requests.
-abbrev pub no_request : RequestDef
-no_request = record { resource = []; count = 0; length = 0 }
-
--- Entry number j of task number x.
-abbrev pub request_at : SetDef → ℕ → ℕ → RequestDef
-request_at set x j = slice_index_or (task_at set x).requests j no_request
-
--- May the byte stand in a name: is it a letter, a digit, or one of _ . - ?
-abbrev pub is_name_byte : ℕ → Bool
-is_name_byte b = is_ascii_alphanumeric b || b == 95 || b == 46 || b == 45
-
--- Is the text a name?
-abbrev pub is_name : List ℕ → Bool
-is_name text = is_in_range 1 MOST_NAME (length text) && list_all is_name_byte text
 
 -- Does one of the tasks have the name?
 abbrev pub has_task_named : List TaskDef → List ℕ → Bool
@@ -40,10 +25,6 @@ has_resource_named resources name = list_any (λ r. bytes_eq r.name name) resour
 -- Does one of the entries name the resource?
 abbrev pub has_entry_for : List RequestDef → List ℕ → Bool
 has_entry_for entries name = list_any (λ e. bytes_eq e.resource name) entries
-
--- How many request entries do the tasks have in all?
-abbrev pub request_count : SetDef → ℕ
-request_count set = sum_by (λ t. length t.requests) set.tasks
 
 -- Is the refusal due: does the set have the fault that it names, at the place that it names? One that
 -- names a place of another kind, and want of memory, never is.
@@ -116,3 +97,10 @@ refusals_in_order set =
 -- The first refusal that is due.
 abbrev pub first_refusal : SetDef → Option ModelRefusal
 first_refusal set = find (is_due set) (refusals_in_order set)
+
+-- What the answer on a task set says of its parts: accepted as they are, or the first refusal that is
+-- due. Only want of memory says nothing of them.
+abbrev pub Judged : Result SetDef ModelRefusal → SetDef → Type 0
+Judged (Ok set) parts = IsAccepted parts × (set ≡ parts)
+Judged (Err refusal.Memory) parts = Unit {0}
+Judged (Err r) parts = first_refusal parts ≡ Some r

@@ -1,6 +1,6 @@
 -- A sporadic task set as mathematics sees it: plain numbers and lists, and a name as the list of its bytes.
 -- Tasks stand from the highest base priority to the lowest; positions count from 0, processors from 1.
-use Rattle.std.specs.Prelude.{ℕ, ◌+◌, ◌==◌, ◌&&◌, Bool, nat_lt, List, [], Option, None, slice_index_or}
+use Rattle.std.specs.Prelude.{ℕ, ◌+◌, ◌==◌, ◌&&◌, Bool, nat_lt, List, [], Option, None, length, slice_index_or, sum_by}
 use Rattle.std.specs.Int.{div_ceil}
 
 -- An entry of a task: which resource it requests, how often a job may, and for how many ticks at most.
@@ -30,12 +30,16 @@ pub record SetDef : Type 0 where
   pub resources : List ResourceDef
   pub tasks : List TaskDef
 
--- What a look-up past the end gives: a task of zeros, a resource without a name.
+-- What a look-up past the end gives: a task of zeros, a resource without a name, an entry without a resource and
+-- without requests.
 abbrev pub no_task : TaskDef
 no_task = record { name = []; processor = 0; period = 0; deadline = 0; cost = 0; local = 0; requests = [] }
 
 abbrev pub no_resource : ResourceDef
 no_resource = record { name = []; home = None }
+
+abbrev pub no_request : RequestDef
+no_request = record { resource = []; count = 0; length = 0 }
 
 -- Task number x of the set.
 abbrev pub task_at : SetDef → ℕ → TaskDef
@@ -44,6 +48,14 @@ task_at set x = slice_index_or set.tasks x no_task
 -- Resource number q of the set.
 abbrev pub resource_at : SetDef → ℕ → ResourceDef
 resource_at set q = slice_index_or set.resources q no_resource
+
+-- Entry number j of task number x.
+abbrev pub request_at : SetDef → ℕ → ℕ → RequestDef
+request_at set x j = slice_index_or (task_at set x).requests j no_request
+
+-- How many request entries do the tasks have in all?
+abbrev pub request_count : SetDef → ℕ
+request_count set = sum_by (λ t. length t.requests) set.tasks
 
 -- Is task h of higher base priority than task i, and on i's processor?
 abbrev pub is_higher_local : SetDef → ℕ → ℕ → Bool

@@ -10,6 +10,7 @@ mod lookup;
 mod names;
 mod parts;
 mod refusal;
+mod set_laws;
 mod task_set;
 
 pub use ids::{Protocol, ResourceId, TaskId};
@@ -19,6 +20,7 @@ pub use limits::{
 };
 pub use parts::{Parts, RequestPart, ResourcePart, TaskPart};
 pub use refusal::{ModelRefusal, Place, SizeOf};
+pub use set_laws::{limits_are_fixed, refusals_are_exact};
 pub use task_set::TaskSet;
 
 #[cfg(test)]

@@ -1,7 +1,6 @@
 ghost use Rattle.std.specs.Prelude.{◌≡◌, ℕ, ◌<◌, length, map, slice_index_or, find, position, option_map, string_bytes};
 ghost use Rattle.std.specs.Str.{bytes_eq};
-ghost use Rattle.sporadic_model.specs.SetDef.{no_task, no_resource};
-ghost use Rattle.sporadic_model.specs.Refusals.{no_request};
+ghost use Rattle.sporadic_model.specs.SetDef.{no_task, no_resource, no_request};
 ghost use Rattle.sporadic_model.specs.Seen.{task_seen, resource_seen, request_seen};
 
 use crate::parts::{RequestPart, ResourcePart, TaskPart};

@@ -2,7 +2,8 @@ ghost use Rattle.std.specs.Prelude.{◌≡◌, ℕ, length, map, string_bytes, �
 ghost use Rattle.std.specs.List.{list_any, list_all};
 ghost use Rattle.std.specs.Str.{bytes_eq};
 ghost use Rattle.sporadic_model.specs.Seen.{task_seen, resource_seen, request_seen};
-ghost use Rattle.sporadic_model.specs.Refusals.{is_name as is_name_text, is_name_byte as is_name_character, has_task_named, has_resource_named, has_entry_for};
+ghost use Rattle.sporadic_model.specs.Names.{is_name as is_name_text, is_name_byte as is_name_character};
+ghost use Rattle.sporadic_model.specs.Refusals.{has_task_named, has_resource_named, has_entry_for};
 ghost use Rattle.std.specs.Int.{is_in_range};
 
 use crate::limits::MOST_NAME;

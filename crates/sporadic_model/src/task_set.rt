@@ -2,7 +2,8 @@ ghost use Rattle.std.specs.Prelude.{◌≡◌, ℕ, ◌<◌, ◌≤◌, length, 
 ghost use Rattle.sporadic_model.specs.SetDef.{task_at, resource_at, is_higher_local};
 ghost use Rattle.sporadic_model.specs.Users.{numbers, entry_of, count_of, length_of, is_remote_user, ceiling_of, remote_ceiling_of, task_with_name, resource_with_name};
 ghost use Rattle.sporadic_model.specs.Seen.{parts_seen, task_seen, resource_seen, request_seen};
-ghost use Rattle.sporadic_model.specs.Accepted.{IsAccepted, Judged, TaskNumbers, RequestNumbers, EntryNumbers, SetSizes, AreNamed, AreHomes, AreEntries, IsHighestUser, HasNoUser, IsHighestRemoteUser, HasNoRemoteUser, IsBoost};
+ghost use Rattle.sporadic_model.specs.Refusals.{Judged};
+ghost use Rattle.sporadic_model.specs.Accepted.{IsAccepted, TaskNumbers, RequestNumbers, EntryNumbers, SetSizes, AreNamed, AreHomes, AreEntries, IsHighestUser, HasNoUser, IsHighestRemoteUser, HasNoRemoteUser, IsBoost};
 
 use crate::ids::{ResourceId, TaskId};
 use crate::judging::first_refusal;
@@ -36,7 +37,6 @@ impl TaskSet {
     /// in which they stand in [`ModelRefusal`], each over the whole set, and each names the first place
     /// in the order of resources, then tasks, then a task's request entries. The set keeps the parts as
     /// they are; the allocator is for what it may come to hold besides.
-    #[tactic(auto, unfolding(crate::specs::Accepted::IsAccepted))]
     pub fn new(_alloc: Global, parts: Parts) -> Result<TaskSet, ModelRefusal>
         ensures { Judged result (parts_seen parts) }
     {

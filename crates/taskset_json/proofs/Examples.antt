@@ -2,7 +2,8 @@
 use Rattle.std.proofs.Common.{◌≡◌, codes, Some, None, false, refl}
 use Rattle.serde_json.specs.Data.{null, number, unsigned, string, array, object, no_items, item, no_members, member}
 use Rattle.sporadic_model.specs.declared.refusal.Place.TheVariants as place
-use Rattle.taskset_json.specs.Form.{first_misshapen, is_object_of, resource_form}
+use Rattle.taskset_json.specs.Form.{is_object_of, resource_form}
+use Rattle.taskset_json.specs.FormFaults.{first_misshapen}
 
 no_list : first_misshapen (object (member (codes "processors") (number (unsigned 1)) no_members)) ≡ Some place.Root
 no_list = refl

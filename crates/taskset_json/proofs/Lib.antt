@@ -5,3 +5,4 @@ pub mod Grammar
 pub mod Sizes
 pub mod Views
 pub mod Places
+pub mod FormRelation

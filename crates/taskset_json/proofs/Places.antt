@@ -7,7 +7,8 @@ use Rattle.serde_json.specs.Data.{Data}
 use Rattle.serde_json.specs.View.{view}
 use Rattle.serde_json.specs.declared.value.Value.{Value}
 use Rattle.taskset_json.specs.Members.{list_at}
-use Rattle.taskset_json.specs.Form.{ObjectDef, first_of, first_misshapen, is_misshapen, is_object_of, set_form, resource_object, task_objects, counted_from}
+use Rattle.taskset_json.specs.Form.{is_object_of, set_form}
+use Rattle.taskset_json.specs.FormFaults.{ObjectDef, first_of, first_misshapen, is_misshapen, resource_object, task_objects, counted_from}
 
 place_or : (a b : Option ObjectDef) → option_map (λ o. o.place) (option_or a b) ≡ option_or (option_map (λ o. o.place) a) (option_map (λ o. o.place) b)
 place_or None b = refl

@@ -1,5 +1,5 @@
 -- What the answers of this crate's calls say.
-use Rattle.std.specs.Prelude.{◌≡◌, ℕ, List, Option, None, Some, Result, Ok, Err, IsUtf8, is_none, position}
+use Rattle.std.specs.Prelude.{◌≡◌, ℕ, true, List, Option, None, Some, Result, Ok, Err, IsUtf8, is_none, position}
 use Rattle.serde_json.specs.Data.{Data}
 use Rattle.serde_json.specs.Read.{read}
 use Rattle.sporadic_model.specs.SetDef.{SetDef}
@@ -10,22 +10,23 @@ use Rattle.sporadic_model.specs.declared.ids.Protocol.TheVariants as protocol
 use Rattle.sporadic_model.specs.declared.refusal.ModelRefusal.TheVariants as model
 use Rattle.taskset_json.specs.declared.refusal.SetRefusal.{SetRefusal}
 use Rattle.taskset_json.specs.declared.refusal.SetRefusal.TheVariants as refusal
-use Rattle.taskset_json.specs.Form.{first_misshapen}
+use Rattle.taskset_json.specs.Form.{has_set_form}
+use Rattle.taskset_json.specs.FormFaults.{first_misshapen}
 use Rattle.taskset_json.specs.Written.{set_written}
 
 -- Are the bytes a JSON text, and is this its value?
 abbrev pub IsValue : List ℕ → Data → Type 0
 IsValue bytes d = IsUtf8 bytes × (read bytes ≡ Some d)
 
--- What the answer on a value says of it: the set that it writes, which is accepted; or the first place
--- at which it breaks the form; or, for a value of the form, the first refusal that is due. Only want of
+-- What the answer on a value says of it: that it has the form, and the set that it writes, which is accepted; or the
+-- first place at which it breaks the form; or, for a value of the form, the first refusal that is due. Only want of
 -- memory says nothing of it.
 abbrev pub JudgesValue : Result SetDef SetRefusal → Data → Type 0
-JudgesValue (Ok set) d = (first_misshapen d ≡ None) × IsAccepted (set_written d) × (set ≡ set_written d)
+JudgesValue (Ok set) d = (has_set_form d ≡ true) × IsAccepted (set_written d) × (set ≡ set_written d)
 JudgesValue (Err refusal.NotJson) d = ⊥
 JudgesValue (Err (refusal.Shape place)) d = first_misshapen d ≡ Some place
 JudgesValue (Err (refusal.Model model.Memory)) d = ⊥
-JudgesValue (Err (refusal.Model r)) d = (first_misshapen d ≡ None) × (first_refusal (set_written d) ≡ Some r)
+JudgesValue (Err (refusal.Model r)) d = (has_set_form d ≡ true) × (first_refusal (set_written d) ≡ Some r)
 JudgesValue (Err (refusal.NoHome q)) d = ⊥
 JudgesValue (Err refusal.Memory) d = Unit {0}
 

@@ -1,12 +1,10 @@
--- The form of a task set in JSON: which members each object has, and at which place a value breaks it first.
-use Rattle.std.specs.Prelude.{ℕ, ◌+◌, ◌&&◌, not, Bool, true, false, List, [], ◌∷◌, ◌++◌, map, codes, Option, is_some, option_map, find}
-use Rattle.std.specs.List.{list_any, list_all, flat_map}
+-- The form of a task set in JSON: which members each object has.
+use Rattle.std.specs.Prelude.{ℕ, ◌&&◌, not, Bool, true, false, List, [], ◌∷◌, codes, is_some}
+use Rattle.std.specs.List.{list_any, list_all}
 use Rattle.std.specs.Option.{option_map_or}
 use Rattle.std.specs.Str.{bytes_eq}
 use Rattle.serde_json.specs.Data.{Data}
 use Rattle.serde_json.specs.Find.{get, as_str, as_array, as_object}
-use Rattle.sporadic_model.specs.declared.refusal.Place.{Place}
-use Rattle.sporadic_model.specs.declared.refusal.Place.TheVariants as place
 use Rattle.taskset_json.specs.declared.form.Kind.{Kind}
 use Rattle.taskset_json.specs.declared.form.Kind.TheVariants as kind
 use Rattle.taskset_json.specs.Members.{whole, names_of, list_at}
@@ -73,44 +71,15 @@ is_listed form name = list_any (λ m. bytes_eq m.name name) form
 abbrev pub is_object_of : List MemberDef → Data → Bool
 is_object_of form d = option_map_or (λ ms. list_all (is_listed form) (names_of ms)) (as_object d) false && list_all (gives d) form
 
--- A value that must be an object of a form, and its place in the set.
-pub record ObjectDef : Type 0 where
-  pub place : Place
-  pub form : List MemberDef
-  pub value : Data
+-- Has the value the form of a task: is it an object of a task's members, and is each of its request entries one of an
+-- entry's?
+abbrev pub has_task_form : Data → Bool
+has_task_form d = is_object_of task_form d && list_all (is_object_of request_form) (list_at (codes "requests") d)
 
--- The values with their positions, counted from k.
-abbrev pub counted_from : ℕ → List Data → List (ℕ × Data)
-counted_from k [] = []
-counted_from k (d ∷ ds) = (k, d) ∷ counted_from (k + 1) ds
-
-abbrev pub resource_object : ℕ × Data → ObjectDef
-resource_object (q, d) = record { place = place.Resource q; form = resource_form; value = d }
-
-abbrev pub request_object : ℕ → ℕ × Data → ObjectDef
-request_object x (j, d) = record { place = place.Request x j; form = request_form; value = d }
-
--- A task, followed at once by its request entries.
-abbrev pub task_objects : ℕ × Data → List ObjectDef
-task_objects (x, d) =
-    record { place = place.Task x; form = task_form; value = d }
-    ∷ map (request_object x) (counted_from 0 (list_at (codes "requests") d))
-
--- The objects of a set in the order in which they are tried: the set itself, its resources, its tasks.
-abbrev pub objects_in_order : Data → List ObjectDef
-objects_in_order d =
-    record { place = place.Root; form = set_form; value = d }
-    ∷ (map resource_object (counted_from 0 (list_at (codes "resources") d))
-    ++ flat_map task_objects (counted_from 0 (list_at (codes "tasks") d)))
-
--- Has the object another form than it must have?
-abbrev pub is_misshapen : ObjectDef → Bool
-is_misshapen o = not (is_object_of o.form o.value)
-
--- The place of the first object of another form.
-abbrev pub first_of : List ObjectDef → Option Place
-first_of objects = option_map (λ o. o.place) (find is_misshapen objects)
-
--- Where does the value break the form first?
-abbrev pub first_misshapen : Data → Option Place
-first_misshapen d = first_of (objects_in_order d)
+-- Has the value the form of a task set: is it an object of a set's members, is each of its resources one of a
+-- resource's, and has each of its tasks the form of a task?
+abbrev pub has_set_form : Data → Bool
+has_set_form d =
+    is_object_of set_form d
+    && (list_all (is_object_of resource_form) (list_at (codes "resources") d)
+    && list_all has_task_form (list_at (codes "tasks") d))

@@ -3,6 +3,7 @@
 #![tactic(auto)]
 
 mod form;
+mod form_laws;
 mod homes;
 mod members;
 mod reading;
@@ -12,6 +13,7 @@ mod shape;
 mod tests;
 mod written;
 
+pub use form_laws::form_faults_are_exact;
 pub use homes::home_check;
-pub use reading::{MOST_BYTES, read};
+pub use reading::read;
 pub use refusal::SetRefusal;

@@ -1,23 +1,31 @@
-ghost use Rattle.std.specs.Prelude.{◌≡◌, ◌≤◌, ◌<◌, ◌^◌, length, IfOk};
+ghost use Rattle.std.specs.Prelude.{◌≡◌, ◌<◌, ◌^◌, length, true, IfNone};
 ghost use Rattle.serde_json.specs.View.{view};
 ghost use Rattle.taskset_json.specs.Size.{size};
+ghost use Rattle.taskset_json.specs.Form.{has_set_form};
+ghost use Rattle.taskset_json.specs.FormFaults.{first_misshapen as first_fault};
 ghost use Rattle.taskset_json.specs.Answers.{Reads, JudgesValue};
 
 use crate::refusal::SetRefusal;
 use crate::shape::first_misshapen;
 use crate::written::parts_of;
 use serde_json::Value;
-use sporadic_model::{ModelRefusal, TaskSet};
+use sporadic_model::{ModelRefusal, Place, TaskSet};
 use std::alloc::{AllocError, Global};
 
-/// The most bytes that are read.
-pub const MOST_BYTES: usize = 67_108_864;
+/// The first place at which the value breaks the form of a task set; none where it has the form.
+fn fault_of(value: &Value) -> Option<Place>
+    requires { size (view value.now) < 2 ^ 32 }
+    ensures place { result ≡ first_fault (view value.now) }
+    ensures form { IfNone result (has_set_form (view value.now) ≡ true) }
+{
+    first_misshapen(value)
+}
 
 fn set_of(alloc: Global, value: &Value) -> Result<TaskSet, SetRefusal>
     requires { size (view value.now) < 2 ^ 32 }
     ensures { JudgesValue result (view value.now) }
 {
-    if let Some(place) = first_misshapen(value) {
+    if let Some(place) = fault_of(value) {
         return Err(SetRefusal::Shape(place));
     }
     let parts = match parts_of(alloc, value) {
@@ -31,13 +39,13 @@ fn set_of(alloc: Global, value: &Value) -> Result<TaskSet, SetRefusal>
     }
 }
 
-/// Reads a task set from at most [`MOST_BYTES`] bytes of JSON, or says what is wrong first: the bytes
+/// Reads a task set from fewer than 2^31 bytes of JSON, or says what is wrong first: the bytes
 /// are no JSON text ([`SetRefusal::NotJson`]); an object does not have the members that it must have
 /// ([`SetRefusal::Shape`], with the first such place over the whole value); the set that the value
 /// writes is not accepted ([`SetRefusal::Model`], as `TaskSet::new` answers). Never answers
 /// [`SetRefusal::NoHome`].
 pub fn read(alloc: Global, bytes: &[u8]) -> Result<TaskSet, SetRefusal>
-    requires { length bytes.now ≤ MOST_BYTES }
+    requires { length bytes.now < 2 ^ 31 }
     ensures { Reads result bytes.now }
 {
     match Value::from_slice(alloc, bytes) {

@@ -2,7 +2,7 @@ ghost use Rattle.std.specs.Prelude.{◌≡◌, ◌^◌, ◌<◌, length, map};
 ghost use Rattle.std.specs.List.{flat_map};
 ghost use Rattle.serde_json.specs.View.{view};
 ghost use Rattle.taskset_json.specs.Size.{size, sizes};
-ghost use Rattle.taskset_json.specs.Form.{first_of, first_misshapen, resource_object, request_object, task_objects, counted_from};
+ghost use Rattle.taskset_json.specs.FormFaults.{first_of, first_misshapen, resource_object, request_object, task_objects, counted_from};
 
 use crate::form::{is_request, is_resource, is_set, is_task};
 use crate::members::list_at;

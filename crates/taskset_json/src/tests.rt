@@ -6,6 +6,9 @@ use std::alloc::{AllocError, Global};
 use std::fmt::Write;
 use std::test::Fail;
 
+/// More bytes than any text of these tests has.
+const MOST_TEXT: usize = 100_000;
+
 /// A line for each resource and each task, and after a task one for each resource that it uses.
 fn described(alloc: Global, set: &TaskSet) -> Result<String, AllocError> {
     let mut text = String::new(alloc);
@@ -51,7 +54,7 @@ fn reads_each_member(rt: HostRuntime) -> Result<(), Fail> {
              "requests": [{"resource": "r", "count": 2, "length": 1}, {"resource": "q", "count": 1, "length": 4}]},
             {"cost": 4, "period": 20, "processor": 2, "name": "t2"}]}
     "#;
-    assert!(rt; text.len() <= MOST_BYTES);
+    assert!(rt; text.len() <= MOST_TEXT);
     match read(rt.alloc(), text.as_bytes()) {
         Ok(set) => {
             let described = described(rt.alloc(), &set)?;
@@ -67,7 +70,7 @@ fn reads_each_member(rt: HostRuntime) -> Result<(), Fail> {
 #[test]
 fn reads_the_least_set(rt: HostRuntime) -> Result<(), Fail> {
     let text = r#"{"processors":1,"tasks":[{"name":"t","processor":1,"period":8,"cost":3}]}"#;
-    assert!(rt; text.len() <= MOST_BYTES);
+    assert!(rt; text.len() <= MOST_TEXT);
     match read(rt.alloc(), text.as_bytes()) {
         Ok(set) => {
             let described = described(rt.alloc(), &set)?;
@@ -86,7 +89,7 @@ fn homes_of(
     let text = format!(in alloc;
         r#"{{"processors":2,"tasks":[{{"name":"t","processor":1,"period":8,"cost":3}}],"resources":[{resources}]}}"#
     )?;
-    if text.len() > MOST_BYTES {
+    if text.len() > MOST_TEXT {
         return Ok(Err(SetRefusal::NotJson));
     }
     match read(alloc, text.as_bytes()) {
@@ -116,7 +119,7 @@ fn asks_for_homes_under_dpcp_alone(rt: HostRuntime) -> Result<(), Fail> {
 }
 
 fn refusal_of(alloc: Global, bytes: &[u8]) -> Option<SetRefusal> {
-    if bytes.len() > MOST_BYTES {
+    if bytes.len() > MOST_TEXT {
         return None;
     }
     read(alloc, bytes).err()

@@ -1,7 +1,6 @@
-use Rattle.std.proofs.Common.{ℕ, ◌∷◌, [], map, length}
+use Rattle.std.proofs.Common.{◌∷◌, [], map}
 use Rattle.program_form.specs.RowBlock.{block_seen}
 use Rattle.fragments.specs.ColumnDef.{column_seen}
-use Rattle.fragments.specs.Constraints.{per}
 use Rattle.fragments.proofs.Rows.{next_rows}
 use Rattle.direct_constraints.specs.Rows.{time_row}
 use Rattle.direct_constraints.proofs.add_time_rows.Goals as goal

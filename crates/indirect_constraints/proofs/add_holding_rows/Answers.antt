@@ -1,4 +1,4 @@
-use Rattle.std.proofs.Common.{ℕ, ◌+◌, ◌∷◌, [], map, length}
+use Rattle.std.proofs.Common.{◌∷◌, [], map}
 use Rattle.program_form.specs.RowBlock.{block_seen}
 use Rattle.fragments.specs.ColumnDef.{column_seen}
 use Rattle.fragments.proofs.Rows.{next_rows}

@@ -1,4 +1,4 @@
-use Rattle.std.proofs.Common.{◌≡◌, ℕ, List, [], ◌∷◌, map, if◌then◌else◌, sym}
+use Rattle.std.proofs.Common.{[], ◌∷◌, map, if◌then◌else◌}
 use Rattle.program_form.specs.RowBlock.{block_seen}
 use Rattle.fragments.specs.ColumnDef.{column_seen}
 use Rattle.fragments.specs.Columns.{is_lower_local}

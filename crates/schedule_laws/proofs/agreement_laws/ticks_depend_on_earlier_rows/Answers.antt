@@ -1,4 +1,4 @@
-use Rattle.schedule_laws.proofs.Agreement.{executed_agree, phase_agree, pending_agree, active_agree, requester_agree, issue_agree, held_before_agree, ready_agree}
+use Rattle.schedule_laws.proofs.Agreement.{executed_agree, phase_agree, pending_agree, active_agree, active_job_agree, requester_agree, issue_agree, held_before_agree, ready_agree}
 use Rattle.schedule_laws.proofs.agreement_laws.ticks_depend_on_earlier_rows.Goals as goal
 
 pub returns-clause-executed : goal.returns-clause-executed
@@ -24,3 +24,6 @@ returns-clause-held c = held_before_agree
 
 pub returns-clause-ready : goal.returns-clause-ready
 returns-clause-ready c = ready_agree
+
+pub returns-clause-active_job : goal.returns-clause-active_job
+returns-clause-active_job c = active_job_agree

@@ -4,7 +4,8 @@ use Rattle.std.specs.Option.{option_or}
 use Rattle.serde_json.specs.Data.{Data}
 use Rattle.sporadic_model.specs.declared.refusal.Place.{Place}
 use Rattle.taskset_json.specs.Members.{list_at}
-use Rattle.taskset_json.specs.Form.{first_of, is_object_of, set_form, resource_object, task_objects, counted_from}
+use Rattle.taskset_json.specs.Form.{is_object_of, set_form}
+use Rattle.taskset_json.specs.FormFaults.{first_of, resource_object, task_objects, counted_from}
 use Rattle.serde_json.specs.View.{view}
 use Rattle.taskset_json.proofs.Sizes.{listed_within, list_at-sizes}
 use Rattle.taskset_json.proofs.Places.{after_root}

@@ -1,7 +1,7 @@
 -- The objects not yet tried have the answer of all.
 use Rattle.std.proofs.Common.{◌≡◌, map, drop}
 use Rattle.serde_json.specs.View.{view}
-use Rattle.taskset_json.specs.Form.{first_of, request_object, counted_from}
+use Rattle.taskset_json.specs.FormFaults.{first_of, request_object, counted_from}
 use Rattle.taskset_json.proofs.shape.first_request.Given as goal
 
 abbrev pub invariant-loop-j : goal.invariant-loop-j

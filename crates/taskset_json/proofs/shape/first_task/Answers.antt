@@ -3,7 +3,7 @@ use Rattle.std.specs.List.{flat_map}
 use Rattle.std.specs.Option.{option_or}
 use Rattle.serde_json.specs.View.{view}
 use Rattle.sporadic_model.specs.declared.refusal.Place.{Place}
-use Rattle.taskset_json.specs.Form.{first_of, task_objects, counted_from}
+use Rattle.taskset_json.specs.FormFaults.{first_of, task_objects, counted_from}
 use Rattle.taskset_json.proofs.Sizes.{length-values, value_within}
 use Rattle.taskset_json.proofs.Places.{task_turn}
 use Rattle.taskset_json.proofs.shape.first_task.Goals as goal

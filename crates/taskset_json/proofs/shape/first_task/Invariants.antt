@@ -2,7 +2,7 @@
 use Rattle.std.proofs.Common.{◌≡◌, map, drop}
 use Rattle.std.specs.List.{flat_map}
 use Rattle.serde_json.specs.View.{view}
-use Rattle.taskset_json.specs.Form.{first_of, task_objects, counted_from}
+use Rattle.taskset_json.specs.FormFaults.{first_of, task_objects, counted_from}
 use Rattle.taskset_json.proofs.shape.first_task.Given as goal
 
 abbrev pub invariant-loop-x : goal.invariant-loop-x

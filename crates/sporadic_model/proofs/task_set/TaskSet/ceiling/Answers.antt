@@ -17,6 +17,12 @@ returns-then-count-gt0-clause-highest c =
     let passes : is_user set c.args.q.0 c.loop-x.x ≡ true = positive (count_of set c.loop-x.x c.args.q.0) (omega arith) in
     highest_user set c.args.q.0 c.loop-x.x (sym c.loop-x.invariant ∙ find_now (is_user set c.args.q.0) c.loop-x.x (length set.tasks) (omega arith) passes)
 
+pub returns-then-count-gt0-clause-value : goal.returns-then-count-gt0-clause-value
+returns-then-count-gt0-clause-value c =
+    let set : SetDef = c.args.self.now in
+    let passes : is_user set c.args.q.0 c.loop-x.x ≡ true = positive (count_of set c.loop-x.x c.args.q.0) (omega arith) in
+    sym (find_now (is_user set c.args.q.0) c.loop-x.x (length set.tasks) (omega arith) passes) ∙ c.loop-x.invariant
+
 pub returns-clause-none : goal.returns-clause-none
 returns-clause-none c =
     let set : SetDef = c.args.self.now in

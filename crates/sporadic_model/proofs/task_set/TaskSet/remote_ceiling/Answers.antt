@@ -17,6 +17,12 @@ returns-then-is_user_beyond-clause-highest c =
     let passes : is_remote_user set c.args.q.0 c.args.k c.loop-x.x ≡ true = sym c.is_user_beyond.ensures ∙ c.if-is_user_beyond.true in
     highest_remote_user set c.args.q.0 c.args.k c.loop-x.x (sym c.loop-x.invariant ∙ find_now (is_remote_user set c.args.q.0 c.args.k) c.loop-x.x (length set.tasks) (omega arith) passes)
 
+pub returns-then-is_user_beyond-clause-value : goal.returns-then-is_user_beyond-clause-value
+returns-then-is_user_beyond-clause-value c =
+    let set : SetDef = c.args.self.now in
+    let passes : is_remote_user set c.args.q.0 c.args.k c.loop-x.x ≡ true = sym c.is_user_beyond.ensures ∙ c.if-is_user_beyond.true in
+    sym (find_now (is_remote_user set c.args.q.0 c.args.k) c.loop-x.x (length set.tasks) (omega arith) passes) ∙ c.loop-x.invariant
+
 pub returns-clause-none : goal.returns-clause-none
 returns-clause-none c =
     let set : SetDef = c.args.self.now in

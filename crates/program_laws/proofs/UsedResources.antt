@@ -1,0 +1,122 @@
+-- A task uses at most as many resources as it has request entries, so a program has at most three columns for each entry.
+use Rattle.std.proofs.Common.{◌≡◌, ℕ, zero, suc, ◌*◌, ◌<◌, ◌≤◌, ◌==◌, ◌&&◌, ◌||◌, not, Bool, true, false, nat_lt, List, [], ◌∷◌, length, refl, sym, ◌∙◌, arith, inl, inr, cond, Option, Some}
+use Rattle.std.specs.Prelude.{find}
+use Rattle.std.specs.List.{All, filter}
+use Rattle.std.specs.Option.{option_map_or}
+use Rattle.std.specs.Str.{bytes_eq}
+use Rattle.std.proofs.lemmas.Bool.{cases_lt}
+use Rattle.std.proofs.lemmas.List.{length-append}
+use Rattle.std.proofs.lemmas.List.Elements.{filter-append, All-nil, All-cons, All-head, All-tail}
+use Rattle.std.proofs.lemmas.Slice.Eq.{bytes_eq-Decides}
+use Rattle.bounded_sums.specs.Sums.{sum_below, flag, collect_below}
+use Rattle.bounded_sums.specs.Tests.{count_below}
+use Rattle.bounded_sums.proofs.SumLaws.{sum_below-monotone, sum_below-list_by, sum_below-times}
+use Rattle.bounded_sums.proofs.CountLaws.{count_below-monotone, count_below-either, count_below-one, count_below-none}
+use Rattle.sporadic_model.specs.SetDef.{SetDef, TaskDef, RequestDef, task_at, resource_at, no_task, request_count}
+use Rattle.sporadic_model.specs.Users.{is_user}
+use Rattle.sporadic_model.specs.Accepted.{IsAccepted, AreNamed}
+use Rattle.sporadic_model.specs.declared.ids.Protocol.{Protocol}
+use Rattle.sporadic_model.proofs.Laws.{sizes_of_accepted, names_of_accepted}
+use Rattle.fragments.specs.declared.columns.Class.TheVariants as class
+use Rattle.fragments.specs.ColumnDef.{ColumnDef, classes_of}
+use Rattle.fragments.specs.Columns.{is_column, columns_of, may_block}
+use Rattle.program_laws.proofs.Lists.{filter_shorter}
+
+-- Is the entry one of a resource of this name?
+abbrev names : RequestDef → List ℕ → Bool
+names e name = bytes_eq e.resource name
+
+-- Does one of the entries name it?
+abbrev named : List RequestDef → List ℕ → Bool
+named [] name = false
+named (e ∷ es) name = names e name || named es name
+
+step_named : (b rest : Bool) (e : RequestDef) (o : Option RequestDef) → nat_lt 0 (option_map_or (λ e. e.count) (cond b (Some e) o) 0) ≡ true
+    → (nat_lt 0 (option_map_or (λ e. e.count) o 0) ≡ true → rest ≡ true) → (b || rest) ≡ true
+step_named true rest e o h later = refl
+step_named false rest e o h later = later h
+
+-- A task that uses a resource has an entry that names it.
+found_named : (es : List RequestDef) (name : List ℕ) → nat_lt 0 (option_map_or (λ e. e.count) (find (λ e. bytes_eq e.resource name) es) 0) ≡ true → named es name ≡ true
+found_named [] name h = absurd cc
+found_named (e ∷ es) name h = step_named (names e name) (named es name) e (find (λ e. bytes_eq e.resource name) es) h (found_named es name)
+
+-- Entries name at most as many of differing names as they are.
+named_few : (m : ℕ) (name : ℕ → List ℕ) → ((p q : ℕ) → p < m → q < m → name p ≡ name q → p ≡ q) → (es : List RequestDef)
+    → count_below m (λ q. named es (name q)) ≤ length es
+named_few m name apart [] = omega (arith, count_below-none m (λ q. false) (λ k l. refl))
+named_few m name apart (e ∷ es) =
+    let first : count_below m (λ q. names e (name q)) ≤ 1 = count_below-one m (λ q. names e (name q)) (λ p q a b here there.
+    apart p q a b (sym ((bytes_eq-Decides e.resource (name p)).0 here) ∙ (bytes_eq-Decides e.resource (name q)).0 there)) in
+    omega (arith, count_below-either m (λ q. names e (name q)) (λ q. named es (name q)), first, named_few m name apart es)
+
+names_apart : (set : SetDef) → AreNamed set → (p q : ℕ) → p < length set.resources → q < length set.resources
+    → (resource_at set p).name ≡ (resource_at set q).name → p ≡ q
+names_apart set all p q a b same = elim (cases_lt p q) [
+  | inl below ↦ absurd (all.resources_apart p q below b same)
+  | inr rest ↦ elim (cases_lt q p) [
+    | inl above ↦ absurd (all.resources_apart q p above a (sym same))
+    | inr level ↦ omega arith
+  ]
+]
+
+-- A task uses at most as many resources as it has entries.
+pub used_few : (set : SetDef) (x : ℕ) → IsAccepted set → count_below (length set.resources) (λ q. is_user set q x) ≤ length (task_at set x).requests
+used_few set x accepted =
+    let entries : List RequestDef = (task_at set x).requests in
+    let named_all = named_few (length set.resources) (λ q. (resource_at set q).name) (names_apart set (names_of_accepted set accepted)) entries in
+    let used = count_below-monotone (length set.resources) (λ q. is_user set q x) (λ q. named entries (resource_at set q).name) (λ q l user. found_named entries (resource_at set q).name user) in
+    omega (arith, named_all, used)
+
+filtered_sum : {X : Type 0} (p : X → Bool) (n : ℕ) (f : ℕ → List X) → length (filter p (collect_below n f)) ≡ sum_below n (λ k. length (filter p (f k)))
+filtered_sum p zero f = refl
+filtered_sum p (suc n) f = rw (filter-append p (collect_below n f) (f n), length-append (filter p (collect_below n f)) (filter p (f n)), filtered_sum p n f) refl
+
+filtered_none : {X : Type 0} (p : X → Bool) (xs : List X) → All (λ x. p x ≡ false) xs → length (filter p xs) ≡ 0
+filtered_none p [] h = refl
+filtered_none p (x ∷ xs) h = rw (All-head (λ x. p x ≡ false) x xs h) (filtered_none p xs (All-tail (λ x. p x ≡ false) x xs h))
+
+middle_false : (a b c : Bool) → b ≡ false → ((a && b) && c) ≡ false
+middle_false true true c h = absurd cc
+middle_false true false c h = refl
+middle_false false b c h = refl
+
+column_apart : (p : Protocol) (set : SetDef) (i x q : ℕ) → is_user set q x ≡ false → (c : ColumnDef) → c.task ≡ x → c.resource ≡ q → is_column p set i c ≡ false
+column_apart p set i x q none c task resource =
+    let unused : is_user set c.resource c.task ≡ false = rw (task, resource) none in
+    middle_false (not (c.task == i)) (is_user set c.resource c.task) (may_block p set i c.task c.resource c.class) unused
+
+class_apart : (p : Protocol) (set : SetDef) (i x q : ℕ) → is_user set q x ≡ false → All (λ c. is_column p set i c ≡ false) (classes_of x q)
+class_apart p set i x q none =
+    let P : ColumnDef → Type 0 = λ c. is_column p set i c ≡ false in
+    let direct : ColumnDef = record { task = x; resource = q; class = class.Direct } in
+    let indirect : ColumnDef = record { task = x; resource = q; class = class.Indirect } in
+    let preemption : ColumnDef = record { task = x; resource = q; class = class.Preemption } in
+    All-cons P direct (indirect ∷ preemption ∷ []) (column_apart p set i x q none direct refl refl)
+    (All-cons P indirect (preemption ∷ []) (column_apart p set i x q none indirect refl refl)
+    (All-cons P preemption [] (column_apart p set i x q none preemption refl refl) (All-nil P)))
+
+by_user : (p : Protocol) (set : SetDef) (i x q : ℕ) (b : Bool) → is_user set q x ≡ b → length (filter (is_column p set i) (classes_of x q)) ≤ 3 * flag b
+by_user p set i x q true user = omega (arith, filter_shorter (is_column p set i) (classes_of x q))
+by_user p set i x q false none = omega (arith, filtered_none (is_column p set i) (classes_of x q) (class_apart p set i x q none))
+
+task_columns : (p : Protocol) (set : SetDef) (i x : ℕ) → IsAccepted set
+    → length (filter (is_column p set i) (collect_below (length set.resources) (λ q. classes_of x q))) ≤ 3 * length (task_at set x).requests
+task_columns p set i x accepted =
+    let m = length set.resources in
+    let parts = filtered_sum (is_column p set i) m (λ q. classes_of x q) in
+    let each = sum_below-monotone m (λ q. length (filter (is_column p set i) (classes_of x q))) (λ q. 3 * flag (is_user set q x)) (λ q l. by_user p set i x q (is_user set q x) refl) in
+    let thrice = sum_below-times m 3 (λ q. flag (is_user set q x)) in
+    omega (arith, parts, each, thrice, used_few set x accepted)
+
+-- A program has at most three columns for each entry, so at most 768.
+pub columns_at_most : (p : Protocol) (set : SetDef) (i : ℕ) → IsAccepted set → length (columns_of p set i) ≤ 768
+columns_at_most p set i accepted =
+    let n = length set.tasks in
+    let m = length set.resources in
+    let parts = filtered_sum (is_column p set i) n (λ x. collect_below m (λ q. classes_of x q)) in
+    let each = sum_below-monotone n (λ x. length (filter (is_column p set i) (collect_below m (λ q. classes_of x q)))) (λ x. 3 * length (task_at set x).requests) (λ x l. task_columns p set i x accepted) in
+    let thrice = sum_below-times n 3 (λ x. length (task_at set x).requests) in
+    let all : sum_below n (λ x. length (task_at set x).requests) ≡ request_count set = sum_below-list_by (λ (t : TaskDef). length t.requests) no_task set.tasks in
+    let sizes = sizes_of_accepted set accepted in
+    omega (arith, parts, each, thrice, all, sizes.requests_to)

@@ -1,0 +1,25 @@
+-- A worked set: three tasks on three processors, and two resources that the first two request and the first of which the
+-- third requests.
+use Rattle.std.specs.Prelude.{ℕ, ◌+◌, List, [], ◌∷◌, None}
+use Rattle.sporadic_model.specs.SetDef.{SetDef, TaskDef, RequestDef}
+
+-- A name of one letter.
+abbrev pub letter : ℕ → List ℕ
+letter n = (97 + n) ∷ []
+
+-- One request of resource q, of this length.
+abbrev pub one_request : ℕ → ℕ → RequestDef
+one_request q length = record { resource = letter q; count = 1; length = length }
+
+-- A task of period 100 on processor k, with this cost.
+abbrev pub task_on : ℕ → ℕ → List RequestDef → TaskDef
+task_on k cost requests = record { name = letter k; processor = k; period = 100; deadline = 100; cost = cost; local = cost; requests = requests }
+
+abbrev pub three_tasks : SetDef
+three_tasks = record {
+  processors = 3;
+  resources = record { name = letter 0; home = None } ∷ record { name = letter 1; home = None } ∷ [];
+  tasks = task_on 1 4 (one_request 0 1 ∷ one_request 1 1 ∷ [])
+      ∷ task_on 2 4 (one_request 0 3 ∷ one_request 1 2 ∷ [])
+      ∷ task_on 3 3 (one_request 0 2 ∷ []) ∷ [];
+}

@@ -1,0 +1,62 @@
+ghost use Rattle.std.specs.Prelude.{◌≡◌, ◌<◌, ◌≤◌, ◌*◌, length, slice_index};
+ghost use Rattle.sporadic_model.specs.Accepted.{TaskNumbers};
+ghost use Rattle.sporadic_model.specs.SetDef.{task_at};
+ghost use Rattle.program_sources.specs.Bounds.{AreWithinDeadlines, AreFromCostsAbove};
+ghost use Rattle.program_sources.specs.Recurrence.{interference_by, interference_of};
+ghost use Rattle.program_laws.specs.Programs.{interfering_cost};
+
+use sporadic_model::{Protocol, TaskId, TaskSet, jobs_in};
+
+// How many ticks of a job of task `h` count as interference?
+fn interfering(set: &TaskSet, protocol: Protocol, h: TaskId) -> u64
+    requires { h.0 < length set.now.tasks }
+    ensures value { result ≡ interfering_cost protocol set.now h.0 }
+    ensures most { result ≤ (task_at set.now h.0).cost }
+    ensures ticks { result ≤ 1000000000 }
+{
+    match protocol {
+        Protocol::Mpcp | Protocol::FmlpPlus => set.cost(h),
+        Protocol::Dpcp => set.local(h),
+    }
+}
+
+// The ticks that the recurrence counts for jobs of the higher task `h`.
+fn interference_of_task(
+    set: &TaskSet,
+    protocol: Protocol,
+    i: TaskId,
+    h: TaskId,
+    bounds: &[u64],
+) -> u64
+    requires task { i.0 < length set.now.tasks }
+    requires higher { h.0 < i.0 }
+    requires within { AreWithinDeadlines set.now bounds.now }
+    requires from_costs { AreFromCostsAbove set.now bounds.now i.0 }
+    ensures value { result ≡ interference_by (interfering_cost protocol set.now) set.now bounds.now i.0 h.0 }
+    ensures most { result ≤ 3000000000 }
+{
+    let _tasks = set.tasks();
+    let ticks = interfering(set, protocol, h);
+    let period = set.period(h);
+    let window = bounds[i.0 as usize];
+    let bound = bounds[h.0 as usize];
+    jobs_in(window, bound - ticks, period) * ticks
+}
+
+/// The ticks that the recurrence counts, where these are the bounds, for jobs of all higher tasks on `i`'s processor: of each
+/// as many jobs as can run within `i`'s bound, each with the task's cost, under DPCP with its local limit.
+pub fn interference(set: &TaskSet, protocol: Protocol, i: TaskId, bounds: &[u64]) -> u64
+    requires task { i.0 < length set.now.tasks }
+    requires within { AreWithinDeadlines set.now bounds.now }
+    requires from_costs { AreFromCostsAbove set.now bounds.now i.0 }
+    ensures value { result ≡ interference_of (interfering_cost protocol set.now) set.now bounds.now i.0 }
+    ensures most { result ≤ i.0 * 3000000000 }
+{
+    let mut total = 0;
+    for h in 0..i.0 {
+        if set.higher_local(i, TaskId(h)) {
+            total += interference_of_task(set, protocol, i, TaskId(h), bounds);
+        }
+    }
+    total
+}

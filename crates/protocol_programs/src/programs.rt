@@ -1,0 +1,111 @@
+ghost use Rattle.std.specs.Prelude.{◌≡◌, ◌<◌, ◌++◌, map, length, IfOk, OnOk, drop};
+ghost use Rattle.program_form.specs.RowBlock.{block_seen};
+ghost use Rattle.program_form.specs.Program.{IsProgram};
+ghost use Rattle.sporadic_model.specs.Homes.{HasHomesFor};
+ghost use Rattle.program_sources.specs.Bounds.{AreWithinDeadlines};
+ghost use Rattle.fragments.specs.ColumnDef.{column_seen, AreKnown};
+ghost use Rattle.fragments.specs.Columns.{columns_of};
+ghost use Rattle.fragments.specs.Constraints.{block_of};
+ghost use Rattle.program_laws.specs.Programs.{cost_of, rows_of, program_of};
+ghost use Rattle.protocol_programs.specs.Joined.{joined, lists_of};
+
+use fragments::Fragment;
+use program_form::{Program, RowBlock, refusals_are_exact};
+use sporadic_model::{Protocol, TaskId, TaskSet};
+use std::alloc::{AllocError, Global};
+
+// The lengths of the columns' requests, in ticks.
+fn lengths(alloc: Global, set: &TaskSet, columns: &[Fragment]) -> Result<Vec<u64>, AllocError>
+    requires { AreKnown (length set.now.tasks) (length set.now.resources) columns.now }
+    ensures { IfOk result (λ v. v.items ≡ map (λ c. cost_of set.now (column_seen c)) columns.now) }
+{
+    let mut costs = Vec::with_capacity(alloc, columns.len())?;
+    for column in columns {
+        costs.push(set.length(column.task, column.resource))?;
+    }
+    Ok(costs)
+}
+
+// What the columns of task `i` are worth.
+fn costs(
+    alloc: Global,
+    set: &TaskSet,
+    protocol: Protocol,
+    i: TaskId,
+    columns: &[Fragment],
+) -> Result<Vec<u64>, AllocError>
+    requires columns { map column_seen columns.now ≡ columns_of protocol set.now i.0 }
+    ensures { IfOk result (λ v. v.items ≡ map (cost_of set.now) (columns_of protocol set.now i.0)) }
+{
+    lengths(alloc, set, columns)
+}
+
+// Puts the rows of another block behind those of this one.
+fn append(block: &mut RowBlock, more: RowBlock) -> Result<(), AllocError>
+    ensures { OnOk result (block_seen block.new ≡ joined (block_seen block.old) (block_seen more)) }
+{
+    let RowBlock {
+        mut rows,
+        mut limits,
+    } = more;
+    block.rows.append(&mut rows)?;
+    block.limits.append(&mut limits)
+}
+
+// All rows, in their order.
+fn rows(
+    alloc: Global,
+    set: &TaskSet,
+    protocol: Protocol,
+    i: TaskId,
+    bounds: &[u64],
+    columns: &[Fragment],
+) -> Result<RowBlock, AllocError>
+    requires task { i.0 < length set.now.tasks }
+    requires suits { HasHomesFor protocol set.now }
+    requires within { AreWithinDeadlines set.now bounds.now }
+    requires columns { map column_seen columns.now ≡ columns_of protocol set.now i.0 }
+    ensures { IfOk result (λ b. block_seen b ≡ block_of (columns_of protocol set.now i.0) (rows_of protocol set.now i.0) bounds.now) }
+{
+    let mut block = direct_constraints::common(alloc, set, protocol, i, bounds, columns)?;
+    let preemption = preempt_constraints::rows(alloc, set, protocol, i, bounds, columns)?;
+    append(&mut block, preemption)?;
+    let own = direct_constraints::own(alloc, set, protocol, i, bounds, columns)?;
+    append(&mut block, own)?;
+    let indirect = indirect_constraints::rows(alloc, set, protocol, i, bounds, columns)?;
+    append(&mut block, indirect)?;
+    Ok(block)
+}
+
+// The program of these lists, which are one.
+fn accepted(costs: Vec<u64>, block: RowBlock) -> Program
+    requires { IsProgram (lists_of costs.items (block_seen block)) }
+    ensures { result ≡ lists_of costs.items (block_seen block) }
+{
+    refusals_are_exact();
+    match Program::new(costs, block.rows, block.limits) {
+        Ok(program) => program,
+        Err(_) => unreachable!(),
+    }
+}
+
+/// The blocking program of task `i` under the protocol, where these are the bounds, in ticks. It refuses for want of memory
+/// alone.
+pub fn program(
+    alloc: Global,
+    set: &TaskSet,
+    protocol: Protocol,
+    i: TaskId,
+    bounds: &[u64],
+) -> Result<Program, AllocError>
+    requires task { i.0 < length set.now.tasks }
+    requires suits { HasHomesFor protocol set.now }
+    requires within { AreWithinDeadlines set.now bounds.now }
+    ensures { IfOk result (λ p. p ≡ program_of protocol set.now i.0 bounds.now) }
+{
+    let _tasks = set.tasks();
+    let columns = fragments::fragments(alloc, set, protocol, i)?;
+    let costs = costs(alloc, set, protocol, i, &columns)?;
+    let block = rows(alloc, set, protocol, i, bounds, &columns)?;
+    Ok(accepted(costs, block))
+}

@@ -1,0 +1,235 @@
+ghost use Rattle.std.specs.Prelude.{◌≡◌, ◌<◌, length, map, IsTrue, IfOk};
+ghost use Rattle.sporadic_model.specs.Homes.{EachHasHome, HasHomesFor};
+ghost use Rattle.program_sources.specs.Bounds.{AreWithinDeadlines, IsInRange};
+
+use crate::cases::{BESIDE, CASES, Case, LOCAL, PATHS, Request, Set, Task};
+use crate::{ProgramSource, Written};
+use fragments::{Class, Fragment, cnt};
+use program_form::{Program, RowBlock};
+use sporadic_model::{
+    Parts, Protocol, RequestPart, ResourceId, ResourcePart, TaskId, TaskPart, TaskSet,
+};
+use std::alloc::{AllocError, Global};
+use std::test::Fail;
+
+fn requests_of(alloc: Global, requests: &[Request]) -> Result<Vec<RequestPart>, AllocError> {
+    let mut list = Vec::new(alloc);
+    for (resource, count, length) in requests {
+        list.push(RequestPart {
+            resource: format!(in alloc; "r{resource}")?,
+            count: *count,
+            length: *length,
+        })?;
+    }
+    Ok(list)
+}
+
+fn tasks_of(alloc: Global, tasks: &[Task]) -> Result<Vec<TaskPart>, AllocError> {
+    let mut list = Vec::new(alloc);
+    for (number, task) in tasks.iter().enumerate() {
+        let (processor, period, cost, local, requests) = *task;
+        list.push(TaskPart {
+            name: format!(in alloc; "t{number}")?,
+            processor,
+            period,
+            deadline: period,
+            cost,
+            local,
+            requests: requests_of(alloc, requests)?,
+        })?;
+    }
+    Ok(list)
+}
+
+fn set_of(alloc: Global, set: Set) -> Result<TaskSet, Fail> {
+    let (processors, homes, tasks) = set;
+    let mut resources = Vec::new(alloc);
+    for (number, home) in homes.iter().enumerate() {
+        let name = format!(in alloc; "r{number}")?;
+        resources.push(ResourcePart { name, home: *home })?;
+    }
+    let tasks = tasks_of(alloc, tasks)?;
+    match TaskSet::new(
+        alloc,
+        Parts {
+            processors,
+            resources,
+            tasks,
+        },
+    ) {
+        Ok(set) => Ok(set),
+        Err(_) => Err("refused".into()),
+    }
+}
+
+fn are_within(set: &TaskSet, bounds: &[u64]) -> bool
+    ensures { IsTrue result → AreWithinDeadlines set.now bounds.now }
+{
+    if bounds.len() != set.tasks() as usize {
+        return false;
+    }
+    for i in 0..set.tasks() {
+        if bounds[i as usize] > set.deadline(TaskId(i)) {
+            return false;
+        }
+    }
+    true
+}
+
+fn have_homes(set: &TaskSet) -> bool
+    ensures { IsTrue result → EachHasHome set.now }
+{
+    for q in 0..set.resources() {
+        if set.home(ResourceId(q)).is_none() {
+            return false;
+        }
+    }
+    true
+}
+
+fn suits(set: &TaskSet, protocol: Protocol) -> bool
+    ensures { IsTrue result → HasHomesFor protocol set.now }
+{
+    match protocol {
+        Protocol::Dpcp => have_homes(set),
+        Protocol::Mpcp | Protocol::FmlpPlus => true,
+    }
+}
+
+/// The program of the case, made by the source of the protocol's programs.
+fn formed(alloc: Global, set: &TaskSet, case: &Case) -> Result<Program, Fail> {
+    let task = TaskId(case.task);
+    if case.task < set.tasks() && suits(set, case.protocol) && are_within(set, case.bounds) {
+        return Ok(Written(case.protocol).program(alloc, set, task, case.bounds)?);
+    }
+    Err("out of range".into())
+}
+
+/// Are these the columns?
+fn are_columns(columns: &[Fragment], wanted: &[(u32, u32, Class, u64)]) -> bool {
+    columns.len() == wanted.len()
+        && columns.iter().zip(wanted.iter()).all(|(column, (task, resource, class, _))| {
+            column.task.0 == *task && column.resource.0 == *resource && column.class == *class
+        })
+}
+
+/// The coefficients of a row.
+fn row_of(alloc: Global, program: &Program, r: u32) -> Result<Vec<u64>, AllocError>
+    requires { r < length program.now.rows }
+{
+    let mut row = Vec::new(alloc);
+    for c in 0..program.columns() {
+        row.push(program.entry(r, c))?;
+    }
+    Ok(row)
+}
+
+#[test]
+fn gives_the_columns(rt: HostRuntime) -> Result<(), Fail> {
+    let alloc = rt.alloc();
+    for case in CASES {
+        let set = set_of(alloc, case.set)?;
+        if case.task >= set.tasks() || !suits(&set, case.protocol) {
+            return Err("out of range".into());
+        }
+        let columns = fragments::fragments(alloc, &set, case.protocol, TaskId(case.task))?;
+        assert!(rt; are_columns(&columns, case.columns));
+    }
+    Ok(())
+}
+
+#[test]
+fn gives_the_costs_and_the_limits(rt: HostRuntime) -> Result<(), Fail> {
+    let alloc = rt.alloc();
+    for case in CASES {
+        let set = set_of(alloc, case.set)?;
+        let program = formed(alloc, &set, case)?;
+        assert_eq!(rt; program.columns() as usize, case.columns.len());
+        assert_eq!(rt; program.rows() as usize, case.limits.len());
+        for c in 0..program.columns() {
+            let wanted = case.columns.get(c as usize).copied();
+            assert_eq!(rt; Some(program.cost(c)), wanted.map(|column| column.3));
+        }
+        for r in 0..program.rows() {
+            assert_eq!(rt; Some(program.limit(r)), case.limits.get(r as usize).copied());
+        }
+    }
+    Ok(())
+}
+
+#[test]
+fn gives_the_rows(rt: HostRuntime) -> Result<(), Fail> {
+    let alloc = rt.alloc();
+    for case in CASES {
+        let set = set_of(alloc, case.set)?;
+        let program = formed(alloc, &set, case)?;
+        assert_eq!(rt; program.rows() as usize, case.rows.len());
+        for r in 0..program.rows() {
+            let row = row_of(alloc, &program, r)?;
+            assert_eq!(rt; Some(row.as_slice()), case.rows.get(r as usize).copied());
+        }
+    }
+    Ok(())
+}
+
+/// The interference of the case's task at bounds that are no less than the costs.
+fn counted(alloc: Global, set: Set, protocol: Protocol, bounds: &[u64]) -> Result<u64, Fail> {
+    let set = set_of(alloc, set)?;
+    let at_costs = set.tasks() > 1 && are_within(&set, bounds) && bounds[0] >= set.cost(TaskId(0));
+    if at_costs && suits(&set, protocol) {
+        return Ok(Written(protocol).interference(&set, TaskId(1), bounds));
+    }
+    Err("out of range".into())
+}
+
+// At the bounds 4 and 9 two jobs of cost 2 count: the quotient of 9 + (4 - 2) and 10, rounded up, is 2. Of the task with a
+// local limit, at the bounds 6 and 9, two jobs: of its cost 4 under MPCP, where 9 + (6 - 4) is 11, and of its local limit 2
+// under DPCP, where 9 + (6 - 2) is 13.
+#[test]
+fn counts_the_interference(rt: HostRuntime) -> Result<(), Fail> {
+    let alloc = rt.alloc();
+    assert_eq!(rt; counted(alloc, BESIDE, Protocol::FmlpPlus, &[4, 9, 7])?, 4);
+    assert_eq!(rt; counted(alloc, LOCAL, Protocol::Mpcp, &[6, 9])?, 8);
+    assert_eq!(rt; counted(alloc, LOCAL, Protocol::Dpcp, &[6, 9])?, 4);
+    Ok(())
+}
+
+/// Has the block these rows and these limits?
+fn is_block(block: &RowBlock, rows: &[&'static [u64]], limits: &[u64]) -> bool {
+    block.limits.as_slice() == limits
+        && block.rows.len() == rows.len()
+        && block.rows.iter().zip(rows.iter()).all(|(row, wanted)| row.as_slice() == *wanted)
+}
+
+// The program of the paths, part by part: eight common rows, none of preemption, one of lower holders, one of holdings.
+#[test]
+fn gives_the_rows_part_by_part(rt: HostRuntime) -> Result<(), Fail> {
+    let alloc = rt.alloc();
+    let set = set_of(alloc, PATHS)?;
+    let bounds = [10; 6];
+    if set.tasks() != 6 || !are_within(&set, &bounds) || set.resources() != 2 {
+        return Err("out of range".into());
+    }
+    let (i, mpcp) = (TaskId(3), Protocol::Mpcp);
+    let columns = fragments::fragments(alloc, &set, mpcp, i)?;
+    let common = direct_constraints::common(alloc, &set, mpcp, i, &bounds, &columns)?;
+    let limits = [1, 1, 1, 1, 10, 10, 10, 10];
+    assert_eq!(rt; common.limits.as_slice(), limits.as_slice());
+    let preemption = preempt_constraints::rows(alloc, &set, mpcp, i, &bounds, &columns)?;
+    assert!(rt; is_block(&preemption, &[], &[]));
+    let own = direct_constraints::own(alloc, &set, mpcp, i, &bounds, &columns)?;
+    assert!(rt; is_block(&own, &[&[0, 0, 0, 1]], &[1]));
+    let indirect = indirect_constraints::rows(alloc, &set, mpcp, i, &bounds, &columns)?;
+    assert!(rt; is_block(&indirect, &[&[0, 0, 1, 0]], &[3]));
+    assert_eq!(rt; cnt(&set, i, TaskId(4), ResourceId(1), &bounds), 1);
+    Ok(())
+}
+
+// Compiles only where the value may be sent to another thread and shared with it.
+fn may_cross_threads<T: Send + Sync>(_value: &T) {}
+
+#[test]
+fn sources_may_cross_threads() {
+    may_cross_threads(&Written(Protocol::Mpcp));
+    may_cross_threads(&(Class::Direct, TaskId(0)));
+}

@@ -1,0 +1,26 @@
+//! Laws of task sets. Each function here does nothing: what it ensures holds for all sets.
+
+ghost use Rattle.std.specs.Prelude.{◌≡◌, ◌↔◌, None};
+ghost use Rattle.sporadic_model.specs.SetDef.{SetDef};
+ghost use Rattle.sporadic_model.specs.Refusals.{first_refusal};
+ghost use Rattle.sporadic_model.specs.Accepted.{IsAccepted};
+
+use crate::limits::{
+    MOST_COUNT, MOST_NAME, MOST_PROCESSORS, MOST_REQUESTS, MOST_RESOURCES, MOST_TASKS, MOST_TICKS,
+};
+
+/// No refusal of a task set is due exactly where all of it stands in its range.
+pub fn refusals_are_exact()
+    ensures { (set : SetDef) → (first_refusal set ≡ None) ↔ IsAccepted set }
+{}
+
+/// The limits that accepted sets keep, as numbers.
+pub fn limits_are_fixed()
+    ensures processors { MOST_PROCESSORS ≡ 64 }
+    ensures tasks { MOST_TASKS ≡ 64 }
+    ensures resources { MOST_RESOURCES ≡ 32 }
+    ensures requests { MOST_REQUESTS ≡ 256 }
+    ensures ticks { MOST_TICKS ≡ 1000000000 }
+    ensures count { MOST_COUNT ≡ 1000 }
+    ensures name { MOST_NAME ≡ 32 }
+{}
