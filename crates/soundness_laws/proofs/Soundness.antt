@@ -78,7 +78,9 @@ blocked_at_most interferes w n cost bounds value j given l = elim (cases_lt n (j
       let cut : blocked_in_window interferes w n bounds j
       ≤ count_below (window_end w (slice_index bounds) n j) (λ t. is_blocked interferes w t j) =
       count_below-cut n (bound_end w (slice_index bounds) j) (λ t. is_in_window w bounds t j && is_blocked interferes w t j)
-      (λ t. is_blocked interferes w t j) (λ t h. (in_window _ _ t _ h).1) in
+      (λ t. is_blocked interferes w t j)
+      (λ t h. let inside : ((job_of w.jobs j).release ≤ t) × (t < bound_end w (slice_index bounds) j) × (is_blocked interferes w t j ≡ true) =
+      in_window _ _ t _ h in (inside.1, inside.2)) in
       omega (arith, cut, given.blocked j l ended)
 ]
 

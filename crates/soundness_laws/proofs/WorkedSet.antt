@@ -10,7 +10,7 @@ use Rattle.program_form.specs.Program.{ProgramDef, columns, height, cost, entry}
 use Rattle.program_form.specs.Duals.{Covers}
 use Rattle.sporadic_model.specs.SetDef.{task_at}
 use Rattle.sporadic_model.specs.Accepted.{IsAccepted}
-use Rattle.sporadic_model.specs.Refusals.{is_due}
+use Rattle.sporadic_model.specs.Refusals.{is_due, size_refusals}
 use Rattle.sporadic_model.specs.Users.{count_of}
 use Rattle.sporadic_model.specs.declared.ids.Protocol.TheVariants as protocol
 use Rattle.sporadic_model.proofs.Ranges.{accepted_from_free}
@@ -25,13 +25,13 @@ use Rattle.schedule_model.specs.Ranks.{fmlp_plus}
 use Rattle.schedule_model.specs.Protocols.{shared_rule}
 use Rattle.schedule_model.proofs.WorkedFiles.{jobs_a, trace_a}
 use Rattle.schedule_model.proofs.SharedExamples.{a_keeps_fmlp}
-use Rattle.program_sources.specs.Valid.{IsValid, IsProvedBound}
+use Rattle.program_sources.specs.Valid.{IsValid, IsProvedBound, value_at}
 use Rattle.soundness_laws.specs.Sound.{IsLawfulSchedule, blocked_in_window, KeepsBounds, Sound}
 use Rattle.soundness_laws.specs.Analyses.{source_of, AreValues}
 use Rattle.soundness_laws.specs.Worked.{two_tasks, two_bounds}
 
 pub two_accepted : IsAccepted two_tasks
-unfolding is_due
+unfolding is_due size_refusals
 two_accepted = accepted_from_free two_tasks refl
 
 -- A dual whose rows hold the cost of each column covers the program: a test of the columns.
@@ -59,7 +59,7 @@ two_valid = record { bound_each = refl; dual_each = refl; proved = proved } wher
 
 pub two_values : AreValues (source_of protocol.FmlpPlus two_tasks) two_bounds (2 ∷ 1 ∷ [])
 two_values = record { one_each = refl; each = each } where
-  each : (i : ℕ) → i < 2 → slice_index (2 ∷ 1 ∷ []) i ≡ _
+  each : (i : ℕ) → i < 2 → slice_index (2 ∷ 1 ∷ []) i ≡ value_at (source_of protocol.FmlpPlus two_tasks) two_bounds i
   each zero l = refl
   each (suc zero) l = refl
   each (suc (suc i)) l = absurd (omega arith)
@@ -77,7 +77,7 @@ lawful_job zero l = record {
 } where
   count : (q : ℕ) → number_of_requests (job_of jobs_a.jobs 0).script q ≤ count_of two_tasks 0 q
   count zero = leb-true _ _ refl
-  count (suc q) = omega arith
+  count (suc q) = leb-true _ _ refl
 lawful_job (suc zero) l = record {
   task = leb-true _ _ refl;
   script = refl;
@@ -89,7 +89,7 @@ lawful_job (suc zero) l = record {
 } where
   count : (q : ℕ) → number_of_requests (job_of jobs_a.jobs 1).script q ≤ count_of two_tasks 1 q
   count zero = leb-true _ _ refl
-  count (suc q) = omega arith
+  count (suc q) = leb-true _ _ refl
 lawful_job (suc (suc j)) l = absurd (omega arith)
 
 lawful_jobs : AreLawfulJobs jobs_a
