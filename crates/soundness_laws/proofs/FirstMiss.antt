@@ -1,7 +1,7 @@
 -- Why no bound is missed, over what a protocol and its analysis give: the first job to miss its bound would have, in its
 -- window, more ticks of its script, of interference and of blocking than its bound has, though until then every job has kept
 -- its own.
-use Rattle.std.proofs.Common.{◌≡◌, ℕ, zero, suc, ◌+◌, ◌-◌, ◌*◌, ◌<◌, ◌≤◌, Bool, true, false, List, length, refl, sym, subst, arith, inl, inr, min}
+use Rattle.std.proofs.Common.{◌≡◌, ℕ, zero, suc, ◌+◌, ◌-◌, ◌*◌, ◌<◌, ◌≤◌, Bool, List, length, refl, subst, arith, inl, inr}
 use Rattle.std.specs.Prelude.{slice_index}
 use Rattle.std.proofs.lemmas.Bool.{cases_lt, cases_Bool}
 use Rattle.bounded_sums.specs.Sums.{sum_below, only_if}
@@ -11,10 +11,10 @@ use Rattle.bounded_sums.proofs.CountLaws.{count_below-none}
 use Rattle.sporadic_model.specs.SetDef.{SetDef, task_at, is_higher_local, jobs_within}
 use Rattle.sporadic_model.specs.Accepted.{IsAccepted, TaskNumbers}
 use Rattle.sporadic_model.proofs.Laws.{numbers_of_accepted}
-use Rattle.schedule_model.specs.JobDef.{job_of, total_ticks}
+use Rattle.schedule_model.specs.JobDef.{job_of}
 use Rattle.schedule_model.specs.LawfulJobs.{AreLawfulJobs, IsLawfulJob}
 use Rattle.schedule_model.specs.RowDef.{Trace, jobs_of}
-use Rattle.schedule_model.specs.Phase.{is_finished, phase_of}
+use Rattle.schedule_model.specs.Phase.{phase_of}
 use Rattle.schedule_model.specs.Phase.Phase.{Finished}
 use Rattle.schedule_model.specs.Activity.{task_of}
 use Rattle.schedule_model.specs.BlockedTicks.{is_blocked}
@@ -140,29 +140,29 @@ ends_in_time interferes w n cost bounds value j given l ends ended =
       blocked,
       given.enough.enough i job.task,
     ))) where
-  r : ℕ
-  r = (job_of w.jobs j).release
+      r : ℕ
+      r = (job_of w.jobs j).release
 
-  i : ℕ
-  i = task_of w j
+      i : ℕ
+      i = task_of w j
 
-  job : IsLawfulJob w.set (job_of w.jobs j)
-  job = given.lawful.each j l
+      job : IsLawfulJob w.set (job_of w.jobs j)
+      job = given.lawful.each j l
 
-  bounds_from : AreBounds w.set (slice_index bounds)
-  bounds_from = bounds_are w.set cost bounds value given.accepted given.enough
+      bounds_from : AreBounds w.set (slice_index bounds)
+      bounds_from = bounds_are w.set cost bounds value given.accepted given.enough
 
-  passed : EndedBy w (slice_index bounds) r
-  passed = ended_by w (slice_index bounds) (bound_end w (slice_index bounds) j) r (omega (arith, bounds_from.from i job.task)) ended
+      passed : EndedBy w (slice_index bounds) r
+      passed = ended_by w (slice_index bounds) (bound_end w (slice_index bounds) j) r (omega (arith, bounds_from.from i job.task)) ended
 
-  short : (k : ℕ) → k < j → slice_index bounds (task_of w k) ≤ (task_at w.set (task_of w k)).period
-  short k before = let earlier : IsLawfulJob w.set (job_of w.jobs k) = given.lawful.each k (omega arith) in
-      bounds_below_periods w.set (slice_index bounds) (task_of w k) given.accepted bounds_from earlier.task
+      short : (k : ℕ) → k < j → slice_index bounds (task_of w k) ≤ (task_at w.set (task_of w k)).period
+      short k before = let earlier : IsLawfulJob w.set (job_of w.jobs k) = given.lawful.each k (omega arith) in
+          bounds_below_periods w.set (slice_index bounds) (task_of w k) given.accepted bounds_from earlier.task
 
-  blocked : count_below (r + slice_index bounds i) (λ t. is_blocked interferes w t j) ≤ value i
-  blocked =
-      let whole : window_end w (slice_index bounds) n j ≡ r + slice_index bounds i = omega arith in
-      subst (λ k. count_below k (λ t. is_blocked interferes w t j) ≤ value i) whole (given.blocked j l passed)
+      blocked : count_below (r + slice_index bounds i) (λ t. is_blocked interferes w t j) ≤ value i
+      blocked =
+          let whole : window_end w (slice_index bounds) n j ≡ r + slice_index bounds i = omega arith in
+          subst (λ k. count_below k (λ t. is_blocked interferes w t j) ≤ value i) whole (given.blocked j l passed)
 
 -- So each job whose bound passes within the rows ends in time: by induction on the tick at which it passes.
 pub all_end_in_time : (interferes : Trace → ℕ → ℕ → Bool) (w : Trace) (n : ℕ) (cost : ℕ → ℕ) (bounds : List ℕ) (value : ℕ → ℕ) (e : ℕ)

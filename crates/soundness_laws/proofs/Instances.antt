@@ -1,5 +1,5 @@
 -- The written programs of the three protocols analyse them.
-use Rattle.std.proofs.Common.{◌≡◌, ℕ, ◌<◌, ◌≤◌, Bool, List, length, subst, sym, arith}
+use Rattle.std.proofs.Common.{ℕ, ◌<◌, ◌≤◌, Bool, List, length, subst, sym, arith}
 use Rattle.std.specs.Prelude.{slice_index}
 use Rattle.bounded_sums.specs.Tests.{count_below}
 use Rattle.program_form.specs.Duals.{Covers, dual_value}

@@ -1,11 +1,11 @@
 -- From what a protocol and its analysis give to soundness.
 use Rattle.std.proofs.Common.{◌≡◌, ℕ, zero, suc, ◌<◌, ◌≤◌, ◌&&◌, Bool, true, false, List, length, sym, subst, arith, inl, inr, min, leb, ltb}
 use Rattle.std.specs.Prelude.{slice_index, nat_le, nat_lt}
-use Rattle.std.proofs.lemmas.Bool.{cases_lt, cases_Bool, and_parts, both_ways, leb-true, ltb-true}
+use Rattle.std.proofs.lemmas.Bool.{cases_lt, cases_Bool, and_parts, leb-true, ltb-true}
 use Rattle.bounded_sums.specs.Tests.{count_below}
 use Rattle.bounded_sums.proofs.CountLaws.{flag-of_true, flag-of_false, count_below-none, count_below-longer}
 use Rattle.program_form.specs.Certificate.{CertificateDef}
-use Rattle.sporadic_model.specs.SetDef.{SetDef, task_at}
+use Rattle.sporadic_model.specs.SetDef.{task_at}
 use Rattle.sporadic_model.specs.Accepted.{IsAccepted}
 use Rattle.schedule_model.specs.JobDef.{job_of}
 use Rattle.schedule_model.specs.LawfulJobs.{IsLawfulJob}
@@ -19,7 +19,7 @@ use Rattle.program_sources.specs.Recurrence.{SourceDef}
 use Rattle.program_sources.specs.Fitting.{tasks_of}
 use Rattle.program_sources.specs.Valid.{IsValid, IsProvedBound, dual_at, value_at}
 use Rattle.charge_model.specs.Windows.{bound_end, window_end, EndedBy}
-use Rattle.soundness_laws.specs.Sound.{IsLawfulSchedule, is_in_window, blocked_in_window, KeepsBounds, Sound}
+use Rattle.soundness_laws.specs.Sound.{IsLawfulSchedule, is_in_window, blocked_in_window, Sound}
 use Rattle.soundness_laws.specs.Analyses.{AreValues, Analyses}
 use Rattle.soundness_laws.proofs.FirstMiss.{AreEnough, Given, all_end_in_time}
 
@@ -58,14 +58,14 @@ none_in_window : (interferes : Trace → ℕ → ℕ → Bool) (w : Trace) (n : 
     → blocked_in_window interferes w n bounds j ≡ 0
 none_in_window interferes w n bounds j late =
     count_below-none n (λ t. is_in_window w bounds t j && is_blocked interferes w t j) (λ t l. off t l) where
-  off : (t : ℕ) → t < n → (is_in_window w bounds t j && is_blocked interferes w t j) ≡ false
-  off t l = elim (cases_Bool (is_in_window w bounds t j && is_blocked interferes w t j)) [
-    | inr is_off ↦ is_off
-    | inl on ↦
-        let inside : ((job_of w.jobs j).release ≤ t) × (t < bound_end w (slice_index bounds) j) × (is_blocked interferes w t j ≡ true) =
-        in_window _ _ t _ on in
-        absurd (omega (arith, inside.0))
-  ]
+      off : (t : ℕ) → t < n → (is_in_window w bounds t j && is_blocked interferes w t j) ≡ false
+      off t l = elim (cases_Bool (is_in_window w bounds t j && is_blocked interferes w t j)) [
+        | inr is_off ↦ is_off
+        | inl on ↦
+            let inside : ((job_of w.jobs j).release ≤ t) × (t < bound_end w (slice_index bounds) j) × (is_blocked interferes w t j ≡ true) =
+            in_window _ _ t _ on in
+            absurd (omega (arith, inside.0))
+      ]
 
 -- No job is blocked in its window for more than its value.
 blocked_at_most : (interferes : Trace → ℕ → ℕ → Bool) (w : Trace) (n : ℕ) (cost : ℕ → ℕ) (bounds : List ℕ) (value : ℕ → ℕ) (j : ℕ)

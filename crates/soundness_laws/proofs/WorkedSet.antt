@@ -1,11 +1,11 @@
 -- The worked set is accepted, its certificate is valid, and one of its schedules reaches the first task's bound and value.
 use Rattle.std.proofs.Common.{◌≡◌, ℕ, zero, suc, ◌+◌, ◌*◌, ◌<◌, ◌≤◌, true, [], ◌∷◌, refl, sym, ◌∙◌, arith}
 use Rattle.std.specs.Prelude.{slice_index, nat_le}
+use Rattle.std.proofs.Math.Dec.{eqb-zero-suc}
 use Rattle.std.proofs.lemmas.Bool.{leb-true}
 use Rattle.bounded_sums.specs.Sums.{sum_below}
 use Rattle.bounded_sums.specs.Tests.{all_below}
 use Rattle.bounded_sums.proofs.TestLaws.{all_below-each}
-use Rattle.program_form.specs.Certificate.{DualDef}
 use Rattle.program_form.specs.Program.{ProgramDef, columns, height, cost, entry}
 use Rattle.program_form.specs.Duals.{Covers}
 use Rattle.sporadic_model.specs.SetDef.{task_at}
@@ -23,7 +23,7 @@ use Rattle.schedule_model.specs.Activity.{is_pending, is_next, is_active}
 use Rattle.schedule_model.specs.BlockedTicks.{is_delayed, runs_higher, is_shared_interference, is_blocked}
 use Rattle.schedule_model.specs.Ranks.{fmlp_plus}
 use Rattle.schedule_model.specs.Protocols.{shared_rule}
-use Rattle.schedule_model.proofs.WorkedFiles.{jobs_a, trace_a}
+use Rattle.schedule_model.proofs.WorkedFiles.{then_request, local_only, jobs_a, trace_a}
 use Rattle.schedule_model.proofs.SharedExamples.{a_keeps_fmlp}
 use Rattle.program_sources.specs.Valid.{IsValid, IsProvedBound, value_at}
 use Rattle.soundness_laws.specs.Sound.{IsLawfulSchedule, blocked_in_window, KeepsBounds, Sound}
@@ -64,6 +64,10 @@ two_values = record { one_each = refl; each = each } where
   each (suc zero) l = refl
   each (suc (suc i)) l = absurd (omega arith)
 
+-- A job of the schedule requests no other resource than the first.
+no_other : (local length more q : ℕ) → number_of_requests (then_request local 0 length ∷ local_only more ∷ []) (suc q) ≡ 0
+no_other local length more q = rw (eqb-zero-suc q) refl
+
 -- Both jobs are lawful: the first asks for the resource for 1 tick, the second for 2.
 lawful_job : (j : ℕ) → j < 2 → IsLawfulJob two_tasks (job_of jobs_a.jobs j)
 lawful_job zero l = record {
@@ -77,7 +81,7 @@ lawful_job zero l = record {
 } where
   count : (q : ℕ) → number_of_requests (job_of jobs_a.jobs 0).script q ≤ count_of two_tasks 0 q
   count zero = leb-true _ _ refl
-  count (suc q) = leb-true _ _ refl
+  count (suc q) = omega (arith, no_other 1 1 1 q)
 lawful_job (suc zero) l = record {
   task = leb-true _ _ refl;
   script = refl;
@@ -89,7 +93,7 @@ lawful_job (suc zero) l = record {
 } where
   count : (q : ℕ) → number_of_requests (job_of jobs_a.jobs 1).script q ≤ count_of two_tasks 1 q
   count zero = leb-true _ _ refl
-  count (suc q) = leb-true _ _ refl
+  count (suc q) = omega (arith, no_other 1 2 1 q)
 lawful_job (suc (suc j)) l = absurd (omega arith)
 
 lawful_jobs : AreLawfulJobs jobs_a
