@@ -3,4 +3,5 @@ pub mod FirstMiss
 pub mod Soundness
 pub mod Instances
 pub mod ProtocolSoundness
+pub mod MeasuresKept
 pub mod WorkedSet

@@ -79,8 +79,8 @@ blocked_at_most interferes w n cost bounds value j given l = elim (cases_lt n (j
       ≤ count_below (window_end w (slice_index bounds) n j) (λ t. is_blocked interferes w t j) =
       count_below-cut n (bound_end w (slice_index bounds) j) (λ t. is_in_window w bounds t j && is_blocked interferes w t j)
       (λ t. is_blocked interferes w t j)
-      (λ t h. let inside : ((job_of w.jobs j).release ≤ t) × (t < bound_end w (slice_index bounds) j) × (is_blocked interferes w t j ≡ true) =
-      in_window _ _ t _ h in (inside.1, inside.2)) in
+      (λ t h. let inside : ((job_of w.jobs j).release ≤ t) × (t < bound_end w (slice_index bounds) j)
+      × (is_blocked interferes w t j ≡ true) = in_window _ _ t _ h in (inside.1, inside.2)) in
       omega (arith, cut, given.blocked j l ended)
 ]
 
@@ -115,7 +115,8 @@ given_of keeps interferes f c w n three sound accepted analyses valid s = record
 }
 
 -- What a valid certificate says is sound.
-pub sound_of : (keeps : Rule → Trace → ℕ → Type 0) (interferes : Trace → ℕ → ℕ → Bool) (f : SourceDef) (c : CertificateDef) (values : List ℕ)
+pub sound_of : (keeps : Rule → Trace → ℕ → Type 0) (interferes : Trace → ℕ → ℕ → Bool) (f : SourceDef) (c : CertificateDef)
+    (values : List ℕ)
     → ((w : Trace) (t j : ℕ) → w.set ≡ f.set → IsOneOfThree interferes w t j)
     → ((w : Trace) (t : ℕ) → w.set ≡ f.set → KeepsRow keeps w t → IsSoundRow interferes w t)
     → IsAccepted f.set → Analyses keeps interferes f → IsValid f c → AreValues f c values
@@ -124,7 +125,8 @@ sound_of keeps interferes f c values three sound accepted analyses valid are = �
     let given : Given interferes w n f.interfering c.bounds (value_at f c) =
     given_of keeps interferes f c w n (λ t j. three w t j s.set_is) (λ t kept. sound w t s.set_is kept) accepted analyses valid s in
     record {
-      finished = λ j l due. all_end_in_time interferes w n f.interfering c.bounds (value_at f c) (suc n) given (omega arith) j l (omega arith);
+      finished = λ j l due.
+          all_end_in_time interferes w n f.interfering c.bounds (value_at f c) (suc n) given (omega arith) j l (omega arith);
       blocked = λ j l.
           let job : IsLawfulJob w.set (job_of w.jobs j) = s.jobs.each j l in
           let task : task_of w j < tasks_of f = subst (λ set. task_of w j < length set.tasks) s.set_is job.task in

@@ -39,7 +39,8 @@ covers_from : (p : ProgramDef) (den : ℕ) (num : ℕ → ℕ) → 0 < den
     → all_below (columns p) (λ c. nat_le (den * cost p c) (sum_below (height p) (λ r. num r * entry p r c))) ≡ true → Covers p den num
 covers_from p den num some h = record {
   positive = some;
-  covered = λ c l. leb-true _ _ (all_below-each (columns p) (λ c. nat_le (den * cost p c) (sum_below (height p) (λ r. num r * entry p r c))) h c l);
+  covered = λ c l. leb-true _ _
+      (all_below-each (columns p) (λ c. nat_le (den * cost p c) (sum_below (height p) (λ r. num r * entry p r c))) h c l);
 }
 
 pub two_valid : IsValid (source_of protocol.FmlpPlus two_tasks) two_bounds

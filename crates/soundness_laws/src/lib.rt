@@ -4,21 +4,23 @@
 //! and rows alone; the lemmas stand in `proofs/`.
 #![tactic(auto)]
 
-ghost use Rattle.std.specs.Prelude.{◌≡◌, ℕ, [], ◌∷◌, List, length};
+ghost use Rattle.std.specs.Prelude.{◌≡◌, ℕ, ◌<◌, ◌≤◌, Bool, true, [], ◌∷◌, List, length, slice_index, IfSome};
 ghost use Rattle.program_form.specs.Certificate.{CertificateDef};
 ghost use Rattle.sporadic_model.specs.SetDef.{SetDef};
 ghost use Rattle.sporadic_model.specs.Accepted.{IsAccepted};
 ghost use Rattle.sporadic_model.specs.declared.ids.Protocol.TheVariants as protocol;
 ghost use Rattle.schedule_model.specs.JobDef.{JobDef};
 ghost use Rattle.schedule_model.specs.LawfulJobs.{AreLawfulJobs};
-ghost use Rattle.schedule_model.specs.RowDef.{RowDef, RunDef, trace_of, trace_in, ticks_of};
+ghost use Rattle.schedule_model.specs.RowDef.{RowDef, RunDef, Trace, trace_of, trace_in, ticks_of};
+ghost use Rattle.schedule_model.specs.Activity.{task_of};
+ghost use Rattle.schedule_model.specs.Measures.{response_of, blocking_of, measures_of};
 ghost use Rattle.schedule_model.specs.Ranks.{mpcp, fmlp_plus};
 ghost use Rattle.schedule_model.specs.Protocols.{shared_rule, dpcp_rule};
 ghost use Rattle.schedule_model.specs.Keeping.{KeepsBefore};
-ghost use Rattle.schedule_model.specs.BlockedTicks.{is_shared_interference, is_dpcp_interference};
+ghost use Rattle.schedule_model.specs.BlockedTicks.{is_shared_interference, is_dpcp_interference, is_blocked};
 ghost use Rattle.program_sources.specs.Recurrence.{SourceDef};
 ghost use Rattle.program_sources.specs.Valid.{IsValid};
-ghost use Rattle.soundness_laws.specs.Sound.{KeepsBounds, Sound};
+ghost use Rattle.soundness_laws.specs.Sound.{is_in_window, KeepsBounds, Sound};
 ghost use Rattle.soundness_laws.specs.Analyses.{source_of, AreValues, Analyses};
 ghost use Rattle.soundness_laws.specs.Worked.{two_tasks, two_bounds};
 
@@ -65,6 +67,25 @@ pub fn sound_bounds_hold_of_listed_rows<P: BlockingProtocol>()
         → Sound (P.keeps p) (P.interferes p) set bounds values → AreLawfulJobs (record { set = set; jobs = jobs })
         → KeepsBefore (P.keeps p) (trace_in (record { set = set; jobs = jobs }) runs) (ticks_of runs)
         → KeepsBounds (P.interferes p) (trace_in (record { set = set; jobs = jobs }) runs) (ticks_of runs) bounds values }
+{}
+
+/// What is measured of a schedule that keeps its bounds and values lies within them: each blocked tick of a job lies in its
+/// window, its response, or what it has taken so far, is at most the bound, and all its blocked ticks are at most the value;
+/// so are each task's greatest response and greatest blocking.
+pub fn sound_schedules_measure_within()
+    ensures inside { (interferes : Trace → ℕ → ℕ → Bool) (w : Trace) (n : ℕ) (bounds values : List ℕ) (t j : ℕ)
+        → KeepsBounds interferes w n bounds values → j < length w.jobs → t < n → is_blocked interferes w t j ≡ true
+        → is_in_window w bounds t j ≡ true }
+    ensures response { (interferes : Trace → ℕ → ℕ → Bool) (w : Trace) (n : ℕ) (bounds values : List ℕ) (j : ℕ)
+        → KeepsBounds interferes w n bounds values → j < length w.jobs → response_of w n j ≤ slice_index bounds (task_of w j) }
+    ensures blocking { (interferes : Trace → ℕ → ℕ → Bool) (w : Trace) (n : ℕ) (bounds values : List ℕ) (j : ℕ)
+        → KeepsBounds interferes w n bounds values → j < length w.jobs
+        → blocking_of interferes w n j ≤ slice_index values (task_of w j) }
+    ensures task_response { (interferes : Trace → ℕ → ℕ → Bool) (w : Trace) (n : ℕ) (bounds values : List ℕ) (x : ℕ)
+        → KeepsBounds interferes w n bounds values
+        → IfSome (measures_of interferes w n x).response (λ r. r ≤ slice_index bounds x) }
+    ensures task_blocking { (interferes : Trace → ℕ → ℕ → Bool) (w : Trace) (n : ℕ) (bounds values : List ℕ) (x : ℕ)
+        → KeepsBounds interferes w n bounds values → (measures_of interferes w n x).blocking ≤ slice_index values x }
 {}
 
 /// A worked set of two tasks is accepted, and the certificate with the bounds 5 and 5 is valid for it under FMLP+, with the
