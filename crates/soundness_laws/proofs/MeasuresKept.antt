@@ -1,5 +1,6 @@
 -- What is measured of a schedule that keeps its bounds and values: responses within the bounds, blocking within the values.
-use Rattle.std.proofs.Common.{◌≡◌, ℕ, zero, suc, ◌<◌, ◌≤◌, ◌==◌, ◌&&◌, Bool, true, false, List, length, subst, refl, arith, inl, inr, Some, None}
+use Rattle.std.proofs.Common.{◌≡◌, ℕ, zero, suc, ◌<◌, ◌≤◌, ◌==◌, ◌&&◌, Bool, true, false, List, length, refl, subst}
+use Rattle.std.proofs.Common.{arith, inl, inr, Some, None}
 use Rattle.std.specs.Prelude.{slice_index, IfSome, if◌then◌else◌}
 use Rattle.std.proofs.lemmas.Bool.{cases_lt, and_parts, and_from, both_ways, eqb-true, le-leb, lt-ltb}
 use Rattle.bounded_sums.specs.Sums.{only_if}
@@ -82,7 +83,8 @@ pub measured_blocking : (interferes : Trace → ℕ → ℕ → Bool) (w : Trace
     → KeepsBounds interferes w n bounds values → (measures_of interferes w n x).blocking ≤ slice_index values x
 unfolding measures_of
 measured_blocking interferes w n bounds values x kept =
-    greatest_below-at_most (length w.jobs) (slice_index values x) (λ j. only_if (task_of w j == x) (blocking_of interferes w n j)) each where
+    greatest_below-at_most (length w.jobs) (slice_index values x)
+    (λ j. only_if (task_of w j == x) (blocking_of interferes w n j)) each where
       each : (j : ℕ) → j < length w.jobs → only_if (task_of w j == x) (blocking_of interferes w n j) ≤ slice_index values x
       each j l = only_if-within (task_of w j == x) (blocking_of interferes w n j) (slice_index values x) (λ h.
           subst (λ y. blocking_of interferes w n j ≤ slice_index values y) (eqb-true _ _ h)

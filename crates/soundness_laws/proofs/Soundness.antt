@@ -1,5 +1,6 @@
 -- From what a protocol and its analysis give to soundness.
-use Rattle.std.proofs.Common.{◌≡◌, ℕ, zero, suc, ◌<◌, ◌≤◌, ◌&&◌, Bool, true, false, List, length, sym, subst, arith, inl, inr, min, leb, ltb}
+use Rattle.std.proofs.Common.{◌≡◌, ℕ, zero, suc, ◌<◌, ◌≤◌, ◌&&◌, Bool, true, false, List, length, sym, subst, arith}
+use Rattle.std.proofs.Common.{inl, inr, min, leb, ltb}
 use Rattle.std.specs.Prelude.{slice_index, nat_le, nat_lt}
 use Rattle.std.proofs.lemmas.Bool.{cases_lt, cases_Bool, and_parts, leb-true, ltb-true}
 use Rattle.bounded_sums.specs.Tests.{count_below}

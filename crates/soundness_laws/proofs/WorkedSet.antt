@@ -1,17 +1,19 @@
 -- The worked set is accepted, its certificate is valid, and one of its schedules reaches the first task's bound and value.
-use Rattle.std.proofs.Common.{◌≡◌, ℕ, zero, suc, ◌+◌, ◌*◌, ◌<◌, ◌≤◌, true, [], ◌∷◌, refl, sym, ◌∙◌, arith}
+use Rattle.std.proofs.Common.{◌≡◌, ℕ, zero, suc, ◌+◌, ◌*◌, ◌<◌, ◌≤◌, true, [], ◌∷◌, length, refl, sym, ◌∙◌, arith}
 use Rattle.std.specs.Prelude.{slice_index, nat_le}
 use Rattle.std.proofs.Math.Dec.{eqb-zero-suc}
 use Rattle.std.proofs.lemmas.Bool.{leb-true}
 use Rattle.bounded_sums.specs.Sums.{sum_below}
 use Rattle.bounded_sums.specs.Tests.{all_below}
 use Rattle.bounded_sums.proofs.TestLaws.{all_below-each}
+use Rattle.program_form.specs.Certificate.{CertificateDef}
 use Rattle.program_form.specs.Program.{ProgramDef, columns, height, cost, entry}
 use Rattle.program_form.specs.Duals.{Covers}
 use Rattle.sporadic_model.specs.SetDef.{task_at}
 use Rattle.sporadic_model.specs.Accepted.{IsAccepted}
 use Rattle.sporadic_model.specs.Refusals.{is_due, size_refusals}
 use Rattle.sporadic_model.specs.Users.{count_of}
+use Rattle.sporadic_model.specs.declared.ids.Protocol.{Protocol}
 use Rattle.sporadic_model.specs.declared.ids.Protocol.TheVariants as protocol
 use Rattle.sporadic_model.proofs.Ranges.{accepted_from_free}
 use Rattle.schedule_model.specs.JobDef.{job_of, number_of_requests}
@@ -28,7 +30,7 @@ use Rattle.schedule_model.proofs.SharedExamples.{a_keeps_fmlp}
 use Rattle.program_sources.specs.Valid.{IsValid, IsProvedBound, value_at}
 use Rattle.soundness_laws.specs.Sound.{IsLawfulSchedule, blocked_in_window, KeepsBounds, Sound}
 use Rattle.soundness_laws.specs.Analyses.{source_of, AreValues}
-use Rattle.soundness_laws.specs.Worked.{two_tasks, two_bounds}
+use Rattle.soundness_laws.specs.Worked.{two_tasks, two_bounds, two_bounds_of_fewer_rows, greater_bounds, too_small_bound}
 
 pub two_accepted : IsAccepted two_tasks
 unfolding is_due size_refusals
@@ -43,20 +45,70 @@ covers_from p den num some h = record {
       (all_below-each (columns p) (λ c. nat_le (den * cost p c) (sum_below (height p) (λ r. num r * entry p r c))) h c l);
 }
 
-pub two_valid : IsValid (source_of protocol.FmlpPlus two_tasks) two_bounds
-two_valid = record { bound_each = refl; dual_each = refl; proved = proved } where
-  proved : (i : ℕ) → i < 2 → IsProvedBound (source_of protocol.FmlpPlus two_tasks) two_bounds i
-  proved zero l = record {
-    within = leb-true _ _ refl;
-    feasible = record { number_each = refl; covers = covers_from _ _ _ (omega arith) refl };
-    enough = leb-true _ _ refl;
-  }
-  proved (suc zero) l = record {
-    within = leb-true _ _ refl;
-    feasible = record { number_each = refl; covers = covers_from _ _ _ (omega arith) refl };
-    enough = leb-true _ _ refl;
-  }
+-- A certificate of the worked set is valid where each of its two bounds is proved.
+valid_from : (p : Protocol) (c : CertificateDef) → length c.bounds ≡ 2 → length c.duals ≡ 2
+    → IsProvedBound (source_of p two_tasks) c 0 → IsProvedBound (source_of p two_tasks) c 1 → IsValid (source_of p two_tasks) c
+valid_from p c bounds duals first second = record { bound_each = bounds; dual_each = duals; proved = proved } where
+  proved : (i : ℕ) → i < 2 → IsProvedBound (source_of p two_tasks) c i
+  proved zero l = first
+  proved (suc zero) l = second
   proved (suc (suc i)) l = absurd (omega arith)
+
+pub two_valid : IsValid (source_of protocol.FmlpPlus two_tasks) two_bounds
+two_valid = valid_from protocol.FmlpPlus two_bounds refl refl
+    (record {
+      within = leb-true _ _ refl;
+      feasible = record { number_each = refl; covers = covers_from _ _ _ (omega arith) refl };
+      enough = leb-true _ _ refl;
+    })
+    (record {
+      within = leb-true _ _ refl;
+      feasible = record { number_each = refl; covers = covers_from _ _ _ (omega arith) refl };
+      enough = leb-true _ _ refl;
+    })
+
+pub two_valid_mpcp : IsValid (source_of protocol.Mpcp two_tasks) two_bounds_of_fewer_rows
+two_valid_mpcp = valid_from protocol.Mpcp two_bounds_of_fewer_rows refl refl
+    (record {
+      within = leb-true _ _ refl;
+      feasible = record { number_each = refl; covers = covers_from _ _ _ (omega arith) refl };
+      enough = leb-true _ _ refl;
+    })
+    (record {
+      within = leb-true _ _ refl;
+      feasible = record { number_each = refl; covers = covers_from _ _ _ (omega arith) refl };
+      enough = leb-true _ _ refl;
+    })
+
+pub two_valid_dpcp : IsValid (source_of protocol.Dpcp two_tasks) two_bounds_of_fewer_rows
+two_valid_dpcp = valid_from protocol.Dpcp two_bounds_of_fewer_rows refl refl
+    (record {
+      within = leb-true _ _ refl;
+      feasible = record { number_each = refl; covers = covers_from _ _ _ (omega arith) refl };
+      enough = leb-true _ _ refl;
+    })
+    (record {
+      within = leb-true _ _ refl;
+      feasible = record { number_each = refl; covers = covers_from _ _ _ (omega arith) refl };
+      enough = leb-true _ _ refl;
+    })
+
+pub greater_valid : IsValid (source_of protocol.FmlpPlus two_tasks) greater_bounds
+greater_valid = valid_from protocol.FmlpPlus greater_bounds refl refl
+    (record {
+      within = leb-true _ _ refl;
+      feasible = record { number_each = refl; covers = covers_from _ _ _ (omega arith) refl };
+      enough = leb-true _ _ refl;
+    })
+    (record {
+      within = leb-true _ _ refl;
+      feasible = record { number_each = refl; covers = covers_from _ _ _ (omega arith) refl };
+      enough = leb-true _ _ refl;
+    })
+
+-- The first bound is less than the cost and the dual's value.
+pub too_small_invalid : IsValid (source_of protocol.FmlpPlus two_tasks) too_small_bound → ⊥
+too_small_invalid valid = let more : 7 ≤ 6 = (valid.proved 0 (leb-true _ _ refl)).enough in omega arith
 
 pub two_values : AreValues (source_of protocol.FmlpPlus two_tasks) two_bounds (2 ∷ 1 ∷ [])
 two_values = record { one_each = refl; each = each } where

@@ -22,7 +22,7 @@ ghost use Rattle.program_sources.specs.Recurrence.{SourceDef};
 ghost use Rattle.program_sources.specs.Valid.{IsValid};
 ghost use Rattle.soundness_laws.specs.Sound.{is_in_window, KeepsBounds, Sound};
 ghost use Rattle.soundness_laws.specs.Analyses.{source_of, AreValues, Analyses};
-ghost use Rattle.soundness_laws.specs.Worked.{two_tasks, two_bounds};
+ghost use Rattle.soundness_laws.specs.Worked.{two_tasks, two_bounds, two_bounds_of_fewer_rows, greater_bounds, too_small_bound};
 
 use schedule_model::BlockingProtocol;
 
@@ -97,4 +97,13 @@ pub fn a_worked_certificate_is_sound()
     ensures sound { Sound (shared_rule fmlp_plus) is_shared_interference two_tasks (5 ∷ 5 ∷ []) (2 ∷ 1 ∷ []) }
     ensures less_bound { Sound (shared_rule fmlp_plus) is_shared_interference two_tasks (4 ∷ 5 ∷ []) (2 ∷ 1 ∷ []) → ⊥ }
     ensures less_value { Sound (shared_rule fmlp_plus) is_shared_interference two_tasks (5 ∷ 5 ∷ []) (1 ∷ 1 ∷ []) → ⊥ }
+{}
+
+/// Of that set a certificate with the bounds 5 and 5 is valid under MPCP and under DPCP too, and one whose bounds are not the
+/// least is under FMLP+; but not with a dual whose value, with the cost, passes the bound.
+pub fn worked_certificates_are_valid()
+    ensures mpcp { IsValid (source_of protocol.Mpcp two_tasks) two_bounds_of_fewer_rows }
+    ensures dpcp { IsValid (source_of protocol.Dpcp two_tasks) two_bounds_of_fewer_rows }
+    ensures greater { IsValid (source_of protocol.FmlpPlus two_tasks) greater_bounds }
+    ensures too_small { IsValid (source_of protocol.FmlpPlus two_tasks) too_small_bound → ⊥ }
 {}
