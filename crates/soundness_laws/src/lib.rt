@@ -43,8 +43,8 @@ pub fn programs_analyse_their_protocols()
 {}
 
 /// Of an accepted set, the bounds of a valid certificate and the values of its duals are sound: in every schedule that keeps
-/// the protocol's rules, of whatever lawful jobs, each job ends within its bound, and no job is blocked in its window at
-/// more ticks than its dual's value.
+/// the protocol's rules, of whatever lawful jobs, each job whose window lies within it ends within its bound, and no job is
+/// blocked in its window at more ticks than its dual's value.
 pub fn valid_certificates_are_sound()
     ensures mpcp { (set : SetDef) (c : CertificateDef) (values : List ℕ) → IsAccepted set → IsValid (source_of protocol.Mpcp set) c
         → AreValues (source_of protocol.Mpcp set) c values
