@@ -1,6 +1,6 @@
 -- Row of holdings, under MPCP: the parts by resource and by holder, summed.
 use Rattle.std.proofs.Common.{◌≡◌, ℕ, ◌+◌, ◌*◌, ◌<◌, ◌≤◌, ◌==◌, ◌&&◌, not, Bool, true, false, length, refl, sym, ap, ◌∙◌, arith, inl, inr, nat_lt}
-use Rattle.std.proofs.Math.Nat.{mul_assoc, mul_comm, mul-add, mul-le-mul_right}
+use Rattle.std.proofs.Math.Nat.{mul_comm, mul-add, mul-le-mul_right}
 use Rattle.std.proofs.lemmas.Bool.{cases_lt, cases_Bool, both_ways, and_from, eqb-true, eq-eqb, ltb-false, not-true}
 use Rattle.bounded_sums.specs.Sums.{sum_below, only_if}
 use Rattle.bounded_sums.specs.Tests.{count_below, any_below}
