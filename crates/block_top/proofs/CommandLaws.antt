@@ -10,11 +10,15 @@ use Rattle.response_fixpoint.proofs.ResponseLaws.{one_ending}
 use Rattle.response_fixpoint.proofs.AnswerLaws.{never_wide_of}
 use Rattle.report.specs.Table.{table_text}
 use Rattle.block_top.specs.Plans.{Answer, Known, IsOutcomeOf}
-use Rattle.block_top.specs.Words.{Form, Analyse, Report}
+use Rattle.block_top.specs.Words.{Form, Analyse, Report, Conform}
 use Rattle.block_top.specs.Commands.{requests_later, ending_answer, IsAnalysis, analysis_of, table_of, plan_of}
-use Rattle.block_top.specs.Inputs.{set_input}
+use Rattle.block_top.specs.Inputs.{set_input, jobs_input, rows_input}
 use Rattle.block_top.proofs.PlanLaws.{IsPlain, IsLawfulWork, IsLawful, plain_at, plain_same, refused_plain, stopped_status}
+use Rattle.schedule_model.specs.RowDef.{trace_in, ticks_of}
+use Rattle.trace_conform.specs.ByProtocol.{rules_of, interference_of}
 use Rattle.block_top.proofs.InputLaws.{set_reads_once}
+use Rattle.block_top.proofs.TraceLaws.{jobs_read_once, rows_read_once}
+use Rattle.block_top.proofs.ConformLaws.{conformance_lawful, conformance_not_wide}
 
 -- The first requester is one.
 no_earlier : (set : SetDef) (x y : ℕ) → IsFirstRequester set x → IsFirstRequester set y → x < y → ⊥
@@ -83,6 +87,8 @@ table_lawful set = record {
 pub lawful : (form : Form) → IsLawful (plan_of form)
 lawful (Analyse protocol name allowance) = (set_reads_once protocol, λ bytes set. analysis_lawful set allowance)
 lawful (Report protocol name) = (set_reads_once protocol, λ bytes set. table_lawful set)
+lawful (Conform protocol set jobs rows) =
+    (set_reads_once protocol, λ bytes tasks. (jobs_read_once tasks, λ bytes list. (rows_read_once list, λ bytes schedule. conformance_lawful protocol list schedule)))
 
 -- No outcome has status 5 while sets with requests are not analysed.
 ending_not_wide : (set : SetDef) (allowance : ℕ) (e : Ending) (a : Answer) → EndsIn (rounds_of set) allowance e → a ≡ ending_answer set e → a.status ≡ 5 → ⊥
@@ -103,3 +109,8 @@ never_five k (Analyse protocol name allowance) a (inl stopped) five = stopped_no
 never_five k (Analyse protocol name allowance) a (inr (bytes, set, read, last, out)) five = analysis_not_wide set allowance a out five
 never_five k (Report protocol name) a (inl stopped) five = stopped_not_wide a (stopped_status k (set_input protocol) name a stopped) five
 never_five k (Report protocol name) a (inr (bytes, set, read, last, out)) five = let s : a.status ≡ 0 = ap (λ x. x.status) out in absurd (omega (arith, s, five))
+never_five k (Conform protocol set jobs rows) a (inl stopped) five = stopped_not_wide a (stopped_status k (set_input protocol) set a stopped) five
+never_five k (Conform protocol set jobs rows) a (inr (bytes, tasks, read, last, inl stopped)) five = stopped_not_wide a (stopped_status k (jobs_input tasks) jobs a stopped) five
+never_five k (Conform protocol set jobs rows) a (inr (bytes, tasks, read, last, inr (bytes', list, read', last', inl stopped))) five = stopped_not_wide a (stopped_status k (rows_input list) rows a stopped) five
+never_five k (Conform protocol set jobs rows) a (inr (bytes, tasks, read, last, inr (bytes', list, read', last', inr (bytes'', schedule, read'', last'', out)))) five =
+    conformance_not_wide (rules_of protocol) (interference_of protocol) (trace_in list schedule.runs) (ticks_of schedule.runs) a out five

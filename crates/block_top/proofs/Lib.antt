@@ -1,6 +1,9 @@
 pub mod PlanLaws
 pub mod InputLaws
+pub mod TraceLaws
+pub mod ConformLaws
 pub mod CommandLaws
 pub mod ReplyLaws
 pub mod RunLaws
 pub mod TwiceLaws
+pub mod Lines

@@ -5,8 +5,16 @@ use Rattle.sporadic_model.specs.declared.ids.Protocol.{Protocol}
 use Rattle.taskset_json.specs.Answers.{Reads, first_homeless}
 use Rattle.taskset_json.specs.declared.refusal.SetRefusal.{SetRefusal}
 use Rattle.taskset_json.specs.declared.refusal.SetRefusal.TheVariants as refusal
+use Rattle.schedule_model.specs.JobDef.{JobsDef}
+use Rattle.schedule_model.specs.Fitting.{RowsDef}
+use Rattle.trace_csv.specs.JobsFile.{JobsRead}
+use Rattle.trace_csv.specs.RowsFile.{RowsRead}
+use Rattle.trace_csv.specs.declared.refusal.JobsRefusal.{JobsRefusal}
+use Rattle.trace_csv.specs.declared.refusal.JobsRefusal.TheVariants as jobs
+use Rattle.trace_csv.specs.declared.refusal.RowsRefusal.{RowsRefusal}
+use Rattle.trace_csv.specs.declared.refusal.RowsRefusal.TheVariants as rows
 use Rattle.block_top.specs.Plans.{Input}
-use Rattle.block_top.specs.Refusals.{reason_text}
+use Rattle.block_top.specs.Refusals.{reason_text, jobs_reason_text, rows_reason_text}
 
 -- A task set for a protocol: an accepted set in which each resource has the home that the protocol asks for.
 abbrev pub ReadsSet : Protocol → List ℕ → Result SetDef SetRefusal → Type 0
@@ -17,3 +25,19 @@ ReadsSet protocol bytes (Err r) = Reads (Err r) bytes
 
 abbrev pub set_input : Protocol → Input
 set_input protocol = record { Value = SetDef; Refusal = SetRefusal; word = codes "set"; reads = ReadsSet protocol; reason = reason_text }
+
+-- Jobs of a task set. Only want of memory is no reading.
+abbrev pub ReadsJobs : SetDef → List ℕ → Result JobsDef JobsRefusal → Type 0
+ReadsJobs set bytes (Err jobs.Memory) = ⊥
+ReadsJobs set bytes r = JobsRead r set bytes
+
+abbrev pub jobs_input : SetDef → Input
+jobs_input set = record { Value = JobsDef; Refusal = JobsRefusal; word = codes "jobs"; reads = ReadsJobs set; reason = jobs_reason_text }
+
+-- Rows of these jobs.
+abbrev pub ReadsRows : JobsDef → List ℕ → Result RowsDef RowsRefusal → Type 0
+ReadsRows list bytes (Err rows.Memory) = ⊥
+ReadsRows list bytes r = RowsRead r list bytes
+
+abbrev pub rows_input : JobsDef → Input
+rows_input list = record { Value = RowsDef; Refusal = RowsRefusal; word = codes "rows"; reads = ReadsRows list; reason = rows_reason_text }

@@ -8,6 +8,10 @@ use Rattle.sporadic_model.specs.declared.refusal.ModelRefusal.{ModelRefusal}
 use Rattle.sporadic_model.specs.declared.refusal.ModelRefusal.TheVariants as model
 use Rattle.taskset_json.specs.declared.refusal.SetRefusal.{SetRefusal}
 use Rattle.taskset_json.specs.declared.refusal.SetRefusal.TheVariants as refusal
+use Rattle.trace_csv.specs.declared.refusal.JobsRefusal.{JobsRefusal}
+use Rattle.trace_csv.specs.declared.refusal.JobsRefusal.TheVariants as jobs
+use Rattle.trace_csv.specs.declared.refusal.RowsRefusal.{RowsRefusal}
+use Rattle.trace_csv.specs.declared.refusal.RowsRefusal.TheVariants as rows
 
 abbrev pub place_text : Place → List ℕ
 place_text place.Root = codes "root"
@@ -63,3 +67,26 @@ reason_text (refusal.Shape at) = codes "shape " ++ place_text at
 reason_text (refusal.Model r) = model_word r ++ model_place r
 reason_text (refusal.NoHome q) = codes "nohome " ++ place_text (place.Resource q.0)
 reason_text refusal.Memory = []
+
+-- A reason, and the number of the line that is refused: data lines are counted from 1, and the header is line 0.
+abbrev pub line_text : List ℕ → ℕ → List ℕ
+line_text word line = word ++ (codes " " ++ decimal line)
+
+-- The reason why an input of jobs is refused.
+abbrev pub jobs_reason_text : JobsRefusal → List ℕ
+jobs_reason_text (jobs.Fields line) = line_text (codes "fields") line
+jobs_reason_text (jobs.Number line) = line_text (codes "number") line
+jobs_reason_text (jobs.UnknownName line) = line_text (codes "unknownname") line
+jobs_reason_text (jobs.Script line) = line_text (codes "script") line
+jobs_reason_text (jobs.OverBudget line) = line_text (codes "overbudget") line
+jobs_reason_text (jobs.TooClose line) = line_text (codes "tooclose") line
+jobs_reason_text (jobs.TooMany line) = line_text (codes "toomany") line
+jobs_reason_text jobs.Memory = []
+
+-- The reason why an input of rows is refused.
+abbrev pub rows_reason_text : RowsRefusal → List ℕ
+rows_reason_text (rows.Fields line) = line_text (codes "fields") line
+rows_reason_text (rows.Number line) = line_text (codes "number") line
+rows_reason_text (rows.UnknownJob line) = line_text (codes "unknownjob") line
+rows_reason_text (rows.TooLong line) = line_text (codes "toolong") line
+rows_reason_text rows.Memory = []

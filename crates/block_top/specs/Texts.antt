@@ -1,6 +1,11 @@
 -- The texts of answers. Each line ends with one line end.
-use Rattle.std.specs.Prelude.{ℕ, List, [], ◌∷◌, ◌++◌, codes, decimal}
+use Rattle.std.specs.Prelude.{ℕ, List, [], ◌∷◌, ◌++◌, length, codes, decimal, Option, None, Some}
+use Rattle.bounded_sums.specs.Sums.{collect_below}
 use Rattle.program_form.specs.Certificate.{DualDef, CertificateDef}
+use Rattle.sporadic_model.specs.SetDef.{SetDef, task_at}
+use Rattle.schedule_model.specs.Measures.{MeasuresDef}
+use Rattle.schedule_model.specs.declared.rule.Rule.{Rule}
+use Rattle.schedule_model.specs.declared.rule.Rule.TheVariants as rule
 
 -- Numbers with a comma between each two.
 abbrev pub after_commas : List ℕ → List ℕ
@@ -47,3 +52,35 @@ wide_text name = codes "wide " ++ (name ++ codes "\n")
 -- The programs want more units than the allowance.
 abbrev pub allowance_text : List ℕ
 allowance_text = codes "allowance\n"
+
+-- The greatest response of a task's finished jobs: a dash where none finished.
+abbrev pub response_text : Option ℕ → List ℕ
+response_text None = codes "-"
+response_text (Some ticks) = decimal ticks
+
+-- How many of a task's jobs finished, their greatest response, and its greatest blocking.
+abbrev pub measures_text : MeasuresDef → List ℕ
+measures_text m = decimal m.finished ++ (codes " " ++ (response_text m.response ++ (codes " " ++ decimal m.blocking)))
+
+-- A task's line: its name, and what is measured of it.
+abbrev pub measures_line : List ℕ → MeasuresDef → List ℕ
+measures_line name m = name ++ (codes " " ++ (measures_text m ++ codes "\n"))
+
+-- The lines of all tasks, with these measures.
+abbrev pub measures_lines : SetDef → (ℕ → MeasuresDef) → List ℕ
+measures_lines set measures = collect_below (length set.tasks) (λ x. measures_line (task_at set x).name (measures x))
+
+-- A schedule of so many ticks that keeps the rules, and what is measured of each task.
+abbrev pub lawful_text : SetDef → ℕ → (ℕ → MeasuresDef) → List ℕ
+lawful_text set ticks measures = codes "lawful " ++ (decimal ticks ++ (codes "\n" ++ measures_lines set measures))
+
+abbrev pub rule_text : Rule → List ℕ
+rule_text rule.Run = codes "run"
+rule_text rule.Keep = codes "keep"
+rule_text rule.Grant = codes "grant"
+rule_text rule.Idle = codes "idle"
+rule_text rule.Priority = codes "priority"
+
+-- A schedule whose row at this tick breaks this rule.
+abbrev pub broken_text : ℕ → Rule → List ℕ
+broken_text tick r = codes "broken " ++ (decimal tick ++ (codes " " ++ (rule_text r ++ codes "\n")))

@@ -12,6 +12,8 @@ pub data Form : Type 0 where
   Analyse : Protocol → List ℕ → ℕ → Form
   -- the protocol, the set
   Report : Protocol → List ℕ → Form
+  -- the protocol, the set, the jobs, the rows
+  Conform : Protocol → List ℕ → List ℕ → List ℕ → Form
 
 -- Which protocol does this word name?
 abbrev pub protocol_of : List ℕ → Option Protocol
@@ -27,9 +29,16 @@ form_of_three command protocol name = if bytes_eq command (codes "analyse") && b
     else if bytes_eq command (codes "report") then option_map (λ p. Report p name) (protocol_of protocol)
     else None
 
+-- Which form do these five words have?
+abbrev pub form_of_five : List ℕ → List ℕ → List ℕ → List ℕ → List ℕ → Option Form
+form_of_five command protocol set jobs rows = if bytes_eq command (codes "conform") && bytes_eq protocol (codes "fmlp+")
+    then Some (Conform FmlpPlus set jobs rows)
+    else None
+
 -- Which form do the words have, if any?
 abbrev pub form_of : List (List ℕ) → Option Form
 form_of (command ∷ protocol ∷ name ∷ []) = form_of_three command protocol name
+form_of (command ∷ protocol ∷ set ∷ jobs ∷ rows ∷ []) = form_of_five command protocol set jobs rows
 form_of _ = None
 
 -- the allowance of units where the words give none

@@ -1,16 +1,17 @@
 ghost use Rattle.std.specs.Prelude.{◌≡◌, is_some, IfOk};
-ghost use Rattle.block_top.specs.Words.{Analyse, Report, words_seen};
+ghost use Rattle.block_top.specs.Words.{Analyse, Report, Conform, words_seen};
 ghost use Rattle.block_top.specs.FormSeen.{form_seen, IsServed};
-ghost use Rattle.block_top.specs.Commands.{plan_of};
+ghost use Rattle.block_top.specs.Commands.{judging_rows, judging_jobs, plan_of};
 ghost use Rattle.block_top.specs.Outcome.{IsReplyOf, IsReply};
 ghost use Rattle.block_top.specs.Replies.{reply_seen, Answered, Keeps};
 
 use crate::halt::{Halt, Reply, settled};
-use crate::input::get_set;
+use crate::input::{get_jobs, get_rows, get_set};
 use crate::words::{Command, command_of};
-use crate::work::{analysis, no_form, table};
+use crate::work::{analysis, conformance, no_form, table};
 use outside_ports::Shelf;
-use sporadic_model::Protocol;
+use schedule_model::JobList;
+use sporadic_model::{Protocol, TaskSet};
 use std::alloc::{AllocError, Global};
 use std::thread::Threads;
 
@@ -51,6 +52,65 @@ fn report_reply<S: Shelf>(
     table(alloc, &set)
 }
 
+/// Reads the rows of `conform`, once its jobs are read, and does its work.
+fn rows_reply<S: Shelf>(
+    alloc: Global,
+    shelf: &mut S,
+    protocol: Protocol,
+    jobs: &JobList<'_>,
+    rows: &str,
+) -> Result<Reply, Halt>
+    requires { protocol ≡ Protocol.FmlpPlus }
+    ensures reply { Answered result (IsReplyOf
+        (record { names = S.names shelf.old; before = S.faults shelf.old; now = S.faults shelf.new; given = S.given shelf.new })
+        (judging_rows protocol rows.now jobs.now)) }
+    ensures keeps { Keeps (S.names shelf.old) (S.names shelf.new) (is_some (S.rest shelf.old)) (is_some (S.rest shelf.new))
+        (S.faults shelf.old) (S.faults shelf.new) (S.steady shelf.old) (S.steady shelf.new) }
+{
+    let (_bytes, rows) = get_rows(alloc, shelf, jobs, rows)?;
+    conformance(alloc, protocol, jobs, &rows)
+}
+
+/// Reads the jobs and the rows of `conform`, once its set is read, and does its work.
+fn jobs_reply<S: Shelf>(
+    alloc: Global,
+    shelf: &mut S,
+    protocol: Protocol,
+    set: &TaskSet,
+    jobs: &str,
+    rows: &str,
+) -> Result<Reply, Halt>
+    requires { protocol ≡ Protocol.FmlpPlus }
+    ensures reply { Answered result (IsReplyOf
+        (record { names = S.names shelf.old; before = S.faults shelf.old; now = S.faults shelf.new; given = S.given shelf.new })
+        (judging_jobs protocol jobs.now rows.now set.now)) }
+    ensures keeps { Keeps (S.names shelf.old) (S.names shelf.new) (is_some (S.rest shelf.old)) (is_some (S.rest shelf.new))
+        (S.faults shelf.old) (S.faults shelf.new) (S.steady shelf.old) (S.steady shelf.new) }
+{
+    let (_bytes, jobs) = get_jobs(alloc, shelf, set, jobs)?;
+    rows_reply(alloc, shelf, protocol, &jobs, rows)
+}
+
+/// Reads the inputs of `conform`, and does its work.
+fn conform_reply<S: Shelf>(
+    alloc: Global,
+    shelf: &mut S,
+    protocol: Protocol,
+    set: &str,
+    jobs: &str,
+    rows: &str,
+) -> Result<Reply, Halt>
+    requires { protocol ≡ Protocol.FmlpPlus }
+    ensures reply { Answered result (IsReplyOf
+        (record { names = S.names shelf.old; before = S.faults shelf.old; now = S.faults shelf.new; given = S.given shelf.new })
+        (plan_of (Conform protocol set.now jobs.now rows.now))) }
+    ensures keeps { Keeps (S.names shelf.old) (S.names shelf.new) (is_some (S.rest shelf.old)) (is_some (S.rest shelf.new))
+        (S.faults shelf.old) (S.faults shelf.new) (S.steady shelf.old) (S.steady shelf.new) }
+{
+    let (_bytes, set) = get_set(alloc, shelf, protocol, set)?;
+    jobs_reply(alloc, shelf, protocol, &set, jobs, rows)
+}
+
 /// Does what the words ask for.
 fn command_reply<R: Threads + Sync, S: Shelf>(
     rt: &R,
@@ -72,6 +132,12 @@ fn command_reply<R: Threads + Sync, S: Shelf>(
             allowance,
         } => analyse_reply(rt, alloc, shelf, protocol, set, allowance),
         Command::Report { protocol, set } => report_reply(alloc, shelf, protocol, set),
+        Command::Conform {
+            protocol,
+            set,
+            jobs,
+            rows,
+        } => conform_reply(alloc, shelf, protocol, set, jobs, rows),
     }
 }
 

@@ -1,16 +1,18 @@
 ghost use Rattle.std.specs.Prelude.{◌≡◌, ◌≤◌, length, is_some, codes};
 ghost use Rattle.outside_ports.specs.declared.whole.TheConstants.{GREATEST_INPUT_BYTES};
 ghost use Rattle.block_top.specs.Plans.{refused};
-ghost use Rattle.block_top.specs.Refusals.{reason_text};
-ghost use Rattle.block_top.specs.Inputs.{set_input};
+ghost use Rattle.block_top.specs.Refusals.{reason_text, jobs_reason_text, rows_reason_text};
+ghost use Rattle.block_top.specs.Inputs.{set_input, jobs_input, rows_input};
 ghost use Rattle.block_top.specs.Replies.{HaltsWith, IsLoaded, IsTaken, IsGot, ReadsSetFor, Keeps};
 
 use crate::halt::{Halt, fault, refusal};
-use crate::refusals::reason;
+use crate::refusals::{jobs_reason, reason, rows_reason};
 use outside_ports::{LoadFault, Shelf, load};
+use schedule_model::{JobList, RowList};
 use sporadic_model::{Protocol, TaskSet};
 use std::alloc::{AllocError, Global};
 use taskset_json::{SetRefusal, home_check, read};
+use trace_csv::{JobsRefusal, RowsRefusal, read_jobs, read_rows};
 
 /// Loads the input of this name, which answers call by this word.
 fn load_input<S: Shelf>(
@@ -82,4 +84,82 @@ pub fn get_set<S: Shelf>(
     let bytes = load_input(alloc, shelf, "set", name)?;
     let set = take_set(alloc, &bytes, protocol)?;
     Ok((bytes, set))
+}
+
+/// The reply that jobs are refused.
+fn jobs_refusal(alloc: Global, cause: JobsRefusal) -> Halt
+    ensures { HaltsWith result (λ answer. answer ≡ refused (codes "jobs") (jobs_reason_text cause)) }
+{
+    match jobs_reason(alloc, cause) {
+        Ok(reason) => refusal(alloc, "jobs", reason.as_str()),
+        Err(AllocError) => Halt::Memory,
+    }
+}
+
+/// The jobs that the bytes are, or the reply that refuses them.
+fn take_jobs<'a>(alloc: Global, set: &'a TaskSet, bytes: &[u8]) -> Result<JobList<'a>, Halt>
+    ensures { IsTaken (jobs_input set.now) bytes.now result }
+{
+    match read_jobs(alloc, set, bytes) {
+        Ok(jobs) => Ok(jobs),
+        Err(JobsRefusal::Memory) => Err(Halt::Memory),
+        Err(cause) => Err(jobs_refusal(alloc, cause)),
+    }
+}
+
+/// Loads and reads the jobs of this name, which are of the set.
+pub fn get_jobs<'a, S: Shelf>(
+    alloc: Global,
+    shelf: &mut S,
+    set: &'a TaskSet,
+    name: &str,
+) -> Result<(Vec<u8>, JobList<'a>), Halt>
+    ensures got { IsGot
+        (record { names = S.names shelf.old; before = S.faults shelf.old; now = S.faults shelf.new; given = S.given shelf.new })
+        (jobs_input set.now) name.now result }
+    ensures keeps { Keeps (S.names shelf.old) (S.names shelf.new) (is_some (S.rest shelf.old)) (is_some (S.rest shelf.new))
+        (S.faults shelf.old) (S.faults shelf.new) (S.steady shelf.old) (S.steady shelf.new) }
+{
+    let bytes = load_input(alloc, shelf, "jobs", name)?;
+    let jobs = take_jobs(alloc, set, &bytes)?;
+    Ok((bytes, jobs))
+}
+
+/// The reply that rows are refused.
+fn rows_refusal(alloc: Global, cause: RowsRefusal) -> Halt
+    ensures { HaltsWith result (λ answer. answer ≡ refused (codes "rows") (rows_reason_text cause)) }
+{
+    match rows_reason(alloc, cause) {
+        Ok(reason) => refusal(alloc, "rows", reason.as_str()),
+        Err(AllocError) => Halt::Memory,
+    }
+}
+
+/// The rows that the bytes are, or the reply that refuses them.
+fn take_rows(alloc: Global, jobs: &JobList<'_>, bytes: &[u8]) -> Result<RowList, Halt>
+    ensures { IsTaken (rows_input jobs.now) bytes.now result }
+{
+    match read_rows(alloc, jobs, bytes) {
+        Ok(rows) => Ok(rows),
+        Err(RowsRefusal::Memory) => Err(Halt::Memory),
+        Err(cause) => Err(rows_refusal(alloc, cause)),
+    }
+}
+
+/// Loads and reads the rows of this name, which are of the jobs.
+pub fn get_rows<S: Shelf>(
+    alloc: Global,
+    shelf: &mut S,
+    jobs: &JobList<'_>,
+    name: &str,
+) -> Result<(Vec<u8>, RowList), Halt>
+    ensures got { IsGot
+        (record { names = S.names shelf.old; before = S.faults shelf.old; now = S.faults shelf.new; given = S.given shelf.new })
+        (rows_input jobs.now) name.now result }
+    ensures keeps { Keeps (S.names shelf.old) (S.names shelf.new) (is_some (S.rest shelf.old)) (is_some (S.rest shelf.new))
+        (S.faults shelf.old) (S.faults shelf.new) (S.steady shelf.old) (S.steady shelf.new) }
+{
+    let bytes = load_input(alloc, shelf, "rows", name)?;
+    let rows = take_rows(alloc, jobs, &bytes)?;
+    Ok((bytes, rows))
 }

@@ -1,9 +1,10 @@
 ghost use Rattle.std.specs.Prelude.{◌≡◌, ◌++◌, string_bytes, IfOk};
-ghost use Rattle.block_top.specs.Refusals.{place_text, size_text, model_word, model_place, reason_text};
+ghost use Rattle.block_top.specs.Refusals.{place_text, size_text, model_word, model_place, reason_text, line_text, jobs_reason_text, rows_reason_text};
 
 use sporadic_model::{ModelRefusal, Place, SizeOf};
 use std::alloc::{AllocError, Global};
 use taskset_json::SetRefusal;
+use trace_csv::{JobsRefusal, RowsRefusal};
 
 /// The text of a place. Positions print counted from 1.
 fn place_words(alloc: Global, place: Place) -> Result<String, AllocError>
@@ -110,5 +111,41 @@ pub fn reason(alloc: Global, refusal: SetRefusal) -> Result<String, AllocError>
             joined(alloc, "nohome ", place.as_str())
         }
         SetRefusal::Memory => Ok(String::new(alloc)),
+    }
+}
+
+/// A reason, and the number of the line that is refused.
+fn at_line(alloc: Global, word: &str, line: u64) -> Result<String, AllocError>
+    ensures { IfOk result (λ text. string_bytes text ≡ line_text word.now line) }
+{
+    format!(in alloc; "{word} {line}")
+}
+
+/// The reason why an input of jobs is refused.
+pub fn jobs_reason(alloc: Global, refusal: JobsRefusal) -> Result<String, AllocError>
+    ensures { IfOk result (λ text. string_bytes text ≡ jobs_reason_text refusal) }
+{
+    match refusal {
+        JobsRefusal::Fields(line) => at_line(alloc, "fields", line),
+        JobsRefusal::Number(line) => at_line(alloc, "number", line),
+        JobsRefusal::UnknownName(line) => at_line(alloc, "unknownname", line),
+        JobsRefusal::Script(line) => at_line(alloc, "script", line),
+        JobsRefusal::OverBudget(line) => at_line(alloc, "overbudget", line),
+        JobsRefusal::TooClose(line) => at_line(alloc, "tooclose", line),
+        JobsRefusal::TooMany(line) => at_line(alloc, "toomany", line),
+        JobsRefusal::Memory => Ok(String::new(alloc)),
+    }
+}
+
+/// The reason why an input of rows is refused.
+pub fn rows_reason(alloc: Global, refusal: RowsRefusal) -> Result<String, AllocError>
+    ensures { IfOk result (λ text. string_bytes text ≡ rows_reason_text refusal) }
+{
+    match refusal {
+        RowsRefusal::Fields(line) => at_line(alloc, "fields", line),
+        RowsRefusal::Number(line) => at_line(alloc, "number", line),
+        RowsRefusal::UnknownJob(line) => at_line(alloc, "unknownjob", line),
+        RowsRefusal::TooLong(line) => at_line(alloc, "toolong", line),
+        RowsRefusal::Memory => Ok(String::new(alloc)),
     }
 }

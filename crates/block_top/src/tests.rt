@@ -396,3 +396,150 @@ fn rounds_that_want_too_many_units_end_with_the_allowance(rt: HostRuntime) -> Re
     assert_eq!(rt; given, answer(alloc, 6, "allowance\n")?);
     Ok(())
 }
+
+const SET_FIVE: &str =
+    r#"{"processors":2,"resources":[{"name":"q"}],"tasks":[{"name":"t1","processor":1,"period":10,"cost":2},{"name":"t2","processor":1,"period":20,"cost":4,"requests":[{"resource":"q","count":1,"length":2}]},{"name":"t3","processor":2,"period":20,"cost":5,"requests":[{"resource":"q","count":1,"length":3}]}]}"#;
+
+const JOBS_A: &str = "task,release,script\nt1,0,1 q:1 1\nt2,0,1 q:2 1\n";
+
+const ROWS_A: &str = "ticks,P1,P2,q\n1,1,2,\n2,,2,2\n1,1,2,1\n1,1,,\n";
+
+/// Runs `conform` over a shelf with a set, jobs and rows.
+fn conformed<R: Threads + Sync>(
+    rt: &R,
+    alloc: Global,
+    set: &str,
+    jobs: &str,
+    rows: &str,
+    failing_reads: &[u64],
+) -> Result<Given, AllocError> {
+    let mut words = Vec::new(alloc);
+    for word in ["conform", "fmlp+", "set", "jobs", "rows"] {
+        words.push(String::from_str(alloc, word)?)?;
+    }
+    let mut files = Vec::new(alloc);
+    for (name, text) in [("set", set), ("jobs", jobs), ("rows", rows)] {
+        files.push((
+            String::from_str(alloc, name)?,
+            Vec::from_slice(alloc, text.as_bytes())?,
+        ))?;
+    }
+    let mut shelf = MemShelf::new(files, 1000, Vec::from_slice(alloc, failing_reads)?);
+    let mut sink = MemSink::new(alloc, 1_000_000, 4096, Vec::new(alloc))?;
+    let Status(status) = run(rt, alloc, &words, &mut shelf, &mut sink);
+    Ok(Given {
+        status,
+        written: Vec::from_slice(alloc, sink.written())?,
+    })
+}
+
+#[test]
+fn judges_and_measures_schedules(rt: HostRuntime) -> Result<(), Fail> {
+    let alloc = rt.alloc();
+    let only_header = "ticks,P1,P2,q\n";
+    for (set, jobs, rows, status, text) in [
+        (SET_A, JOBS_A, ROWS_A, 0, "lawful 5\nt1 1 5 2\nt2 1 4 0\n"),
+        (
+            SET_A,
+            "task,release,script\n",
+            only_header,
+            0,
+            "lawful 0\nt1 0 - 0\nt2 0 - 0\n",
+        ),
+        (
+            SET_A,
+            JOBS_A,
+            "ticks,P1,P2,q\n1,2,1,\n",
+            1,
+            "broken 0 run\n",
+        ),
+        (
+            SET_A,
+            JOBS_A,
+            "ticks,P1,P2,q\n1,,2,\n",
+            1,
+            "broken 0 idle\n",
+        ),
+        (
+            SET_A,
+            JOBS_A,
+            "ticks,P1,P2,q\n1,1,2,\n1,,2,2\n1,1,,1\n",
+            1,
+            "broken 2 keep\n",
+        ),
+        (
+            SET_A,
+            JOBS_A,
+            "ticks,P1,P2,q\n1,1,2,\n3,,2,2\n",
+            1,
+            "broken 3 grant\n",
+        ),
+        (
+            SET_FIVE,
+            "task,release,script\nt1,0,2\nt2,0,1 q:2 1\n",
+            "ticks,P1,P2,q\n1,2,,\n",
+            1,
+            "broken 0 priority\n",
+        ),
+    ] {
+        let given = conformed(&rt, alloc, set, jobs, rows, &[])?;
+        assert_eq!(rt; given, answer(alloc, status, text)?);
+    }
+    Ok(())
+}
+
+#[test]
+fn names_the_line_that_is_refused(rt: HostRuntime) -> Result<(), Fail> {
+    let alloc = rt.alloc();
+    for (lines, text) in [
+        ("t1,0,1 q:2 1\n", "refused jobs overbudget 1\n"),
+        ("t1,0,1 q:1 q:1\n", "refused jobs script 1\n"),
+        ("t9,0,1\n", "refused jobs unknownname 1\n"),
+        ("t1,0,1\nt1,9,1\n", "refused jobs tooclose 2\n"),
+        ("t1,0,1\n\nt2,0\n", "refused jobs fields 2\n"),
+        ("t1,00,1\n", "refused jobs number 1\n"),
+    ] {
+        let jobs = format!(in alloc; "task,release,script\n{lines}")?;
+        let given = conformed(&rt, alloc, SET_A, jobs.as_str(), "", &[])?;
+        assert_eq!(rt; given, answer(alloc, 3, text)?);
+    }
+    for (rows, text) in [
+        ("ticks,P1,P2\n", "refused rows fields 0\n"),
+        ("ticks,P1,P2,q\n1,,,x\n", "refused rows number 1\n"),
+        ("ticks,P1,P2,q\n1,,,3\n", "refused rows unknownjob 1\n"),
+        (
+            "ticks,P1,P2,q\n1,,,\n1000000000,,,\n",
+            "refused rows toolong 2\n",
+        ),
+    ] {
+        let given = conformed(&rt, alloc, SET_A, JOBS_A, rows, &[])?;
+        assert_eq!(rt; given, answer(alloc, 3, text)?);
+    }
+    Ok(())
+}
+
+// Calls of the shelf are counted from 1: a start and two reads for each input.
+#[test]
+fn each_input_is_read_after_the_one_before_it(rt: HostRuntime) -> Result<(), Fail> {
+    let alloc = rt.alloc();
+    for (set, jobs, failing, status, text) in [
+        (SET_A, JOBS_A, [3], 4, "fault read set\n"),
+        (SET_A, JOBS_A, [4], 4, "fault read jobs\n"),
+        (SET_A, JOBS_A, [9], 4, "fault read rows\n"),
+        (
+            SET_A,
+            "task,release\n",
+            [7],
+            3,
+            "refused jobs fields 0\n",
+        ),
+        ("", JOBS_A, [3], 3, "refused set notjson\n"),
+    ] {
+        let given = conformed(&rt, alloc, set, jobs, ROWS_A, &failing)?;
+        assert_eq!(rt; given, answer(alloc, status, text)?);
+    }
+    let absent = ["conform", "fmlp+", "set", "jobs", "rows"];
+    let given = ran(&rt, alloc, &absent, SET_A.as_bytes())?;
+    assert_eq!(rt; given, answer(alloc, 3, "refused jobs absent\n")?);
+    Ok(())
+}

@@ -1,5 +1,5 @@
 ghost use Rattle.std.specs.Prelude.{◌≡◌, option_map, IfSome};
-ghost use Rattle.block_top.specs.Words.{protocol_of, form_of_three, form_of, words_seen};
+ghost use Rattle.block_top.specs.Words.{protocol_of, form_of_three, form_of_five, form_of, words_seen};
 ghost use Rattle.block_top.specs.FormSeen.{form_seen, IsServed};
 
 use sporadic_model::Protocol;
@@ -20,6 +20,13 @@ pub enum Command<'a> {
     Report {
         protocol: Protocol,
         set: &'a str,
+    },
+    /// Judge the rows of this name, which are of the jobs of this name, which are of the set of this name.
+    Conform {
+        protocol: Protocol,
+        set: &'a str,
+        jobs: &'a str,
+        rows: &'a str,
     },
 }
 
@@ -53,6 +60,28 @@ fn command_of_three<'a>(command: &str, protocol: &str, set: &'a str) -> Option<C
     None
 }
 
+/// What five words ask for.
+fn command_of_five<'a>(
+    command: &str,
+    protocol: &str,
+    set: &'a str,
+    jobs: &'a str,
+    rows: &'a str,
+) -> Option<Command<'a>>
+    ensures form { option_map form_seen result ≡ form_of_five command.now protocol.now set.now jobs.now rows.now }
+    ensures served { IfSome result (λ c. IsServed (form_seen c)) }
+{
+    if command == "conform" && protocol == "fmlp+" {
+        return Some(Command::Conform {
+            protocol: Protocol::FmlpPlus,
+            set,
+            jobs,
+            rows,
+        });
+    }
+    None
+}
+
 /// What the words ask for, or none where they have no form. The words are read by exact number and place.
 pub fn command_of(words: &[String]) -> Option<Command<'_>>
     ensures form { option_map form_seen result ≡ form_of (words_seen words.now) }
@@ -62,6 +91,13 @@ pub fn command_of(words: &[String]) -> Option<Command<'_>>
         [command, protocol, set] => {
             command_of_three(command.as_str(), protocol.as_str(), set.as_str())
         }
+        [command, protocol, set, jobs, rows] => command_of_five(
+            command.as_str(),
+            protocol.as_str(),
+            set.as_str(),
+            jobs.as_str(),
+            rows.as_str(),
+        ),
         _ => None,
     }
 }

@@ -1,19 +1,26 @@
-ghost use Rattle.std.specs.Prelude.{◌≡◌, ◌<◌, length, map, IfOk};
+ghost use Rattle.std.specs.Prelude.{◌≡◌, ◌<◌, length, map, IfOk, slice_index_or};
 ghost use Rattle.program_form.specs.Certificate.{dual_seen};
 ghost use Rattle.response_fixpoint.specs.Rounds.{Schedulable, NotShown, Wide, Allowance};
-ghost use Rattle.block_top.specs.Commands.{requests_later, ending_answer, IsAnalysis, IsTable};
+ghost use Rattle.schedule_model.specs.RowDef.{trace_in, ticks_of};
+ghost use Rattle.schedule_model.specs.Fitting.{IsMadeFor};
+ghost use Rattle.trace_conform.specs.Measured.{measure_seen, no_measure};
+ghost use Rattle.trace_conform.specs.ByProtocol.{rules_of, interference_of};
+ghost use Rattle.block_top.specs.Texts.{lawful_text, broken_text};
+ghost use Rattle.block_top.specs.Commands.{requests_later, ending_answer, IsAnalysis, IsTable, IsConformance};
 ghost use Rattle.block_top.specs.Outcome.{refused_words};
 ghost use Rattle.block_top.specs.Replies.{reply_seen, HaltsWith, Answered, RepliesTo};
 ghost use Rattle.block_top.specs.Reached.{NamesTask};
 
 use crate::halt::{Halt, Reply, refusal};
-use crate::texts::{certificate_line, not_shown_line, wide_line};
+use crate::texts::{broken_line, certificate_line, lawful_lines, not_shown_line, wide_line};
 use program_form::Certificate;
 use report::set_table;
 use response_fixpoint::{Stop, Verdict, analyse, first_requester};
+use schedule_model::{JobList, RowList, Rule};
 use sporadic_model::{Protocol, TaskId, TaskSet};
 use std::alloc::{AllocError, Global};
 use std::thread::Threads;
+use trace_conform::{TaskMeasure, Unlawful, conform};
 
 /// The reply to a set with requests, which is not analysed yet.
 fn later(alloc: Global, x: TaskId) -> Halt
@@ -124,6 +131,53 @@ pub fn table(alloc: Global, set: &TaskSet) -> Result<Reply, Halt>
         status: 0,
         text: set_table(alloc, set)?,
     })
+}
+
+/// The reply where each row keeps the rules.
+fn lawful_reply(
+    alloc: Global,
+    set: &TaskSet,
+    ticks: u64,
+    measures: &[TaskMeasure],
+) -> Result<Reply, AllocError>
+    requires { length measures.now ≡ length set.now.tasks }
+    ensures { IfOk result (λ r. reply_seen r ≡ record {
+        status = 0; text = lawful_text set.now ticks (λ x. measure_seen (slice_index_or measures.now x no_measure)) }) }
+{
+    Ok(Reply {
+        status: 0,
+        text: lawful_lines(alloc, set, ticks, measures)?,
+    })
+}
+
+/// The reply where the row at this tick breaks this rule.
+fn broken_reply(alloc: Global, tick: u64, rule: Rule) -> Result<Reply, AllocError>
+    ensures { IfOk result (λ r. reply_seen r ≡ record { status = 1; text = broken_text tick rule }) }
+{
+    Ok(Reply {
+        status: 1,
+        text: broken_line(alloc, tick, rule)?,
+    })
+}
+
+/// The work of `conform`.
+pub fn conformance(
+    alloc: Global,
+    protocol: Protocol,
+    jobs: &JobList<'_>,
+    rows: &RowList,
+) -> Result<Reply, Halt>
+    requires served { protocol ≡ Protocol.FmlpPlus }
+    requires made { IsMadeFor rows.now jobs.now }
+    ensures { Answered result (IsConformance (rules_of protocol) (interference_of protocol)
+        (trace_in jobs.now rows.now.runs) (ticks_of rows.now.runs)) }
+{
+    let ticks = rows.ticks();
+    match conform(alloc, protocol, jobs, rows) {
+        Ok(measured) => Ok(lawful_reply(alloc, jobs.set(), ticks, &measured.tasks)?),
+        Err(Unlawful::Broken { tick, rule }) => Ok(broken_reply(alloc, tick, rule)?),
+        Err(Unlawful::Memory) => Err(Halt::Memory),
+    }
 }
 
 /// The reply to words that have no form.

@@ -1,0 +1,15 @@
+use Rattle.schedule_model.specs.RowDef.{trace_in, ticks_of}
+use Rattle.schedule_model.proofs.RowListLaws.{made_fits}
+use Rattle.trace_conform.specs.ByProtocol.{rules_of, interference_of}
+use Rattle.block_top.specs.Replies.{reply_seen}
+use Rattle.block_top.proofs.ConformLaws.{measured_conformance}
+use Rattle.block_top.proofs.work.conformance.Goals as goal
+
+pub conform-requires-clause-fits : goal.conform-requires-clause-fits
+conform-requires-clause-fits c = made_fits c.args.rows.now c.args.jobs.now c.ticks-ticks.ensures.listed c.requires.made
+
+pub returns-in_ok-lawful_reply-in-Ok : goal.returns-in_ok-lawful_reply-in-Ok
+returns-in_ok-lawful_reply-in-Ok c =
+    measured_conformance (rules_of c.args.protocol) (interference_of c.args.protocol) (trace_in c.args.jobs.now c.args.rows.now.runs) (ticks_of c.args.rows.now.runs)
+    c.in-Ok.measured (reply_seen c.in_ok-lawful_reply-in-Ok.field-0) c.in-Ok.ensures
+    (rw (c.set.ensures, c.ticks-ticks.ensures.value, c.deref.ensures.value) at c.in_ok-lawful_reply-in-Ok.ensures)
