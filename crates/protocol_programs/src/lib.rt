@@ -6,12 +6,11 @@ mod programs;
 mod written;
 
 pub use counting::interference;
-pub use programs::program;
 pub use program_sources::ProgramSource;
+pub use programs::program;
 pub use written::Written;
 
 #[cfg(test)]
 mod cases;
 #[cfg(test)]
 mod tests;
-

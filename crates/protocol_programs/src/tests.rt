@@ -151,7 +151,10 @@ fn gives_the_costs_and_the_limits(rt: HostRuntime) -> Result<(), Fail> {
             assert_eq!(rt; Some(program.cost(c)), wanted.map(|column| column.3));
         }
         for r in 0..program.rows() {
-            assert_eq!(rt; Some(program.limit(r)), case.limits.get(r as usize).copied());
+            assert_eq!(rt;
+                Some(program.limit(r)),
+                case.limits.get(r as usize).copied()
+            );
         }
     }
     Ok(())
@@ -198,30 +201,60 @@ fn counts_the_interference(rt: HostRuntime) -> Result<(), Fail> {
 fn is_block(block: &RowBlock, rows: &[&'static [u64]], limits: &[u64]) -> bool {
     block.limits.as_slice() == limits
         && block.rows.len() == rows.len()
-        && block.rows.iter().zip(rows.iter()).all(|(row, wanted)| row.as_slice() == *wanted)
+        && block
+            .rows
+            .iter()
+            .zip(rows.iter())
+            .all(|(row, wanted)| row.as_slice() == *wanted)
 }
 
-// The program of the paths, part by part: eight common rows, none of preemption, one of lower holders, one of holdings.
+/// Bounds equal to the costs of the set of the paths.
+const PATH_BOUNDS: [u64; 6] = [10; 6];
+
+// Eight common rows of the program of the paths, and none of preemption.
 #[test]
-fn gives_the_rows_part_by_part(rt: HostRuntime) -> Result<(), Fail> {
+fn gives_common_rows_and_those_of_preemption(rt: HostRuntime) -> Result<(), Fail> {
     let alloc = rt.alloc();
     let set = set_of(alloc, PATHS)?;
-    let bounds = [10; 6];
-    if set.tasks() != 6 || !are_within(&set, &bounds) || set.resources() != 2 {
+    if set.tasks() != 6 || !are_within(&set, &PATH_BOUNDS) {
         return Err("out of range".into());
     }
     let (i, mpcp) = (TaskId(3), Protocol::Mpcp);
     let columns = fragments::fragments(alloc, &set, mpcp, i)?;
-    let common = direct_constraints::common(alloc, &set, mpcp, i, &bounds, &columns)?;
+    let common = direct_constraints::common(alloc, &set, mpcp, i, &PATH_BOUNDS, &columns)?;
     let limits = [1, 1, 1, 1, 10, 10, 10, 10];
     assert_eq!(rt; common.limits.as_slice(), limits.as_slice());
-    let preemption = preempt_constraints::rows(alloc, &set, mpcp, i, &bounds, &columns)?;
+    let preemption = preempt_constraints::rows(alloc, &set, mpcp, i, &PATH_BOUNDS, &columns)?;
     assert!(rt; is_block(&preemption, &[], &[]));
-    let own = direct_constraints::own(alloc, &set, mpcp, i, &bounds, &columns)?;
+    Ok(())
+}
+
+// One row of lower holders, and one of holdings.
+#[test]
+fn gives_direct_and_indirect_rows(rt: HostRuntime) -> Result<(), Fail> {
+    let alloc = rt.alloc();
+    let set = set_of(alloc, PATHS)?;
+    if set.tasks() != 6 || !are_within(&set, &PATH_BOUNDS) {
+        return Err("out of range".into());
+    }
+    let (i, mpcp) = (TaskId(3), Protocol::Mpcp);
+    let columns = fragments::fragments(alloc, &set, mpcp, i)?;
+    let own = direct_constraints::own(alloc, &set, mpcp, i, &PATH_BOUNDS, &columns)?;
     assert!(rt; is_block(&own, &[&[0, 0, 0, 1]], &[1]));
-    let indirect = indirect_constraints::rows(alloc, &set, mpcp, i, &bounds, &columns)?;
+    let indirect = indirect_constraints::rows(alloc, &set, mpcp, i, &PATH_BOUNDS, &columns)?;
     assert!(rt; is_block(&indirect, &[&[0, 0, 1, 0]], &[3]));
-    assert_eq!(rt; cnt(&set, i, TaskId(4), ResourceId(1), &bounds), 1);
+    Ok(())
+}
+
+// The bounds 60 and 60 are more than a period of 100 together, so two jobs count.
+#[test]
+fn counts_the_requests_in_a_window(rt: HostRuntime) -> Result<(), Fail> {
+    let set = set_of(rt.alloc(), PATHS)?;
+    let bounds = [60; 6];
+    if set.tasks() != 6 || set.resources() != 2 || !are_within(&set, &bounds) {
+        return Err("out of range".into());
+    }
+    assert_eq!(rt; cnt(&set, TaskId(3), TaskId(4), ResourceId(1), &bounds), 2);
     Ok(())
 }
 

@@ -1,0 +1,13 @@
+pub mod Loops
+pub mod Currents
+pub mod RunTest
+pub mod HolderTests
+pub mod ReadyTests
+pub mod Verdict
+pub mod Blocked
+pub mod Granting
+pub mod Placing
+pub mod Scenes
+pub mod Chosen
+pub mod Writing
+pub mod NextRow

@@ -1,0 +1,298 @@
+ghost use Rattle.std.specs.Prelude.{◌≡◌, ℕ, ◌<◌, ◌≤◌, length, map, Option, Some, None, slice_index_or, IfSome};
+ghost use Rattle.bounded_sums.specs.Tests.{all_below};
+ghost use Rattle.schedule_model.specs.RowDef.{RowDef, running_on};
+ghost use Rattle.schedule_model.specs.Seen.{row_seen, place_seen};
+ghost use Rattle.schedule_model.specs.Protocols.{shared_rule};
+ghost use Rattle.phase_machine.specs.MachineDef.{under};
+ghost use Rattle.phase_machine.specs.Now.{requester_now};
+ghost use Rattle.phase_machine.specs.Shows.{Shows};
+ghost use Rattle.phase_machine.specs.Taking.{IsRowFor};
+ghost use Rattle.phase_machine.specs.Judged.{Judged};
+ghost use Rattle.shared_rules.specs.RowTests.{processor_now, current_passes, each_current, is_local_now, holds_now, may_run_now, may_stand, column_passes, stays_holder, kept_passes, holder_passes, goes_before, request_passes, idle_passes, runs_before, priority_passes, passes_run, passes_keep, passes_grant, passes_idle, passes_priority, first_failed};
+
+use crate::lookup::{
+    column_at, holder_at, holds, is_local, may_run, processor_of, requests, resources_of,
+    running_beside, task_of, tasks_of,
+};
+use crate::order::Order;
+use phase_machine::{Machine, Phase};
+use schedule_model::{JobId, Row, Rule};
+use sporadic_model::{ResourceId, TaskId};
+
+/// May the job stand in the column, counted from 0?
+fn may_stand(machine: &Machine, row: &Row, c: usize, j: JobId) -> bool
+    requires fits { IsRowFor machine.now.list (row_seen row.now) }
+    requires listed { j.0 < length machine.now.list.jobs }
+    ensures { result ≡ may_stand machine.now (row_seen row.now) c j.0 }
+{
+    machine.active(j)
+        && may_run(machine, &row.holders, j)
+        && processor_of(machine, j) as usize - 1 == c
+}
+
+/// May what runs in the column stand there?
+fn column_passes(machine: &Machine, row: &Row, c: usize) -> bool
+    requires fits { IsRowFor machine.now.list (row_seen row.now) }
+    requires column { c < length (row_seen row.now).running }
+    ensures { result ≡ column_passes machine.now (row_seen row.now) c }
+{
+    match column_at(machine, row, c) {
+        Some(j) => may_stand(machine, row, c, j),
+        None => true,
+    }
+}
+
+/// Run: may each running job stand in its column?
+#[tactic(auto, unfolding(crate::specs::RowTests::passes_run))]
+fn passes_run(machine: &Machine, row: &Row) -> bool
+    requires fits { IsRowFor machine.now.list (row_seen row.now) }
+    ensures { result ≡ passes_run machine.now (row_seen row.now) }
+{
+    for c in 0..row.running.len() {
+        if !column_passes(machine, row, c) {
+            return false;
+        }
+    }
+    true
+}
+
+/// Does the last row's holder of the resource, if it still requests it, hold it?
+fn kept_passes(machine: &Machine, row: &Row, q: ResourceId) -> bool
+    requires fits { IsRowFor machine.now.list (row_seen row.now) }
+    requires resource { q.0 < length machine.now.list.set.resources }
+    ensures { result ≡ kept_passes machine.now (row_seen row.now) q.0 }
+{
+    match machine.holder(q) {
+        Some(j) => !requests(machine, q, j) || holder_at(machine, row, q) == Some(j),
+        None => true,
+    }
+}
+
+/// Keep: does each holder stay that still requests its resource?
+#[tactic(auto, unfolding(crate::specs::RowTests::passes_keep))]
+fn passes_keep(machine: &Machine, row: &Row) -> bool
+    requires fits { IsRowFor machine.now.list (row_seen row.now) }
+    ensures { result ≡ passes_keep machine.now (row_seen row.now) }
+{
+    for q in 0..resources_of(machine) {
+        if !kept_passes(machine, row, ResourceId(q)) {
+            return false;
+        }
+    }
+    true
+}
+
+/// Does the resource's holder request it?
+fn holder_passes(machine: &Machine, row: &Row, q: ResourceId) -> bool
+    requires fits { IsRowFor machine.now.list (row_seen row.now) }
+    requires resource { q.0 < length machine.now.list.set.resources }
+    ensures { result ≡ holder_passes machine.now (row_seen row.now) q.0 }
+{
+    match holder_at(machine, row, q) {
+        Some(j) => requests(machine, q, j),
+        None => true,
+    }
+}
+
+/// Does each holder request its resource?
+fn holders_pass(machine: &Machine, row: &Row) -> bool
+    requires fits { IsRowFor machine.now.list (row_seen row.now) }
+    ensures { result ≡ all_below (length machine.now.list.set.resources) (holder_passes machine.now (row_seen row.now)) }
+{
+    for q in 0..resources_of(machine) {
+        if !holder_passes(machine, row, ResourceId(q)) {
+            return false;
+        }
+    }
+    true
+}
+
+/// Has what the job requests a holder, an old one or one that goes no later than the job?
+fn request_passes<O: Order>(order: &O, machine: &Machine, row: &Row, j: JobId) -> bool
+    requires fits { IsRowFor machine.now.list (row_seen row.now) }
+    requires listed { j.0 < length machine.now.list.jobs }
+    ensures { result ≡ request_passes machine.now (O.grant order.now machine.now) (row_seen row.now) j.0 }
+{
+    match machine.phase(j) {
+        Phase::Asking(_, q) => { goes_before(order, machine, q, j, holder_at(machine, row, q)) }
+        _ => true,
+    }
+}
+
+/// Is there a holder of the resource, an old one or one that goes no later than the job?
+fn goes_before<O: Order>(
+    order: &O,
+    machine: &Machine,
+    q: ResourceId,
+    j: JobId,
+    holder: Option<JobId>,
+) -> bool
+    requires resource { q.0 < length machine.now.list.set.resources }
+    requires listed { j.0 < length machine.now.list.jobs }
+    requires holder { IfSome holder (λ h. h.0 < length machine.now.list.jobs) }
+    ensures { result ≡ goes_before machine.now (O.grant order.now machine.now) q.0 j.0 (place_seen holder) }
+{
+    match holder {
+        Some(h) => {
+            machine.holder(q) == Some(h) || order.grant_of(machine, h) <= order.grant_of(machine, j)
+        }
+        None => false,
+    }
+}
+
+/// The same for the task's active job, where it has one.
+fn request_passes_for<O: Order>(order: &O, machine: &Machine, row: &Row, x: TaskId) -> bool
+    requires fits { IsRowFor machine.now.list (row_seen row.now) }
+    requires task { x.0 < length machine.now.list.set.tasks }
+    ensures { result ≡ current_passes machine.now (request_passes machine.now (O.grant order.now machine.now) (row_seen row.now)) x.0 }
+{
+    match machine.current(x) {
+        Some(j) => request_passes(order, machine, row, j),
+        None => true,
+    }
+}
+
+/// Is each request of an active job served?
+#[tactic(auto, unfolding(crate::specs::RowTests::each_current))]
+fn requests_pass<O: Order>(order: &O, machine: &Machine, row: &Row) -> bool
+    requires fits { IsRowFor machine.now.list (row_seen row.now) }
+    ensures { result ≡ each_current machine.now (request_passes machine.now (O.grant order.now machine.now) (row_seen row.now)) }
+{
+    for x in 0..tasks_of(machine) {
+        if !request_passes_for(order, machine, row, TaskId(x)) {
+            return false;
+        }
+    }
+    true
+}
+
+/// Idle, for one job: does its processor run something, where the job is ready?
+fn idle_passes(machine: &Machine, row: &Row, j: JobId) -> bool
+    requires fits { IsRowFor machine.now.list (row_seen row.now) }
+    requires listed { j.0 < length machine.now.list.jobs }
+    ensures { result ≡ idle_passes machine.now (row_seen row.now) j.0 }
+{
+    !may_run(machine, &row.holders, j) || running_beside(machine, row, j).is_some()
+}
+
+/// The same for the task's active job, where it has one.
+fn idle_passes_for(machine: &Machine, row: &Row, x: TaskId) -> bool
+    requires fits { IsRowFor machine.now.list (row_seen row.now) }
+    requires task { x.0 < length machine.now.list.set.tasks }
+    ensures { result ≡ current_passes machine.now (idle_passes machine.now (row_seen row.now)) x.0 }
+{
+    match machine.current(x) {
+        Some(j) => idle_passes(machine, row, j),
+        None => true,
+    }
+}
+
+/// Idle: is no processor idle that has a ready job?
+#[tactic(auto, unfolding(crate::specs::RowTests::passes_idle, crate::specs::RowTests::each_current))]
+fn passes_idle(machine: &Machine, row: &Row) -> bool
+    requires fits { IsRowFor machine.now.list (row_seen row.now) }
+    ensures { result ≡ passes_idle machine.now (row_seen row.now) }
+{
+    for x in 0..tasks_of(machine) {
+        if !idle_passes_for(machine, row, TaskId(x)) {
+            return false;
+        }
+    }
+    true
+}
+
+/// Does what runs go no later than the job, on one processor?
+fn runs_before<O: Order>(
+    order: &O,
+    machine: &Machine,
+    row: &Row,
+    j: JobId,
+    running: Option<JobId>,
+) -> bool
+    requires fits { IsRowFor machine.now.list (row_seen row.now) }
+    requires listed { j.0 < length machine.now.list.jobs }
+    requires running { IfSome running (λ r. r.0 < length machine.now.list.jobs) }
+    ensures { result ≡ runs_before machine.now (O.run order.now machine.now) (row_seen row.now) j.0 (place_seen running) }
+{
+    match running {
+        Some(r) => {
+            let first = holds(machine, &row.holders, r);
+            (!holds(machine, &row.holders, j)
+                || (first && order.run_of(machine, r) <= order.run_of(machine, j)))
+                && (!is_local(machine, j)
+                    || (first || task_of(machine, r).0 <= task_of(machine, j).0))
+        }
+        None => true,
+    }
+}
+
+/// Priority, for one job: does what runs on its processor go no later?
+fn priority_passes<O: Order>(order: &O, machine: &Machine, row: &Row, j: JobId) -> bool
+    requires fits { IsRowFor machine.now.list (row_seen row.now) }
+    requires listed { j.0 < length machine.now.list.jobs }
+    ensures { result ≡ priority_passes machine.now (O.run order.now machine.now) (row_seen row.now) j.0 }
+{
+    runs_before(order, machine, row, j, running_beside(machine, row, j))
+}
+
+/// The same for the task's active job, where it has one.
+fn priority_passes_for<O: Order>(order: &O, machine: &Machine, row: &Row, x: TaskId) -> bool
+    requires fits { IsRowFor machine.now.list (row_seen row.now) }
+    requires task { x.0 < length machine.now.list.set.tasks }
+    ensures { result ≡ current_passes machine.now (priority_passes machine.now (O.run order.now machine.now) (row_seen row.now)) x.0 }
+{
+    match machine.current(x) {
+        Some(j) => priority_passes(order, machine, row, j),
+        None => true,
+    }
+}
+
+/// Priority: does what runs on each processor go first there?
+#[tactic(auto, unfolding(crate::specs::RowTests::passes_priority, crate::specs::RowTests::each_current))]
+fn passes_priority<O: Order>(order: &O, machine: &Machine, row: &Row) -> bool
+    requires fits { IsRowFor machine.now.list (row_seen row.now) }
+    ensures { result ≡ passes_priority machine.now (O.run order.now machine.now) (row_seen row.now) }
+{
+    for x in 0..tasks_of(machine) {
+        if !priority_passes_for(order, machine, row, TaskId(x)) {
+            return false;
+        }
+    }
+    true
+}
+
+/// The first rule whose test fails.
+#[tactic(auto, unfolding(crate::specs::RowTests::passes_grant))]
+fn first_failed<O: Order>(order: &O, machine: &Machine, row: &Row) -> Option<Rule>
+    requires fits { IsRowFor machine.now.list (row_seen row.now) }
+    ensures { result ≡ first_failed machine.now (O.grant order.now machine.now) (O.run order.now machine.now) (row_seen row.now) }
+{
+    if !passes_run(machine, row) {
+        return Some(Rule::Run);
+    }
+    if !passes_keep(machine, row) {
+        return Some(Rule::Keep);
+    }
+    if !(holders_pass(machine, row) && requests_pass(order, machine, row)) {
+        return Some(Rule::Grant);
+    }
+    if !passes_idle(machine, row) {
+        return Some(Rule::Idle);
+    }
+    if !passes_priority(order, machine, row) {
+        return Some(Rule::Priority);
+    }
+    None
+}
+
+/// Does the row keep all five rules under the order? Else the first that it breaks.
+pub fn judge_shared<O: Order>(order: &O, machine: &Machine, row: &Row) -> Result<(), Rule>
+    requires fits { IsRowFor machine.now.list (row_seen row.now) }
+    ensures { (rows : ℕ → RowDef) → Shows machine.now rows → rows machine.now.tick ≡ row_seen row.now
+        → Judged (shared_rule (O.ranks order.now)) (under machine.now rows) machine.now.tick result }
+{
+    match first_failed(order, machine, row) {
+        Some(rule) => Err(rule),
+        None => Ok(()),
+    }
+}

@@ -1,0 +1,16 @@
+//! The rules that MPCP and FMLP+ share, over the order in which a protocol grants requests and runs holders: judging a
+//! row, choosing one, and telling which ticks are blocked.
+#![tactic(auto)]
+
+mod blocking;
+mod choosing;
+mod judging;
+mod laws;
+mod lookup;
+mod order;
+
+pub use blocking::blocked_shared;
+pub use choosing::choose_shared;
+pub use judging::judge_shared;
+pub use laws::each_schedule_has_a_next_row;
+pub use order::Order;
