@@ -4,6 +4,8 @@
 mod choosing;
 mod places;
 mod simulating;
+#[cfg(test)]
+mod tests;
 mod writing;
 
 pub use simulating::simulate_with;
