@@ -1,0 +1,5 @@
+pub mod NamedPlaces
+pub mod ChosenRows
+pub mod Runs
+pub mod WrittenRows
+mod JoinedExamples

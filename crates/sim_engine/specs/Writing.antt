@@ -1,0 +1,43 @@
+-- How rows are written, each after the ones before it: a list of the runs that have ended, and the run that still goes on.
+use Rattle.std.specs.Prelude.{◌≡◌, ◌≢◌, ℕ, ◌+◌, ◌≤◌, true, List, [], ◌∷◌, ◌++◌, length, ◌⊎◌}
+use Rattle.schedule_model.specs.JobDef.{JobsDef}
+use Rattle.schedule_model.specs.RowDef.{RowDef, RunDef, Trace, row_in, ticks_of}
+use Rattle.schedule_model.specs.Fitting.{RowsDef, is_fitting, with_run}
+use Rattle.phase_machine.specs.MachineDef.{MachineDef}
+use Rattle.phase_machine.specs.Taking.{IsRowFor}
+use Rattle.sim_engine.specs.Joined.{AreJoined}
+use Rattle.sim_engine.specs.Choosing.{AreChosenSoFar}
+
+-- The list of these runs that is made for the jobs.
+abbrev pub rows_with : JobsDef → List RunDef → RowsDef
+rows_with list runs = record { processors = list.set.processors; resources = length list.set.resources; jobs = length list.jobs; runs = runs }
+
+-- The runs with the one that still goes on.
+abbrev pub all_runs : RowsDef → RunDef → List RunDef
+all_runs rows last = rows.runs ++ last ∷ []
+
+-- The row is that of the run, which goes on.
+pub record GoesOn (rows : RowsDef) (last : RunDef) (row : RowDef) (after : RowsDef) (next : RunDef) : Type 0 where
+  pub same : last.row ≡ row
+  pub kept : after ≡ rows
+  pub longer : next ≡ record { ticks = last.ticks + 1; row = last.row }
+
+-- The row is another, so that the run ends and one of this row begins.
+pub record BeginsAnew (rows : RowsDef) (last : RunDef) (row : RowDef) (after : RowsDef) (next : RunDef) : Type 0 where
+  pub other : last.row ≢ row
+  pub ended : after ≡ with_run rows last
+  pub begun : next ≡ record { ticks = 1; row = row }
+
+abbrev pub AddsRow : RowsDef → RunDef → RowDef → RowsDef → RunDef → Type 0
+AddsRow rows last row after next = GoesOn rows last row after next ⊎ BeginsAnew rows last row after next
+
+-- Is a schedule being written: have the runs so far the rows that the machine has taken, each the chosen one, and fits
+-- each run the machine's jobs and have another row than the one before it?
+pub record IsUnderWay (chooses : Trace → ℕ → Type 0) (m : MachineDef) (rows : RowsDef) (last : RunDef) : Type 0 where
+  pub chosen : AreChosenSoFar chooses (row_in (all_runs rows last)) m
+  pub tick : m.tick ≡ ticks_of rows.runs + last.ticks
+  pub made : rows ≡ rows_with m.list rows.runs
+  pub fits : is_fitting rows m.list ≡ true
+  pub last_fits : IsRowFor m.list last.row
+  pub lasts : 1 ≤ last.ticks
+  pub joined : AreJoined (all_runs rows last)

@@ -1,0 +1,56 @@
+ghost use Rattle.std.specs.Prelude.{◌≡◌, ℕ, ◌<◌, ◌≤◌, true, IfOk};
+ghost use Rattle.sporadic_model.specs.declared.limits.TheConstants.{MOST_TICKS};
+ghost use Rattle.schedule_model.specs.RowDef.{trace_in, ticks_of};
+ghost use Rattle.schedule_model.specs.Fitting.{is_fitting};
+ghost use Rattle.schedule_model.specs.Keeping.{KeepsBefore, IsFirstUnlawful};
+ghost use Rattle.schedule_model.specs.declared.rule.Rule.{Rule};
+ghost use Rattle.sim_engine.specs.Joined.{AreJoined};
+
+use crate::choosing::{next_row, take_tick};
+use crate::places::{copy_of, idle_row};
+use crate::writing::push_run;
+use phase_machine::{Judge, Machine};
+use schedule_model::{JobList, RowList, RowRun};
+use std::alloc::{AllocError, Global};
+
+/// The schedule of so many ticks, from 1 to 10^9, in which each row is the one that the protocol chooses after the rows
+/// before it. Equal rows on end are one run. The list keeps the rules, so that none of its rows is the first to break one,
+/// and fits the jobs. There is no list for want of memory alone.
+pub fn simulate_with<P: Judge>(
+    alloc: Global,
+    protocol: &P,
+    jobs: &JobList,
+    ticks: u64,
+) -> Result<RowList, AllocError>
+    requires suits { P.suits protocol.now jobs.now.set }
+    requires some { 1 ≤ ticks }
+    requires most { ticks ≤ MOST_TICKS }
+    ensures ticks { IfOk result (λ rows. ticks_of rows.runs ≡ ticks) }
+    ensures chosen { IfOk result (λ rows. (t : ℕ) → t < ticks → P.chooses protocol.now (trace_in jobs.now rows.runs) t) }
+    ensures keeps { IfOk result (λ rows. KeepsBefore (P.keeps protocol.now) (trace_in jobs.now rows.runs) ticks) }
+    ensures unbroken { IfOk result (λ rows. (t : ℕ) (r : Rule)
+        → IsFirstUnlawful (P.keeps protocol.now) (trace_in jobs.now rows.runs) (ticks_of rows.runs) t r → ⊥) }
+    ensures joined { IfOk result (λ rows. AreJoined rows.runs) }
+    ensures fits { IfOk result (λ rows. is_fitting rows jobs.now ≡ true) }
+{
+    let mut machine = Machine::new(alloc, jobs)?;
+    let mut row = idle_row(alloc, jobs)?;
+    next_row(protocol, &mut machine, &mut row);
+    let mut rows = RowList::new(alloc, jobs);
+    let mut last = RowRun {
+        ticks: 1,
+        row: copy_of(alloc, &row)?,
+    };
+    for _ in 1..ticks {
+        take_tick(
+            alloc,
+            protocol,
+            &mut machine,
+            &mut row,
+            &mut rows,
+            &mut last,
+        )?;
+    }
+    push_run(&mut rows, last)?;
+    Ok(rows)
+}

@@ -1,0 +1,47 @@
+ghost use Rattle.std.specs.Prelude.{◌≡◌, ◌<◌, IsTrue, None, OnOk};
+ghost use Rattle.sporadic_model.specs.declared.limits.TheConstants.{MOST_TICKS};
+ghost use Rattle.schedule_model.specs.Fitting.{is_sized, first_refusal, with_run};
+ghost use Rattle.schedule_model.specs.Seen.{row_seen, run_seen};
+ghost use Rattle.sim_engine.specs.Writing.{AddsRow};
+
+use crate::places::{copy_of, is_same_row};
+use schedule_model::{Row, RowList, RowRefusal, RowRun};
+use std::alloc::{AllocError, Global};
+use std::mem;
+
+/// Puts a run at the end of the list, which refuses it for want of memory alone.
+pub(crate) fn push_run(rows: &mut RowList, run: RowRun) -> Result<(), AllocError>
+    requires sized { IsTrue (is_sized rows.old.processors rows.old.resources (run_seen run).row) }
+    requires free { first_refusal rows.old (run_seen run) ≡ None }
+    ensures { OnOk result (rows.new ≡ with_run rows.old (run_seen run)) }
+{
+    match rows.push(run) {
+        Ok(()) => Ok(()),
+        Err(RowRefusal::Memory) => Err(AllocError),
+        Err(_) => unreachable!(),
+    }
+}
+
+/// Writes the row after a run that still goes on: the run goes on where it has this row; else it ends, and a run of this
+/// row begins.
+pub(crate) fn add_row(
+    alloc: Global,
+    rows: &mut RowList,
+    last: &mut RowRun,
+    row: &Row,
+) -> Result<(), AllocError>
+    requires sized { IsTrue (is_sized rows.old.processors rows.old.resources (run_seen last.old).row) }
+    requires free { first_refusal rows.old (run_seen last.old) ≡ None }
+    requires room { last.old.ticks < MOST_TICKS }
+    ensures { OnOk result (AddsRow rows.old (run_seen last.old) (row_seen row.now) rows.new (run_seen last.new)) }
+{
+    if is_same_row(&last.row, row) {
+        last.ticks += 1;
+        return Ok(());
+    }
+    let next = RowRun {
+        ticks: 1,
+        row: copy_of(alloc, row)?,
+    };
+    push_run(rows, mem::replace(last, next))
+}
