@@ -13,7 +13,7 @@ use serde_json::{Map, Value};
 
 /// What the value of a member must be.
 #[derive(Clone, Copy)]
-pub(crate) enum Kind {
+pub enum Kind {
     /// A string.
     Text,
     /// A number that `as_u64` answers.
@@ -24,14 +24,17 @@ pub(crate) enum Kind {
 
 /// A member that objects of a form have.
 #[derive(Clone, Copy)]
-pub(crate) struct Member {
-    name: &'static str,
-    kind: Kind,
-    required: bool,
+pub struct Member {
+    /// The member's name.
+    pub name: &'static str,
+    /// The kind of its value.
+    pub kind: Kind,
+    /// Must each object of the form have it?
+    pub required: bool,
 }
 
 /// A member that each object of the form has.
-fn must(name: &'static str, kind: Kind) -> Member
+pub fn must(name: &'static str, kind: Kind) -> Member
     ensures { member_seen result ≡ must name.now kind }
 {
     Member {
@@ -108,7 +111,7 @@ fn has_listed_only(value: &Value, form: &[Member]) -> bool
 }
 
 /// Is the value an object of the form: with no other members, and each as it must be?
-fn is_object_of(value: &Value, form: &[Member]) -> bool
+pub fn is_object_of(value: &Value, form: &[Member]) -> bool
     ensures { result ≡ is_object_of (map member_seen form.now) (view value.now) }
 {
     has_listed_only(value, form) && gives_all(value, form)

@@ -1,5 +1,5 @@
 //! Task sets in JSON: reading one with the place of what is wrong in it, and the homes that a protocol
-//! asks for.
+//! asks for. Which members an object must have, and what stands at them, serves the readers of other texts too.
 #![tactic(auto)]
 
 mod form;
@@ -13,7 +13,9 @@ mod shape;
 mod tests;
 mod written;
 
+pub use form::{Kind, Member, is_object_of, must};
 pub use form_laws::form_faults_are_exact;
 pub use homes::home_check;
+pub use members::{list_at, text_at, whole_at};
 pub use reading::read;
 pub use refusal::SetRefusal;

@@ -6,7 +6,7 @@ ghost use Rattle.taskset_json.specs.Members.{whole_at, whole_or, text_at, list_a
 use serde_json::Value;
 
 /// The whole number at the member, where there is one.
-pub(crate) fn whole_at(value: &Value, name: &str) -> Option<u64>
+pub fn whole_at(value: &Value, name: &str) -> Option<u64>
     ensures { result ≡ whole_at name.now (view value.now) }
 {
     value.get(name).and_then(Value::as_u64)
@@ -20,7 +20,7 @@ pub(crate) fn whole_or(value: &Value, name: &str, other: u64) -> u64
 }
 
 /// The text at the member; empty where there is none.
-pub(crate) fn text_at<'a>(value: &'a Value, name: &str) -> &'a str
+pub fn text_at<'a>(value: &'a Value, name: &str) -> &'a str
     ensures { result.now ≡ text_at name.now (view value.now) }
 {
     value.get(name).and_then(Value::as_str).unwrap_or("")
@@ -33,7 +33,7 @@ fn list_member<'a>(value: &'a Value, name: &str) -> Option<&'a Vec<Value>>
 }
 
 /// The values of the list at the member; none where there is no list.
-pub(crate) fn list_at<'a>(value: &'a Value, name: &str) -> &'a [Value]
+pub fn list_at<'a>(value: &'a Value, name: &str) -> &'a [Value]
     ensures { map view result.now ≡ list_at name.now (view value.now) }
 {
     match list_member(value, name) {

@@ -1,0 +1,65 @@
+-- The form of a certificate in JSON.
+use Rattle.std.specs.Prelude.{ℕ, ◌&&◌, ◌==◌, Bool, false, nat_le, List, [], ◌∷◌, codes, is_some}
+use Rattle.std.specs.List.{list_all}
+use Rattle.std.specs.Option.{option_map_or}
+use Rattle.std.specs.Str.{bytes_eq}
+use Rattle.serde_json.specs.Data.{Data}
+use Rattle.serde_json.specs.Find.{get}
+use Rattle.program_form.specs.declared.TheConstants.{MOST_NUMBER}
+use Rattle.sporadic_model.specs.declared.ids.Protocol.{Protocol}
+use Rattle.taskset_json.specs.declared.form.Kind.TheVariants as kind
+use Rattle.taskset_json.specs.Members.{whole, whole_at, text_at, list_at}
+use Rattle.taskset_json.specs.Form.{MemberDef, must, is_object_of}
+use Rattle.cert_json.specs.Words.{word_of, is_protocol_word, is_verdict_word}
+
+-- The members of a certificate and of a dual. No other may be given.
+abbrev pub certificate_form : List MemberDef
+certificate_form =
+    must (codes "bounds") kind.List
+    ∷ must (codes "duals") kind.List
+    ∷ must (codes "protocol") kind.Text
+    ∷ must (codes "verdict") kind.Text
+    ∷ must (codes "version") kind.Whole
+    ∷ []
+
+abbrev pub dual_form : List MemberDef
+dual_form =
+    must (codes "den") kind.Whole
+    ∷ must (codes "num") kind.List
+    ∷ []
+
+-- Is the version, where there is one, the first?
+abbrev pub is_first_version : Data → Bool
+is_first_version d = option_map_or (λ n. n == 1) (whole_at (codes "version") d) false
+
+-- Is the value an object of a certificate's members, with words that a certificate can have?
+abbrev pub is_certificate : Data → Bool
+is_certificate d =
+    is_object_of certificate_form d
+    && (is_protocol_word (text_at (codes "protocol") d) && is_verdict_word (text_at (codes "verdict") d))
+
+-- Is the value a whole number?
+abbrev pub is_whole : Data → Bool
+is_whole d = is_some (whole d)
+
+-- Is the value a whole number from the least to the greatest that a program may hold?
+abbrev pub is_from : ℕ → Data → Bool
+is_from least d = option_map_or (λ n. nat_le least n && nat_le n MOST_NUMBER) (whole d) false
+
+-- Is the value a dual: an object of a dual's members, with a denominator of at least 1?
+abbrev pub is_dual : Data → Bool
+is_dual d =
+    is_object_of dual_form d
+    && (option_map_or (is_from 1) (get (codes "den") d) false && list_all (is_from 0) (list_at (codes "num") d))
+
+-- Is the value's protocol this one?
+abbrev pub is_for : Protocol → Data → Bool
+is_for p d = bytes_eq (text_at (codes "protocol") d) (word_of p)
+
+-- Has the value the form of a certificate for the protocol?
+abbrev pub has_certificate_form : Protocol → Data → Bool
+has_certificate_form p d =
+    is_first_version d
+    && (is_certificate d
+    && (list_all is_whole (list_at (codes "bounds") d)
+    && (list_all is_dual (list_at (codes "duals") d) && is_for p d)))

@@ -1,0 +1,103 @@
+ghost use Rattle.std.specs.Prelude.{◌≡◌, map, false, codes};
+ghost use Rattle.std.specs.List.{list_all};
+ghost use Rattle.std.specs.Option.{option_map_or};
+ghost use Rattle.serde_json.specs.View.{view};
+ghost use Rattle.serde_json.specs.Find.{get};
+ghost use Rattle.taskset_json.specs.Form.{is_object_of};
+ghost use Rattle.cert_json.specs.Form.{certificate_form, dual_form, is_certificate, is_whole, is_from, is_dual, is_for};
+
+use crate::words::{is_protocol_word, is_verdict_word, word_of};
+use program_form::MOST_NUMBER;
+use serde_json::Value;
+use sporadic_model::Protocol;
+use taskset_json::{Kind, is_object_of, list_at, must, text_at};
+
+fn has_certificate_members(value: &Value) -> bool
+    ensures { result ≡ is_object_of certificate_form (view value.now) }
+{
+    let form = [
+        must("bounds", Kind::List),
+        must("duals", Kind::List),
+        must("protocol", Kind::Text),
+        must("verdict", Kind::Text),
+        must("version", Kind::Whole),
+    ];
+    is_object_of(value, &form)
+}
+
+/// Is the value an object of a certificate's members, with words that a certificate can have?
+pub(crate) fn is_certificate(value: &Value) -> bool
+    ensures { result ≡ is_certificate (view value.now) }
+{
+    has_certificate_members(value)
+        && is_protocol_word(text_at(value, "protocol"))
+        && is_verdict_word(text_at(value, "verdict"))
+}
+
+fn is_whole(value: &Value) -> bool
+    ensures { result ≡ is_whole (view value.now) }
+{
+    value.is_u64()
+}
+
+fn each_is_whole(values: &[Value]) -> bool
+    ensures { result ≡ list_all (λ v. is_whole (view v)) values.now }
+{
+    values.iter().all(|value| is_whole(value))
+}
+
+/// Is each of the values a whole number?
+pub(crate) fn are_whole(values: &[Value]) -> bool
+    ensures { result ≡ list_all is_whole (map view values.now) }
+{
+    each_is_whole(values)
+}
+
+/// Is the value a whole number from `least` to the greatest that a program may hold?
+fn is_from(least: u64, value: &Value) -> bool
+    ensures { result ≡ is_from least (view value.now) }
+{
+    value
+        .as_u64()
+        .is_some_and(|n| least <= n && n <= MOST_NUMBER)
+}
+
+fn has_denominator(value: &Value) -> bool
+    ensures { result ≡ option_map_or (is_from 1) (get (codes "den") (view value.now)) false }
+{
+    value.get("den").is_some_and(|den| is_from(1, den))
+}
+
+fn each_is_numerator(values: &[Value]) -> bool
+    ensures { result ≡ list_all (λ v. is_from 0 (view v)) values.now }
+{
+    values.iter().all(|value| is_from(0, value))
+}
+
+/// Is each of the values a number that a program may hold?
+fn are_numerators(values: &[Value]) -> bool
+    ensures { result ≡ list_all (is_from 0) (map view values.now) }
+{
+    each_is_numerator(values)
+}
+
+fn has_dual_members(value: &Value) -> bool
+    ensures { result ≡ is_object_of dual_form (view value.now) }
+{
+    let form = [must("den", Kind::Whole), must("num", Kind::List)];
+    is_object_of(value, &form)
+}
+
+/// Is the value a dual: an object of a dual's members, with a denominator of at least 1?
+pub(crate) fn is_dual(value: &Value) -> bool
+    ensures { result ≡ is_dual (view value.now) }
+{
+    has_dual_members(value) && has_denominator(value) && are_numerators(list_at(value, "num"))
+}
+
+/// Is the value's protocol this one?
+pub(crate) fn is_for(value: &Value, protocol: Protocol) -> bool
+    ensures { result ≡ is_for protocol (view value.now) }
+{
+    text_at(value, "protocol") == word_of(protocol)
+}
