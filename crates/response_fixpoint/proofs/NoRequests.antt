@@ -1,0 +1,36 @@
+-- A set that requests nothing has no columns.
+use Rattle.std.proofs.Common.{◌≡◌, ◌≢◌, ℕ, ◌<◌, Bool, true, false, ◌&&◌, not, List, [], ◌∷◌, length, map, refl, sym, ◌∙◌, ap, arith, nat_lt, ◌==◌}
+use Rattle.std.specs.List.{All, filter}
+use Rattle.std.proofs.lemmas.List.{length-map}
+use Rattle.std.proofs.lemmas.List.Elements.{All-head, filter_passes}
+use Rattle.program_form.specs.Program.{columns}
+use Rattle.sporadic_model.specs.SetDef.{SetDef}
+use Rattle.sporadic_model.specs.Users.{is_user, count_of}
+use Rattle.sporadic_model.specs.declared.ids.Protocol.{Protocol}
+use Rattle.fragments.specs.ColumnDef.{ColumnDef, all_columns}
+use Rattle.fragments.specs.Columns.{columns_of, is_column, may_block}
+use Rattle.fragments.proofs.KnownColumns.{IsKnown, columns_known}
+use Rattle.program_laws.specs.Programs.{program_of, cost_of}
+use Rattle.response_fixpoint.specs.Runs.{HasNoColumns}
+use Rattle.response_fixpoint.specs.Written.{written, RequestsNothing}
+
+middle : (a b c : Bool) → ((a && b) && c) ≡ true → b ≡ true
+middle true true c h = refl
+middle true false c h = cc
+middle false b c h = cc
+
+none_kept : (p : Protocol) (set : SetDef) (i : ℕ) (cs : List ColumnDef) → RequestsNothing set
+    → All (IsKnown (length set.tasks) (length set.resources)) cs → All (λ c. is_column p set i c ≡ true) cs → length cs ≡ 0
+none_kept p set i [] nothing known kept = refl
+none_kept p set i (c ∷ cs) nothing known kept =
+    let here = All-head (IsKnown (length set.tasks) (length set.resources)) c cs known in
+    let passes : is_column p set i c ≡ true = All-head (λ c. is_column p set i c ≡ true) c cs kept in
+    let user : is_user set c.resource c.task ≡ true = middle (not (c.task == i)) (is_user set c.resource c.task) (may_block p set i c.task c.resource c.class) passes in
+    let zero : count_of set c.task c.resource ≡ 0 = nothing c.task c.resource here.0 here.1 in
+    let none : is_user set c.resource c.task ≡ false = ap (λ k. nat_lt 0 k) zero in
+    cc
+
+pub no_columns : (p : Protocol) (set : SetDef) → RequestsNothing set → HasNoColumns (written p set)
+no_columns p set nothing i r here =
+    length-map (columns_of p set i) (cost_of set)
+    ∙ none_kept p set i (columns_of p set i) nothing (columns_known p set i) (filter_passes (is_column p set i) (all_columns (length set.tasks) (length set.resources)))
