@@ -1,6 +1,4 @@
 -- What a contract sees of a command: the form of its words.
-use Rattle.std.specs.Prelude.{◌≡◌}
-use Rattle.sporadic_model.specs.declared.ids.Protocol.TheVariants.{FmlpPlus}
 use Rattle.block_top.specs.Words.{Form, Analyse, Report}
 use Rattle.block_top.specs.declared.words.Command.{Command}
 use Rattle.block_top.specs.declared.words.Command.TheVariants as command
@@ -8,8 +6,3 @@ use Rattle.block_top.specs.declared.words.Command.TheVariants as command
 abbrev pub form_seen : Command → Form
 form_seen (command.Analyse protocol set allowance) = Analyse protocol set.now allowance
 form_seen (command.Report protocol set) = Report protocol set.now
-
--- Is the protocol one for which the command is there? Today sets are analysed under FMLP+ alone.
-abbrev pub IsServed : Form → Type 0
-IsServed (Analyse protocol set allowance) = protocol ≡ FmlpPlus
-IsServed (Report protocol set) = Unit {0}

@@ -1,6 +1,6 @@
 ghost use Rattle.std.specs.Prelude.{◌≡◌, is_some, IfOk};
 ghost use Rattle.block_top.specs.Words.{Analyse, Report, words_seen};
-ghost use Rattle.block_top.specs.FormSeen.{form_seen, IsServed};
+ghost use Rattle.block_top.specs.FormSeen.{form_seen};
 ghost use Rattle.block_top.specs.Commands.{plan_of};
 ghost use Rattle.block_top.specs.Outcome.{IsReplyOf, IsReply};
 ghost use Rattle.block_top.specs.Replies.{reply_seen, Answered, Keeps};
@@ -23,7 +23,6 @@ fn analyse_reply<R: Threads + Sync, S: Shelf>(
     name: &str,
     allowance: u64,
 ) -> Result<Reply, Halt>
-    requires { protocol ≡ Protocol.FmlpPlus }
     ensures reply { Answered result (IsReplyOf
         (record { names = S.names shelf.old; before = S.faults shelf.old; now = S.faults shelf.new; given = S.given shelf.new })
         (plan_of (Analyse protocol name.now allowance))) }
@@ -58,7 +57,6 @@ fn command_reply<R: Threads + Sync, S: Shelf>(
     shelf: &mut S,
     command: Command<'_>,
 ) -> Result<Reply, Halt>
-    requires { IsServed (form_seen command) }
     ensures reply { Answered result (IsReplyOf
         (record { names = S.names shelf.old; before = S.faults shelf.old; now = S.faults shelf.new; given = S.given shelf.new })
         (plan_of (form_seen command.entry))) }

@@ -4,7 +4,7 @@ pub mod LeastExists
 pub mod RoundLaws
 pub mod OneEnd
 pub mod EmptyRuns
-pub mod NoRequests
+pub mod WrittenLaws
 pub mod RunLaws
 pub mod EndLaws
 pub mod AnswerLaws

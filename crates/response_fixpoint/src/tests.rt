@@ -44,6 +44,9 @@ const BESIDE: Set = (
     ],
 );
 
+// Two tasks without requests, and without room for the lower one.
+const SHORT: Set = (1, &[], &[(1, 2, 1, &[]), (1, 2, 2, &[])]);
+
 // The first task's optimum is 14/3.
 const THREE: Set = (
     3,
@@ -137,14 +140,15 @@ fn is_dual(dual: &Dual, wanted: (u64, &[u64])) -> bool {
 }
 
 // What is wanted of an analysis.
-enum Wanted {
-    Best(&'static [u64], &'static [(u64, &'static [u64])]),
+#[derive(Drop)]
+enum Wanted<'a> {
+    Best(&'a [u64], &'a [(u64, &'a [u64])]),
     NotShown(u32, u64),
     Wide(u32),
     Allowance,
 }
 
-fn is_wanted(verdict: &Result<Verdict, Stop>, wanted: &Wanted) -> bool {
+fn is_wanted(verdict: &Result<Verdict, Stop>, wanted: &Wanted<'_>) -> bool {
     match (verdict, wanted) {
         (Ok(Verdict::Schedulable(found)), Wanted::Best(bounds, duals)) => {
             found.bounds.as_slice() == *bounds
@@ -170,7 +174,7 @@ fn gives<R: Threads + Sync>(
     set: Set,
     protocol: Protocol,
     allowance: u64,
-    wanted: Wanted,
+    wanted: Wanted<'_>,
 ) -> Result<bool, Fail> {
     let set = set_of(alloc, set)?;
     if !suits(&set, protocol) {
@@ -215,9 +219,8 @@ fn a_task_without_room_is_not_shown(rt: HostRuntime) -> Result<(), Fail> {
         &[(1, &[2, 0, 0]), (1, &[3, 0, 0, 0]), (1, &[2, 0, 0, 0])],
     );
     assert!(rt; gives(&rt, rt.alloc(), BESIDE, Protocol::FmlpPlus, 18, best)?);
-    let short: Set = (1, &[], &[(1, 2, 1, &[]), (1, 2, 2, &[])]);
     let late = Wanted::NotShown(1, 3);
-    assert!(rt; gives(&rt, rt.alloc(), short, Protocol::FmlpPlus, MOST, late)?);
+    assert!(rt; gives(&rt, rt.alloc(), SHORT, Protocol::FmlpPlus, MOST, late)?);
     Ok(())
 }
 

@@ -1,4 +1,4 @@
-use Rattle.response_fixpoint.proofs.NoRequests.{no_columns}
+use Rattle.response_fixpoint.proofs.WrittenLaws.{no_columns}
 use Rattle.response_fixpoint.proofs.laws.no_requests_no_columns.Goals as goal
 
 pub returns : goal.returns

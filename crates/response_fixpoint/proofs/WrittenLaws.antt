@@ -1,4 +1,4 @@
--- A set that requests nothing has no columns.
+-- Laws of the programs that are written down: the recurrence rises with its bounds, and a set that requests nothing has no columns.
 use Rattle.std.proofs.Common.{◌≡◌, ◌≢◌, ℕ, ◌<◌, Bool, true, false, ◌&&◌, not, List, [], ◌∷◌, length, map, refl, sym, ◌∙◌, ap, arith, nat_lt, ◌==◌}
 use Rattle.std.specs.List.{All, filter}
 use Rattle.std.proofs.lemmas.List.{length-map}
@@ -11,6 +11,9 @@ use Rattle.fragments.specs.ColumnDef.{ColumnDef, all_columns}
 use Rattle.fragments.specs.Columns.{columns_of, is_column, may_block}
 use Rattle.fragments.proofs.KnownColumns.{IsKnown, columns_known}
 use Rattle.program_laws.specs.Programs.{program_of, cost_of}
+use Rattle.program_laws.proofs.WrittenPrograms.{programs_rise}
+use Rattle.program_sources.specs.Fitting.{NeverFalls, ComesUpAbove}
+use Rattle.program_sources.proofs.RecurrenceLaws.{comes_up_above, never_falls}
 use Rattle.response_fixpoint.specs.Runs.{HasNoColumns}
 use Rattle.response_fixpoint.specs.Written.{written, RequestsNothing}
 
@@ -34,3 +37,10 @@ pub no_columns : (p : Protocol) (set : SetDef) → RequestsNothing set → HasNo
 no_columns p set nothing i r here =
     length-map (columns_of p set i) (cost_of set)
     ∙ none_kept p set i (columns_of p set i) nothing (columns_known p set i) (filter_passes (is_column p set i) (all_columns (length set.tasks) (length set.resources)))
+
+-- What comes up at some bounds, no less comes up at greater ones.
+pub written_above : (p : Protocol) (set : SetDef) → ComesUpAbove (written p set)
+written_above p set = comes_up_above (written p set) (λ i r s here most. programs_rise p set i r s here most)
+
+pub written_falls : (p : Protocol) (set : SetDef) → NeverFalls (written p set)
+written_falls p set = never_falls (written p set) (λ i r s here most. programs_rise p set i r s here most)
