@@ -78,7 +78,7 @@ analysis_replied protocol set allowance r reply ends is = analysis_of_verdict pr
 -- The task that an analysis names is one of the set.
 pub names_task : (protocol : Protocol) (set : SetDef) (allowance : ℕ) (r : Result Verdict Stop) → Answers r (written protocol set) allowance → NamesTask set r
 names_task protocol set allowance (Ok (verdict.Schedulable certificate)) ends = tt
-names_task protocol set allowance (Ok (verdict.NotShown task bound)) (r, left, found, used, dual, here, rest) = here
-names_task protocol set allowance (Err (stop.Wide task)) (r, left, found, here, rest) = here
+names_task protocol set allowance (Ok (verdict.NotShown task bound)) ends = ends.5
+names_task protocol set allowance (Err (stop.Wide task)) ends = ends.3
 names_task protocol set allowance (Err stop.Allowance) ends = tt
 names_task protocol set allowance (Err stop.Memory) ends = tt

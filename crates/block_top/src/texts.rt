@@ -84,14 +84,14 @@ fn push_duals_member(text: &mut Vec<u8>, duals: &[Dual]) -> Result<(), AllocErro
     text.extend_from_slice(b"],")
 }
 
-/// The word of a protocol.
-fn protocol_word(protocol: Protocol) -> &'static str
-    ensures { result.now ≡ protocol_word protocol }
+/// Adds the word of a protocol.
+fn push_protocol(text: &mut Vec<u8>, protocol: Protocol) -> Result<(), AllocError>
+    ensures { OnOk result (text.new.items ≡ text.old.items ++ protocol_word protocol) }
 {
     match protocol {
-        Protocol::Mpcp => "mpcp",
-        Protocol::FmlpPlus => "fmlp+",
-        Protocol::Dpcp => "dpcp",
+        Protocol::Mpcp => text.extend_from_slice(b"mpcp"),
+        Protocol::FmlpPlus => text.extend_from_slice(b"fmlp+"),
+        Protocol::Dpcp => text.extend_from_slice(b"dpcp"),
     }
 }
 
@@ -100,7 +100,7 @@ fn push_last_members(text: &mut Vec<u8>, protocol: Protocol) -> Result<(), Alloc
     ensures { OnOk result (text.new.items ≡ text.old.items ++ last_members protocol) }
 {
     text.extend_from_slice(b"\"protocol\":\"")?;
-    text.extend_from_slice(protocol_word(protocol).as_bytes())?;
+    push_protocol(text, protocol)?;
     text.extend_from_slice(b"\",\"verdict\":\"schedulable\",\"version\":1}\n")
 }
 
