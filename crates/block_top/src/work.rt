@@ -67,11 +67,7 @@ fn wide_reply(
 }
 
 /// The reply where the programs want more units than the allowance.
-fn allowance_reply(
-    alloc: Global,
-    protocol: Protocol,
-    set: &TaskSet,
-) -> Result<Reply, AllocError>
+fn allowance_reply(alloc: Global, protocol: Protocol, set: &TaskSet) -> Result<Reply, AllocError>
     ensures { IfOk result (λ r. reply_seen r ≡ ending_answer protocol set.now Allowance) }
 {
     let _tasks = set.tasks();
@@ -92,7 +88,12 @@ fn verdict_reply(
     ensures { IfOk result (λ r. RepliesTo protocol set.now verdict (reply_seen r)) }
 {
     match verdict {
-        Ok(Verdict::Schedulable(certificate)) => certificate_reply(alloc, protocol, set, &certificate),
+        Ok(Verdict::Schedulable(certificate)) => certificate_reply(
+            alloc,
+            protocol,
+            set,
+            &certificate,
+        ),
         Ok(Verdict::NotShown { task, bound }) => {
             not_shown_reply(alloc, protocol, set, task, bound)
         }

@@ -1,12 +1,12 @@
 -- What the answers of the analysis mean, from how the rounds end.
-use Rattle.std.proofs.Common.{◌≡◌, ◌≢◌, ℕ, zero, suc, ◌+◌, ◌-◌, ◌*◌, ◌/◌, unsigned_abs, ◌<◌, ◌≤◌, ◌↔◌, List, [], ◌∷◌, ◌++◌, length, map, refl, sym, ◌∙◌, ap, subst, arith, Ok, Err, IfOk}
+use Rattle.std.proofs.Common.{◌≡◌, ◌≢◌, ℕ, suc, ◌+◌, ◌-◌, ◌*◌, ◌/◌, unsigned_abs, ◌<◌, ◌≤◌, ◌↔◌, List, length, map, refl, sym, subst, arith, Ok, Err, IfOk}
 use Rattle.std.specs.Prelude.{Result, IsErrOf, slice_index}
 use Rattle.program_form.specs.Certificate.{DualDef, dual_seen}
 use Rattle.program_form.specs.Program.{ProgramDef, IsProgram}
 use Rattle.program_sources.specs.Bounds.{AreWithinDeadlines, AreFromCostsAbove, IsInRange}
-use Rattle.program_sources.specs.Recurrence.{SourceDef, IsResponse, response_with}
+use Rattle.program_sources.specs.Recurrence.{SourceDef, response_with}
 use Rattle.program_sources.specs.Fitting.{AreFitting, NeverFalls, ComesUpAbove, tasks_of, deadline_of}
-use Rattle.sporadic_model.specs.SetDef.{SetDef, task_at}
+use Rattle.sporadic_model.specs.SetDef.{SetDef}
 use Rattle.program_form.specs.Points.{IsGreatestReached}
 use Rattle.program_form.proofs.Duality.{optimum_reached}
 use Rattle.exchange_runs.specs.Feasible.{IsOptimumValue}

@@ -1,5 +1,5 @@
 -- The exchange run of a program without columns: it ends at its first table, with one unit.
-use Rattle.std.proofs.Common.{◌≡◌, ℕ, ◌+◌, ◌<◌, ◌≤◌, ◌^◌, List, [], length, replicate, pos, ◌≤ℤ◌, ◌*ℤ◌, unsigned_abs, neg_ℤ, refl, sym, ◌∙◌, ap, subst, arith}
+use Rattle.std.proofs.Common.{◌≡◌, ℕ, ◌<◌, ◌^◌, List, [], replicate, pos, ◌≤ℤ◌, unsigned_abs, refl, sym, ◌∙◌, ap, subst, arith}
 use Rattle.std.specs.Int.{◌∣◌}
 use Rattle.std.specs.Prelude.{slice_index}
 use Rattle.std.proofs.Math.Nat.{one-dvd}
@@ -7,12 +7,12 @@ use Rattle.std.proofs.lemmas.Int.{ints}
 use Rattle.std.proofs.lemmas.List.{get_or-replicate, length-replicate}
 use Rattle.std.proofs.lemmas.List.Elements.{All-replicate}
 use Rattle.fraction128.specs.Fraction.{Fraction, whole}
-use Rattle.fraction128.specs.Scaling.{IsLeastCommon, IsScaled, AreScaled, fraction_at}
+use Rattle.fraction128.specs.Scaling.{IsLeastCommon, AreScaled, fraction_at}
 use Rattle.program_form.specs.Program.{ProgramDef, IsProgram, columns, height}
 use Rattle.program_form.specs.Certificate.{DualDef}
-use Rattle.exchange_runs.specs.Table.{Table, variables, slack, objective, first_entries, first_limit, first_number}
+use Rattle.exchange_runs.specs.Table.{Table, variables, slack, first_entries, first_limit, first_number}
 use Rattle.exchange_runs.specs.Exchange.{IsLast}
-use Rattle.exchange_runs.specs.Readings.{AreDuals, dual_at, minus, value_of}
+use Rattle.exchange_runs.specs.Readings.{AreDuals, minus, value_of}
 use Rattle.exchange_runs.specs.Outcomes.{EndsWithin, IsWideWithin, NeedsMoreThan}
 use Rattle.exchange_runs.proofs.FirstTable.{first_of-other}
 use Rattle.exchange_runs.proofs.Finals.{one_answer, ends_not_wide, ends_not_more}

@@ -1,5 +1,5 @@
 -- What follows from how the rounds of a source end: the least fitting bounds with optimal duals, or that nothing fits.
-use Rattle.std.proofs.Common.{◌≡◌, ◌≢◌, ℕ, zero, suc, ◌+◌, ◌-◌, ◌<◌, ◌≤◌, List, length, map, refl, sym, ◌∙◌, ap, subst, arith}
+use Rattle.std.proofs.Common.{◌≡◌, ℕ, zero, suc, ◌-◌, ◌<◌, ◌≤◌, List, length, refl, sym, subst}
 use Rattle.std.proofs.lemmas.List.{length-map}
 use Rattle.std.specs.Prelude.{slice_index}
 use Rattle.program_form.specs.Certificate.{DualDef, CertificateDef}
@@ -7,11 +7,11 @@ use Rattle.program_form.specs.Duals.{IsOptimalDual, dual_total}
 use Rattle.program_form.proofs.Duality.{optimum_reached}
 use Rattle.exchange_runs.proofs.Finals.{ends_with_dual}
 use Rattle.sporadic_model.specs.SetDef.{TaskDef}
-use Rattle.program_sources.specs.Recurrence.{SourceDef, ComesUp, IsResponse, response_with}
+use Rattle.program_sources.specs.Recurrence.{SourceDef, IsResponse, response_with}
 use Rattle.program_sources.specs.Fitting.{AreFitting, AreBelowAllFitting, AreLeastFitting, ComesUpAbove, tasks_of, deadline_of}
 use Rattle.program_sources.specs.Valid.{IsValid, AreOptimalDuals, dual_at, value_at}
 use Rattle.program_sources.proofs.RecurrenceLaws.{response_comes_up}
-use Rattle.response_fixpoint.specs.Rounds.{Schedulable, NotShown, Found, Passes, Reaches, EndsIn}
+use Rattle.response_fixpoint.specs.Rounds.{Schedulable, NotShown, Reaches, EndsIn}
 use Rattle.response_fixpoint.specs.Runs.{rounds_of}
 use Rattle.response_fixpoint.specs.Answers.{IsBest, IsSmallDual}
 use Rattle.response_fixpoint.proofs.LeastFixpoint.{below_next, none_fits, least_fits}

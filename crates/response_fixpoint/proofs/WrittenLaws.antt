@@ -1,16 +1,15 @@
 -- Laws of the programs that are written down: the recurrence rises with its bounds, and a set that requests nothing has no columns.
-use Rattle.std.proofs.Common.{◌≡◌, ◌≢◌, ℕ, ◌<◌, Bool, true, false, ◌&&◌, not, List, [], ◌∷◌, length, map, refl, sym, ◌∙◌, ap, arith, nat_lt, ◌==◌}
-use Rattle.std.specs.List.{All, filter}
+use Rattle.std.proofs.Common.{◌≡◌, ℕ, Bool, true, false, ◌&&◌, not, List, [], ◌∷◌, length, refl, ◌∙◌, ap, nat_lt, ◌==◌}
+use Rattle.std.specs.List.{All}
 use Rattle.std.proofs.lemmas.List.{length-map}
 use Rattle.std.proofs.lemmas.List.Elements.{All-head, filter_passes}
-use Rattle.program_form.specs.Program.{columns}
 use Rattle.sporadic_model.specs.SetDef.{SetDef}
 use Rattle.sporadic_model.specs.Users.{is_user, count_of}
 use Rattle.sporadic_model.specs.declared.ids.Protocol.{Protocol}
 use Rattle.fragments.specs.ColumnDef.{ColumnDef, all_columns}
 use Rattle.fragments.specs.Columns.{columns_of, is_column, may_block}
 use Rattle.fragments.proofs.KnownColumns.{IsKnown, columns_known}
-use Rattle.program_laws.specs.Programs.{program_of, cost_of}
+use Rattle.program_laws.specs.Programs.{cost_of}
 use Rattle.program_laws.proofs.WrittenPrograms.{programs_rise}
 use Rattle.program_sources.specs.Fitting.{NeverFalls, ComesUpAbove}
 use Rattle.program_sources.proofs.RecurrenceLaws.{comes_up_above, never_falls}

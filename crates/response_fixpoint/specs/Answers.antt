@@ -1,7 +1,6 @@
 -- What the answers of an analysis mean.
-use Rattle.std.specs.Prelude.{◌≡◌, ℕ, ◌+◌, ◌<◌, ◌≤◌, ◌-◌, ◌^◌, List, length, map, Result, Ok, Err, Vec}
+use Rattle.std.specs.Prelude.{◌≡◌, ℕ, ◌<◌, ◌≤◌, ◌-◌, ◌^◌, List, map, Result, Ok, Err}
 use Rattle.std.specs.List.{All}
-use Rattle.std.specs.Global.{Global}
 use Rattle.program_form.specs.Certificate.{DualDef, CertificateDef, dual_seen, certificate_seen}
 use Rattle.program_sources.specs.Recurrence.{SourceDef}
 use Rattle.program_sources.specs.Fitting.{AreFitting, AreLeastFitting, tasks_of, deadline_of}

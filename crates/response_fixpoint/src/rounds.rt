@@ -41,12 +41,7 @@ fn stopped(stop: SolveStop, task: TaskId) -> RoundStop
 }
 
 /// Takes the run of a task into the round, where its value is within the deadline.
-fn take_run(
-    round: &mut Round,
-    run: TaskRun,
-    task: TaskId,
-    deadline: u64,
-) -> Result<(), RoundStop>
+fn take_run(round: &mut Round, run: TaskRun, task: TaskId, deadline: u64) -> Result<(), RoundStop>
     requires { round.old.used + run.used < 2 ^ 64 }
     ensures { TakesRun result round.old round.new run task.0 deadline }
 {

@@ -3,9 +3,7 @@ ghost use Rattle.sporadic_model.specs.Homes.{EachHasHome, HasHomesFor};
 
 use crate::{Stop, Verdict, analyse};
 use program_form::Dual;
-use sporadic_model::{
-    Parts, Protocol, RequestPart, ResourceId, ResourcePart, TaskPart, TaskSet,
-};
+use sporadic_model::{Parts, Protocol, RequestPart, ResourceId, ResourcePart, TaskPart, TaskSet};
 use std::alloc::{AllocError, Global};
 use std::test::Fail;
 use std::thread::Threads;
@@ -20,11 +18,7 @@ type Task = (u64, u64, u64, &'static [(usize, u64)]);
 type Set = (u64, &'static [Option<u64>], &'static [Task]);
 
 // Three tasks without requests.
-const ALONE: Set = (
-    1,
-    &[],
-    &[(1, 4, 1, &[]), (1, 6, 2, &[]), (1, 20, 3, &[])],
-);
+const ALONE: Set = (1, &[], &[(1, 4, 1, &[]), (1, 6, 2, &[]), (1, 20, 3, &[])]);
 
 // Two tasks that share a resource, each on a processor of its own.
 const PAIR: Set = (
@@ -64,9 +58,24 @@ const WIDE: Set = (
     &[None, None, None, None],
     &[
         (1, 1_000_000_000, 10, &[(0, 1), (1, 1), (2, 1), (3, 1)]),
-        (2, 1_000_000_000, 300_000_001, &[(0, 268_435_456), (1, 300_000_000)]),
-        (3, 1_000_000_000, 300_000_001, &[(0, 129_140_163), (2, 300_000_000)]),
-        (4, 1_000_000_000, 300_000_001, &[(0, 244_140_625), (3, 300_000_000)]),
+        (
+            2,
+            1_000_000_000,
+            300_000_001,
+            &[(0, 268_435_456), (1, 300_000_000)],
+        ),
+        (
+            3,
+            1_000_000_000,
+            300_000_001,
+            &[(0, 129_140_163), (2, 300_000_000)],
+        ),
+        (
+            4,
+            1_000_000_000,
+            300_000_001,
+            &[(0, 244_140_625), (3, 300_000_000)],
+        ),
         (5, 1_000_000_000, 2000, &[(0, 1000)]),
     ],
 );
@@ -191,7 +200,16 @@ const NOTHING: (u64, &[u64]) = (1, &[]);
 fn three_tasks_take_four_rounds_of_three_units(rt: HostRuntime) -> Result<(), Fail> {
     let best = Wanted::Best(&[1, 3, 10], &[NOTHING, NOTHING, NOTHING]);
     assert!(rt; gives(&rt, rt.alloc(), ALONE, Protocol::FmlpPlus, 12, best)?);
-    assert!(rt; gives(&rt, rt.alloc(), ALONE, Protocol::FmlpPlus, 11, Wanted::Allowance)?);
+    assert!(rt;
+        gives(
+            &rt,
+            rt.alloc(),
+            ALONE,
+            Protocol::FmlpPlus,
+            11,
+            Wanted::Allowance
+        )?
+    );
     Ok(())
 }
 
@@ -200,7 +218,16 @@ fn three_tasks_take_four_rounds_of_three_units(rt: HostRuntime) -> Result<(), Fa
 fn a_tie_of_ratios_falls_to_the_first_row(rt: HostRuntime) -> Result<(), Fail> {
     let best = Wanted::Best(&[5, 5], &[(1, &[2, 0, 0, 0]), (1, &[1, 0, 0, 0])]);
     assert!(rt; gives(&rt, rt.alloc(), PAIR, Protocol::FmlpPlus, 8, best)?);
-    assert!(rt; gives(&rt, rt.alloc(), PAIR, Protocol::FmlpPlus, 7, Wanted::Allowance)?);
+    assert!(rt;
+        gives(
+            &rt,
+            rt.alloc(),
+            PAIR,
+            Protocol::FmlpPlus,
+            7,
+            Wanted::Allowance
+        )?
+    );
     Ok(())
 }
 
@@ -236,7 +263,16 @@ fn the_whole_part_of_an_optimum_blocks(rt: HostRuntime) -> Result<(), Fail> {
         ],
     );
     assert!(rt; gives(&rt, rt.alloc(), THREE, Protocol::Mpcp, 24, best)?);
-    assert!(rt; gives(&rt, rt.alloc(), THREE, Protocol::Mpcp, 23, Wanted::Allowance)?);
+    assert!(rt;
+        gives(
+            &rt,
+            rt.alloc(),
+            THREE,
+            Protocol::Mpcp,
+            23,
+            Wanted::Allowance
+        )?
+    );
     Ok(())
 }
 

@@ -7,9 +7,8 @@ ghost use Rattle.text_pieces.specs.Columns.{space, left, right};
 
 mod number;
 
-pub use number::number_between;
-
 use itoa::Buffer;
+pub use number::number_between;
 use std::alloc::AllocError;
 
 /// Adds a number in decimal digits.

@@ -1,8 +1,8 @@
-use Rattle.std.proofs.Common.{◌≡◌, ℕ, ◌+◌, ◌-◌, ◌<◌, ◌≤◌, sym, ap, subst, arith}
+use Rattle.std.proofs.Common.{◌≡◌, ◌+◌, ◌-◌, ◌≤◌, sym, ap, subst, arith}
 use Rattle.program_form.specs.Certificate.{dual_seen}
 use Rattle.program_sources.specs.Recurrence.{SourceDef}
-use Rattle.program_sources.specs.Fitting.{tasks_of, deadline_of}
-use Rattle.response_fixpoint.specs.Rounds.{Found, Passes, with_task}
+use Rattle.program_sources.specs.Fitting.{deadline_of}
+use Rattle.response_fixpoint.specs.Rounds.{Found, Passes}
 use Rattle.response_fixpoint.specs.Runs.{rounds_of}
 use Rattle.response_fixpoint.specs.Answers.{found_of}
 use Rattle.response_fixpoint.proofs.AnswerLaws.{run_halts, value_halts, passes_more, run_units}
