@@ -1,79 +1,50 @@
 -- Laws of the commands: each has one outcome for each shelf, and its status is one that is its own.
-use Rattle.std.proofs.Common.{◌≡◌, ℕ, ◌+◌, ◌<◌, ◌++◌, refl, sym, ◌∙◌, ap, arith, inl, inr, ◌⊎◌}
-use Rattle.std.proofs.lemmas.Bool.{cases_lt}
-use Rattle.std.specs.Prelude.{codes, decimal}
+use Rattle.std.proofs.Common.{◌≡◌, ℕ, ◌≤◌, List, refl, sym, ◌∙◌, ap, arith, inl, inr, ◌⊎◌}
 use Rattle.sporadic_model.specs.SetDef.{SetDef}
-use Rattle.sporadic_model.specs.Users.{count_of}
+use Rattle.sporadic_model.specs.declared.ids.Protocol.{Protocol}
 use Rattle.response_fixpoint.specs.Rounds.{Ending, Schedulable, NotShown, Wide, Allowance, EndsIn}
-use Rattle.response_fixpoint.specs.Response.{RequestsNothing, IsFirstRequester, rounds_of}
-use Rattle.response_fixpoint.proofs.ResponseLaws.{one_ending}
-use Rattle.response_fixpoint.proofs.AnswerLaws.{never_wide_of}
+use Rattle.response_fixpoint.specs.Runs.{rounds_of}
+use Rattle.response_fixpoint.specs.Written.{written}
+use Rattle.response_fixpoint.proofs.RunLaws.{one_ending}
 use Rattle.report.specs.Table.{table_text}
 use Rattle.block_top.specs.Plans.{Answer, Known, IsOutcomeOf}
 use Rattle.block_top.specs.Words.{Form, Analyse, Report, Conform}
-use Rattle.block_top.specs.Commands.{requests_later, ending_answer, IsAnalysis, analysis_of, table_of, plan_of}
+use Rattle.block_top.specs.Commands.{ending_answer, IsAnalysis, analysis_of, table_of, plan_of}
 use Rattle.block_top.specs.Inputs.{set_input, jobs_input, rows_input}
-use Rattle.block_top.proofs.PlanLaws.{IsPlain, IsLawfulWork, IsLawful, plain_at, plain_same, refused_plain, stopped_status}
+use Rattle.block_top.specs.Run.{AnalysisEnds, IsWideEnding, IsAllowanceEnding}
+use Rattle.block_top.proofs.PlanLaws.{IsPlain, IsLawfulWork, IsLawful, plain_at, plain_same, stopped_status}
 use Rattle.schedule_model.specs.RowDef.{trace_in, ticks_of}
 use Rattle.trace_conform.specs.ByProtocol.{rules_of, interference_of}
 use Rattle.block_top.proofs.InputLaws.{set_reads_once}
 use Rattle.block_top.proofs.TraceLaws.{jobs_read_once, rows_read_once}
-use Rattle.block_top.proofs.ConformLaws.{conformance_lawful, conformance_not_wide}
+use Rattle.block_top.proofs.ConformLaws.{conformance_lawful, conformance_not_above}
 
--- The first requester is one.
-no_earlier : (set : SetDef) (x y : ℕ) → IsFirstRequester set x → IsFirstRequester set y → x < y → ⊥
-no_earlier set x y p q less =
-    let some : 0 < count_of set x p.requests.0 = p.requests.2 in
-    let none : count_of set x p.requests.0 ≡ 0 = q.first x p.requests.0 less p.requests.1 in
-    absurd (omega arith)
-
-one_requester : (set : SetDef) (x y : ℕ) → IsFirstRequester set x → IsFirstRequester set y → x ≡ y
-one_requester set x y p q = elim (cases_lt x y) [
-  | inl less ↦ absurd (no_earlier set x y p q less)
-  | inr more ↦ elim (cases_lt y x) [ inl less ↦ absurd (no_earlier set y x q p less) | inr least ↦ omega arith ]
-]
-
-requests_not_nothing : (set : SetDef) (x : ℕ) → IsFirstRequester set x → RequestsNothing set → ⊥
-requests_not_nothing set x p nothing =
-    let some : 0 < count_of set x p.requests.0 = p.requests.2 in
-    let none : count_of set x p.requests.0 ≡ 0 = nothing x p.requests.0 p.below p.requests.1 in
-    absurd (omega arith)
-
-one_analysis : (set : SetDef) (allowance : ℕ) (a b : Answer) → IsAnalysis set allowance a → IsAnalysis set allowance b → a ≡ b
-one_analysis set allowance a b (inl (x, first, is)) (inl (y, first', is')) = is ∙ ap requests_later (one_requester set x y first first') ∙ sym is'
-one_analysis set allowance a b (inl (x, first, is)) (inr (nothing, rest)) = absurd (requests_not_nothing set x first nothing)
-one_analysis set allowance a b (inr (nothing, rest)) (inl (x, first, is)) = absurd (requests_not_nothing set x first nothing)
-one_analysis set allowance a b (inr (nothing, (e, ends, is))) (inr (nothing', (f, ends', is'))) =
-    is ∙ ap (λ x. ending_answer set x) (one_ending set allowance e f ends ends') ∙ sym is'
-
--- The rounds of a set that requests nothing end in what was answered.
-pub analysis_ends : (set : SetDef) (allowance : ℕ) (a : Answer) → IsAnalysis set allowance a → RequestsNothing set → (e : Ending) × EndsIn (rounds_of set) allowance e × (a ≡ ending_answer set e)
-analysis_ends set allowance a (inl (x, first, is)) nothing = absurd (requests_not_nothing set x first nothing)
-analysis_ends set allowance a (inr (nothing', ends)) nothing = ends
+one_analysis : (protocol : Protocol) (set : SetDef) (allowance : ℕ) (a b : Answer) → IsAnalysis protocol set allowance a → IsAnalysis protocol set allowance b → a ≡ b
+one_analysis protocol set allowance a b (e, ends, is) (f, ends', is') =
+    is ∙ ap (λ x. ending_answer protocol set x) (one_ending (written protocol set) allowance e f ends ends') ∙ sym is'
 
 -- The statuses of the ends of rounds.
-ending_plain : (set : SetDef) (e : Ending) → IsPlain (ending_answer set e)
-ending_plain set (Schedulable bounds duals) = plain_at 0 (ending_answer set (Schedulable bounds duals)).text (inl (inl refl))
-ending_plain set (NotShown i value) = plain_at 1 (ending_answer set (NotShown i value)).text (inl (inr refl))
-ending_plain set (Wide i) = plain_at 5 (ending_answer set (Wide i)).text (inr (inr (inl refl)))
-ending_plain set Allowance = plain_at 6 (ending_answer set Allowance).text (inr (inr (inr refl)))
+ending_plain : (protocol : Protocol) (set : SetDef) (e : Ending) → IsPlain (ending_answer protocol set e)
+ending_plain protocol set (Schedulable bounds duals) = plain_at 0 (ending_answer protocol set (Schedulable bounds duals)).text (inl (inl refl))
+ending_plain protocol set (NotShown i value) = plain_at 1 (ending_answer protocol set (NotShown i value)).text (inl (inr refl))
+ending_plain protocol set (Wide i) = plain_at 5 (ending_answer protocol set (Wide i)).text (inr (inr (inl refl)))
+ending_plain protocol set Allowance = plain_at 6 (ending_answer protocol set Allowance).text (inr (inr (inr refl)))
 
-analysis_plain : (set : SetDef) (allowance : ℕ) (a : Answer) → IsAnalysis set allowance a → IsPlain a
-analysis_plain set allowance a (inl (x, first, is)) = plain_same a (requests_later x) is (refused_plain (codes "set") (codes "requestslater task " ++ decimal (x + 1)))
-analysis_plain set allowance a (inr (nothing, (e, ends, is))) = plain_same a (ending_answer set e) is (ending_plain set e)
+analysis_plain : (protocol : Protocol) (set : SetDef) (allowance : ℕ) (a : Answer) → IsAnalysis protocol set allowance a → IsPlain a
+analysis_plain protocol set allowance a (e, ends, is) = plain_same a (ending_answer protocol set e) is (ending_plain protocol set e)
 
-ends_well : (set : SetDef) (allowance : ℕ) (e : Ending) (a : Answer) → EndsIn (rounds_of set) allowance e → a ≡ ending_answer set e
-    → ((i : ℕ) → EndsIn (rounds_of set) allowance (Wide i) → ⊥) → (EndsIn (rounds_of set) allowance Allowance → ⊥) → (a.status ≡ 0) ⊎ (a.status ≡ 1)
-ends_well set allowance (Schedulable bounds duals) a ends is no_wide no_allowance = inl (ap (λ x. x.status) is)
-ends_well set allowance (NotShown i value) a ends is no_wide no_allowance = inr (ap (λ x. x.status) is)
-ends_well set allowance (Wide i) a ends is no_wide no_allowance = absurd (no_wide i ends)
-ends_well set allowance Allowance a ends is no_wide no_allowance = absurd (no_allowance ends)
+ends_well : (protocol : Protocol) (set : SetDef) (allowance : ℕ) (e : Ending) (a : Answer) → EndsIn (rounds_of (written protocol set)) allowance e → a ≡ ending_answer protocol set e
+    → ((i : ℕ) → EndsIn (rounds_of (written protocol set)) allowance (Wide i) → ⊥) → (EndsIn (rounds_of (written protocol set)) allowance Allowance → ⊥) → (a.status ≡ 0) ⊎ (a.status ≡ 1)
+ends_well protocol set allowance (Schedulable bounds duals) a ends is no_wide no_allowance = inl (ap (λ x. x.status) is)
+ends_well protocol set allowance (NotShown i value) a ends is no_wide no_allowance = inr (ap (λ x. x.status) is)
+ends_well protocol set allowance (Wide i) a ends is no_wide no_allowance = absurd (no_wide i ends)
+ends_well protocol set allowance Allowance a ends is no_wide no_allowance = absurd (no_allowance ends)
 
-analysis_lawful : (set : SetDef) (allowance : ℕ) → IsLawfulWork (analysis_of set allowance)
-analysis_lawful set allowance = record {
-  one = one_analysis set allowance;
-  plain = analysis_plain set allowance;
-  well = λ well a is. (let ends = analysis_ends set allowance a is well.0 in ends_well set allowance ends.0 a ends.1 ends.2 well.1 well.2);
+analysis_lawful : (protocol : Protocol) (set : SetDef) (allowance : ℕ) → IsLawfulWork (analysis_of protocol set allowance)
+analysis_lawful protocol set allowance = record {
+  one = one_analysis protocol set allowance;
+  plain = analysis_plain protocol set allowance;
+  well = λ well a is. ends_well protocol set allowance is.0 a is.1 is.2 well.0 well.1;
 }
 
 table_lawful : (set : SetDef) → IsLawfulWork (table_of set)
@@ -85,32 +56,69 @@ table_lawful set = record {
 
 -- Every command is lawful.
 pub lawful : (form : Form) → IsLawful (plan_of form)
-lawful (Analyse protocol name allowance) = (set_reads_once protocol, λ bytes set. analysis_lawful set allowance)
+lawful (Analyse protocol name allowance) = (set_reads_once protocol, λ bytes set. analysis_lawful protocol set allowance)
 lawful (Report protocol name) = (set_reads_once protocol, λ bytes set. table_lawful set)
 lawful (Conform protocol set jobs rows) =
     (set_reads_once protocol, λ bytes tasks. (jobs_read_once tasks, λ bytes list. (rows_read_once list, λ bytes schedule. conformance_lawful protocol list schedule)))
 
--- No outcome has status 5 while sets with requests are not analysed.
-ending_not_wide : (set : SetDef) (allowance : ℕ) (e : Ending) (a : Answer) → EndsIn (rounds_of set) allowance e → a ≡ ending_answer set e → a.status ≡ 5 → ⊥
-ending_not_wide set allowance (Schedulable bounds duals) a ends is five = let s : a.status ≡ 0 = ap (λ x. x.status) is in absurd (omega (arith, s, five))
-ending_not_wide set allowance (NotShown i value) a ends is five = let s : a.status ≡ 1 = ap (λ x. x.status) is in absurd (omega (arith, s, five))
-ending_not_wide set allowance (Wide i) a ends is five = never_wide_of set allowance i ends
-ending_not_wide set allowance Allowance a ends is five = let s : a.status ≡ 6 = ap (λ x. x.status) is in absurd (omega (arith, s, five))
+-- An analysis has status 5 or 6 only where its rounds end so.
+pub wide_ending : (protocol : Protocol) (set : SetDef) (e : Ending) (a : Answer) → a ≡ ending_answer protocol set e → a.status ≡ 5 → (i : ℕ) × (e ≡ Wide i)
+wide_ending protocol set (Schedulable bounds duals) a is five = let s : a.status ≡ 0 = ap (λ x. x.status) is in absurd (omega (arith, s, five))
+wide_ending protocol set (NotShown i value) a is five = let s : a.status ≡ 1 = ap (λ x. x.status) is in absurd (omega (arith, s, five))
+wide_ending protocol set (Wide i) a is five = (i, refl)
+wide_ending protocol set Allowance a is five = let s : a.status ≡ 6 = ap (λ x. x.status) is in absurd (omega (arith, s, five))
 
-analysis_not_wide : (set : SetDef) (allowance : ℕ) (a : Answer) → IsAnalysis set allowance a → a.status ≡ 5 → ⊥
-analysis_not_wide set allowance a (inl (x, first, is)) five = let s : a.status ≡ 3 = ap (λ x. x.status) is in absurd (omega (arith, s, five))
-analysis_not_wide set allowance a (inr (nothing, (e, ends, is))) five = ending_not_wide set allowance e a ends is five
+short_ending : (protocol : Protocol) (set : SetDef) (e : Ending) (a : Answer) → a ≡ ending_answer protocol set e → a.status ≡ 6 → e ≡ Allowance
+short_ending protocol set (Schedulable bounds duals) a is six = let s : a.status ≡ 0 = ap (λ x. x.status) is in absurd (omega (arith, s, six))
+short_ending protocol set (NotShown i value) a is six = let s : a.status ≡ 1 = ap (λ x. x.status) is in absurd (omega (arith, s, six))
+short_ending protocol set (Wide i) a is six = let s : a.status ≡ 5 = ap (λ x. x.status) is in absurd (omega (arith, s, six))
+short_ending protocol set Allowance a is six = refl
 
-stopped_not_wide : (a : Answer) → a.status ≡ 3 → a.status ≡ 5 → ⊥
-stopped_not_wide a three five = absurd (omega (arith, three, five))
+not_three : (a : Answer) (n : ℕ) → a.status ≡ 3 → a.status ≡ n → 4 ≤ n → ⊥
+not_three a n three is most = absurd (omega (arith, three, is, most))
 
-pub never_five : (k : Known) (form : Form) (a : Answer) → IsOutcomeOf k (plan_of form) a → a.status ≡ 5 → ⊥
-never_five k (Analyse protocol name allowance) a (inl stopped) five = stopped_not_wide a (stopped_status k (set_input protocol) name a stopped) five
-never_five k (Analyse protocol name allowance) a (inr (bytes, set, read, last, out)) five = analysis_not_wide set allowance a out five
-never_five k (Report protocol name) a (inl stopped) five = stopped_not_wide a (stopped_status k (set_input protocol) name a stopped) five
-never_five k (Report protocol name) a (inr (bytes, set, read, last, out)) five = let s : a.status ≡ 0 = ap (λ x. x.status) out in absurd (omega (arith, s, five))
-never_five k (Conform protocol set jobs rows) a (inl stopped) five = stopped_not_wide a (stopped_status k (set_input protocol) set a stopped) five
-never_five k (Conform protocol set jobs rows) a (inr (bytes, tasks, read, last, inl stopped)) five = stopped_not_wide a (stopped_status k (jobs_input tasks) jobs a stopped) five
-never_five k (Conform protocol set jobs rows) a (inr (bytes, tasks, read, last, inr (bytes', list, read', last', inl stopped))) five = stopped_not_wide a (stopped_status k (rows_input list) rows a stopped) five
-never_five k (Conform protocol set jobs rows) a (inr (bytes, tasks, read, last, inr (bytes', list, read', last', inr (bytes'', schedule, read'', last'', out)))) five =
-    conformance_not_wide (rules_of protocol) (interference_of protocol) (trace_in list schedule.runs) (ticks_of schedule.runs) a out five
+pub only_wide : (k : Known) (form : Form) (a : Answer) → IsOutcomeOf k (plan_of form) a → a.status ≡ 5 → AnalysisEnds k form IsWideEnding
+only_wide k (Analyse protocol name allowance) a (inl stopped) five = absurd (not_three a 5 (stopped_status k (set_input protocol) name a stopped) five (omega arith))
+only_wide k (Analyse protocol name allowance) a (inr (bytes, set, read, last, (e, ends, is))) five = record {
+  protocol = protocol;
+  name = name;
+  allowance = allowance;
+  form_is = refl;
+  bytes = bytes;
+  set = set;
+  read = read;
+  ending = e;
+  ends = ends;
+  is = wide_ending protocol set e a is five;
+}
+only_wide k (Report protocol name) a (inl stopped) five = absurd (not_three a 5 (stopped_status k (set_input protocol) name a stopped) five (omega arith))
+only_wide k (Report protocol name) a (inr (bytes, set, read, last, out)) five = let s : a.status ≡ 0 = ap (λ x. x.status) out in absurd (omega (arith, s, five))
+only_wide k (Conform protocol set jobs rows) a (inl stopped) five = absurd (not_three a 5 (stopped_status k (set_input protocol) set a stopped) five (omega arith))
+only_wide k (Conform protocol set jobs rows) a (inr (bytes, tasks, read, last, inl stopped)) five = absurd (not_three a 5 (stopped_status k (jobs_input tasks) jobs a stopped) five (omega arith))
+only_wide k (Conform protocol set jobs rows) a (inr (bytes, tasks, read, last, inr (bytes', list, read', last', inl stopped))) five =
+    absurd (not_three a 5 (stopped_status k (rows_input list) rows a stopped) five (omega arith))
+only_wide k (Conform protocol set jobs rows) a (inr (bytes, tasks, read, last, inr (bytes', list, read', last', inr (bytes'', schedule, read'', last'', out)))) five =
+    absurd (conformance_not_above (rules_of protocol) (interference_of protocol) (trace_in list schedule.runs) (ticks_of schedule.runs) a 5 out five (omega arith))
+
+pub only_short : (k : Known) (form : Form) (a : Answer) → IsOutcomeOf k (plan_of form) a → a.status ≡ 6 → AnalysisEnds k form IsAllowanceEnding
+only_short k (Analyse protocol name allowance) a (inl stopped) six = absurd (not_three a 6 (stopped_status k (set_input protocol) name a stopped) six (omega arith))
+only_short k (Analyse protocol name allowance) a (inr (bytes, set, read, last, (e, ends, is))) six = record {
+  protocol = protocol;
+  name = name;
+  allowance = allowance;
+  form_is = refl;
+  bytes = bytes;
+  set = set;
+  read = read;
+  ending = e;
+  ends = ends;
+  is = short_ending protocol set e a is six;
+}
+only_short k (Report protocol name) a (inl stopped) six = absurd (not_three a 6 (stopped_status k (set_input protocol) name a stopped) six (omega arith))
+only_short k (Report protocol name) a (inr (bytes, set, read, last, out)) six = let s : a.status ≡ 0 = ap (λ x. x.status) out in absurd (omega (arith, s, six))
+only_short k (Conform protocol set jobs rows) a (inl stopped) six = absurd (not_three a 6 (stopped_status k (set_input protocol) set a stopped) six (omega arith))
+only_short k (Conform protocol set jobs rows) a (inr (bytes, tasks, read, last, inl stopped)) six = absurd (not_three a 6 (stopped_status k (jobs_input tasks) jobs a stopped) six (omega arith))
+only_short k (Conform protocol set jobs rows) a (inr (bytes, tasks, read, last, inr (bytes', list, read', last', inl stopped))) six =
+    absurd (not_three a 6 (stopped_status k (rows_input list) rows a stopped) six (omega arith))
+only_short k (Conform protocol set jobs rows) a (inr (bytes, tasks, read, last, inr (bytes', list, read', last', inr (bytes'', schedule, read'', last'', out)))) six =
+    absurd (conformance_not_above (rules_of protocol) (interference_of protocol) (trace_in list schedule.runs) (ticks_of schedule.runs) a 6 out six (omega arith))

@@ -1,5 +1,5 @@
 -- Laws of judging a schedule: there is one answer, with status 0 or 1.
-use Rattle.std.proofs.Common.{◌≡◌, ℕ, ◌<◌, ◌++◌, ◌==◌, refl, sym, ◌∙◌, ap, subst, arith, inl, inr, ◌⊎◌}
+use Rattle.std.proofs.Common.{◌≡◌, ℕ, ◌<◌, ◌≤◌, ◌++◌, ◌==◌, refl, sym, ◌∙◌, ap, subst, arith, inl, inr, ◌⊎◌}
 use Rattle.std.proofs.lemmas.Bool.{cases_lt}
 use Rattle.std.specs.Prelude.{Bool, List, length, codes, decimal, if◌then◌else◌, slice_index_or}
 use Rattle.bounded_sums.specs.Sums.{collect_below}
@@ -100,10 +100,11 @@ conformance_lawful protocol jobs rows =
       well = λ well a is. conformance_status keeps interferes w n a is;
     }
 
-pub conformance_not_wide : (keeps : Rule → Trace → ℕ → Type 0) (interferes : Trace → ℕ → ℕ → Bool) (w : Trace) (n : ℕ) (a : Answer) → IsConformance keeps interferes w n a → a.status ≡ 5 → ⊥
-conformance_not_wide keeps interferes w n a is five = elim (conformance_status keeps interferes w n a is) [
-  | inl zero ↦ absurd (omega (arith, zero, five))
-  | inr one ↦ absurd (omega (arith, one, five))
+pub conformance_not_above : (keeps : Rule → Trace → ℕ → Type 0) (interferes : Trace → ℕ → ℕ → Bool) (w : Trace) (n : ℕ) (a : Answer) (m : ℕ)
+    → IsConformance keeps interferes w n a → a.status ≡ m → 2 ≤ m → ⊥
+conformance_not_above keeps interferes w n a m is it most = elim (conformance_status keeps interferes w n a is) [
+  | inl zero ↦ absurd (omega (arith, zero, it, most))
+  | inr one ↦ absurd (omega (arith, one, it, most))
 ]
 
 -- The text with the measures that were taken is that with the measures of the schedule.

@@ -4,8 +4,9 @@ use Rattle.std.specs.Prelude.{Option, Result}
 use Rattle.outside_ports.specs.Names.{Inputs}
 use Rattle.program_form.specs.Certificate.{dual_seen}
 use Rattle.sporadic_model.specs.SetDef.{SetDef}
+use Rattle.sporadic_model.specs.declared.ids.Protocol.{Protocol}
 use Rattle.response_fixpoint.specs.Rounds.{Schedulable, NotShown, Wide, Allowance}
-use Rattle.response_fixpoint.specs.Response.{RequestsNothing}
+use Rattle.response_fixpoint.specs.Written.{written}
 use Rattle.response_fixpoint.specs.Answers.{Answers}
 use Rattle.response_fixpoint.specs.declared.verdict.Verdict.{Verdict}
 use Rattle.response_fixpoint.specs.declared.verdict.Verdict.TheVariants as verdict
@@ -15,6 +16,7 @@ use Rattle.block_top.specs.Plans.{Answer, Input, Plan, Reading, IsWorking, IsRea
 use Rattle.block_top.specs.Commands.{IsAnalysis}
 use Rattle.block_top.specs.Outcome.{Shown, shown_by, IsReplyOf}
 use Rattle.block_top.specs.Replies.{reply_seen, HaltsWith, Answered, IsUngot, RepliesTo}
+use Rattle.block_top.specs.Reached.{NamesTask}
 use Rattle.block_top.specs.declared.halt.Reply.{Reply}
 use Rattle.block_top.specs.declared.halt.Halt.{Halt}
 use Rattle.block_top.specs.declared.halt.Halt.TheVariants as halt
@@ -60,14 +62,23 @@ replied_work names before now given input name next bytes value says r later rea
     (answered_also says (IsReplyOf (record { names = names; before = now; now = now; given = given }) (next bytes value)) (λ a is. inr (works a is)) r answered)
 
 -- The answer to an analysis that ends so is the outcome of the analysis.
-analysis_of_verdict : (set : SetDef) (allowance : ℕ) (r : Result Verdict Stop) (a : Answer) → RequestsNothing set → Answers r set allowance → RepliesTo set r a → IsAnalysis set allowance a
-analysis_of_verdict set allowance (Ok (verdict.Schedulable certificate)) a nothing ends is =
-    inr (nothing, (Schedulable certificate.bounds.items (map dual_seen certificate.duals.items), ends, is))
-analysis_of_verdict set allowance (Ok (verdict.NotShown task bound)) a nothing ends is = inr (nothing, (NotShown task.0 bound, ends, is))
-analysis_of_verdict set allowance (Err (stop.Wide task)) a nothing ends is = inr (nothing, (Wide task.0, ends, is))
-analysis_of_verdict set allowance (Err stop.Allowance) a nothing ends is = inr (nothing, (Allowance, ends, is))
-analysis_of_verdict set allowance (Err stop.Memory) a nothing ends is = absurd is
+analysis_of_verdict : (protocol : Protocol) (set : SetDef) (allowance : ℕ) (r : Result Verdict Stop) (a : Answer) → Answers r (written protocol set) allowance → RepliesTo protocol set r a
+    → IsAnalysis protocol set allowance a
+analysis_of_verdict protocol set allowance (Ok (verdict.Schedulable certificate)) a ends is =
+    (Schedulable certificate.bounds.items (map dual_seen certificate.duals.items), ends, is)
+analysis_of_verdict protocol set allowance (Ok (verdict.NotShown task bound)) a ends is = (NotShown task.0 bound, ends, is)
+analysis_of_verdict protocol set allowance (Err (stop.Wide task)) a ends is = (Wide task.0, ends, is)
+analysis_of_verdict protocol set allowance (Err stop.Allowance) a ends is = (Allowance, ends, is)
+analysis_of_verdict protocol set allowance (Err stop.Memory) a ends is = absurd is
 
-pub analysis_replied : (set : SetDef) (allowance : ℕ) (r : Result Verdict Stop) (reply : Reply) → RequestsNothing set → Answers r set allowance
-    → RepliesTo set r (reply_seen reply) → IsAnalysis set allowance (reply_seen reply)
-analysis_replied set allowance r reply nothing ends is = analysis_of_verdict set allowance r (reply_seen reply) nothing ends is
+pub analysis_replied : (protocol : Protocol) (set : SetDef) (allowance : ℕ) (r : Result Verdict Stop) (reply : Reply) → Answers r (written protocol set) allowance
+    → RepliesTo protocol set r (reply_seen reply) → IsAnalysis protocol set allowance (reply_seen reply)
+analysis_replied protocol set allowance r reply ends is = analysis_of_verdict protocol set allowance r (reply_seen reply) ends is
+
+-- The task that an analysis names is one of the set.
+pub names_task : (protocol : Protocol) (set : SetDef) (allowance : ℕ) (r : Result Verdict Stop) → Answers r (written protocol set) allowance → NamesTask set r
+names_task protocol set allowance (Ok (verdict.Schedulable certificate)) ends = tt
+names_task protocol set allowance (Ok (verdict.NotShown task bound)) ends = ends.5
+names_task protocol set allowance (Err (stop.Wide task)) ends = ends.3
+names_task protocol set allowance (Err stop.Allowance) ends = tt
+names_task protocol set allowance (Err stop.Memory) ends = tt

@@ -6,27 +6,32 @@ use Rattle.outside_ports.specs.Names.{Inputs}
 use Rattle.outside_ports.specs.declared.whole.TheConstants.{GREATEST_INPUT_BYTES}
 use Rattle.program_form.specs.Certificate.{DualDef}
 use Rattle.sporadic_model.specs.SetDef.{SetDef}
-use Rattle.sporadic_model.specs.declared.ids.Protocol.TheVariants.{FmlpPlus}
+use Rattle.sporadic_model.specs.declared.ids.Protocol.{Protocol}
 use Rattle.response_fixpoint.specs.Rounds.{Ending, Schedulable, NotShown, Wide, Allowance, EndsIn}
-use Rattle.response_fixpoint.specs.Response.{AreFitting, rounds_of}
-use Rattle.response_fixpoint.proofs.AnswerLaws.{schedulable_right, not_shown_right}
+use Rattle.response_fixpoint.specs.Runs.{rounds_of}
+use Rattle.response_fixpoint.specs.Written.{written, RequestsNothing}
+use Rattle.response_fixpoint.proofs.EndLaws.{schedulable_best, not_shown_none}
+use Rattle.response_fixpoint.proofs.WrittenLaws.{no_columns, written_above}
+use Rattle.response_fixpoint.proofs.RunLaws.{rounds_never_wide}
+use Rattle.program_sources.specs.Fitting.{AreFitting}
 use Rattle.block_top.specs.Plans.{Answer, Working, refused, IsWorking, IsOutcomeOf}
 use Rattle.block_top.specs.Words.{Form, Analyse, form_of}
 use Rattle.block_top.specs.Inputs.{set_input}
 use Rattle.block_top.specs.Commands.{ending_answer, IsAnalysis, analysis_of, plan_of}
 use Rattle.block_top.specs.Outcome.{Shown, shown_by, told, refused_words, IsOutcome, IsReplyOf, IsReply}
 use Rattle.block_top.specs.Headline.{Call, RanOut, WritesSchedulable, Analyses, IsHeadline}
-use Rattle.block_top.specs.Run.{shelf_of, Gives, FailsToWrite, Replies, GivesOutcome, IsRun}
+use Rattle.block_top.specs.Run.{shelf_of, Gives, FailsToWrite, Replies, GivesOutcome, IsRun, AnalysisEnds, IsWideEnding, IsAllowanceEnding}
 use Rattle.block_top.proofs.PlanLaws.{told_implied, outcome_implied, rest_of, one_of_plan, plan_plain, plan_well, plan_longer, fault_status}
 use Rattle.block_top.proofs.InputLaws.{set_reads_once}
-use Rattle.block_top.proofs.CommandLaws.{lawful, never_five, analysis_ends}
+use Rattle.block_top.proofs.CommandLaws.{lawful, wide_ending, only_wide, only_short}
 
 -- What follows from a reply to words of this form, or of none.
 pub record Replied (shelf : Shown) (o : Option Form) (a : Answer) : Type 0 where
   pub two : a.status ≡ 2 → o ≡ None
   pub none : o ≡ None → a ≡ refused_words
   pub four : a.status ≡ 4 → Rose shelf.before shelf.now
-  pub five : a.status ≡ 5 → ⊥
+  pub five : a.status ≡ 5 → (form : Form) × (o ≡ Some form) × AnalysisEnds (shown_by shelf) form IsWideEnding
+  pub six : a.status ≡ 6 → (form : Form) × (o ≡ Some form) × AnalysisEnds (shown_by shelf) form IsAllowanceEnding
   pub most : a.status ≤ 6
   pub long : (form : Form) → o ≡ Some form → (IsWorking (plan_of form) → ⊥) → GREATEST_INPUT_BYTES < shelf.given → (word : List ℕ) × (a ≡ refused word (codes "toolong"))
   pub outcome : (inputs : Inputs) → shelf.names ≡ Some inputs
@@ -46,6 +51,7 @@ replied shelf None a is =
       none = λ e. is;
       four = λ e. absurd (omega (arith, two, e));
       five = λ e. absurd (omega (arith, two, e));
+      six = λ e. absurd (omega (arith, two, e));
       most = omega (arith, two);
       long = λ form some more long. absurd (not_none form None some refl);
       outcome = λ inputs tells. inl is;
@@ -57,6 +63,7 @@ replied shelf (Some form) a (inl (rose, small, fault)) =
       none = λ e. absurd (not_none form (Some form) refl e);
       four = λ e. rose;
       five = λ e. absurd (omega (arith, four, e));
+      six = λ e. absurd (omega (arith, four, e));
       most = omega (arith, four);
       long = λ other some more long. absurd (omega (arith, small, long));
       outcome = λ inputs tells. inr (rose, four);
@@ -67,7 +74,8 @@ replied shelf (Some form) a (inr out) =
       two = λ e. absurd (plain.words e);
       none = λ e. absurd (not_none form (Some form) refl e);
       four = λ e. absurd (plain.fault e);
-      five = λ e. never_five (shown_by shelf) form a out e;
+      five = λ e. (form, refl, only_wide (shown_by shelf) form a out e);
+      six = λ e. (form, refl, only_short (shown_by shelf) form a out e);
       most = plain.most;
       long = λ other some more long. (
           let same : form ≡ other = same_form form other some in
@@ -88,60 +96,65 @@ of_form : (inputs : Inputs) (words : List (List ℕ)) (form : Form) (a : Answer)
 of_form inputs words form a is out = subst (λ (o : Option Form). MatchOption o (a ≡ refused_words) (λ f. IsOutcomeOf (told inputs) (plan_of f) a)) is out
 
 -- What a call that analyses a set answers, where it gives its outcome.
-record Ended (set : SetDef) (allowance : ℕ) (a : Answer) : Type 0 where
+record Ended (protocol : Protocol) (set : SetDef) (allowance : ℕ) (a : Answer) : Type 0 where
   ending : Ending
-  ends : EndsIn (rounds_of set) allowance ending
-  is : a ≡ ending_answer set ending
+  ends : EndsIn (rounds_of (written protocol set)) allowance ending
+  is : a ≡ ending_answer protocol set ending
 
-ended : (call : Call) (set : SetDef) (analyses : Analyses call set) (a : Answer) → IsOutcome analyses.inputs call.words a → Ended set analyses.allowance a
-ended call set analyses a out =
-    let plan = of_form analyses.inputs call.words (Analyse FmlpPlus analyses.name analyses.allowance) a analyses.form_is out in
+ended : (call : Call) (protocol : Protocol) (set : SetDef) (analyses : Analyses call protocol set) (a : Answer) → IsOutcome analyses.inputs call.words a → Ended protocol set analyses.allowance a
+ended call protocol set analyses a out =
+    let plan = of_form analyses.inputs call.words (Analyse protocol analyses.name analyses.allowance) a analyses.form_is out in
     let read = analyses.read in
-    let analysis : IsAnalysis set analyses.allowance a =
-    rest_of analyses.inputs (set_input FmlpPlus) analyses.name (λ bytes x. Working (analysis_of x analyses.allowance)) read.bytes set a (set_reads_once FmlpPlus) ((read.named, read.short), (read.reads, refl)) plan in
-    let ends = analysis_ends set analyses.allowance a analysis analyses.nothing in
-    record { ending = ends.0; ends = ends.1; is = ends.2 }
+    let analysis : IsAnalysis protocol set analyses.allowance a =
+    rest_of analyses.inputs (set_input protocol) analyses.name (λ bytes x. Working (analysis_of protocol x analyses.allowance)) read.bytes set a (set_reads_once protocol) ((read.named, read.short), read.reads) plan in
+    record { ending = analysis.0; ends = analysis.1; is = analysis.2 }
 
-writes : (call : Call) (set : SetDef) (allowance : ℕ) (bounds : List ℕ) (duals : List DualDef) (a : Answer) → EndsIn (rounds_of set) allowance (Schedulable bounds duals)
-    → a ≡ ending_answer set (Schedulable bounds duals) → Gives call a → WritesSchedulable call set
-writes call set allowance bounds duals a ends is gives =
-    let right = schedulable_right set allowance bounds duals ends in
-    let moved : Gives call (ending_answer set (Schedulable bounds duals)) = subst (λ (x : Answer). Gives call x) is gives in
-    (record { bounds = bounds; duals = duals }, moved.0, moved.1, right.0, right.2)
+writes : (call : Call) (protocol : Protocol) (set : SetDef) (allowance : ℕ) (bounds : List ℕ) (duals : List DualDef) (a : Answer) → EndsIn (rounds_of (written protocol set)) allowance (Schedulable bounds duals)
+    → a ≡ ending_answer protocol set (Schedulable bounds duals) → Gives call a → WritesSchedulable call protocol set
+writes call protocol set allowance bounds duals a ends is gives =
+    let right = schedulable_best (written protocol set) allowance bounds duals (written_above protocol set) ends in
+    let moved : Gives call (ending_answer protocol set (Schedulable bounds duals)) = subst (λ (x : Answer). Gives call x) is gives in
+    (record { bounds = bounds; duals = duals }, moved.0, moved.1, right.least, right.optimal)
 
 -- The headline's two halves without its last premise.
-least_of : (call : Call) (set : SetDef) (n : ℕ) (e : Ending) (a : Answer) → EndsIn (rounds_of set) n e → a ≡ ending_answer set e → Gives call a → call.status ≡ 0 → WritesSchedulable call set
-least_of call set n (Schedulable bounds duals) a ends is gives zero = writes call set n bounds duals a ends is gives
-least_of call set n (NotShown i value) a ends is gives zero = let s : a.status ≡ 1 = ap (λ x. x.status) is in absurd (omega (arith, gives.0))
-least_of call set n (Wide i) a ends is gives zero = let s : a.status ≡ 5 = ap (λ x. x.status) is in absurd (omega (arith, gives.0))
-least_of call set n Allowance a ends is gives zero = let s : a.status ≡ 6 = ap (λ x. x.status) is in absurd (omega (arith, gives.0))
+least_of : (call : Call) (protocol : Protocol) (set : SetDef) (n : ℕ) (e : Ending) (a : Answer) → EndsIn (rounds_of (written protocol set)) n e → a ≡ ending_answer protocol set e → Gives call a → call.status ≡ 0 → WritesSchedulable call protocol set
+least_of call protocol set n (Schedulable bounds duals) a ends is gives zero = writes call protocol set n bounds duals a ends is gives
+least_of call protocol set n (NotShown i value) a ends is gives zero = let s : a.status ≡ 1 = ap (λ x. x.status) is in absurd (omega (arith, gives.0))
+least_of call protocol set n (Wide i) a ends is gives zero = let s : a.status ≡ 5 = ap (λ x. x.status) is in absurd (omega (arith, gives.0))
+least_of call protocol set n Allowance a ends is gives zero = let s : a.status ≡ 6 = ap (λ x. x.status) is in absurd (omega (arith, gives.0))
 
-none_of : (call : Call) (set : SetDef) (n : ℕ) (e : Ending) (a : Answer) → EndsIn (rounds_of set) n e → a ≡ ending_answer set e → Gives call a → call.status ≡ 1 → (s : List ℕ) → AreFitting set s → ⊥
-none_of call set n (Schedulable bounds duals) a ends is gives one = let s : a.status ≡ 0 = ap (λ x. x.status) is in absurd (omega (arith, gives.0))
-none_of call set n (NotShown i value) a ends is gives one = not_shown_right set n i value ends
-none_of call set n (Wide i) a ends is gives one = let s : a.status ≡ 5 = ap (λ x. x.status) is in absurd (omega (arith, gives.0))
-none_of call set n Allowance a ends is gives one = let s : a.status ≡ 6 = ap (λ x. x.status) is in absurd (omega (arith, gives.0))
+none_of : (call : Call) (protocol : Protocol) (set : SetDef) (n : ℕ) (e : Ending) (a : Answer) → EndsIn (rounds_of (written protocol set)) n e → a ≡ ending_answer protocol set e → Gives call a → call.status ≡ 1 → (s : List ℕ) → AreFitting (written protocol set) s → ⊥
+none_of call protocol set n (Schedulable bounds duals) a ends is gives one = let s : a.status ≡ 0 = ap (λ x. x.status) is in absurd (omega (arith, gives.0))
+none_of call protocol set n (NotShown i value) a ends is gives one = not_shown_none (written protocol set) n i value (written_above protocol set) ends
+none_of call protocol set n (Wide i) a ends is gives one = let s : a.status ≡ 5 = ap (λ x. x.status) is in absurd (omega (arith, gives.0))
+none_of call protocol set n Allowance a ends is gives one = let s : a.status ≡ 6 = ap (λ x. x.status) is in absurd (omega (arith, gives.0))
 
-exactly_of : (call : Call) (set : SetDef) (n : ℕ) (e : Ending) (a : Answer) → EndsIn (rounds_of set) n e → a ≡ ending_answer set e → Gives call a
-    → ((i : ℕ) → EndsIn (rounds_of set) n (Wide i) → ⊥) → (EndsIn (rounds_of set) n Allowance → ⊥) → WritesSchedulable call set ↔ ((s : List ℕ) × AreFitting set s)
-exactly_of call set n (Schedulable bounds duals) a ends is gives no_wide no_allowance =
-    (λ w. (w.0.bounds, w.3.fitting), λ fits. writes call set n bounds duals a ends is gives)
-exactly_of call set n (NotShown i value) a ends is gives no_wide no_allowance =
-    (λ w. (w.0.bounds, w.3.fitting), λ fits. absurd (not_shown_right set n i value ends fits.0 fits.1))
-exactly_of call set n (Wide i) a ends is gives no_wide no_allowance = absurd (no_wide i ends)
-exactly_of call set n Allowance a ends is gives no_wide no_allowance = absurd (no_allowance ends)
+exactly_of : (call : Call) (protocol : Protocol) (set : SetDef) (n : ℕ) (e : Ending) (a : Answer) → EndsIn (rounds_of (written protocol set)) n e → a ≡ ending_answer protocol set e → Gives call a
+    → ((i : ℕ) → EndsIn (rounds_of (written protocol set)) n (Wide i) → ⊥) → (EndsIn (rounds_of (written protocol set)) n Allowance → ⊥) → WritesSchedulable call protocol set ↔ ((s : List ℕ) × AreFitting (written protocol set) s)
+exactly_of call protocol set n (Schedulable bounds duals) a ends is gives no_wide no_allowance =
+    (λ w. (w.0.bounds, w.3.fitting), λ fits. writes call protocol set n bounds duals a ends is gives)
+exactly_of call protocol set n (NotShown i value) a ends is gives no_wide no_allowance =
+    (λ w. (w.0.bounds, w.3.fitting), λ fits. absurd (not_shown_none (written protocol set) n i value (written_above protocol set) ends fits.0 fits.1))
+exactly_of call protocol set n (Wide i) a ends is gives no_wide no_allowance = absurd (no_wide i ends)
+exactly_of call protocol set n Allowance a ends is gives no_wide no_allowance = absurd (no_allowance ends)
 
-headline_of : (call : Call) (set : SetDef) (n : ℕ) (a : Answer) → Ended set n a → Gives call a → IsHeadline call set n
-headline_of call set n a e gives = record {
-  exactly = λ shelf sink ran no_wide no_allowance. exactly_of call set n e.ending a e.ends e.is gives no_wide no_allowance;
-  least = least_of call set n e.ending a e.ends e.is gives;
-  none = none_of call set n e.ending a e.ends e.is gives;
+headline_of : (call : Call) (protocol : Protocol) (set : SetDef) (n : ℕ) (a : Answer) → Ended protocol set n a → Gives call a → IsHeadline call protocol set n
+headline_of call protocol set n a e gives = record {
+  exactly = λ shelf sink ran no_wide no_allowance. exactly_of call protocol set n e.ending a e.ends e.is gives no_wide no_allowance;
+  least = least_of call protocol set n e.ending a e.ends e.is gives;
+  none = none_of call protocol set n e.ending a e.ends e.is gives;
 }
 
+-- An analysis of a set that requests nothing is never wide.
+never_five : (protocol : Protocol) (set : SetDef) (n : ℕ) (a : Answer) → Ended protocol set n a → RequestsNothing set → a.status ≡ 5 → ⊥
+never_five protocol set n a e nothing five =
+    let wide = wide_ending protocol set e.ending a e.is five in
+    rounds_never_wide (written protocol set) n wide.0 (no_columns protocol set nothing) (subst (λ (x : Ending). EndsIn (rounds_of (written protocol set)) n x) wide.1 e.ends)
+
 -- What is so of a call whose status is that of a fault or of want of memory, for which there is a cause.
-other_headline : (call : Call) (set : SetDef) (n : ℕ) → ((call.status ≡ 4) ⊎ RanOut call) → (Rose call.shelf_before call.shelf_now ⊎ (Rose call.sink_before call.sink_now ⊎ RanOut call))
-    → IsHeadline call set n
-other_headline call set n status cause = record {
+other_headline : (call : Call) (protocol : Protocol) (set : SetDef) (n : ℕ) → ((call.status ≡ 4) ⊎ RanOut call) → (Rose call.shelf_before call.shelf_now ⊎ (Rose call.sink_before call.sink_now ⊎ RanOut call))
+    → IsHeadline call protocol set n
+other_headline call protocol set n status cause = record {
   exactly = λ no_shelf no_sink no_want no_wide no_allowance. elim cause [
     | inl shelf ↦ absurd (no_shelf shelf)
     | inr other ↦ elim other [ inl sink ↦ absurd (no_sink sink) | inr ran ↦ absurd (no_want ran) ]
@@ -158,7 +171,6 @@ gave_run : (call : Call) (replies : Replies call) → Replied (shelf_of call) (f
 gave_run call replies r gives =
     let a = replies.reply in
     let is : call.status ≡ a.status = gives.0 in
-    let five : call.status ≡ 5 → ⊥ = λ e. r.five (sym is ∙ e) in
     record {
       answers = inl replies;
       refused_words = λ e. r.two (sym is ∙ e);
@@ -169,15 +181,19 @@ gave_run call replies r gives =
         | inl mine ↦ inl (subst (λ (x : Answer). Gives call x) (one_outcome inputs call.words a b mine out) gives)
         | inr fault ↦ inr (inl (is ∙ fault.1))
       ];
-      wide = λ e. absurd (five e);
-      never_wide = λ set analyses e. five e;
+      wide = λ e. r.five (sym is ∙ e);
+      never_wide = λ protocol set analyses nothing e. elim (r.outcome analyses.inputs analyses.told) [
+        | inl mine ↦ never_five protocol set analyses.allowance a (ended call protocol set analyses a mine) nothing (sym is ∙ e)
+        | inr fault ↦ absurd (omega (arith, is, fault.1, e))
+      ];
+      allowance = λ e. r.six (sym is ∙ e);
       complete = λ inputs form premise. elim (r.outcome inputs premise.tells_names) [
         | inl mine ↦ inl (well inputs form premise.form_is mine (plan_well inputs (plan_of form) (lawful form) premise.ends a (of_form inputs call.words form a premise.form_is mine)))
         | inr fault ↦ absurd (premise.shelf fault.0)
       ];
-      headline = λ set analyses. elim (r.outcome analyses.inputs analyses.told) [
-        | inl mine ↦ headline_of call set analyses.allowance a (ended call set analyses a mine) gives
-        | inr fault ↦ other_headline call set analyses.allowance (inl (is ∙ fault.1)) (inl fault.0)
+      headline = λ protocol set analyses. elim (r.outcome analyses.inputs analyses.told) [
+        | inl mine ↦ headline_of call protocol set analyses.allowance a (ended call protocol set analyses a mine) gives
+        | inr fault ↦ other_headline call protocol set analyses.allowance (inl (is ∙ fault.1)) (inl fault.0)
       ];
     } where
       well : (inputs : Inputs) (form : Form) → form_of call.words ≡ Some form → IsOutcome inputs call.words replies.reply → (replies.reply.status ≡ 0) ⊎ (replies.reply.status ≡ 1)
@@ -197,9 +213,10 @@ cut_run call replies r fails =
       want = λ e. absurd (omega (arith, four, e));
       exactly = λ inputs b tells out. inr (inl four);
       wide = λ e. absurd (omega (arith, four, e));
-      never_wide = λ set analyses e. absurd (omega (arith, four, e));
+      never_wide = λ protocol set analyses nothing e. absurd (omega (arith, four, e));
+      allowance = λ e. absurd (omega (arith, four, e));
       complete = λ inputs form premise. absurd (premise.sink fails.rose);
-      headline = λ set analyses. other_headline call set analyses.allowance (inl four) (inr (inl fails.rose));
+      headline = λ protocol set analyses. other_headline call protocol set analyses.allowance (inl four) (inr (inl fails.rose));
     }
 
 -- A call that had no memory.
@@ -214,9 +231,10 @@ run_ran_out call ran =
       want = λ e. ran;
       exactly = λ inputs b tells out. inr (inr ran);
       wide = λ e. absurd (omega (arith, seven, e));
-      never_wide = λ set analyses e. absurd (omega (arith, seven, e));
+      never_wide = λ protocol set analyses nothing e. absurd (omega (arith, seven, e));
+      allowance = λ e. absurd (omega (arith, seven, e));
       complete = λ inputs form premise. inr ran;
-      headline = λ set analyses. other_headline call set analyses.allowance (inr ran) (inr (inr ran));
+      headline = λ protocol set analyses. other_headline call protocol set analyses.allowance (inr ran) (inr (inr ran));
     }
 
 -- What the sink promised for a reply that is this long.

@@ -10,8 +10,8 @@ form_seen (command.Analyse protocol set allowance) = Analyse protocol set.now al
 form_seen (command.Report protocol set) = Report protocol set.now
 form_seen (command.Conform protocol set jobs rows) = Conform protocol set.now jobs.now rows.now
 
--- Is the protocol one for which the command is there? Today sets are analysed, and schedules judged, under FMLP+ alone.
+-- Is the protocol one for which the command is there? Today schedules are judged under FMLP+ alone.
 abbrev pub IsServed : Form → Type 0
-IsServed (Analyse protocol set allowance) = protocol ≡ FmlpPlus
+IsServed (Analyse protocol set allowance) = Unit {0}
 IsServed (Report protocol set) = Unit {0}
 IsServed (Conform protocol set jobs rows) = protocol ≡ FmlpPlus

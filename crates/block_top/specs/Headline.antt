@@ -6,12 +6,15 @@ use Rattle.outside_ports.specs.Names.{Inputs, bytes_of}
 use Rattle.outside_ports.specs.declared.whole.TheConstants.{GREATEST_INPUT_BYTES}
 use Rattle.program_form.specs.Certificate.{CertificateDef}
 use Rattle.sporadic_model.specs.SetDef.{SetDef}
-use Rattle.sporadic_model.specs.declared.ids.Protocol.TheVariants.{FmlpPlus}
-use Rattle.taskset_json.specs.Answers.{Reads}
+use Rattle.sporadic_model.specs.declared.ids.Protocol.{Protocol}
 use Rattle.response_fixpoint.specs.Rounds.{Wide, Allowance, EndsIn}
-use Rattle.response_fixpoint.specs.Response.{RequestsNothing, AreFitting, AreLeastFitting, AreOptimalDuals, rounds_of}
+use Rattle.response_fixpoint.specs.Runs.{rounds_of}
+use Rattle.response_fixpoint.specs.Written.{written}
+use Rattle.program_sources.specs.Fitting.{AreFitting, AreLeastFitting}
+use Rattle.program_sources.specs.Valid.{AreOptimalDuals}
 use Rattle.block_top.specs.Words.{Analyse, form_of}
 use Rattle.block_top.specs.Texts.{certificate_text}
+use Rattle.block_top.specs.Inputs.{ReadsSet}
 
 -- A call: its words; the shelf's inputs where they are told, its count of faults before and after, and the number of bytes
 -- it has given since the last start; what is written where it is told, and the sink's count of faults, before and
@@ -39,36 +42,35 @@ pub record RanOut (call : Call) : Type 0 where
 
 -- Does the call write "schedulable", with the least bounds within all deadlines that satisfy the recurrence and
 -- optimal duals?
-abbrev pub WritesSchedulable : Call → SetDef → Type 0
-WritesSchedulable call set = (certificate : CertificateDef) × (call.status ≡ 0)
-    × Appends call.written_before call.written_now (certificate_text certificate)
-    × AreLeastFitting set certificate.bounds × AreOptimalDuals set certificate.duals
+abbrev pub WritesSchedulable : Call → Protocol → SetDef → Type 0
+WritesSchedulable call protocol set = (certificate : CertificateDef) × (call.status ≡ 0)
+    × Appends call.written_before call.written_now (certificate_text protocol certificate)
+    × AreLeastFitting (written protocol set) certificate.bounds
+    × AreOptimalDuals (written protocol set) certificate.bounds certificate.duals
 
--- The named bytes, which are this set.
-pub record HasRead (inputs : Inputs) (name : List ℕ) (set : SetDef) : Type 0 where
+-- The named bytes, which are this set, with the homes that the protocol asks for.
+pub record HasRead (inputs : Inputs) (protocol : Protocol) (name : List ℕ) (set : SetDef) : Type 0 where
   pub bytes : List ℕ
   pub named : bytes_of inputs name ≡ Some bytes
   pub short : length bytes ≤ GREATEST_INPUT_BYTES
-  pub reads : Reads (Ok set) bytes
+  pub reads : ReadsSet protocol bytes (Ok set)
 
--- The call analyses the set: its words are those of `analyse`, and the bytes of the name are the set, which requests
--- nothing.
-pub record Analyses (call : Call) (set : SetDef) : Type 0 where
+-- The call analyses the set: its words are those of `analyse`, and the bytes of the name are the set.
+pub record Analyses (call : Call) (protocol : Protocol) (set : SetDef) : Type 0 where
   pub inputs : Inputs
   pub name : List ℕ
   pub allowance : ℕ
-  pub form_is : form_of call.words ≡ Some (Analyse FmlpPlus name allowance)
+  pub form_is : form_of call.words ≡ Some (Analyse protocol name allowance)
   pub told : call.names ≡ Some inputs
-  pub read : HasRead inputs name set
-  pub nothing : RequestsNothing set
+  pub read : HasRead inputs protocol name set
 
 -- The headline: the call writes "schedulable" exactly where some bounds within all deadlines satisfy the recurrence,
 -- giving the least such bounds with optimal duals. Its premises: no count of faults rose in the call, memory did not
 -- run out, and the rounds end in an answer. Without the last one: what is written as schedulable is least and
 -- optimal, and a set is said to be not shown only where nothing fits.
-pub record IsHeadline (call : Call) (set : SetDef) (allowance : ℕ) : Type 0 where
+pub record IsHeadline (call : Call) (protocol : Protocol) (set : SetDef) (allowance : ℕ) : Type 0 where
   pub exactly : (Rose call.shelf_before call.shelf_now → ⊥) → (Rose call.sink_before call.sink_now → ⊥) → (RanOut call → ⊥)
-      → ((i : ℕ) → EndsIn (rounds_of set) allowance (Wide i) → ⊥) → (EndsIn (rounds_of set) allowance Allowance → ⊥)
-      → WritesSchedulable call set ↔ ((s : List ℕ) × AreFitting set s)
-  pub least : call.status ≡ 0 → WritesSchedulable call set
-  pub none : call.status ≡ 1 → (s : List ℕ) → AreFitting set s → ⊥
+      → ((i : ℕ) → EndsIn (rounds_of (written protocol set)) allowance (Wide i) → ⊥) → (EndsIn (rounds_of (written protocol set)) allowance Allowance → ⊥)
+      → WritesSchedulable call protocol set ↔ ((s : List ℕ) × AreFitting (written protocol set) s)
+  pub least : call.status ≡ 0 → WritesSchedulable call protocol set
+  pub none : call.status ≡ 1 → (s : List ℕ) → AreFitting (written protocol set) s → ⊥

@@ -83,13 +83,13 @@ ReadsSetFor protocol bytes (Err refusal.Memory) = Unit {0}
 ReadsSetFor protocol bytes r = ReadsSet protocol bytes r
 
 -- Is this the answer to an analysis that ends so?
-abbrev pub RepliesTo : SetDef → Result Verdict Stop → Answer → Type 0
-RepliesTo set (Ok (verdict.Schedulable certificate)) answer =
-    answer ≡ ending_answer set (Schedulable certificate.bounds.items (map dual_seen certificate.duals.items))
-RepliesTo set (Ok (verdict.NotShown task bound)) answer = answer ≡ ending_answer set (NotShown task.0 bound)
-RepliesTo set (Err (stop.Wide task)) answer = answer ≡ ending_answer set (Wide task.0)
-RepliesTo set (Err stop.Allowance) answer = answer ≡ ending_answer set Allowance
-RepliesTo set (Err stop.Memory) answer = ⊥
+abbrev pub RepliesTo : Protocol → SetDef → Result Verdict Stop → Answer → Type 0
+RepliesTo protocol set (Ok (verdict.Schedulable certificate)) answer =
+    answer ≡ ending_answer protocol set (Schedulable certificate.bounds.items (map dual_seen certificate.duals.items))
+RepliesTo protocol set (Ok (verdict.NotShown task bound)) answer = answer ≡ ending_answer protocol set (NotShown task.0 bound)
+RepliesTo protocol set (Err (stop.Wide task)) answer = answer ≡ ending_answer protocol set (Wide task.0)
+RepliesTo protocol set (Err stop.Allowance) answer = answer ≡ ending_answer protocol set Allowance
+RepliesTo protocol set (Err stop.Memory) answer = ⊥
 
 -- What a shelf keeps over a call: its names, and whether it tells the rest; its count never falls; and a shelf that
 -- promises that no call fails promises it still, and raised no count.

@@ -7,8 +7,10 @@ use Rattle.outside_ports.specs.Prefix.{AppendsPart}
 use Rattle.outside_ports.specs.declared.whole.TheConstants.{GREATEST_INPUT_BYTES}
 use Rattle.sporadic_model.specs.SetDef.{SetDef}
 use Rattle.sporadic_model.specs.declared.ids.Protocol.{Protocol}
-use Rattle.response_fixpoint.specs.Response.{RequestsNothing}
-use Rattle.block_top.specs.Plans.{Answer, refused, IsWorking, IsRead, EndsWell}
+use Rattle.response_fixpoint.specs.Rounds.{Ending, Wide, Allowance, EndsIn}
+use Rattle.response_fixpoint.specs.Runs.{rounds_of}
+use Rattle.response_fixpoint.specs.Written.{written, RequestsNothing}
+use Rattle.block_top.specs.Plans.{Answer, Known, refused, IsWorking, IsRead, EndsWell}
 use Rattle.block_top.specs.Words.{Form, Analyse, form_of}
 use Rattle.block_top.specs.Inputs.{set_input}
 use Rattle.block_top.specs.Commands.{plan_of}
@@ -67,16 +69,24 @@ abbrev pub IsComplete : Call → Type 0
 IsComplete call = (inputs : Inputs) (form : Form) → IsCompletePremise call inputs form
     → (((call.status ≡ 0) ⊎ (call.status ≡ 1)) × GivesOutcome call inputs) ⊎ RanOut call
 
--- The words are those of `analyse`, and the named input may be a set of which some task requests a resource.
-pub record AnalysesRequests (call : Call) : Type 0 where
+-- The words are those of `analyse`, and the named input may be a set whose rounds end so.
+pub record AnalysisEnds (known : Known) (form : Form) (IsEnding : Ending → Type 0) : Type 0 where
   pub protocol : Protocol
   pub name : List ℕ
   pub allowance : ℕ
-  pub form_is : form_of call.words ≡ Some (Analyse protocol name allowance)
+  pub form_is : form ≡ Analyse protocol name allowance
   pub bytes : List ℕ
   pub set : SetDef
-  pub read : IsRead (shown_by (shelf_of call)) (set_input protocol) name bytes set
-  pub some : RequestsNothing set → ⊥
+  pub read : IsRead known (set_input protocol) name bytes set
+  pub ending : Ending
+  pub ends : EndsIn (rounds_of (written protocol set)) allowance ending
+  pub is : IsEnding ending
+
+abbrev pub IsWideEnding : Ending → Type 0
+IsWideEnding e = (i : ℕ) × (e ≡ Wide i)
+
+abbrev pub IsAllowanceEnding : Ending → Type 0
+IsAllowanceEnding e = e ≡ Allowance
 
 -- What is true of every call.
 pub record IsRun (call : Call) : Type 0 where
@@ -92,8 +102,10 @@ pub record IsRun (call : Call) : Type 0 where
   -- memory ran out.
   pub exactly : (inputs : Inputs) (answer : Answer) → call.names ≡ Some inputs → IsOutcome inputs call.words answer
       → Gives call answer ⊎ ((call.status ≡ 4) ⊎ RanOut call)
-  -- Status 5 comes only for words of `analyse` and a set that requests something.
-  pub wide : call.status ≡ 5 → AnalysesRequests call
-  pub never_wide : (set : SetDef) → Analyses call set → call.status ≢ 5
+  -- Status 5 comes only for words of `analyse` where the rounds end in a run that is too wide, and so not for a set that
+  -- requests nothing; status 6 only where they end with the allowance.
+  pub wide : call.status ≡ 5 → (form : Form) × (form_of call.words ≡ Some form) × AnalysisEnds (shown_by (shelf_of call)) form IsWideEnding
+  pub never_wide : (protocol : Protocol) (set : SetDef) → Analyses call protocol set → RequestsNothing set → call.status ≢ 5
+  pub allowance : call.status ≡ 6 → (form : Form) × (form_of call.words ≡ Some form) × AnalysisEnds (shown_by (shelf_of call)) form IsAllowanceEnding
   pub complete : IsComplete call
-  pub headline : (set : SetDef) (analyses : Analyses call set) → IsHeadline call set analyses.allowance
+  pub headline : (protocol : Protocol) (set : SetDef) (analyses : Analyses call protocol set) → IsHeadline call protocol set analyses.allowance

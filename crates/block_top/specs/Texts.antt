@@ -6,6 +6,8 @@ use Rattle.sporadic_model.specs.SetDef.{SetDef, task_at}
 use Rattle.schedule_model.specs.Measures.{MeasuresDef}
 use Rattle.schedule_model.specs.declared.rule.Rule.{Rule}
 use Rattle.schedule_model.specs.declared.rule.Rule.TheVariants as rule
+use Rattle.sporadic_model.specs.declared.ids.Protocol.{Protocol}
+use Rattle.sporadic_model.specs.declared.ids.Protocol.TheVariants as protocol
 
 -- Numbers with a comma between each two.
 abbrev pub after_commas : List ℕ → List ℕ
@@ -28,18 +30,24 @@ abbrev pub duals_text : List DualDef → List ℕ
 duals_text [] = []
 duals_text (dual ∷ duals) = dual_text dual ++ duals_after_commas duals
 
--- The members of a certificate for FMLP+: one compact JSON object, and a line end.
+-- The members of a certificate: one compact JSON object, and a line end.
 abbrev pub bounds_member : List ℕ → List ℕ
 bounds_member bounds = codes "{\"bounds\":[" ++ (with_commas bounds ++ codes "],")
 
 abbrev pub duals_member : List DualDef → List ℕ
 duals_member duals = codes "\"duals\":[" ++ (duals_text duals ++ codes "],")
 
-abbrev pub last_members : List ℕ
-last_members = codes "\"protocol\":\"fmlp+\",\"verdict\":\"schedulable\",\"version\":1}\n"
+-- The word of a protocol.
+abbrev pub protocol_word : Protocol → List ℕ
+protocol_word protocol.Mpcp = codes "mpcp"
+protocol_word protocol.FmlpPlus = codes "fmlp+"
+protocol_word protocol.Dpcp = codes "dpcp"
 
-abbrev pub certificate_text : CertificateDef → List ℕ
-certificate_text certificate = bounds_member certificate.bounds ++ (duals_member certificate.duals ++ last_members)
+abbrev pub last_members : Protocol → List ℕ
+last_members protocol = codes "\"protocol\":\"" ++ (protocol_word protocol ++ codes "\",\"verdict\":\"schedulable\",\"version\":1}\n")
+
+abbrev pub certificate_text : Protocol → CertificateDef → List ℕ
+certificate_text protocol certificate = bounds_member certificate.bounds ++ (duals_member certificate.duals ++ last_members protocol)
 
 -- A set that isn't shown: the task, the value that passes its deadline, and the deadline.
 abbrev pub not_shown_text : List ℕ → ℕ → ℕ → List ℕ

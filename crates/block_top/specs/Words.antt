@@ -4,7 +4,8 @@ use Rattle.std.specs.Global.{Global}
 use Rattle.std.specs.Str.{bytes_eq}
 use Rattle.sporadic_model.specs.declared.ids.Protocol.{Protocol}
 use Rattle.sporadic_model.specs.declared.ids.Protocol.TheVariants.{Mpcp, FmlpPlus, Dpcp}
-use Rattle.block_top.specs.declared.words.TheConstants.{DEFAULT_ALLOWANCE}
+use Rattle.text_pieces.specs.Numbers.{number_between}
+use Rattle.block_top.specs.declared.words.TheConstants.{DEFAULT_ALLOWANCE, GREATEST_ALLOWANCE}
 
 -- What the words ask for: a command, with its protocol, the names of its inputs and its numbers.
 pub data Form : Type 0 where
@@ -24,9 +25,20 @@ protocol_of word = if bytes_eq word (codes "mpcp") then Some Mpcp
 
 -- Which form do these three words have?
 abbrev pub form_of_three : List ℕ → List ℕ → List ℕ → Option Form
-form_of_three command protocol name = if bytes_eq command (codes "analyse") && bytes_eq protocol (codes "fmlp+")
-    then Some (Analyse FmlpPlus name DEFAULT_ALLOWANCE)
+form_of_three command protocol name =
+    if bytes_eq command (codes "analyse") then option_map (λ p. Analyse p name DEFAULT_ALLOWANCE) (protocol_of protocol)
     else if bytes_eq command (codes "report") then option_map (λ p. Report p name) (protocol_of protocol)
+    else None
+
+-- Which form have these words of `analyse`, whose protocol and allowance are as they were read?
+abbrev pub analyse_form : Option Protocol → List ℕ → Option ℕ → Option Form
+analyse_form (Some protocol) name (Some allowance) = Some (Analyse protocol name allowance)
+analyse_form _ name _ = None
+
+-- Which form do these four words have?
+abbrev pub form_of_four : List ℕ → List ℕ → List ℕ → List ℕ → Option Form
+form_of_four command protocol name number = if bytes_eq command (codes "analyse")
+    then analyse_form (protocol_of protocol) name (number_between 1 GREATEST_ALLOWANCE number)
     else None
 
 -- Which form do these five words have?
@@ -38,12 +50,17 @@ form_of_five command protocol set jobs rows = if bytes_eq command (codes "confor
 -- Which form do the words have, if any?
 abbrev pub form_of : List (List ℕ) → Option Form
 form_of (command ∷ protocol ∷ name ∷ []) = form_of_three command protocol name
+form_of (command ∷ protocol ∷ name ∷ number ∷ []) = form_of_four command protocol name number
 form_of (command ∷ protocol ∷ set ∷ jobs ∷ rows ∷ []) = form_of_five command protocol set jobs rows
 form_of _ = None
 
 -- the allowance of units where the words give none
 pub default_allowance : DEFAULT_ALLOWANCE ≡ 1000000
 default_allowance = refl
+
+-- and the most that they may give
+pub greatest_allowance : GREATEST_ALLOWANCE ≡ 1000000000
+greatest_allowance = refl
 
 -- What a contract sees of words: their bytes.
 abbrev pub words_seen : List (String Global) → List (List ℕ)

@@ -24,7 +24,6 @@ fn analyse_reply<R: Threads + Sync, S: Shelf>(
     name: &str,
     allowance: u64,
 ) -> Result<Reply, Halt>
-    requires { protocol ≡ Protocol.FmlpPlus }
     ensures reply { Answered result (IsReplyOf
         (record { names = S.names shelf.old; before = S.faults shelf.old; now = S.faults shelf.new; given = S.given shelf.new })
         (plan_of (Analyse protocol name.now allowance))) }
@@ -118,7 +117,6 @@ fn command_reply<R: Threads + Sync, S: Shelf>(
     shelf: &mut S,
     command: Command<'_>,
 ) -> Result<Reply, Halt>
-    requires { IsServed (form_seen command) }
     ensures reply { Answered result (IsReplyOf
         (record { names = S.names shelf.old; before = S.faults shelf.old; now = S.faults shelf.new; given = S.given shelf.new })
         (plan_of (form_seen command.entry))) }

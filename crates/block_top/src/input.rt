@@ -1,5 +1,6 @@
-ghost use Rattle.std.specs.Prelude.{◌≡◌, ◌≤◌, length, is_some, codes};
+ghost use Rattle.std.specs.Prelude.{◌≡◌, ◌≤◌, length, is_some, codes, IfOk};
 ghost use Rattle.outside_ports.specs.declared.whole.TheConstants.{GREATEST_INPUT_BYTES};
+ghost use Rattle.sporadic_model.specs.Homes.{HasHomesFor};
 ghost use Rattle.block_top.specs.Plans.{refused};
 ghost use Rattle.block_top.specs.Refusals.{reason_text, jobs_reason_text, rows_reason_text};
 ghost use Rattle.block_top.specs.Inputs.{set_input, jobs_input, rows_input};
@@ -49,7 +50,8 @@ fn set_refusal(alloc: Global, cause: SetRefusal) -> Halt
 /// The set that the bytes are, with the homes that the protocol asks for.
 fn set_for(alloc: Global, bytes: &[u8], protocol: Protocol) -> Result<TaskSet, SetRefusal>
     requires { length bytes.now ≤ GREATEST_INPUT_BYTES }
-    ensures { ReadsSetFor protocol bytes.now result }
+    ensures reads { ReadsSetFor protocol bytes.now result }
+    ensures suits { IfOk result (λ set. HasHomesFor protocol set) }
 {
     let set = read(alloc, bytes)?;
     home_check(&set, protocol)?;
@@ -59,7 +61,8 @@ fn set_for(alloc: Global, bytes: &[u8], protocol: Protocol) -> Result<TaskSet, S
 /// The set that the bytes are, or the reply that refuses it.
 fn take_set(alloc: Global, bytes: &[u8], protocol: Protocol) -> Result<TaskSet, Halt>
     requires { length bytes.now ≤ GREATEST_INPUT_BYTES }
-    ensures { IsTaken (set_input protocol) bytes.now result }
+    ensures taken { IsTaken (set_input protocol) bytes.now result }
+    ensures suits { IfOk result (λ set. HasHomesFor protocol set) }
 {
     match set_for(alloc, bytes, protocol) {
         Ok(set) => Ok(set),
@@ -78,6 +81,7 @@ pub fn get_set<S: Shelf>(
     ensures got { IsGot
         (record { names = S.names shelf.old; before = S.faults shelf.old; now = S.faults shelf.new; given = S.given shelf.new })
         (set_input protocol) name.now result }
+    ensures suits { IfOk result (λ got. HasHomesFor protocol got.1) }
     ensures keeps { Keeps (S.names shelf.old) (S.names shelf.new) (is_some (S.rest shelf.old)) (is_some (S.rest shelf.new))
         (S.faults shelf.old) (S.faults shelf.new) (S.steady shelf.old) (S.steady shelf.new) }
 {

@@ -14,6 +14,9 @@ const SET_A: &str =
     r#"{"processors":2,"resources":[{"name":"q","home":2}],"tasks":[{"name":"t1","processor":1,"period":10,"cost":3,"requests":[{"resource":"q","count":1,"length":1}]},{"name":"t2","processor":2,"period":10,"cost":4,"requests":[{"resource":"q","count":1,"length":2}]}]}
 "#;
 
+const SET_A_CERTIFICATE: &str =
+    "{\"bounds\":[5,5],\"duals\":[{\"den\":1,\"num\":[2,0,0,0]},{\"den\":1,\"num\":[1,0,0,0]}],\"protocol\":\"fmlp+\",\"verdict\":\"schedulable\",\"version\":1}\n";
+
 const TABLE_A: &str = "\
 task                            cpu     period   deadline       cost      local
 t1                                1         10         10          3          3
@@ -90,7 +93,7 @@ fn answer(alloc: Global, status: u8, text: &str) -> Result<Given, AllocError> {
 }
 
 #[test]
-fn analyses_sets_without_requests(rt: HostRuntime) -> Result<(), Fail> {
+fn analyses_sets(rt: HostRuntime) -> Result<(), Fail> {
     let alloc = rt.alloc();
     let three =
         r#"{"processors":1,"tasks":[{"name":"a","processor":1,"period":4,"cost":1},{"name":"b","processor":1,"period":6,"cost":2},{"name":"c","processor":1,"period":20,"cost":3}]}"#;
@@ -102,11 +105,39 @@ fn analyses_sets_without_requests(rt: HostRuntime) -> Result<(), Fail> {
         (ONE_TASK, 0, ONE_TASK_CERTIFICATE),
         (three, 0, three_certificate),
         (full, 1, "not shown t2 3 2\n"),
-        (SET_A, 3, "refused set requestslater task 1\n"),
+        (SET_A, 0, SET_A_CERTIFICATE),
     ] {
         let given = ran(&rt, alloc, &["analyse", "fmlp+", "set"], set.as_bytes())?;
         assert_eq!(rt; given, answer(alloc, status, text)?);
     }
+    Ok(())
+}
+
+// Two rounds of two programs take two units each.
+#[test]
+fn analyses_with_an_allowance(rt: HostRuntime) -> Result<(), Fail> {
+    let alloc = rt.alloc();
+    for (allowance, status, text) in [("8", 0, SET_A_CERTIFICATE), ("7", 6, "allowance\n")] {
+        let words = ["analyse", "fmlp+", "set", allowance];
+        let given = ran(&rt, alloc, &words, SET_A.as_bytes())?;
+        assert_eq!(rt; given, answer(alloc, status, text)?);
+    }
+    Ok(())
+}
+
+#[test]
+fn analyses_under_each_protocol(rt: HostRuntime) -> Result<(), Fail> {
+    let alloc = rt.alloc();
+    let homes =
+        "{\"bounds\":[5,5],\"duals\":[{\"den\":1,\"num\":[2,0,0]},{\"den\":1,\"num\":[1,0]}],\"protocol\":\"dpcp\",\"verdict\":\"schedulable\",\"version\":1}\n";
+    let given = ran(&rt, alloc, &["analyse", "dpcp", "set"], SET_A.as_bytes())?;
+    assert_eq!(rt; given, answer(alloc, 0, homes)?);
+    let homeless = SET_A.replacen(alloc, ",\"home\":2", "", 1)?;
+    let given = ran(&rt, alloc, &["analyse", "dpcp", "set"], homeless.as_bytes())?;
+    assert_eq!(rt; given, answer(alloc, 3, "refused set nohome resource 1\n")?);
+    let short = SET_A.replacen(alloc, "\"cost\":3", "\"deadline\":4,\"cost\":3", 1)?;
+    let given = ran(&rt, alloc, &["analyse", "mpcp", "set"], short.as_bytes())?;
+    assert_eq!(rt; given, answer(alloc, 1, "not shown t1 5 4\n")?);
     Ok(())
 }
 
@@ -118,7 +149,6 @@ fn refuses_words_without_a_form(rt: HostRuntime) -> Result<(), Fail> {
     assert_eq!(rt; ran(&rt, alloc, &["--help"], b"")?, want);
     for words in [
         ["analyse", "edf", "set"],
-        ["analyse", "mpcp", "set"],
         ["check", "fmlp+", "set"],
         ["study", "1", "0"],
         ["report", "FMLP+", "set"],
@@ -127,6 +157,7 @@ fn refuses_words_without_a_form(rt: HostRuntime) -> Result<(), Fail> {
     }
     for words in [
         ["analyse", "fmlp+", "set", "0"],
+        ["analyse", "fmlp+", "set", "1000000001"],
         ["analyse", "fmlp+", "set", "08"],
         ["report", "fmlp+", "set", "cert"],
     ] {

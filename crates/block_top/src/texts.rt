@@ -2,11 +2,11 @@ ghost use Rattle.std.specs.Prelude.{◌≡◌, ◌<◌, ◌++◌, IfOk, OnOk, ma
 ghost use Rattle.sporadic_model.specs.SetDef.{task_at};
 ghost use Rattle.trace_conform.specs.Measured.{measure_seen, no_measure};
 ghost use Rattle.program_form.specs.Certificate.{dual_seen, certificate_seen};
-ghost use Rattle.block_top.specs.Texts.{after_commas, with_commas, dual_text, duals_after_commas, duals_text, bounds_member, duals_member, last_members, certificate_text, not_shown_text, wide_text, response_text, measures_text, measures_line, measures_lines, lawful_text, rule_text, broken_text};
+ghost use Rattle.block_top.specs.Texts.{after_commas, with_commas, dual_text, duals_after_commas, duals_text, bounds_member, duals_member, protocol_word, last_members, certificate_text, not_shown_text, wide_text, response_text, measures_text, measures_line, measures_lines, lawful_text, rule_text, broken_text};
 
 use program_form::{Certificate, Dual};
 use schedule_model::Rule;
-use sporadic_model::{TaskId, TaskSet};
+use sporadic_model::{Protocol, TaskId, TaskSet};
 use std::alloc::{AllocError, Global};
 use text_pieces::push_number;
 use trace_conform::TaskMeasure;
@@ -88,21 +88,38 @@ fn push_duals_member(text: &mut Vec<u8>, duals: &[Dual]) -> Result<(), AllocErro
     text.extend_from_slice(b"],")
 }
 
-/// Adds the members that are the same in each certificate for FMLP+.
-fn push_last_members(text: &mut Vec<u8>) -> Result<(), AllocError>
-    ensures { OnOk result (text.new.items ≡ text.old.items ++ last_members) }
+/// Adds the word of a protocol.
+fn push_protocol(text: &mut Vec<u8>, protocol: Protocol) -> Result<(), AllocError>
+    ensures { OnOk result (text.new.items ≡ text.old.items ++ protocol_word protocol) }
 {
-    text.extend_from_slice(b"\"protocol\":\"fmlp+\",\"verdict\":\"schedulable\",\"version\":1}\n")
+    match protocol {
+        Protocol::Mpcp => text.extend_from_slice(b"mpcp"),
+        Protocol::FmlpPlus => text.extend_from_slice(b"fmlp+"),
+        Protocol::Dpcp => text.extend_from_slice(b"dpcp"),
+    }
 }
 
-/// The text of a certificate for FMLP+.
-pub fn certificate_line(alloc: Global, certificate: &Certificate) -> Result<Vec<u8>, AllocError>
-    ensures { IfOk result (λ text. text.items ≡ certificate_text (certificate_seen certificate.now)) }
+/// Adds the members that are the same in each certificate for the protocol.
+fn push_last_members(text: &mut Vec<u8>, protocol: Protocol) -> Result<(), AllocError>
+    ensures { OnOk result (text.new.items ≡ text.old.items ++ last_members protocol) }
+{
+    text.extend_from_slice(b"\"protocol\":\"")?;
+    push_protocol(text, protocol)?;
+    text.extend_from_slice(b"\",\"verdict\":\"schedulable\",\"version\":1}\n")
+}
+
+/// The text of a certificate for the protocol.
+pub fn certificate_line(
+    alloc: Global,
+    protocol: Protocol,
+    certificate: &Certificate,
+) -> Result<Vec<u8>, AllocError>
+    ensures { IfOk result (λ text. text.items ≡ certificate_text protocol (certificate_seen certificate.now)) }
 {
     let mut text = Vec::new(alloc);
     push_bounds_member(&mut text, &certificate.bounds)?;
     push_duals_member(&mut text, &certificate.duals)?;
-    push_last_members(&mut text)?;
+    push_last_members(&mut text, protocol)?;
     Ok(text)
 }
 

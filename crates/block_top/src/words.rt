@@ -1,11 +1,15 @@
 ghost use Rattle.std.specs.Prelude.{◌≡◌, option_map, IfSome};
-ghost use Rattle.block_top.specs.Words.{protocol_of, form_of_three, form_of_five, form_of, words_seen};
+ghost use Rattle.block_top.specs.Words.{protocol_of, form_of_three, form_of_four, form_of_five, form_of, words_seen};
 ghost use Rattle.block_top.specs.FormSeen.{form_seen, IsServed};
 
 use sporadic_model::Protocol;
+use text_pieces::number_between;
 
 /// The units that the programs of an analysis may take in all, where the words don't say.
 pub const DEFAULT_ALLOWANCE: u64 = 1_000_000;
+
+/// The most units that the words may allow.
+pub const GREATEST_ALLOWANCE: u64 = 1_000_000_000;
 
 /// What the words ask for.
 #[derive(Clone, Copy, Debug)]
@@ -47,9 +51,9 @@ fn command_of_three<'a>(command: &str, protocol: &str, set: &'a str) -> Option<C
     ensures form { option_map form_seen result ≡ form_of_three command.now protocol.now set.now }
     ensures served { IfSome result (λ c. IsServed (form_seen c)) }
 {
-    if command == "analyse" && protocol == "fmlp+" {
-        return Some(Command::Analyse {
-            protocol: Protocol::FmlpPlus,
+    if command == "analyse" {
+        return protocol_named(protocol).map(|protocol| Command::Analyse {
+            protocol,
             set,
             allowance: DEFAULT_ALLOWANCE,
         });
@@ -58,6 +62,32 @@ fn command_of_three<'a>(command: &str, protocol: &str, set: &'a str) -> Option<C
         return protocol_named(protocol).map(|protocol| Command::Report { protocol, set });
     }
     None
+}
+
+/// What four words ask for.
+fn command_of_four<'a>(
+    command: &str,
+    protocol: &str,
+    set: &'a str,
+    allowance: &str,
+) -> Option<Command<'a>>
+    ensures form { option_map form_seen result ≡ form_of_four command.now protocol.now set.now allowance.now }
+    ensures served { IfSome result (λ c. IsServed (form_seen c)) }
+{
+    if command != "analyse" {
+        return None;
+    }
+    match (
+        protocol_named(protocol),
+        number_between(allowance.as_bytes(), 1, GREATEST_ALLOWANCE),
+    ) {
+        (Some(protocol), Some(allowance)) => Some(Command::Analyse {
+            protocol,
+            set,
+            allowance,
+        }),
+        _ => None,
+    }
 }
 
 /// What five words ask for.
@@ -91,6 +121,12 @@ pub fn command_of(words: &[String]) -> Option<Command<'_>>
         [command, protocol, set] => {
             command_of_three(command.as_str(), protocol.as_str(), set.as_str())
         }
+        [command, protocol, set, number] => command_of_four(
+            command.as_str(),
+            protocol.as_str(),
+            set.as_str(),
+            number.as_str(),
+        ),
         [command, protocol, set, jobs, rows] => command_of_five(
             command.as_str(),
             protocol.as_str(),

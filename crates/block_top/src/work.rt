@@ -1,63 +1,55 @@
 ghost use Rattle.std.specs.Prelude.{◌≡◌, ◌<◌, length, map, IfOk, slice_index_or};
 ghost use Rattle.program_form.specs.Certificate.{dual_seen};
+ghost use Rattle.sporadic_model.specs.Homes.{HasHomesFor};
 ghost use Rattle.response_fixpoint.specs.Rounds.{Schedulable, NotShown, Wide, Allowance};
 ghost use Rattle.schedule_model.specs.RowDef.{trace_in, ticks_of};
 ghost use Rattle.schedule_model.specs.Fitting.{IsMadeFor};
 ghost use Rattle.trace_conform.specs.Measured.{measure_seen, no_measure};
 ghost use Rattle.trace_conform.specs.ByProtocol.{rules_of, interference_of};
 ghost use Rattle.block_top.specs.Texts.{lawful_text, broken_text};
-ghost use Rattle.block_top.specs.Commands.{requests_later, ending_answer, IsAnalysis, IsTable, IsConformance};
+ghost use Rattle.block_top.specs.Commands.{ending_answer, IsAnalysis, IsTable, IsConformance};
 ghost use Rattle.block_top.specs.Outcome.{refused_words};
-ghost use Rattle.block_top.specs.Replies.{reply_seen, HaltsWith, Answered, RepliesTo};
+ghost use Rattle.block_top.specs.Replies.{reply_seen, Answered, RepliesTo};
 ghost use Rattle.block_top.specs.Reached.{NamesTask};
 
-use crate::halt::{Halt, Reply, refusal};
+use crate::halt::{Halt, Reply};
 use crate::texts::{broken_line, certificate_line, lawful_lines, not_shown_line, wide_line};
 use program_form::Certificate;
 use report::set_table;
-use response_fixpoint::{Stop, Verdict, analyse, first_requester};
+use response_fixpoint::{Stop, Verdict, analyse};
 use schedule_model::{JobList, RowList, Rule};
 use sporadic_model::{Protocol, TaskId, TaskSet};
 use std::alloc::{AllocError, Global};
 use std::thread::Threads;
 use trace_conform::{TaskMeasure, Unlawful, conform};
 
-/// The reply to a set with requests, which is not analysed yet.
-fn later(alloc: Global, x: TaskId) -> Halt
-    ensures { HaltsWith result (λ answer. answer ≡ requests_later x.0) }
-{
-    let number = u64::from(x.0) + 1;
-    match format!(in alloc; "requestslater task {number}") {
-        Ok(reason) => refusal(alloc, "set", reason.as_str()),
-        Err(AllocError) => Halt::Memory,
-    }
-}
-
 /// The reply with a certificate.
 fn certificate_reply(
     alloc: Global,
+    protocol: Protocol,
     set: &TaskSet,
     certificate: &Certificate,
 ) -> Result<Reply, AllocError>
     ensures { IfOk result (λ r. reply_seen r
-        ≡ ending_answer set.now (Schedulable certificate.now.bounds.items (map dual_seen certificate.now.duals.items))) }
+        ≡ ending_answer protocol set.now (Schedulable certificate.now.bounds.items (map dual_seen certificate.now.duals.items))) }
 {
     let _tasks = set.tasks();
     Ok(Reply {
         status: 0,
-        text: certificate_line(alloc, certificate)?,
+        text: certificate_line(alloc, protocol, certificate)?,
     })
 }
 
 /// The reply where a task's value passes its deadline.
 fn not_shown_reply(
     alloc: Global,
+    protocol: Protocol,
     set: &TaskSet,
     task: TaskId,
     bound: u64,
 ) -> Result<Reply, AllocError>
     requires { task.0 < length set.now.tasks }
-    ensures { IfOk result (λ r. reply_seen r ≡ ending_answer set.now (NotShown task.0 bound)) }
+    ensures { IfOk result (λ r. reply_seen r ≡ ending_answer protocol set.now (NotShown task.0 bound)) }
 {
     Ok(Reply {
         status: 1,
@@ -66,9 +58,14 @@ fn not_shown_reply(
 }
 
 /// The reply where a task's program is too wide.
-fn wide_reply(alloc: Global, set: &TaskSet, task: TaskId) -> Result<Reply, AllocError>
+fn wide_reply(
+    alloc: Global,
+    protocol: Protocol,
+    set: &TaskSet,
+    task: TaskId,
+) -> Result<Reply, AllocError>
     requires { task.0 < length set.now.tasks }
-    ensures { IfOk result (λ r. reply_seen r ≡ ending_answer set.now (Wide task.0)) }
+    ensures { IfOk result (λ r. reply_seen r ≡ ending_answer protocol set.now (Wide task.0)) }
 {
     Ok(Reply {
         status: 5,
@@ -77,8 +74,8 @@ fn wide_reply(alloc: Global, set: &TaskSet, task: TaskId) -> Result<Reply, Alloc
 }
 
 /// The reply where the programs want more units than the allowance.
-fn allowance_reply(alloc: Global, set: &TaskSet) -> Result<Reply, AllocError>
-    ensures { IfOk result (λ r. reply_seen r ≡ ending_answer set.now Allowance) }
+fn allowance_reply(alloc: Global, protocol: Protocol, set: &TaskSet) -> Result<Reply, AllocError>
+    ensures { IfOk result (λ r. reply_seen r ≡ ending_answer protocol set.now Allowance) }
 {
     let _tasks = set.tasks();
     Ok(Reply {
@@ -90,17 +87,25 @@ fn allowance_reply(alloc: Global, set: &TaskSet) -> Result<Reply, AllocError>
 /// The reply to an analysis of the set.
 fn verdict_reply(
     alloc: Global,
+    protocol: Protocol,
     set: &TaskSet,
     verdict: Result<Verdict, Stop>,
 ) -> Result<Reply, AllocError>
     requires { NamesTask set.now verdict }
-    ensures { IfOk result (λ r. RepliesTo set.now verdict (reply_seen r)) }
+    ensures { IfOk result (λ r. RepliesTo protocol set.now verdict (reply_seen r)) }
 {
     match verdict {
-        Ok(Verdict::Schedulable(certificate)) => certificate_reply(alloc, set, &certificate),
-        Ok(Verdict::NotShown { task, bound }) => not_shown_reply(alloc, set, task, bound),
-        Err(Stop::Wide(task)) => wide_reply(alloc, set, task),
-        Err(Stop::Allowance) => allowance_reply(alloc, set),
+        Ok(Verdict::Schedulable(certificate)) => certificate_reply(
+            alloc,
+            protocol,
+            set,
+            &certificate,
+        ),
+        Ok(Verdict::NotShown { task, bound }) => {
+            not_shown_reply(alloc, protocol, set, task, bound)
+        }
+        Err(Stop::Wide(task)) => wide_reply(alloc, protocol, set, task),
+        Err(Stop::Allowance) => allowance_reply(alloc, protocol, set),
         Err(Stop::Memory) => Err(AllocError),
     }
 }
@@ -113,14 +118,11 @@ pub fn analysis<R: Threads + Sync>(
     protocol: Protocol,
     allowance: u64,
 ) -> Result<Reply, Halt>
-    requires { protocol ≡ Protocol.FmlpPlus }
-    ensures { Answered result (IsAnalysis set.now allowance) }
+    requires { HasHomesFor protocol set.now }
+    ensures { Answered result (IsAnalysis protocol set.now allowance) }
 {
-    if let Some(x) = first_requester(set) {
-        return Err(later(alloc, x));
-    }
     let verdict = analyse(rt, alloc, set, protocol, allowance);
-    Ok(verdict_reply(alloc, set, verdict)?)
+    Ok(verdict_reply(alloc, protocol, set, verdict)?)
 }
 
 /// The work of `report`.

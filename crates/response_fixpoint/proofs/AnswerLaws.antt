@@ -1,144 +1,192 @@
--- What follows from how the rounds of a set end.
-use Rattle.std.proofs.Common.{◌≡◌, ◌≢◌, ℕ, zero, suc, ◌+◌, ◌-◌, ◌*◌, ◌<◌, ◌≤◌, ◌↔◌, List, [], ◌∷◌, ◌++◌, length, map, replicate, refl, sym, ◌∙◌, ap, subst, arith, Ok, Err, IfOk}
-use Rattle.std.proofs.lemmas.Grind.{replicate_next}
-use Rattle.std.proofs.lemmas.List.{get_or-replicate, length-replicate}
-use Rattle.std.specs.Prelude.{Result, IsErrOf}
+-- What the answers of the analysis mean, from how the rounds end.
+use Rattle.std.proofs.Common.{◌≡◌, ◌≢◌, ℕ, suc, ◌+◌, ◌-◌, ◌*◌, ◌/◌, unsigned_abs, ◌<◌, ◌≤◌, ◌↔◌, List, length, map, refl, sym, subst, arith, Ok, Err, IfOk}
+use Rattle.std.specs.Prelude.{Result, IsErrOf, slice_index}
 use Rattle.program_form.specs.Certificate.{DualDef, dual_seen}
-use Rattle.program_form.specs.Duals.{IsOptimalDual}
-use Rattle.sporadic_model.specs.SetDef.{SetDef, task_at}
-use Rattle.response_fixpoint.specs.Range.{IsInRange}
-use Rattle.response_fixpoint.specs.Rounds.{Ending, Schedulable, NotShown, Wide, Allowance, Found, Passes, Reaches, ComesTo, EndsIn}
-use Rattle.response_fixpoint.specs.Response.{IsResponse, AreFitting, AreLeastFitting, AreOptimalDuals, empty_dual, no_columns, rounds_of, slack_of}
-use Rattle.response_fixpoint.specs.Answers.{Answers, IsAnswerOf, IsRight, IsSchedulable, GivesRound, IsVerdictOf, answer_at}
+use Rattle.program_form.specs.Program.{ProgramDef, IsProgram}
+use Rattle.program_sources.specs.Bounds.{AreWithinDeadlines, AreFromCostsAbove, IsInRange}
+use Rattle.program_sources.specs.Recurrence.{SourceDef, response_with}
+use Rattle.program_sources.specs.Fitting.{AreFitting, NeverFalls, ComesUpAbove, tasks_of, deadline_of}
+use Rattle.sporadic_model.specs.SetDef.{SetDef}
+use Rattle.program_form.specs.Points.{IsGreatestReached}
+use Rattle.program_form.proofs.Duality.{optimum_reached}
+use Rattle.exchange_runs.specs.Feasible.{IsOptimumValue}
+use Rattle.exchange_runs.specs.Outcomes.{EndsWithin, IsWideWithin, NeedsMoreThan}
+use Rattle.simplex.specs.Solves.{Solves}
+use Rattle.simplex.specs.declared.Solved.{Solved}
+use Rattle.simplex.specs.declared.SolveStop.{SolveStop}
+use Rattle.simplex.specs.declared.SolveStop.TheVariants as solve_stop
+use Rattle.response_fixpoint.specs.Rounds.{RunEnd, Valued, TooWide, OutOfUnits, Ending, Schedulable, NotShown, Wide, Allowance, Found, with_task, Passes, Reaches, ComesTo, EndsIn}
+use Rattle.response_fixpoint.specs.Runs.{TaskRuns, rounds_of, HasNoColumns, slack_of}
+use Rattle.response_fixpoint.specs.Answers.{Answers, IsAnswerOf, IsRight, IsSchedulable, GivesRun, TakesRun, Halts, GivesRound, found_of, answer_at, stop_at}
 use Rattle.response_fixpoint.specs.declared.verdict.Verdict.{Verdict}
 use Rattle.response_fixpoint.specs.declared.verdict.Verdict.TheVariants as verdict
 use Rattle.response_fixpoint.specs.declared.verdict.Stop.{Stop}
 use Rattle.response_fixpoint.specs.declared.verdict.Stop.TheVariants as stop
+use Rattle.response_fixpoint.specs.declared.task_run.TaskRun.{TaskRun}
+use Rattle.response_fixpoint.specs.declared.rounds.Round.{Round}
 use Rattle.response_fixpoint.specs.declared.rounds.RoundStop.{RoundStop}
 use Rattle.response_fixpoint.specs.declared.rounds.RoundStop.TheVariants as round_stop
-use Rattle.response_fixpoint.proofs.RoundLaws.{schedulable_least, not_shown_none, values_length}
-use Rattle.response_fixpoint.proofs.ResponseLaws.{sound, one_ending, never_short, found_by, round_value}
-
--- Each task that passed has the empty dual.
-duals_found : (set : SetDef) (r : List ℕ) (left i : ℕ) (found : Found) → Passes (rounds_of set) r left i found → found.duals ≡ replicate i empty_dual
-duals_found set r left zero found p = ap (λ f. f.duals) p
-duals_found set r left (suc i) found (before, used, value, dual, passed, run, within, same) =
-    let rest = duals_found set r left i before passed in
-    let here : dual ≡ empty_dual = run.3 in
-    let more : replicate (i + 1) empty_dual ≡ replicate i empty_dual ++ empty_dual ∷ [] = replicate_next i empty_dual in
-    let count : i + 1 ≡ suc i = omega arith in
-    ap (λ f. f.duals) same ∙ ap (λ ds. ds ++ dual ∷ []) rest ∙ ap (λ d. replicate i empty_dual ++ d ∷ []) here ∙ sym more ∙ ap (λ k. replicate k empty_dual) count
-
--- The dual without numerators is optimal for a program without columns.
-empty_optimal : IsOptimalDual no_columns empty_dual
-empty_optimal = record {
-  feasible = record { number_each = refl; covers = record { positive = omega arith; covered = λ c below. absurd (omega arith) } };
-  optimum = record {
-    positive = omega arith;
-    attained = record { scale = 1; point = λ c. 0; is_point = record { positive = omega arith; kept = λ r below. absurd (omega arith) }; attained = refl };
-    not_passed = λ s ys point. omega arith;
-  };
-}
-
--- So is each dual of rounds that end in Schedulable.
-empty_duals_optimal : (set : SetDef) (duals : List DualDef) → duals ≡ replicate (length set.tasks) empty_dual → AreOptimalDuals set duals
-empty_duals_optimal set duals is =
-    let n = length set.tasks in
-    let each : AreOptimalDuals set (replicate n empty_dual) = record {
-      one_each = length-replicate n empty_dual;
-      optimal = λ i here. subst (λ (d : DualDef). IsOptimalDual no_columns d) (sym (get_or-replicate n i empty_dual empty_dual here)) empty_optimal;
-    } in
-    subst (λ (ds : List DualDef). AreOptimalDuals set ds) (sym is) each
-
--- The bounds and duals of rounds that end in Schedulable are right.
-pub schedulable_right : (set : SetDef) (allowance : ℕ) (bounds : List ℕ) (duals : List DualDef) → EndsIn (rounds_of set) allowance (Schedulable bounds duals)
-    → AreLeastFitting set bounds × (duals ≡ replicate (length set.tasks) empty_dual) × AreOptimalDuals set duals
-schedulable_right set allowance bounds duals (left, found, comes, same, rest) =
-    let empty : duals ≡ replicate (length set.tasks) empty_dual = sym rest ∙ duals_found set bounds (allowance - comes.spent) (length set.tasks) found comes.passed in
-    (schedulable_least (rounds_of set) (IsResponse set) allowance bounds duals (sound set) (left, found, comes, same, rest), empty, empty_duals_optimal set duals empty)
-
--- Where rounds end in NotShown nothing fits.
-pub not_shown_right : (set : SetDef) (allowance i value : ℕ) → EndsIn (rounds_of set) allowance (NotShown i value) → (s : List ℕ) → AreFitting set s → ⊥
-not_shown_right set allowance i value ends = not_shown_none (rounds_of set) (IsResponse set) allowance i value (sound set) ends
+use Rattle.response_fixpoint.proofs.LeastExists.{cost_below}
+use Rattle.response_fixpoint.proofs.RoundLaws.{values_length}
+use Rattle.response_fixpoint.proofs.RunLaws.{one_ending, round_value, rounds_never_wide, never_short, CostsFit}
+use Rattle.response_fixpoint.proofs.EndLaws.{schedulable_best, not_shown_none}
 
 -- Rounds end in one way, so their end is the one of the answer.
-pub only_of : (set : SetDef) (allowance : ℕ) (r : Result Verdict Stop) (e : Ending) → Answers r set allowance → EndsIn (rounds_of set) allowance e → IsAnswerOf r e
-only_of set allowance (Ok (verdict.Schedulable certificate)) e answers ends =
-    one_ending set allowance e (Schedulable certificate.bounds.items (map dual_seen certificate.duals.items)) ends answers
-only_of set allowance (Ok (verdict.NotShown task bound)) e answers ends = one_ending set allowance e (NotShown task.0 bound) ends answers
-only_of set allowance (Err (stop.Wide task)) e answers ends = one_ending set allowance e (Wide task.0) ends answers
-only_of set allowance (Err stop.Allowance) e answers ends = one_ending set allowance e Allowance ends answers
-only_of set allowance (Err stop.Memory) e answers ends = tt
+pub only_of : (f : SourceDef) (allowance : ℕ) (r : Result Verdict Stop) → Answers r f allowance → (e : Ending) → EndsIn (rounds_of f) allowance e → IsAnswerOf r e
+only_of f allowance (Ok (verdict.Schedulable certificate)) answers e ends =
+    one_ending f allowance e (Schedulable certificate.bounds.items (map dual_seen certificate.duals.items)) ends answers
+only_of f allowance (Ok (verdict.NotShown task bound)) answers e ends = one_ending f allowance e (NotShown task.0 bound) ends answers
+only_of f allowance (Err (stop.Wide task)) answers e ends = one_ending f allowance e (Wide task.0) ends answers
+only_of f allowance (Err stop.Allowance) answers e ends = one_ending f allowance e Allowance ends answers
+only_of f allowance (Err stop.Memory) answers e ends = tt
 
 -- The verdict of rounds that end so is right.
-pub right_of : (set : SetDef) (allowance : ℕ) (r : Result Verdict Stop) → Answers r set allowance → IfOk r (λ v. IsRight v set)
-right_of set allowance (Ok (verdict.Schedulable certificate)) ends =
-    let right = schedulable_right set allowance certificate.bounds.items (map dual_seen certificate.duals.items) ends in
-    (right.0, λ nothing. right.1, right.2)
-right_of set allowance (Ok (verdict.NotShown task bound)) ends = not_shown_right set allowance task.0 bound ends
-right_of set allowance (Err e) ends = tt
+pub right_of : (f : SourceDef) (allowance : ℕ) (r : Result Verdict Stop) → ComesUpAbove f → Answers r f allowance → IfOk r (λ v. IsRight v f)
+right_of f allowance (Ok (verdict.Schedulable certificate)) above ends =
+    schedulable_best f allowance certificate.bounds.items (map dual_seen certificate.duals.items) above ends
+right_of f allowance (Ok (verdict.NotShown task bound)) above ends = not_shown_none f allowance task.0 bound above ends
+right_of f allowance (Err e) above ends = tt
 
 -- It comes exactly where it is right.
-pub exactly_of : (set : SetDef) (allowance : ℕ) (r : Result Verdict Stop) → Answers r set allowance → IfOk r (λ v. IsSchedulable v ↔ ((s : List ℕ) × AreFitting set s))
-exactly_of set allowance (Ok (verdict.Schedulable certificate)) ends =
-    let right = right_of set allowance (Ok (verdict.Schedulable certificate)) ends in
-    ((λ _. (certificate.bounds.items, right.0.fitting)), λ _. tt)
-exactly_of set allowance (Ok (verdict.NotShown task bound)) ends =
-    let none = right_of set allowance (Ok (verdict.NotShown task bound)) ends in
-    ((λ h. absurd h), λ h. absurd (none h.0 h.1))
-exactly_of set allowance (Err e) ends = tt
+pub exactly_of : (f : SourceDef) (r : Result Verdict Stop) → IfOk r (λ v. IsRight v f) → IfOk r (λ v. IsSchedulable v ↔ ((s : List ℕ) × AreFitting f s))
+exactly_of f (Ok (verdict.Schedulable certificate)) right = ((λ _. (certificate.bounds.items, right.least.fitting)), λ _. tt)
+exactly_of f (Ok (verdict.NotShown task bound)) right = ((λ h. absurd h), λ h. absurd (right h.0 h.1))
+exactly_of f (Err e) right = tt
 
--- The rounds of a set without requests never end in Wide.
-pub never_wide_of : (set : SetDef) (allowance task : ℕ) → EndsIn (rounds_of set) allowance (Wide task) → ⊥
-never_wide_of set allowance task (r, left, found, below, comes, run) = absurd run
+-- Without columns Wide never comes.
+pub never_wide_of : (f : SourceDef) (allowance : ℕ) (r : Result Verdict Stop) → Answers r f allowance → HasNoColumns f
+    → (task : ℕ) → IsErrOf r (stop.Wide (record { 0 = task })) → ⊥
+never_wide_of f allowance (Ok v) ends none task is = cc
+never_wide_of f allowance (Err (stop.Wide x)) ends none task is = rounds_never_wide f allowance x.0 none ends
+never_wide_of f allowance (Err stop.Allowance) ends none task is = cc
+never_wide_of f allowance (Err stop.Memory) ends none task is = cc
 
--- A round that ends the rounds gives their end.
-pub ended_answers : (set : SetDef) (allowance k spent : ℕ) (r : List ℕ) (e : RoundStop) → Reaches (rounds_of set) allowance k spent r
-    → GivesRound (Err e) set r (allowance - spent) → Answers (answer_at e) set allowance
-ended_answers set allowance k spent r (round_stop.NotShown task bound) reached (found, below, passed, run, passes) =
-    let comes : ComesTo (rounds_of set) allowance r task.0 (allowance - spent - found.used) found = record { rounds = k; spent = spent; reached = reached; passed = passed; units = refl } in
-    (r, allowance - spent - found.used, found, 1, empty_dual, below, comes, run, passes)
-ended_answers set allowance k spent r round_stop.Allowance reached (i, found, below, passed, none) =
-    let comes : ComesTo (rounds_of set) allowance r i (allowance - spent - found.used) found = record { rounds = k; spent = spent; reached = reached; passed = passed; units = refl } in
-    (r, i, allowance - spent - found.used, found, below, comes, none)
-ended_answers set allowance k spent r round_stop.Memory reached given = tt
+-- And an allowance with a unit for each task and each tick of slack, and one round more, is enough.
+pub never_short_of : (f : SourceDef) (allowance : ℕ) (r : Result Verdict Stop) → NeverFalls f → CostsFit f → Answers r f allowance → HasNoColumns f
+    → tasks_of f * (1 + slack_of f) ≤ allowance → IsErrOf r stop.Allowance → ⊥
+never_short_of f allowance (Ok v) monotone fit ends none enough is = cc
+never_short_of f allowance (Err (stop.Wide task)) monotone fit ends none enough is = cc
+never_short_of f allowance (Err stop.Allowance) monotone fit ends none enough is = never_short f allowance none monotone fit enough ends
+never_short_of f allowance (Err stop.Memory) monotone fit ends none enough is = cc
 
--- A round that gives the vector that it began with ends them too.
-pub settled_answers : (set : SetDef) (allowance k spent : ℕ) (r next : List ℕ) (result : Result Verdict Stop) → Reaches (rounds_of set) allowance k spent r
-    → Passes (rounds_of set) r (allowance - spent) (length set.tasks) (found_by (length set.tasks) next) → next ≡ r
-    → IsVerdictOf result next (length set.tasks) → Answers result set allowance
-settled_answers set allowance k spent r next (Ok (verdict.Schedulable certificate)) reached passed same is =
-    let n = length set.tasks in
-    let bounds : r ≡ certificate.bounds.items = sym same ∙ sym is.0 in
-    let comes : ComesTo (rounds_of set) allowance r n (allowance - spent - n) (found_by n next) = record { rounds = k; spent = spent; reached = reached; passed = passed; units = refl } in
-    let moved : ComesTo (rounds_of set) allowance certificate.bounds.items n (allowance - spent - n) (found_by n next) = subst (λ (v : List ℕ). ComesTo (rounds_of set) allowance v n (allowance - spent - n) (found_by n next)) bounds comes in
-    (allowance - spent - n, found_by n next, moved, sym is.0, sym is.1)
-settled_answers set allowance k spent r next (Ok (verdict.NotShown task bound)) reached passed same is = absurd is
-settled_answers set allowance k spent r next (Err (stop.Wide task)) reached passed same is = absurd is
-settled_answers set allowance k spent r next (Err stop.Allowance) reached passed same is = absurd is
-settled_answers set allowance k spent r next (Err stop.Memory) reached passed same is = tt
+-- The vector of a round is within the deadlines, and from the costs.
+pub within_of : (set : SetDef) (r : List ℕ) → IsInRange set r → AreWithinDeadlines set r
+within_of set r h = record { one_each = h.one_each; to_deadline = h.to_deadline }
 
--- The next vector of a round is in range again.
-pub next_in_range : (set : SetDef) (r next : List ℕ) (left : ℕ) → Passes (rounds_of set) r left (length set.tasks) (found_by (length set.tasks) next) → IsInRange set next
-next_in_range set r next left passed =
-    let n = length set.tasks in
+pub from_costs_of : (set : SetDef) (r : List ℕ) (i : ℕ) → IsInRange set r → i < length set.tasks → AreFromCostsAbove set r i
+from_costs_of set r i h here = λ k above. h.from_cost k (omega (arith, here, above))
+
+-- A program that is solved makes a solved task.
+pub solved_task : (f : SourceDef) (r : List ℕ) (i left : ℕ) (p : ProgramDef) (s : Solved) (blocking value : ℕ) → p ≡ f.program i r → IsProgram p
+    → EndsWithin p left s.exchanges s.value s.primal.items (dual_seen s.dual) → IsOptimumValue p s.value
+    → blocking ≡ unsigned_abs s.value.num / unsigned_abs s.value.den → value ≡ response_with f r i blocking
+    → TaskRuns f r i left (Valued (s.exchanges + 1) value (dual_seen s.dual))
+solved_task f r i left p s blocking value same is ends best whole response =
+    let part : ℕ = unsigned_abs s.value.num / unsigned_abs s.value.den in
+    let greatest : IsGreatestReached p part = optimum_reached p (unsigned_abs s.value.num) (unsigned_abs s.value.den) best.optimum in
     record {
-      one_each = values_length (rounds_of set) r left n (found_by n next) passed;
-      from_cost = λ i here. (let v = (round_value set r left (found_by n next) passed i here).0 in omega arith);
-      to_deadline = λ i here. (round_value set r left (found_by n next) passed i here).1;
+      is_program = subst IsProgram same is;
+      ends = record {
+        exchanges = s.exchanges;
+        optimum = s.value;
+        best = s.primal.items;
+        ends = subst (λ (x : ProgramDef). EndsWithin x left s.exchanges s.value s.primal.items (dual_seen s.dual)) same ends;
+        units = refl;
+        response = record {
+          blocking = blocking;
+          greatest = subst (λ (b : ℕ). IsGreatestReached (f.program i r) b) (sym whole) (subst (λ (x : ProgramDef). IsGreatestReached x part) same greatest);
+          response = response;
+        };
+      };
     }
 
--- The allowance is enough where it has a unit for each task and each tick of slack, and one round more.
-pub never_short_of : (set : SetDef) (allowance : ℕ) (r : Result Verdict Stop) → ((i : ℕ) → i < length set.tasks → (task_at set i).cost ≤ (task_at set i).deadline)
-    → Answers r set allowance → length set.tasks * (1 + slack_of set) ≤ allowance → IsErrOf r stop.Allowance → ⊥
-never_short_of set allowance (Ok v) fit ends enough is = cc
-never_short_of set allowance (Err (stop.Wide task)) fit ends enough is = cc
-never_short_of set allowance (Err stop.Allowance) fit ends enough is = never_short set allowance fit enough ends
-never_short_of set allowance (Err stop.Memory) fit ends enough is = cc
+-- And one that is not, a task that stops.
+pub stopped_task : (f : SourceDef) (r : List ℕ) (i left : ℕ) (p : ProgramDef) (e : SolveStop) → p ≡ f.program i r → IsProgram p
+    → Solves (Err e) p left → GivesRun (Err e) f r i left
+stopped_task f r i left p solve_stop.Wide same is run = record {
+  is_program = subst IsProgram same is;
+  ends = subst (λ (x : ProgramDef). IsWideWithin x left) same run;
+}
+stopped_task f r i left p solve_stop.Units same is run = record {
+  is_program = subst IsProgram same is;
+  ends = subst (λ (x : ProgramDef). NeedsMoreThan x left) same run;
+}
+stopped_task f r i left p solve_stop.Memory same is run = tt
+
+-- One more task passes.
+pub passes_more : (f : SourceDef) (r : List ℕ) (left i : ℕ) (before : Found) (run : TaskRun) → Passes (rounds_of f) r left i before
+    → TaskRuns f r i (left - before.used) (Valued run.used run.value (dual_seen run.dual)) → run.value ≤ deadline_of f i
+    → Passes (rounds_of f) r left (i + 1) (with_task before run.used run.value (dual_seen run.dual))
+passes_more f r left i before run passed runs within =
+    let next : Passes (rounds_of f) r left (suc i) (with_task before run.used run.value (dual_seen run.dual)) =
+    (before, run.used, run.value, dual_seen run.dual, passed, runs, within, refl) in
+    let count : suc i ≡ i + 1 = omega arith in
+    subst (λ (k : ℕ). Passes (rounds_of f) r left k (with_task before run.used run.value (dual_seen run.dual))) count next
+
+-- A solved run takes units that are there, and at least one.
+pub run_units : (f : SourceDef) (r : List ℕ) (i left used value : ℕ) (dual : DualDef) → TaskRuns f r i left (Valued used value dual) → (1 ≤ used) × (used ≤ left)
+run_units f r i left used value dual run = (omega (arith, run.ends.units), omega (arith, run.ends.units, run.ends.ends.within))
+
+-- A round ends where a run stops.
+pub run_halts : (f : SourceDef) (r : List ℕ) (left i : ℕ) (found : Found) (e : SolveStop) → i < tasks_of f → Passes (rounds_of f) r left i found
+    → GivesRun (Err e) f r i (left - found.used) → GivesRound (Err (stop_at e i)) f r left
+run_halts f r left i found solve_stop.Wide here passed run = record { found = found; below = here; passed = passed; run = run }
+run_halts f r left i found solve_stop.Units here passed run = (i, record { found = found; below = here; passed = passed; run = run })
+run_halts f r left i found solve_stop.Memory here passed run = tt
+
+-- It ends at a value that passes the deadline.
+pub value_halts : (f : SourceDef) (r : List ℕ) (left i deadline : ℕ) (before now : Round) (run : TaskRun) (e : RoundStop) → i < tasks_of f → deadline ≡ deadline_of f i
+    → Passes (rounds_of f) r left i (found_of before)
+    → TaskRuns f r i (left - before.used) (Valued run.used run.value (dual_seen run.dual))
+    → TakesRun (Err e) before now run i deadline → GivesRound (Err e) f r left
+value_halts f r left i deadline before now run (round_stop.NotShown task bound) here is passed runs (same, value, past) =
+    let halts : Halts f r left i (Valued run.used bound (dual_seen run.dual)) = record {
+      found = found_of before;
+      below = here;
+      passed = passed;
+      run = subst (λ (v : ℕ). TaskRuns f r i (left - before.used) (Valued run.used v (dual_seen run.dual))) (sym value) runs;
+    } in
+    let late : deadline_of f i < bound = omega (arith, is, value, past) in
+    subst (λ (k : ℕ). (deadline_of f k < bound) × (used : ℕ) × (dual : DualDef) × Halts f r left k (Valued used bound dual)) (sym same) (late, run.used, dual_seen run.dual, halts)
+value_halts f r left i deadline before now run (round_stop.Wide task) here is passed runs given = absurd given
+value_halts f r left i deadline before now run round_stop.Allowance here is passed runs given = absurd given
+value_halts f r left i deadline before now run round_stop.Memory here is passed runs given = tt
+
+comes_there : (f : SourceDef) (allowance k spent : ℕ) (r : List ℕ) (i : ℕ) (e : RunEnd) → Reaches (rounds_of f) allowance k spent r
+    → (h : Halts f r (allowance - spent) i e) → ComesTo (rounds_of f) allowance r i (allowance - spent - h.found.used) h.found
+comes_there f allowance k spent r i e reached h = record { rounds = k; spent = spent; reached = reached; passed = h.passed; units = refl }
+
+-- A round that ends the rounds gives their end.
+pub ended_answers : (f : SourceDef) (allowance k spent : ℕ) (r : List ℕ) (e : RoundStop) → Reaches (rounds_of f) allowance k spent r
+    → GivesRound (Err e) f r (allowance - spent) → Answers (answer_at e) f allowance
+ended_answers f allowance k spent r (round_stop.NotShown task bound) reached (late, used, dual, h) =
+    (r, allowance - spent - h.found.used, h.found, used, dual, h.below, comes_there f allowance k spent r task.0 (Valued used bound dual) reached h, h.run, late)
+ended_answers f allowance k spent r (round_stop.Wide task) reached h =
+    (r, allowance - spent - h.found.used, h.found, h.below, comes_there f allowance k spent r task.0 TooWide reached h, h.run)
+ended_answers f allowance k spent r round_stop.Allowance reached (i, h) =
+    (r, i, allowance - spent - h.found.used, h.found, h.below, comes_there f allowance k spent r i OutOfUnits reached h, h.run)
+ended_answers f allowance k spent r round_stop.Memory reached given = tt
+
+-- A round that gives the vector that it began with ends them too.
+pub settled_ends : (f : SourceDef) (allowance k spent : ℕ) (r : List ℕ) (found : Found) → Reaches (rounds_of f) allowance k spent r
+    → Passes (rounds_of f) r (allowance - spent) (tasks_of f) found → found.values ≡ r → EndsIn (rounds_of f) allowance (Schedulable found.values found.duals)
+settled_ends f allowance k spent r found reached passed same =
+    let comes : ComesTo (rounds_of f) allowance r (tasks_of f) (allowance - spent - found.used) found = record { rounds = k; spent = spent; reached = reached; passed = passed; units = refl } in
+    let moved : ComesTo (rounds_of f) allowance found.values (tasks_of f) (allowance - spent - found.used) found =
+    subst (λ (v : List ℕ). ComesTo (rounds_of f) allowance v (tasks_of f) (allowance - spent - found.used) found) (sym same) comes in
+    (allowance - spent - found.used, found, moved, refl, refl)
+
+-- The next vector of a round is in range again.
+pub next_in_range : (f : SourceDef) (r : List ℕ) (left : ℕ) (found : Found) → Passes (rounds_of f) r left (tasks_of f) found → IsInRange f.set found.values
+next_in_range f r left found passed = record {
+  one_each = values_length (rounds_of f) r left (tasks_of f) found passed;
+  from_cost = λ i here. cost_below f r i (slice_index found.values i) (round_value f r left found passed i here).0;
+  to_deadline = λ i here. (round_value f r left found passed i here).1;
+}
 
 -- A round that gives another vector goes by.
-pub reaches_more : (set : SetDef) (allowance k spent used : ℕ) (r next : List ℕ) → Reaches (rounds_of set) allowance k spent r
-    → Passes (rounds_of set) r (allowance - spent) (length set.tasks) (found_by (length set.tasks) next) → r ≢ next → used ≡ spent + length set.tasks
-    → (j : ℕ) × Reaches (rounds_of set) allowance j used next
-reaches_more set allowance k spent used r next reached passed other units =
-    (suc k, (spent, r, found_by (length set.tasks) next, reached, passed, refl, other, units))
+pub reaches_more : (f : SourceDef) (allowance k spent used : ℕ) (r : List ℕ) (found : Found) → Reaches (rounds_of f) allowance k spent r
+    → Passes (rounds_of f) r (allowance - spent) (tasks_of f) found → r ≢ found.values → used ≡ spent + found.used
+    → (j : ℕ) × Reaches (rounds_of f) allowance j used found.values
+reaches_more f allowance k spent used r found reached passed other units =
+    (suc k, (spent, r, found, reached, passed, refl, other, units))

@@ -1,6 +1,10 @@
 pub mod VectorLaws
 pub mod LeastFixpoint
+pub mod LeastExists
 pub mod RoundLaws
 pub mod OneEnd
-pub mod ResponseLaws
+pub mod EmptyRuns
+pub mod WrittenLaws
+pub mod RunLaws
+pub mod EndLaws
 pub mod AnswerLaws

@@ -4,7 +4,7 @@ use Rattle.std.proofs.lemmas.Bool.{cases_lt}
 use Rattle.std.specs.Prelude.{slice_index}
 use Rattle.std.proofs.lemmas.Grind.{same_number_lists}
 use Rattle.bounded_sums.specs.Sums.{sum_below}
-use Rattle.response_fixpoint.specs.Vectors.{AtMost}
+use Rattle.program_sources.specs.Bounds.{AtMost}
 
 -- The sum of the first n places of a vector.
 abbrev pub total : ℕ → List ℕ → ℕ

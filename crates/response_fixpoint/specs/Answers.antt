@@ -1,24 +1,31 @@
 -- What the answers of an analysis mean.
-use Rattle.std.specs.Prelude.{◌≡◌, ℕ, ◌-◌, ◌<◌, ◌≤◌, List, length, map, replicate, Result, Ok, Err, Vec}
-use Rattle.std.specs.Global.{Global}
-use Rattle.program_form.specs.Certificate.{dual_seen}
-use Rattle.sporadic_model.specs.SetDef.{SetDef}
-use Rattle.response_fixpoint.specs.Rounds.{Valued, Ending, Schedulable, NotShown, Wide, Allowance, Found, Passes, EndsIn}
-use Rattle.response_fixpoint.specs.Response.{RequestsNothing, AreFitting, AreLeastFitting, AreOptimalDuals, RunsOf, empty_dual, deadline_of, rounds_of}
+use Rattle.std.specs.Prelude.{◌≡◌, ℕ, ◌<◌, ◌≤◌, ◌-◌, ◌^◌, List, map, Result, Ok, Err}
+use Rattle.std.specs.List.{All}
+use Rattle.program_form.specs.Certificate.{DualDef, CertificateDef, dual_seen, certificate_seen}
+use Rattle.program_sources.specs.Recurrence.{SourceDef}
+use Rattle.program_sources.specs.Fitting.{AreFitting, AreLeastFitting, tasks_of, deadline_of}
+use Rattle.program_sources.specs.Valid.{AreOptimalDuals, IsValid, dual_at}
+use Rattle.response_fixpoint.specs.Rounds.{RunEnd, Valued, TooWide, OutOfUnits, Ending, Schedulable, NotShown, Wide, Allowance, Found, with_task, Passes, EndsIn}
+use Rattle.response_fixpoint.specs.Runs.{TaskRuns, rounds_of}
+use Rattle.simplex.specs.declared.SolveStop.{SolveStop}
+use Rattle.simplex.specs.declared.SolveStop.TheVariants as solve_stop
 use Rattle.response_fixpoint.specs.declared.verdict.Verdict.{Verdict}
 use Rattle.response_fixpoint.specs.declared.verdict.Verdict.TheVariants as verdict
 use Rattle.response_fixpoint.specs.declared.verdict.Stop.{Stop}
 use Rattle.response_fixpoint.specs.declared.verdict.Stop.TheVariants as stop
+use Rattle.response_fixpoint.specs.declared.task_run.TaskRun.{TaskRun}
+use Rattle.response_fixpoint.specs.declared.rounds.Round.{Round}
 use Rattle.response_fixpoint.specs.declared.rounds.RoundStop.{RoundStop}
 use Rattle.response_fixpoint.specs.declared.rounds.RoundStop.TheVariants as round_stop
 
--- Is this how the rounds of the set end with this allowance? Want of memory says nothing.
-abbrev pub Answers : Result Verdict Stop → SetDef → ℕ → Type 0
-Answers (Ok (verdict.Schedulable certificate)) set allowance = EndsIn (rounds_of set) allowance (Schedulable certificate.bounds.items (map dual_seen certificate.duals.items))
-Answers (Ok (verdict.NotShown task bound)) set allowance = EndsIn (rounds_of set) allowance (NotShown task.0 bound)
-Answers (Err (stop.Wide task)) set allowance = EndsIn (rounds_of set) allowance (Wide task.0)
-Answers (Err stop.Allowance) set allowance = EndsIn (rounds_of set) allowance Allowance
-Answers (Err stop.Memory) set allowance = Unit {0}
+-- Is this how the rounds of the source end with this allowance? Want of memory says nothing.
+abbrev pub Answers : Result Verdict Stop → SourceDef → ℕ → Type 0
+Answers (Ok (verdict.Schedulable certificate)) f allowance =
+    EndsIn (rounds_of f) allowance (Schedulable certificate.bounds.items (map dual_seen certificate.duals.items))
+Answers (Ok (verdict.NotShown task bound)) f allowance = EndsIn (rounds_of f) allowance (NotShown task.0 bound)
+Answers (Err (stop.Wide task)) f allowance = EndsIn (rounds_of f) allowance (Wide task.0)
+Answers (Err stop.Allowance) f allowance = EndsIn (rounds_of f) allowance Allowance
+Answers (Err stop.Memory) f allowance = Unit {0}
 
 -- Is this the answer that rounds of this ending give? But for want of memory there is no other.
 abbrev pub IsAnswerOf : Result Verdict Stop → Ending → Type 0
@@ -28,37 +35,71 @@ IsAnswerOf (Err (stop.Wide task)) e = e ≡ Wide task.0
 IsAnswerOf (Err stop.Allowance) e = e ≡ Allowance
 IsAnswerOf (Err stop.Memory) e = Unit {0}
 
--- Is the verdict right: are the bounds the least that fit, with an optimal dual for each task, which has no
--- numerator over 1 where no task requests anything, or does nothing fit where the verdict is that the set isn't shown?
-abbrev pub IsRight : Verdict → SetDef → Type 0
-IsRight (verdict.Schedulable certificate) set = (AreLeastFitting set certificate.bounds.items)
-    × (RequestsNothing set → map dual_seen certificate.duals.items ≡ replicate (length set.tasks) empty_dual)
-    × (AreOptimalDuals set (map dual_seen certificate.duals.items))
-IsRight (verdict.NotShown task bound) set = (s : List ℕ) → AreFitting set s → ⊥
+-- Are all numbers of the dual below 2^63?
+pub record IsSmallDual (dual : DualDef) : Type 0 where
+  pub den : dual.den < 2 ^ 63
+  pub num : All (λ k. k < 2 ^ 63) dual.num
+
+-- Are the certificate's bounds the least that fit, with an optimal dual for each task? Then it is valid. Its duals are small.
+pub record IsBest (f : SourceDef) (c : CertificateDef) : Type 0 where
+  pub least : AreLeastFitting f c.bounds
+  pub optimal : AreOptimalDuals f c.bounds c.duals
+  pub valid : IsValid f c
+  pub small : (i : ℕ) → i < tasks_of f → IsSmallDual (dual_at c.duals i)
+
+-- Is the verdict right: is the certificate the best, or does nothing fit where the set isn't shown?
+abbrev pub IsRight : Verdict → SourceDef → Type 0
+IsRight (verdict.Schedulable certificate) f = IsBest f (certificate_seen certificate)
+IsRight (verdict.NotShown task bound) f = (s : List ℕ) → AreFitting f s → ⊥
 
 -- Is this a verdict that the set is schedulable?
 abbrev pub IsSchedulable : Verdict → Type 0
 IsSchedulable (verdict.Schedulable certificate) = Unit {0}
 IsSchedulable (verdict.NotShown task bound) = ⊥
 
--- What a round at r that begins with `left` units gives: the next vector, or the task at which the rounds end.
-abbrev pub GivesRound : Result (Vec ℕ Global) RoundStop → SetDef → List ℕ → ℕ → Type 0
-GivesRound (Ok values) set r left = (length set.tasks ≤ left) × (Passes (rounds_of set) r left (length set.tasks) (record { used = length set.tasks; values = values.items; duals = replicate (length set.tasks) empty_dual }))
-GivesRound (Err (round_stop.NotShown task bound)) set r left = (found : Found) × (task.0 < length set.tasks) × (Passes (rounds_of set) r left task.0 found)
-    × (RunsOf set r task.0 (left - found.used) (Valued 1 bound empty_dual)) × (deadline_of set task.0 < bound)
-GivesRound (Err round_stop.Allowance) set r left = (i : ℕ) × (found : Found) × (i < length set.tasks) × (Passes (rounds_of set) r left i found) × (left - found.used ≡ 0)
-GivesRound (Err round_stop.Memory) set r left = Unit {0}
+-- Is this how the run of task i ends where so many units are left? Want of memory says nothing.
+abbrev pub GivesRun : Result TaskRun SolveStop → SourceDef → List ℕ → ℕ → ℕ → Type 0
+GivesRun (Ok run) f r i left = TaskRuns f r i left (Valued run.used run.value (dual_seen run.dual))
+GivesRun (Err solve_stop.Wide) f r i left = TaskRuns f r i left TooWide
+GivesRun (Err solve_stop.Units) f r i left = TaskRuns f r i left OutOfUnits
+GivesRun (Err solve_stop.Memory) f r i left = Unit {0}
 
--- Is this the verdict with these bounds, for so many tasks?
-abbrev pub IsVerdictOf : Result Verdict Stop → List ℕ → ℕ → Type 0
-IsVerdictOf (Ok (verdict.Schedulable certificate)) bounds tasks = (certificate.bounds.items ≡ bounds) × (map dual_seen certificate.duals.items ≡ replicate tasks empty_dual)
-IsVerdictOf (Ok (verdict.NotShown task bound)) bounds tasks = ⊥
-IsVerdictOf (Err (stop.Wide task)) bounds tasks = ⊥
-IsVerdictOf (Err stop.Allowance) bounds tasks = ⊥
-IsVerdictOf (Err stop.Memory) bounds tasks = Unit {0}
+-- What a round has found so far.
+abbrev pub found_of : Round → Found
+found_of round = record { used = round.used; values = round.values.items; duals = map dual_seen round.duals.items }
+
+-- What comes of a solved task in a round: it passes where its value is at most its deadline.
+abbrev pub TakesRun : Result (Unit {0}) RoundStop → Round → Round → TaskRun → ℕ → ℕ → Type 0
+TakesRun (Ok done) before now run i deadline = (run.value ≤ deadline) × (found_of now ≡ with_task (found_of before) run.used run.value (dual_seen run.dual))
+TakesRun (Err (round_stop.NotShown task bound)) before now run i deadline = (task.0 ≡ i) × (bound ≡ run.value) × (deadline < run.value)
+TakesRun (Err (round_stop.Wide task)) before now run i deadline = ⊥
+TakesRun (Err round_stop.Allowance) before now run i deadline = ⊥
+TakesRun (Err round_stop.Memory) before now run i deadline = Unit {0}
+
+-- Where a round at r that begins with `left` units comes to a task at which the rounds end.
+pub record Halts (f : SourceDef) (r : List ℕ) (left i : ℕ) (e : RunEnd) : Type 0 where
+  pub found : Found
+  pub below : i < tasks_of f
+  pub passed : Passes (rounds_of f) r left i found
+  pub run : TaskRuns f r i (left - found.used) e
+
+-- What such a round gives: what it has found of all tasks, or the task at which the rounds end.
+abbrev pub GivesRound : Result Round RoundStop → SourceDef → List ℕ → ℕ → Type 0
+GivesRound (Ok round) f r left = (Passes (rounds_of f) r left (tasks_of f) (found_of round)) × (round.used ≤ left) × (tasks_of f ≤ round.used)
+GivesRound (Err (round_stop.NotShown task bound)) f r left = (deadline_of f task.0 < bound) × (used : ℕ) × (dual : DualDef) × Halts f r left task.0 (Valued used bound dual)
+GivesRound (Err (round_stop.Wide task)) f r left = Halts f r left task.0 TooWide
+GivesRound (Err round_stop.Allowance) f r left = (i : ℕ) × Halts f r left i OutOfUnits
+GivesRound (Err round_stop.Memory) f r left = Unit {0}
 
 -- What the analysis answers where a round ends so.
 abbrev pub answer_at : RoundStop → Result Verdict Stop
 answer_at (round_stop.NotShown task bound) = Ok (verdict.NotShown task bound)
+answer_at (round_stop.Wide task) = Err (stop.Wide task)
 answer_at round_stop.Allowance = Err stop.Allowance
 answer_at round_stop.Memory = Err stop.Memory
+
+-- Why a round ends where a run stops so.
+abbrev pub stop_at : SolveStop → ℕ → RoundStop
+stop_at solve_stop.Wide i = round_stop.Wide (record { 0 = i })
+stop_at solve_stop.Units i = round_stop.Allowance
+stop_at solve_stop.Memory i = round_stop.Memory

@@ -1,6 +1,4 @@
-pub mod Vectors
-pub mod Fitting
 pub mod Rounds
-pub mod Response
-pub mod Range
+pub mod Runs
+pub mod Written
 pub mod Answers

@@ -1,20 +1,31 @@
-ghost use Rattle.std.specs.Prelude.{◌≡◌, ℕ, List, length};
+//! What holds of the rounds and of fitting bounds. Each function is a law: it does nothing.
+
+ghost use Rattle.std.specs.Prelude.{◌≡◌, ℕ, List};
 ghost use Rattle.sporadic_model.specs.SetDef.{SetDef};
-ghost use Rattle.response_fixpoint.specs.Fitting.{IsMonotone};
+ghost use Rattle.sporadic_model.specs.declared.ids.Protocol.{Protocol};
+ghost use Rattle.program_sources.specs.Recurrence.{SourceDef};
+ghost use Rattle.program_sources.specs.Fitting.{AreFitting, AreLeastFitting};
 ghost use Rattle.response_fixpoint.specs.Rounds.{Ending, EndsIn};
-ghost use Rattle.response_fixpoint.specs.Response.{IsResponse, AreFitting, AreLeastFitting, rounds_of};
+ghost use Rattle.response_fixpoint.specs.Runs.{rounds_of, HasNoColumns};
+ghost use Rattle.response_fixpoint.specs.Written.{written, RequestsNothing};
 
-/// A law: the recurrence never falls where its vector rises.
-pub fn recurrence_is_monotone()
-    ensures { (set : SetDef) → IsMonotone (length set.tasks) (IsResponse set) }
+use program_sources::{ProgramSource, recurrence_is_monotone};
+
+/// Where some bounds fit, the least that fit are there: for every source, with no premise but that the set suits it.
+pub fn a_least_fitting_vector_exists<P: ProgramSource>()
+    ensures { (p : P) (set : SetDef) (s : List ℕ) → P.suits p set
+        → AreFitting (record { set = set; program = P.program_of p set; interfering = P.interfering p set }) s
+        → (b : List ℕ) × AreLeastFitting (record { set = set; program = P.program_of p set; interfering = P.interfering p set }) b }
+{
+    recurrence_is_monotone::<P>();
+}
+
+/// The rounds end in one way only.
+pub fn the_rounds_have_one_ending()
+    ensures { (f : SourceDef) (allowance : ℕ) (e g : Ending) → EndsIn (rounds_of f) allowance e → EndsIn (rounds_of f) allowance g → e ≡ g }
 {}
 
-/// A law: where some bounds fit, the least that fit are there.
-pub fn least_exists()
-    ensures { (set : SetDef) (s : List ℕ) → AreFitting set s → (b : List ℕ) × AreLeastFitting set b }
-{}
-
-/// A law: the rounds end in one way only.
-pub fn one_ending()
-    ensures { (set : SetDef) (allowance : ℕ) (e f : Ending) → EndsIn (rounds_of set) allowance e → EndsIn (rounds_of set) allowance f → e ≡ f }
+/// Where no task requests a resource, no program has a column, under any protocol.
+pub fn no_requests_no_columns()
+    ensures { (protocol : Protocol) (set : SetDef) → RequestsNothing set → HasNoColumns (written protocol set) }
 {}

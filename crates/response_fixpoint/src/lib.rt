@@ -1,15 +1,18 @@
-//! The recurrence of response times, and its least fitting bounds by rounds.
+//! The least fitting bounds of a task set by rounds of the response-time recurrence, over any source of blocking programs.
+//!
+//! A round solves each task's program at the bounds of the round before, and the rounds end where one changes nothing. The
+//! definitions of the rounds stand in `specs/`; what fits, and which bounds are the least, is said in `program_sources`, without
+//! any round.
 #![tactic(auto)]
 
 mod analysis;
 mod laws;
-mod response;
 mod rounds;
+mod task_run;
 mod verdict;
 
-pub use analysis::analyse;
-pub use laws::{least_exists, one_ending, recurrence_is_monotone};
-pub use response::first_requester;
+pub use analysis::{analyse, analyse_with};
+pub use laws::{a_least_fitting_vector_exists, no_requests_no_columns, the_rounds_have_one_ending};
 pub use verdict::{Stop, Verdict};
 
 #[cfg(test)]

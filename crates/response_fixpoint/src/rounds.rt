@@ -1,40 +1,93 @@
-ghost use Rattle.std.specs.Prelude.{◌≡◌, ℕ, ◌<◌, ◌≤◌, length};
-ghost use Rattle.response_fixpoint.specs.Range.{IsInRange};
-ghost use Rattle.response_fixpoint.specs.Answers.{GivesRound};
+ghost use Rattle.std.specs.Prelude.{◌≡◌, ◌<◌, ◌^◌, ◌+◌};
+ghost use Rattle.program_sources.specs.Bounds.{IsInRange};
+ghost use Rattle.response_fixpoint.specs.Answers.{GivesRound, TakesRun, stop_at};
 
-use crate::response::response;
+use crate::task_run::{TaskRun, run_task};
+use program_form::Dual;
+use program_sources::ProgramSource;
+use simplex::SolveStop;
 use sporadic_model::{TaskId, TaskSet};
 use std::alloc::Global;
+
+/// What a round has found: its units, and for each task that passed the next bound in ticks, and the dual of its program.
+#[derive(Debug, Drop)]
+pub struct Round {
+    pub used: u64,
+    pub values: Vec<u64>,
+    pub duals: Vec<Dual>,
+}
 
 /// Why a round gives no next vector.
 #[derive(Debug, Drop)]
 pub enum RoundStop {
     /// The value of this task passes its deadline.
     NotShown { task: TaskId, bound: u64 },
-    /// No unit is left for the next task's program.
+    /// The run of this task's program is wide.
+    Wide(TaskId),
+    /// The runs want more units than are left.
     Allowance,
     Memory,
 }
 
-/// The next vector: the recurrence at `bounds`, task by task, each program taking one of the units left.
-pub fn round(alloc: Global, set: &TaskSet, bounds: &[u64], left: u64) -> Result<Vec<u64>, RoundStop>
-    requires { IsInRange set.now bounds.now }
-    ensures { GivesRound result set.now bounds.now left }
+/// Why a round ends where the run of a task stops so.
+fn stopped(stop: SolveStop, task: TaskId) -> RoundStop
+    ensures { result ≡ stop_at stop task.0 }
 {
-    let mut values = Vec::new(alloc);
+    match stop {
+        SolveStop::Wide => RoundStop::Wide(task),
+        SolveStop::Units => RoundStop::Allowance,
+        SolveStop::Memory => RoundStop::Memory,
+    }
+}
+
+/// Takes the run of a task into the round, where its value is within the deadline.
+fn take_run(round: &mut Round, run: TaskRun, task: TaskId, deadline: u64) -> Result<(), RoundStop>
+    requires { round.old.used + run.used < 2 ^ 64 }
+    ensures { TakesRun result round.old round.new run task.0 deadline }
+{
+    let TaskRun { used, value, dual } = run;
+    if value > deadline {
+        return Err(RoundStop::NotShown { task, bound: value });
+    }
+    match round.values.push(value) {
+        Ok(()) => {}
+        Err(_) => return Err(RoundStop::Memory),
+    }
+    match round.duals.push(dual) {
+        Ok(()) => {}
+        Err(_) => return Err(RoundStop::Memory),
+    }
+    round.used += used;
+    Ok(())
+}
+
+/// One round: the recurrence at `bounds`, task by task, each program solved with the units that the tasks before it have left.
+pub fn take_round<P: ProgramSource>(
+    alloc: Global,
+    set: &TaskSet,
+    protocol: &P,
+    bounds: &[u64],
+    left: u64,
+) -> Result<Round, RoundStop>
+    requires suits { P.suits protocol.now set.now }
+    requires range { IsInRange set.now bounds.now }
+    ensures { GivesRound result (record { set = set.now; program = P.program_of protocol.now set.now; interfering = P.interfering protocol.now set.now }) bounds.now left }
+{
+    let mut round = Round {
+        used: 0,
+        values: Vec::new(alloc),
+        duals: Vec::new(alloc),
+    };
     for i in 0..set.tasks() {
-        if u64::from(i) == left {
-            return Err(RoundStop::Allowance);
-        }
         let task = TaskId(i);
-        let bound = response(set, bounds, task);
-        if bound > set.deadline(task) {
-            return Err(RoundStop::NotShown { task, bound });
-        }
-        match values.push(bound) {
+        let run = match run_task(alloc, set, protocol, task, bounds, left - round.used) {
+            Ok(run) => run,
+            Err(stop) => return Err(stopped(stop, task)),
+        };
+        match take_run(&mut round, run, task, set.deadline(task)) {
             Ok(()) => {}
-            Err(_) => return Err(RoundStop::Memory),
+            Err(stop) => return Err(stop),
         }
     }
-    Ok(values)
+    Ok(round)
 }

@@ -1,107 +1,283 @@
-use crate::{Stop, Verdict, analyse, first_requester};
-use sporadic_model::{Parts, Protocol, TaskId, TaskPart, TaskSet};
+ghost use Rattle.std.specs.Prelude.{◌<◌, length, IsTrue};
+ghost use Rattle.sporadic_model.specs.Homes.{EachHasHome, HasHomesFor};
+
+use crate::{Stop, Verdict, analyse};
+use program_form::Dual;
+use sporadic_model::{Parts, Protocol, RequestPart, ResourceId, ResourcePart, TaskPart, TaskSet};
 use std::alloc::{AllocError, Global};
 use std::test::Fail;
 use std::thread::Threads;
 
-/// A task named by its number, with a processor, a period that is its deadline, and a cost.
-fn task(alloc: Global, number: usize, of: (u64, u64, u64)) -> Result<TaskPart, AllocError> {
-    Ok(TaskPart {
-        name: format!(in alloc; "t{number}")?,
-        processor: of.0,
-        period: of.1,
-        deadline: of.1,
-        cost: of.2,
-        local: of.2,
-        requests: Vec::new(alloc),
-    })
-}
+const MOST: u64 = 1_000_000;
 
-/// The parts of a set without resources.
-fn parts(alloc: Global, processors: u64, tasks: &[(u64, u64, u64)]) -> Result<Parts, AllocError> {
+// A task: its processor, its period, which is its deadline, its cost, and for each entry the number of its resource and a
+// length. Each job makes one request of an entry.
+type Task = (u64, u64, u64, &'static [(usize, u64)]);
+
+// A set: the number of processors, the home of each resource, and the tasks.
+type Set = (u64, &'static [Option<u64>], &'static [Task]);
+
+// Three tasks without requests.
+const ALONE: Set = (1, &[], &[(1, 4, 1, &[]), (1, 6, 2, &[]), (1, 20, 3, &[])]);
+
+// Two tasks that share a resource, each on a processor of its own.
+const PAIR: Set = (
+    2,
+    &[Some(2)],
+    &[(1, 10, 3, &[(0, 1)]), (2, 10, 4, &[(0, 2)])],
+);
+
+// A task below another that requests nothing, and a third elsewhere.
+const BESIDE: Set = (
+    2,
+    &[None],
+    &[
+        (1, 10, 2, &[]),
+        (1, 20, 4, &[(0, 2)]),
+        (2, 20, 5, &[(0, 3)]),
+    ],
+);
+
+// Two tasks without requests, and without room for the lower one.
+const SHORT: Set = (1, &[], &[(1, 2, 1, &[]), (1, 2, 2, &[])]);
+
+// The first task's optimum is 14/3.
+const THREE: Set = (
+    3,
+    &[None, None],
+    &[
+        (1, 100, 4, &[(0, 1), (1, 1)]),
+        (2, 100, 4, &[(0, 3), (1, 2)]),
+        (3, 100, 3, &[(0, 2)]),
+    ],
+);
+
+// The first task's optimum is reached at one point alone, which holds 1 - 1/2^28 - 1/3^17 - 1/5^12.
+const WIDE: Set = (
+    5,
+    &[None, None, None, None],
+    &[
+        (1, 1_000_000_000, 10, &[(0, 1), (1, 1), (2, 1), (3, 1)]),
+        (
+            2,
+            1_000_000_000,
+            300_000_001,
+            &[(0, 268_435_456), (1, 300_000_000)],
+        ),
+        (
+            3,
+            1_000_000_000,
+            300_000_001,
+            &[(0, 129_140_163), (2, 300_000_000)],
+        ),
+        (
+            4,
+            1_000_000_000,
+            300_000_001,
+            &[(0, 244_140_625), (3, 300_000_000)],
+        ),
+        (5, 1_000_000_000, 2000, &[(0, 1000)]),
+    ],
+);
+
+fn requests_of(alloc: Global, requests: &[(usize, u64)]) -> Result<Vec<RequestPart>, AllocError> {
     let mut list = Vec::new(alloc);
-    for (number, of) in tasks.iter().enumerate() {
-        list.push(task(alloc, number, *of)?)?;
+    for (resource, length) in requests {
+        list.push(RequestPart {
+            resource: format!(in alloc; "r{resource}")?,
+            count: 1,
+            length: *length,
+        })?;
     }
-    Ok(Parts {
+    Ok(list)
+}
+
+fn tasks_of(alloc: Global, tasks: &[Task]) -> Result<Vec<TaskPart>, AllocError> {
+    let mut list = Vec::new(alloc);
+    for (number, task) in tasks.iter().enumerate() {
+        let (processor, period, cost, requests) = *task;
+        list.push(TaskPart {
+            name: format!(in alloc; "t{number}")?,
+            processor,
+            period,
+            deadline: period,
+            cost,
+            local: cost,
+            requests: requests_of(alloc, requests)?,
+        })?;
+    }
+    Ok(list)
+}
+
+fn set_of(alloc: Global, set: Set) -> Result<TaskSet, Fail> {
+    let (processors, homes, tasks) = set;
+    let mut resources = Vec::new(alloc);
+    for (number, home) in homes.iter().enumerate() {
+        let name = format!(in alloc; "r{number}")?;
+        resources.push(ResourcePart { name, home: *home })?;
+    }
+    let parts = Parts {
         processors,
-        resources: Vec::new(alloc),
-        tasks: list,
-    })
+        resources,
+        tasks: tasks_of(alloc, tasks)?,
+    };
+    Ok(TaskSet::new(alloc, parts)?)
 }
 
-/// An analysis, seen by what a test compares.
-#[derive(Debug, PartialEq, Drop)]
-enum Seen {
-    Bounds(Vec<u64>),
-    NotShown(u32, u64),
-    Allowance,
-    Other,
-}
-
-/// The bounds of the tasks, or why there are none.
-fn analysed<R: Threads + Sync>(
-    rt: &R,
-    alloc: Global,
-    processors: u64,
-    tasks: &[(u64, u64, u64)],
-    allowance: u64,
-) -> Result<Seen, Fail> {
-    let set = TaskSet::new(alloc, parts(alloc, processors, tasks)?)?;
-    if first_requester(&set).is_some() {
-        return Ok(Seen::Other);
+fn have_homes(set: &TaskSet) -> bool
+    ensures { IsTrue result → EachHasHome set.now }
+{
+    for q in 0..set.resources() {
+        if set.home(ResourceId(q)).is_none() {
+            return false;
+        }
     }
-    Ok(
-        match analyse(rt, alloc, &set, Protocol::FmlpPlus, allowance) {
-            Ok(Verdict::Schedulable(certificate)) => {
-                let all_empty = certificate
+    true
+}
+
+fn suits(set: &TaskSet, protocol: Protocol) -> bool
+    ensures { IsTrue result → HasHomesFor protocol set.now }
+{
+    match protocol {
+        Protocol::Dpcp => have_homes(set),
+        Protocol::Mpcp | Protocol::FmlpPlus => true,
+    }
+}
+
+fn is_dual(dual: &Dual, wanted: (u64, &[u64])) -> bool {
+    dual.den == wanted.0 && dual.num.as_slice() == wanted.1
+}
+
+// What is wanted of an analysis.
+#[derive(Drop)]
+enum Wanted<'a> {
+    Best(&'a [u64], &'a [(u64, &'a [u64])]),
+    NotShown(u32, u64),
+    Wide(u32),
+    Allowance,
+}
+
+fn is_wanted(verdict: &Result<Verdict, Stop>, wanted: &Wanted<'_>) -> bool {
+    match (verdict, wanted) {
+        (Ok(Verdict::Schedulable(found)), Wanted::Best(bounds, duals)) => {
+            found.bounds.as_slice() == *bounds
+                && found.duals.len() == duals.len()
+                && found
                     .duals
                     .iter()
-                    .all(|dual| dual.den == 1 && dual.num.is_empty());
-                if all_empty && certificate.duals.len() == tasks.len() {
-                    Seen::Bounds(certificate.bounds)
-                } else {
-                    Seen::Other
-                }
-            }
-            Ok(Verdict::NotShown { task, bound }) => Seen::NotShown(task.0, bound),
-            Err(Stop::Allowance) => Seen::Allowance,
-            Err(_) => Seen::Other,
-        },
-    )
+                    .zip(duals.iter())
+                    .all(|(dual, of)| is_dual(dual, *of))
+        }
+        (Ok(Verdict::NotShown { task, bound }), Wanted::NotShown(i, value)) => {
+            task.0 == *i && *bound == *value
+        }
+        (Err(Stop::Wide(task)), Wanted::Wide(i)) => task.0 == *i,
+        (Err(Stop::Allowance), Wanted::Allowance) => true,
+        _ => false,
+    }
 }
 
+fn gives<R: Threads + Sync>(
+    rt: &R,
+    alloc: Global,
+    set: Set,
+    protocol: Protocol,
+    allowance: u64,
+    wanted: Wanted<'_>,
+) -> Result<bool, Fail> {
+    let set = set_of(alloc, set)?;
+    if !suits(&set, protocol) {
+        return Ok(false);
+    }
+    let verdict = analyse(rt, alloc, &set, protocol, allowance);
+    Ok(is_wanted(&verdict, &wanted))
+}
+
+const NOTHING: (u64, &[u64]) = (1, &[]);
+
+// The vectors 1 2 3, 1 3 6, 1 3 9 and 1 3 10, with a unit for each program.
 #[test]
 fn three_tasks_take_four_rounds_of_three_units(rt: HostRuntime) -> Result<(), Fail> {
-    let tasks = [(1, 4, 1), (1, 6, 2), (1, 20, 3)];
-    let bounds = vec![in rt.alloc(); 1, 3, 10]?;
-    assert_eq!(rt;
-        analysed(&rt, rt.alloc(), 1, &tasks, 12)?,
-        Seen::Bounds(bounds)
+    let best = Wanted::Best(&[1, 3, 10], &[NOTHING, NOTHING, NOTHING]);
+    assert!(rt; gives(&rt, rt.alloc(), ALONE, Protocol::FmlpPlus, 12, best)?);
+    assert!(rt;
+        gives(
+            &rt,
+            rt.alloc(),
+            ALONE,
+            Protocol::FmlpPlus,
+            11,
+            Wanted::Allowance
+        )?
     );
-    assert_eq!(rt; analysed(&rt, rt.alloc(), 1, &tasks, 11)?, Seen::Allowance);
     Ok(())
 }
 
+// Two rounds of two programs, each of which takes two units.
+#[test]
+fn a_tie_of_ratios_falls_to_the_first_row(rt: HostRuntime) -> Result<(), Fail> {
+    let best = Wanted::Best(&[5, 5], &[(1, &[2, 0, 0, 0]), (1, &[1, 0, 0, 0])]);
+    assert!(rt; gives(&rt, rt.alloc(), PAIR, Protocol::FmlpPlus, 8, best)?);
+    assert!(rt;
+        gives(
+            &rt,
+            rt.alloc(),
+            PAIR,
+            Protocol::FmlpPlus,
+            7,
+            Wanted::Allowance
+        )?
+    );
+    Ok(())
+}
+
+#[test]
+fn requests_run_at_the_home_under_dpcp(rt: HostRuntime) -> Result<(), Fail> {
+    let best = Wanted::Best(&[5, 5], &[(1, &[2, 0, 0]), (1, &[1, 0])]);
+    assert!(rt; gives(&rt, rt.alloc(), PAIR, Protocol::Dpcp, MOST, best)?);
+    Ok(())
+}
+
+// In the third vector the second task has two jobs of the first: 4 + 3 + 2 * 2.
 #[test]
 fn a_task_without_room_is_not_shown(rt: HostRuntime) -> Result<(), Fail> {
-    let tasks = [(1, 2, 1), (1, 2, 2)];
-    assert_eq!(rt;
-        analysed(&rt, rt.alloc(), 1, &tasks, 100)?,
-        Seen::NotShown(1, 3)
+    let best = Wanted::Best(
+        &[4, 11, 7],
+        &[(1, &[2, 0, 0]), (1, &[3, 0, 0, 0]), (1, &[2, 0, 0, 0])],
+    );
+    assert!(rt; gives(&rt, rt.alloc(), BESIDE, Protocol::FmlpPlus, 18, best)?);
+    let late = Wanted::NotShown(1, 3);
+    assert!(rt; gives(&rt, rt.alloc(), SHORT, Protocol::FmlpPlus, MOST, late)?);
+    Ok(())
+}
+
+// Each round takes 5 + 4 + 3 units.
+#[test]
+fn the_whole_part_of_an_optimum_blocks(rt: HostRuntime) -> Result<(), Fail> {
+    let best = Wanted::Best(
+        &[8, 8, 7],
+        &[
+            (3, &[0, 4, 0, 1, 0, 6, 0]),
+            (1, &[1, 1, 2, 0, 0, 0]),
+            (1, &[1, 3, 0, 0]),
+        ],
+    );
+    assert!(rt; gives(&rt, rt.alloc(), THREE, Protocol::Mpcp, 24, best)?);
+    assert!(rt;
+        gives(
+            &rt,
+            rt.alloc(),
+            THREE,
+            Protocol::Mpcp,
+            23,
+            Wanted::Allowance
+        )?
     );
     Ok(())
 }
 
-// Processor 1 has (4, 1) and (6, 2), whose bounds are 1 and 3 as on a processor alone: the second is 2 + 1 * 1.
-// Processor 2 has (10, 4) and (20, 5): 4, and 5 + ceil((9 + 4 - 4) / 10) * 4 = 9.
 #[test]
-fn processors_do_not_disturb_each_other(rt: HostRuntime) -> Result<(), Fail> {
-    let tasks = [(1, 4, 1), (2, 10, 4), (1, 6, 2), (2, 20, 5)];
-    let bounds = vec![in rt.alloc(); 1, 4, 3, 9]?;
-    assert_eq!(rt;
-        analysed(&rt, rt.alloc(), 2, &tasks, 100)?,
-        Seen::Bounds(bounds)
-    );
+fn a_wide_run_names_its_task(rt: HostRuntime) -> Result<(), Fail> {
+    assert!(rt; gives(&rt, rt.alloc(), WIDE, Protocol::Mpcp, MOST, Wanted::Wide(0))?);
     Ok(())
 }

@@ -1,11 +1,14 @@
-//! Pieces of the texts that the program answers: numbers in decimal digits, and columns of a fixed width.
-//! Each call adds its piece at the end of a text. The one error is want of memory, and it leaves the text as it was.
+//! Pieces of texts: numbers in decimal digits, written and read, and columns of a fixed width.
+//! Each call that writes adds its piece at the end of a text. The one error is want of memory, and it leaves the text as it was.
 #![tactic(auto)]
 
 ghost use Rattle.std.specs.Prelude.{◌≡◌, ◌++◌, decimal, replicate, OnOk, OnErr};
 ghost use Rattle.text_pieces.specs.Columns.{space, left, right};
 
+mod number;
+
 use itoa::Buffer;
+pub use number::number_between;
 use std::alloc::AllocError;
 
 /// Adds a number in decimal digits.

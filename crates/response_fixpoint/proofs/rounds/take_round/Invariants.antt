@@ -1,0 +1,13 @@
+use Rattle.std.proofs.Common.{◌≤◌}
+use Rattle.response_fixpoint.specs.Rounds.{Passes}
+use Rattle.response_fixpoint.specs.Runs.{rounds_of}
+use Rattle.response_fixpoint.specs.Answers.{found_of}
+use Rattle.response_fixpoint.proofs.rounds.take_round.Given as goal
+
+-- the tasks so far pass, each with a unit or more, within the units that were left
+abbrev pub invariant-loop-i : goal.invariant-loop-i
+invariant-loop-i g l = record {
+  passed : Passes (rounds_of (record { set = l.set; program = g.P.ProgramSource.program_of l.protocol l.set; interfering = g.P.ProgramSource.interfering l.protocol l.set })) l.bounds l.left l.i (found_of l.round);
+  within : l.round.used ≤ l.left;
+  least : l.i ≤ l.round.used;
+}

@@ -1,0 +1,45 @@
+ghost use Rattle.std.specs.Prelude.{◌≡◌, ◌<◌, ◌-◌, ◌^◌, min, option_map, IsTrue};
+ghost use Rattle.std.specs.List.{list_all};
+ghost use Rattle.text_pieces.specs.Numbers.{is_digit, is_number, number_in, number_between, value_after};
+
+fn are_digits(text: &[u8]) -> bool
+    ensures { result ≡ list_all is_digit text.now }
+{
+    text.iter().all(|byte| *byte >= b'0' && *byte <= b'9')
+}
+
+/// Is the text decimal digits without a sign, and without a leading zero but in `0` itself?
+fn is_number(text: &[u8]) -> bool
+    ensures { result ≡ is_number text.now }
+{
+    !text.is_empty() && are_digits(text) && (text[0] != b'0' || text.len() == 1)
+}
+
+/// The number that digits write, or the greatest `u64` where it is greater.
+fn value_of(digits: &[u8]) -> u64
+    requires { IsTrue (list_all is_digit digits.now) }
+    ensures { result ≡ min (value_after 0 digits.now) (2 ^ 64 - 1) }
+{
+    let mut value = 0u64;
+    for digit in digits {
+        value = value
+            .saturating_mul(10)
+            .saturating_add((*digit).saturating_sub(b'0') as u64);
+    }
+    value
+}
+
+/// The number that the text writes, if it is in the range.
+pub fn number_between(text: &[u8], least: u64, most: u64) -> Option<u64>
+    requires { most < 2 ^ 64 - 1 }
+    ensures { result ≡ number_between least most text.now }
+{
+    if !is_number(text) {
+        return None;
+    }
+    let value = value_of(text);
+    if value < least || value > most {
+        return None;
+    }
+    Some(value)
+}
