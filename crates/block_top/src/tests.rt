@@ -557,13 +557,7 @@ fn each_input_is_read_after_the_one_before_it(rt: HostRuntime) -> Result<(), Fai
         (SET_A, JOBS_A, [3], 4, "fault read set\n"),
         (SET_A, JOBS_A, [4], 4, "fault read jobs\n"),
         (SET_A, JOBS_A, [9], 4, "fault read rows\n"),
-        (
-            SET_A,
-            "task,release\n",
-            [7],
-            3,
-            "refused jobs fields 0\n",
-        ),
+        (SET_A, "task,release\n", [7], 3, "refused jobs fields 0\n"),
         ("", JOBS_A, [3], 3, "refused set notjson\n"),
     ] {
         let given = conformed(&rt, alloc, set, jobs, ROWS_A, &failing)?;

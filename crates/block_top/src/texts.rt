@@ -183,7 +183,11 @@ fn push_task(
 }
 
 /// Adds the lines of all tasks.
-fn push_measures(text: &mut Vec<u8>, set: &TaskSet, measures: &[TaskMeasure]) -> Result<(), AllocError>
+fn push_measures(
+    text: &mut Vec<u8>,
+    set: &TaskSet,
+    measures: &[TaskMeasure],
+) -> Result<(), AllocError>
     requires { length measures.now ≡ length set.now.tasks }
     ensures { OnOk result (text.new.items ≡ text.old.items
         ++ measures_lines set.now (λ x. measure_seen (slice_index_or measures.now x no_measure))) }

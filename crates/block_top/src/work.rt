@@ -144,7 +144,9 @@ fn lawful_reply(
 ) -> Result<Reply, AllocError>
     requires { length measures.now ≡ length set.now.tasks }
     ensures { IfOk result (λ r. reply_seen r ≡ record {
-        status = 0; text = lawful_text set.now ticks (λ x. measure_seen (slice_index_or measures.now x no_measure)) }) }
+      status = 0;
+      text = lawful_text set.now ticks (λ x. measure_seen (slice_index_or measures.now x no_measure));
+    }) }
 {
     Ok(Reply {
         status: 0,
