@@ -3,9 +3,9 @@
 #![tactic(auto)]
 
 mod blocking;
-mod choosing;
-mod judging;
-mod lookup;
+pub mod choosing;
+pub mod judging;
+pub mod lookup;
 mod order;
 
 pub use blocking::blocked_shared;
