@@ -6,3 +6,4 @@ pub mod RunTest
 pub mod GrantTest
 pub mod ReadyTests
 pub mod Verdict
+pub mod Blocked

@@ -1,2 +1,4 @@
 pub mod Homes
 pub mod RowTests
+pub mod Blocked
+pub mod Choosing

@@ -2,6 +2,8 @@
 //! ceiling of all that is kept there, and holders run by base priority.
 #![tactic(auto)]
 
+mod blocking;
+mod choosing;
 mod judging;
 mod lookup;
 mod tables;

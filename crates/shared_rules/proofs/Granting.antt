@@ -21,14 +21,14 @@ earlier_only s x i none a l = elim (cases_lt (s.task i) x) [
 ]
 
 -- Before anyone has asked.
-pub kept_some : (s : Scene) (q j : ℕ) (o : Option ℕ) → stays (requests s q) o ≡ Some j → (o ≡ Some j) × (requests s q j ≡ true)
+kept_some : (s : Scene) (q j : ℕ) (o : Option ℕ) → stays (requests s q) o ≡ Some j → (o ≡ Some j) × (requests s q j ≡ true)
 kept_some s q j None h = absurd (cc)
 kept_some s q j (Some i) h = elim (cases_Bool (requests s q i)) [
   | inl asks ↦ let e : Some i ≡ Some j = rw asks at h in let f : i ≡ j = cc in (e, subst (λ k. requests s q k ≡ true) f asks)
   | inr ends ↦ let e : None ≡ Some j = rw ends at h in absurd (cc)
 ]
 
-pub kept_from : (s : Scene) (q j : ℕ) → requests s q j ≡ true → stays (requests s q) (Some j) ≡ Some j
+kept_from : (s : Scene) (q j : ℕ) → requests s q j ≡ true → stays (requests s q) (Some j) ≡ Some j
 kept_from s q j h = rw h refl
 
 pub granted_first : (s : Scene) (held : ℕ → Option ℕ) → ((q : ℕ) → held q ≡ kept s q) → Granted s 0 held
