@@ -7,3 +7,4 @@ pub mod GrantTest
 pub mod ReadyTests
 pub mod Verdict
 pub mod Blocked
+pub mod Filling
