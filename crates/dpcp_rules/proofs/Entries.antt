@@ -142,6 +142,17 @@ barred_shown m rows bars k x shows least l h t =
             ap (λ b. b && leb (ceiling_now m q) x) (kept_shown m rows q k shows l)
             ∙ and_assoc (home_of (under m rows) q == k) (is_kept (under m rows) m.tick q) (leb (ceiling_now m q) x)
 
+-- A task that waits is no higher than the table's entry.
+pub entry_low : (m : MachineDef) (rows : ℕ → RowDef) (first : List ℕ) (k i : ℕ) → Shows m rows → IsLeast (waiting_place m) (λ x. x) (length m.list.set.tasks) (length m.list.set.tasks) first
+    → 1 ≤ k → k ≤ MOST_PROCESSORS → waits_at (under m rows) m.tick k i ≡ true → entry_at first k ≤ task_in m.list.jobs i
+entry_low m rows first k i shows least l h w =
+    let a : is_active (under m rows) m.tick i ≡ true = waits_active m rows k i w in
+    let b : task_in m.list.jobs i < length m.list.set.tasks = task_listed m.list i shows.machine.lawful (active_listed (under m rows) m.tick i a) in
+    let here : ((waiting_place m (task_in m.list.jobs i) == k) && leb (task_in m.list.jobs i) (task_in m.list.jobs i)) ≡ true =
+    and_from (waiting_place m (task_in m.list.jobs i) == k) (leb (task_in m.list.jobs i) (task_in m.list.jobs i)) (place_of_active m rows i k shows a l ∙ w) (le-leb (task_in m.list.jobs i) (task_in m.list.jobs i) (omega arith)) in
+    leb-true (entry_at first k) (task_in m.list.jobs i)
+    (least k (task_in m.list.jobs i) h b ∙ any_below-from (length m.list.set.tasks) (λ x. (waiting_place m x == k) && leb x (task_in m.list.jobs i)) (task_in m.list.jobs i) b here)
+
 -- Where the table has an entry, the job of the first task that waits there is one of its.
 pub first_of : (m : MachineDef) (rows : ℕ → RowDef) (first : List ℕ) (k : ℕ) → Shows m rows → IsLeast (waiting_place m) (λ x. x) (length m.list.set.tasks) (length m.list.set.tasks) first
     → 1 ≤ k → k ≤ MOST_PROCESSORS → entry_at first k < length m.list.set.tasks → (x : ℕ) × (x ≤ entry_at first k) × WaitsOf m rows x k
@@ -165,22 +176,12 @@ first_shown m rows first k j shows least l h waits =
       task_of_active : (i : ℕ) → is_active (under m rows) m.tick i ≡ true → task_in m.list.jobs i < length m.list.set.tasks
       task_of_active i a = task_listed m.list i shows.machine.lawful (active_listed (under m rows) m.tick i a)
 
-      -- A task that waits is no higher than the table's entry.
-      entry_low : (i : ℕ) → waits_at (under m rows) m.tick k i ≡ true → entry_at first k ≤ task_in m.list.jobs i
-      entry_low i w =
-          let a : is_active (under m rows) m.tick i ≡ true = waits_active m rows k i w in
-          let b : task_in m.list.jobs i < length m.list.set.tasks = task_of_active i a in
-          let here : ((waiting_place m (task_in m.list.jobs i) == k) && leb (task_in m.list.jobs i) (task_in m.list.jobs i)) ≡ true =
-          and_from (waiting_place m (task_in m.list.jobs i) == k) (leb (task_in m.list.jobs i) (task_in m.list.jobs i)) (place_of_active m rows i k shows a l ∙ w) (le-leb (task_in m.list.jobs i) (task_in m.list.jobs i) (omega arith)) in
-          leb-true (entry_at first k) (task_in m.list.jobs i)
-          (least k (task_in m.list.jobs i) h b ∙ any_below-from (length m.list.set.tasks) (λ x. (waiting_place m x == k) && leb x (task_in m.list.jobs i)) (task_in m.list.jobs i) b here)
-
       there : leb (task_in m.list.jobs j) (entry_at first k) ≡ true → (waits_at (under m rows) m.tick k j && all_below (length m.list.jobs) others) ≡ true
       there e = and_from (waits_at (under m rows) m.tick k j) (all_below (length m.list.jobs) others) waits (all_below-from (length m.list.jobs) others (λ i b. each i)) where
         each : (i : ℕ) → others i ≡ true
         each i = elim (cases_Bool (waits_at (under m rows) m.tick k i)) [
           | inl w ↦ or_right (not (waits_at (under m rows) m.tick k i)) (leb (task_in m.list.jobs j) (task_in m.list.jobs i))
-              (le-leb (task_in m.list.jobs j) (task_in m.list.jobs i) (omega (arith, leb-true (task_in m.list.jobs j) (entry_at first k) e, entry_low i w)))
+              (le-leb (task_in m.list.jobs j) (task_in m.list.jobs i) (omega (arith, leb-true (task_in m.list.jobs j) (entry_at first k) e, entry_low m rows first k i shows least l h w)))
           | inr fails ↦ or_left (not (waits_at (under m rows) m.tick k i)) (leb (task_in m.list.jobs j) (task_in m.list.jobs i)) (not_from_false (waits_at (under m rows) m.tick k i) fails)
         ]
 
@@ -203,7 +204,7 @@ first_shown m rows first k j shows least l h waits =
             omega (arith, le, w.own, some.1, high)
 
 -- A task is below the entry exactly where the entry isn't at most it.
-below_is : (a b : ℕ) → ltb a b ≡ not (leb b a)
+pub below_is : (a b : ℕ) → ltb a b ≡ not (leb b a)
 below_is a b = same_bool (ltb a b) (not (leb b a)) there back where
   there : ltb a b ≡ true → not (leb b a) ≡ true
   there h = not_from_false (leb b a) (false_from_ne_true (leb b a) (λ e. apart e)) where

@@ -8,3 +8,5 @@ pub mod ReadyTests
 pub mod Verdict
 pub mod Blocked
 pub mod Filling
+pub mod Chosen
+pub mod Written
