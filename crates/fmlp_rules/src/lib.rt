@@ -34,7 +34,7 @@ impl Order for FmlpPlus {
 
     /// The same tick.
     fn run_of(&self, machine: &Machine, j: JobId) -> u64 {
-        issue_tick(machine, j)
+        self.grant_of(machine, j)
     }
 
     ghost gives = { λ p. issue_gives };

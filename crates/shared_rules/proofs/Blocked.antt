@@ -6,11 +6,10 @@ use Rattle.schedule_model.specs.SharedRules.{KeepsRun}
 use Rattle.schedule_model.specs.BlockedTicks.{is_delayed, runs_higher, is_shared_interference, is_blocked}
 use Rattle.schedule_laws.proofs.Rows.{job_named, named_job, runs_from, runs_where}
 use Rattle.phase_machine.specs.MachineDef.{MachineDef, under}
-use Rattle.phase_machine.specs.Now.{active_now}
 use Rattle.phase_machine.specs.Shows.{Shows}
 use Rattle.phase_machine.proofs.Facts.{active_shown}
 use Rattle.shared_rules.specs.RowTests.{processor_now}
-use Rattle.shared_rules.specs.Blocked.{is_higher_beside, waits_beside, blocked_now}
+use Rattle.shared_rules.specs.Blocked.{is_higher_beside, blocked_now}
 
 pub same_bool : (a b : Bool) → (a ≡ true → b ≡ true) → (b ≡ true → a ≡ true) → a ≡ b
 same_bool true b f g = sym (f refl)

@@ -1,6 +1,6 @@
 -- The holders while the tasks ask, one after the other.
-use Rattle.std.proofs.Common.{◌≡◌, ◌⊎◌, ℕ, ◌+◌, ◌<◌, ◌≤◌, ◌&&◌, not, Bool, true, false, refl, sym, ap, ◌∙◌, arith, inl, inr, Option, Some, None, cond, ltb, subst}
-use Rattle.std.proofs.lemmas.Bool.{cases_Bool, cases_lt, and_parts, and_from, and_cases, and_left, and_right, both_ways, not-true, not_from_true, ltb-true, ltb-false}
+use Rattle.std.proofs.Common.{◌≡◌, ◌⊎◌, ℕ, ◌+◌, ◌<◌, ◌≤◌, not, true, false, refl, sym, ap, ◌∙◌, arith, inl, inr, Option, Some, None, ltb, subst}
+use Rattle.std.proofs.lemmas.Bool.{cases_Bool, cases_lt, and_parts, and_from, and_cases, both_ways, not-true, ltb-true, ltb-false}
 use Rattle.schedule_model.specs.RowDef.{is_job}
 use Rattle.schedule_model.specs.Phase.{is_asking}
 use Rattle.schedule_laws.proofs.Rows.{job_named, named_job}

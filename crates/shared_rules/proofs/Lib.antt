@@ -10,3 +10,4 @@ pub mod Placing
 pub mod Scenes
 pub mod Chosen
 pub mod Writing
+pub mod NextRow

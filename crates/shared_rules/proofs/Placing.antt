@@ -1,6 +1,6 @@
 -- What runs while the tasks come, one after the other.
-use Rattle.std.proofs.Common.{◌≡◌, ◌⊎◌, ℕ, ◌+◌, ◌<◌, ◌≤◌, ◌==◌, ◌&&◌, ◌||◌, not, Bool, true, false, refl, sym, ap, ◌∙◌, arith, inl, inr, Option, Some, None, ltb, subst}
-use Rattle.std.proofs.lemmas.Bool.{cases_Bool, and_parts, and_from, and_cases, or_cases, or_left, or_right, or_parts, both_ways, not-true, not-false, eq-eqb, eqb-true, ltb-true, ltb-false}
+use Rattle.std.proofs.Common.{◌≡◌, ◌⊎◌, ℕ, ◌+◌, ◌<◌, ◌≤◌, ◌==◌, ◌&&◌, ◌||◌, not, true, false, refl, sym, ap, ◌∙◌, arith, inl, inr, Option, Some, None, ltb, subst}
+use Rattle.std.proofs.lemmas.Bool.{cases_Bool, and_parts, and_cases, or_cases, or_left, or_right, or_parts, both_ways, not-true, not-false, eq-eqb, eqb-true, ltb-true, ltb-false}
 use Rattle.schedule_model.specs.Phase.{is_local}
 use Rattle.shared_rules.specs.Scene.{Scene, holds, may_run, IsActiveJob, is_outrun, enters, entered, running_after}
 use Rattle.shared_rules.specs.Choosing.{Leads, Placed}
@@ -138,7 +138,7 @@ placed_some s held x j running more g own same = record {
     | inl t ↦ subst (λ y. (holds s held y ≡ true) × Leads s.run s.task y i) (one k r t e) (elim (earlier_or s x j i own a l) [
       | inl earlier ↦ enterer_leads k i (running k) refl t.out a earlier here h
       | inr self ↦ subst (λ y. (holds s held j ≡ true) × Leads s.run s.task j y) (sym self)
-        (subst (λ y. holds s held y ≡ true) self h, record { first = omega arith; tie = λ f. omega arith })
+          (subst (λ y. holds s held y ≡ true) self h, record { first = omega arith; tie = λ f. omega arith })
     ])
     | inr left ↦
         let e2 : running k ≡ Some r = sym left.now ∙ e in

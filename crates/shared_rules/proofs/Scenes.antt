@@ -1,24 +1,22 @@
 -- The scene at a machine, and how one job's coming shows in it.
-use Rattle.std.proofs.Common.{◌≡◌, ℕ, ◌<◌, ◌≤◌, ◌==◌, ◌&&◌, Bool, true, false, length, List, [], ◌∷◌, zero, suc, refl, sym, ap, ◌∙◌, arith, inl, inr, Option, Some, None, cond, get_or, map, subst}
-use Rattle.std.proofs.lemmas.Bool.{cases_order, eq-eqb, ne_eqb, eqb-true, cases_Bool}
+use Rattle.std.proofs.Common.{◌≡◌, ℕ, ◌<◌, ◌≤◌, ◌==◌, ◌&&◌, true, false, length, List, [], ◌∷◌, zero, suc, refl, sym, ap, ◌∙◌, inl, inr, Option, Some, None, cond, get_or, map, subst}
+use Rattle.std.proofs.lemmas.Bool.{eq-eqb, eqb-true, cases_Bool}
 use Rattle.schedule_model.specs.declared.job.JobId.{JobId}
 use Rattle.schedule_model.specs.JobDef.{job_of}
 use Rattle.schedule_model.specs.Seen.{place_seen}
 use Rattle.schedule_model.specs.RowDef.{RowDef, running_on}
 use Rattle.schedule_model.specs.Phase.{Phase, is_asking}
 use Rattle.schedule_model.specs.Phase.Phase.{Local, Asking, Finished}
-use Rattle.schedule_model.specs.Activity.{is_active}
 use Rattle.schedule_model.specs.SharedRules.{Ranks}
 use Rattle.schedule_laws.proofs.ActiveJobs.{active_listed}
 use Rattle.schedule_laws.proofs.Rows.{named_job}
-use Rattle.phase_machine.specs.declared.place.Place.{Place}
 use Rattle.phase_machine.specs.MachineDef.{MachineDef, IsMachine, IsPlace, place_of, task_in, under}
-use Rattle.phase_machine.specs.Now.{current_now, active_now, holder_now, phase_now, requester_now}
+use Rattle.phase_machine.specs.Now.{current_now, active_now, holder_now, requester_now}
 use Rattle.phase_machine.specs.Shows.{Shows}
 use Rattle.phase_machine.proofs.Lawful.{task_listed}
 use Rattle.phase_machine.proofs.Facts.{phase_shown, active_shown, active_current, current_some}
 use Rattle.shared_rules.specs.Order.{GivesRanks}
-use Rattle.shared_rules.specs.Scene.{Scene, scene_now, requests, IsActiveJob, gives_way, takes, asked, stays, kept, may_run, is_outrun, enters, entered, running_in, resource_in}
+use Rattle.shared_rules.specs.Scene.{Scene, scene_now, IsActiveJob, gives_way, asked, stays, kept, may_run, is_outrun, entered, running_in, resource_in}
 use Rattle.shared_rules.proofs.Chosen.{IsSceneOf}
 
 -- The scene at a machine is that of each schedule that it shows.

@@ -1,23 +1,22 @@
 -- Writing a place of a row, and what the passes over the tasks begin and end with.
-use Rattle.std.proofs.Common.{◌≡◌, ℕ, ◌+◌, ◌<◌, ◌≤◌, true, length, List, [], ◌∷◌, zero, suc, refl, sym, ap, ◌∙◌, arith, inl, inr, Option, Some, None, get_or, map, subst, add-one, cond}
+use Rattle.std.proofs.Common.{◌≡◌, ℕ, ◌+◌, ◌<◌, ◌≤◌, length, List, zero, suc, refl, sym, ap, ◌∙◌, arith, inl, inr, Option, None, map, subst, add-one}
 use Rattle.std.proofs.Math.ListN.{set}
 use Rattle.std.proofs.lemmas.Bool.{cases_lt, and_parts}
 use Rattle.std.proofs.lemmas.List.{get_or-set_same, get_or-set_other, get_or_past, length-map}
 use Rattle.schedule_model.specs.declared.job.JobId.{JobId}
 use Rattle.schedule_model.specs.Seen.{place_seen}
 use Rattle.schedule_model.specs.RowDef.{RowDef, running_on, holder_in}
-use Rattle.schedule_model.specs.Phase.{is_asking}
 use Rattle.schedule_model.specs.SharedRules.{Ranks}
 use Rattle.schedule_model.specs.Chosen.{IsSized, IsSharedChoice}
 use Rattle.phase_machine.specs.MachineDef.{MachineDef, IsMachine, under}
-use Rattle.phase_machine.specs.Now.{current_now, active_now, holder_now, requester_now}
+use Rattle.phase_machine.specs.Now.{current_now, holder_now, requester_now}
 use Rattle.phase_machine.specs.Shows.{Shows}
 use Rattle.phase_machine.proofs.Facts.{active_now_listed}
 use Rattle.shared_rules.specs.Order.{GivesRanks}
-use Rattle.shared_rules.specs.Scene.{Scene, scene_now, stays, kept, place_in, running_in, NamesBelow, held_after, running_after}
+use Rattle.shared_rules.specs.Scene.{Scene, scene_now, stays, place_in, running_in, NamesBelow, held_after, running_after}
 use Rattle.shared_rules.specs.Choosing.{Granted, Placed}
 use Rattle.shared_rules.proofs.Granting.{granted_first, granted_next}
-use Rattle.shared_rules.proofs.Placing.{placed_first, placed_next}
+use Rattle.shared_rules.proofs.Placing.{placed_next}
 use Rattle.shared_rules.proofs.Scenes.{scene_shown, active_job_now, kept_now, place_shown, running_same}
 use Rattle.shared_rules.proofs.Chosen.{chosen_from}
 
@@ -80,7 +79,7 @@ pub runs_go_on : (m : MachineDef) (grant run : ℕ → ℕ) (held : ℕ → Opti
     → ((k : ℕ) → more k ≡ running_after (scene_now grant run m) held (current_now m x) running k) → Placed (scene_now grant run m) held (x + 1) more
 runs_go_on m grant run held x running more machine l p same = placed_next (scene_now grant run m) held x (current_now m x) running more p (active_job_now m grant run x machine l) same
 
-placed_same : (s : Scene) (held : ℕ → Option ℕ) (x : ℕ) (running more : ℕ → Option ℕ) → Placed s held x running → ((k : ℕ) → more k ≡ running k) → Placed s held x more
+pub placed_same : (s : Scene) (held : ℕ → Option ℕ) (x : ℕ) (running more : ℕ → Option ℕ) → Placed s held x running → ((k : ℕ) → more k ≡ running k) → Placed s held x more
 placed_same s held x running more p same = record {
   active = λ k r e. p.active k r (sym (same k) ∙ e);
   ready = λ k r e. p.ready k r (sym (same k) ∙ e);
@@ -100,7 +99,7 @@ choice_made o grants runs m rows row gives shows e sized g p =
     (subst (λ r. IsSized m.list.set r) (sym e) sized)
     (subst (λ r. Granted (scene_now (grants m) (runs m) m) (length m.list.set.tasks) (holder_in r)) (sym e) g)
     (subst (λ r. Placed (scene_now (grants m) (runs m) m) (holder_in r) (length m.list.set.tasks) (running_on r)) (sym e)
-        (placed_same (scene_now (grants m) (runs m) m) (place_in row.holders) (length m.list.set.tasks) (running_in row.running) (running_on row) p (running_same row)))
+    (placed_same (scene_now (grants m) (runs m) m) (place_in row.holders) (length m.list.set.tasks) (running_in row.running) (running_on row) p (running_same row)))
 
 -- The same for the lists that the passes wrote.
 pub choice_written : (o : Ranks) (grants runs : MachineDef → ℕ → ℕ) (m : MachineDef) (rows : ℕ → RowDef) (holders running written_holders written_running held : List (Option JobId)) → GivesRanks o grants runs
@@ -116,4 +115,4 @@ choice_written o grants runs m rows holders running written_holders written_runn
     })
     (subst (λ h. Granted (scene_now (grants m) (runs m) m) (length m.list.set.tasks) (place_in (map place_seen h))) (sym hs) g)
     (subst (λ h. Placed (scene_now (grants m) (runs m) m) (place_in (map place_seen h)) (length m.list.set.tasks) (running_in (map place_seen written_running))) hd
-        (subst (λ r. Placed (scene_now (grants m) (runs m) m) (place_in (map place_seen held)) (length m.list.set.tasks) (running_in (map place_seen r))) (sym rs) p))
+    (subst (λ r. Placed (scene_now (grants m) (runs m) m) (place_in (map place_seen held)) (length m.list.set.tasks) (running_in (map place_seen r))) (sym rs) p))

@@ -13,7 +13,8 @@ pub record Granted (s : Scene) (x : ℕ) (held : ℕ → Option ℕ) : Type 0 wh
   pub asks : (q j : ℕ) → held q ≡ Some j → requests s q j ≡ true
   pub keeps : (q j : ℕ) → s.before q ≡ Some j → requests s q j ≡ true → held q ≡ Some j
   pub early : (q j : ℕ) → held q ≡ Some j → (s.before q ≡ Some j → ⊥) → s.task j < x
-  pub leads : (q j : ℕ) → held q ≡ Some j → (s.before q ≡ Some j → ⊥) → (i : ℕ) → requests s q i ≡ true → s.task i < x → Leads s.grant s.task j i
+  pub leads : (q j : ℕ) → held q ≡ Some j → (s.before q ≡ Some j → ⊥) → (i : ℕ) → requests s q i ≡ true → s.task i < x
+      → Leads s.grant s.task j i
   pub free : (q : ℕ) → held q ≡ None → (i : ℕ) → requests s q i ≡ true → s.task i < x → ⊥
 
 -- This is what runs, by the processor, once the tasks below x have come, with these holders.

@@ -3,3 +3,4 @@ pub mod RowTests
 pub mod Blocked
 pub mod Scene
 pub mod Choosing
+pub mod NextRow

@@ -1,11 +1,10 @@
 -- What the choice of a row looks at: the active jobs, what they do next, who held what, and the orders of grants and
 -- runs as numbers of jobs.
 use Rattle.std.specs.Prelude.{◌≡◌, ℕ, ◌<◌, ◌==◌, ◌&&◌, ◌||◌, not, Bool, true, nat_lt, if◌then◌else◌, Option, None, Some, length, List, [], slice_index_or}
-use Rattle.std.specs.Option.{option_map_or}
 use Rattle.schedule_model.specs.RowDef.{Trace, is_job, running_on, held_before}
 use Rattle.schedule_model.specs.Phase.{Phase, is_local, is_asking, phase_of}
 use Rattle.schedule_model.specs.Phase.Phase.{Asking}
-use Rattle.schedule_model.specs.Activity.{task_of, processor_of, is_active, is_requester, holds_by}
+use Rattle.schedule_model.specs.Activity.{task_of, processor_of, is_active, holds_by}
 use Rattle.schedule_model.specs.SharedRules.{Ranks}
 use Rattle.phase_machine.specs.MachineDef.{MachineDef, task_in}
 use Rattle.phase_machine.specs.Now.{phase_now, active_now, holder_now}

@@ -55,7 +55,8 @@ pub fn kept(machine: &Machine, q: ResourceId) -> Option<JobId>
 pub fn keep_all(machine: &Machine, holders: &mut [Option<JobId>])
     requires { length holders.old ≡ length machine.now.list.set.resources }
     ensures len { length holders.new ≡ length holders.old }
-    ensures each { (q : ℕ) → q < length holders.old → place_in (map place_seen holders.new) q ≡ stays (requester_now machine.now q) (holder_now machine.now q) }
+    ensures each { (q : ℕ) → q < length holders.old → place_in (map place_seen holders.new) q
+        ≡ stays (requester_now machine.now q) (holder_now machine.now q) }
 {
     for q in 0..resources_of(machine) {
         put(holders, q as usize, kept(machine, ResourceId(q)));
@@ -86,7 +87,8 @@ fn gives_way<O: Order>(
     requires resource { q.0 < length machine.now.list.set.resources }
     requires listed { j.0 < length machine.now.list.jobs }
     requires holder { IfSome holder (λ h. h.0 < length machine.now.list.jobs) }
-    ensures { result ≡ gives_way (scene_now (O.grant order.now machine.now) (O.run order.now machine.now) machine.now) q.0 j.0 (place_seen holder) }
+    ensures { result ≡ gives_way (scene_now (O.grant order.now machine.now) (O.run order.now machine.now) machine.now) q.0
+        j.0 (place_seen holder) }
 {
     match holder {
         Some(h) => {
@@ -110,8 +112,9 @@ fn offer<O: Order>(
     requires named { NamesBelow (length machine.now.list.jobs) (map place_seen holders.old) }
     ensures len { length holders.new ≡ length holders.old }
     ensures here { place_in (map place_seen holders.new) q.0
-        ≡ (if gives_way (scene_now (O.grant order.now machine.now) (O.run order.now machine.now) machine.now) q.0 j.0 (place_in (map place_seen holders.old) q.0)
-           then Some j.0 else place_in (map place_seen holders.old) q.0) }
+        ≡ (if gives_way (scene_now (O.grant order.now machine.now) (O.run order.now machine.now) machine.now) q.0 j.0
+        (place_in (map place_seen holders.old) q.0)
+        then Some j.0 else place_in (map place_seen holders.old) q.0) }
     ensures others { (r : ℕ) → (r ≡ q.0 → ⊥) → place_in (map place_seen holders.new) r ≡ place_in (map place_seen holders.old) r }
 {
     let holder = job_at(machine, holders, q.0 as usize);
@@ -130,7 +133,8 @@ fn ask<O: Order>(order: &O, machine: &Machine, j: JobId, holders: &mut [Option<J
     requires named { NamesBelow (length machine.now.list.jobs) (map place_seen holders.old) }
     ensures len { length holders.new ≡ length holders.old }
     ensures asked { (q : ℕ) → place_in (map place_seen holders.new) q
-        ≡ asked (scene_now (O.grant order.now machine.now) (O.run order.now machine.now) machine.now) j.0 (place_in (map place_seen holders.old)) q }
+        ≡ asked (scene_now (O.grant order.now machine.now) (O.run order.now machine.now) machine.now) j.0
+        (place_in (map place_seen holders.old)) q }
 {
     match requested(machine, j) {
         Some(q) => offer(order, machine, q, j, holders),
@@ -225,9 +229,11 @@ fn faster<O: Order>(
     requires listed { j.0 < length machine.now.list.jobs }
     requires runner { IfSome runner (λ r. r.0 < length machine.now.list.jobs) }
     ensures { place_seen result
-        ≡ (if may_run (scene_now (O.grant order.now machine.now) (O.run order.now machine.now) machine.now) (place_in (map place_seen holders.now)) j.0
-              && is_outrun (scene_now (O.grant order.now machine.now) (O.run order.now machine.now) machine.now) (place_in (map place_seen holders.now)) j.0 (place_seen runner)
-           then Some j.0 else place_seen runner) }
+        ≡ (if may_run (scene_now (O.grant order.now machine.now) (O.run order.now machine.now) machine.now)
+        (place_in (map place_seen holders.now)) j.0
+        && is_outrun (scene_now (O.grant order.now machine.now) (O.run order.now machine.now) machine.now)
+        (place_in (map place_seen holders.now)) j.0 (place_seen runner)
+        then Some j.0 else place_seen runner) }
 {
     if may_run(machine, holders, j) && is_outrun(order, machine, holders, j, runner) {
         return Some(j);
@@ -249,8 +255,9 @@ fn enter<O: Order>(
     requires named { NamesBelow (length machine.now.list.jobs) (map place_seen running.old) }
     ensures len { length running.new ≡ length running.old }
     ensures entered { (k : ℕ) → running_in (map place_seen running.new) k
-        ≡ entered (scene_now (O.grant order.now machine.now) (O.run order.now machine.now) machine.now) (place_in (map place_seen holders.now)) j.0
-            (running_in (map place_seen running.old)) k }
+        ≡ entered (scene_now (O.grant order.now machine.now) (O.run order.now machine.now) machine.now)
+        (place_in (map place_seen holders.now)) j.0
+        (running_in (map place_seen running.old)) k }
 {
     let k = processor_of(machine, j);
     let runner = job_on(machine, running, k);
@@ -271,8 +278,9 @@ fn enter_for<O: Order>(
     requires named { NamesBelow (length machine.now.list.jobs) (map place_seen running.old) }
     ensures len { length running.new ≡ length running.old }
     ensures running { (k : ℕ) → running_in (map place_seen running.new) k
-        ≡ running_after (scene_now (O.grant order.now machine.now) (O.run order.now machine.now) machine.now) (place_in (map place_seen holders.now)) (current_now machine.now x.0)
-            (running_in (map place_seen running.old)) k }
+        ≡ running_after (scene_now (O.grant order.now machine.now) (O.run order.now machine.now) machine.now)
+        (place_in (map place_seen holders.now)) (current_now machine.now x.0)
+        (running_in (map place_seen running.old)) k }
 {
     match machine.current(x) {
         Some(j) => enter(order, machine, holders, j, running),

@@ -1,4 +1,4 @@
-use Rattle.std.proofs.Common.{length, map, ◌∙◌, arith}
+use Rattle.std.proofs.Common.{map, ◌∙◌, arith}
 use Rattle.schedule_model.specs.Seen.{place_seen}
 use Rattle.shared_rules.specs.Scene.{place_in}
 use Rattle.shared_rules.proofs.Writing.{grants_begin, grants_go_on, holders_named}
