@@ -37,7 +37,7 @@ use Rattle.shared_rules.proofs.HolderTests.{right_of}
 use Rattle.dpcp_rules.specs.Homes.{column_now, entry_at}
 use Rattle.dpcp_rules.specs.RowTests.{is_due}
 use Rattle.dpcp_rules.specs.Choosing.{Takes, Filled, grant_claim, holder_claim, local_claim, AreHolders, IsRunning}
-use Rattle.dpcp_rules.proofs.Shown.{RequestAt, request_at_is, request_at_from, HolderAt, holds_at_is, holds_at_from, phase_is, column_is, column_within, unfinished}
+use Rattle.dpcp_rules.proofs.Shown.{RequestAt, request_at_is, request_at_from, HolderAt, holds_at_is, holds_at_from, phase_is, column_is, column_within, processors_within, unfinished}
 use Rattle.dpcp_rules.proofs.Waiting.{Requesting, waiting_asks, waits_new, waiting_of}
 use Rattle.dpcp_rules.proofs.Entries.{Waits, waits_is, waits_from, WaitsOf, entry_low, first_of, below_is, barred_shown}
 use Rattle.dpcp_rules.proofs.GrantTest.{Noted, granted_waits, due_at, holds_at_q}
@@ -50,7 +50,7 @@ pub record Made (m : MachineDef) (rows : ℕ → RowDef) (first bars : List ℕ)
   pub running : IsRunning m (holder_in (rows m.tick)) (running_on (rows m.tick))
 
 -- The holder that stays.
-stays_is : (asks : ℕ → Bool) (o : Option ℕ) (j : ℕ) → stays asks o ≡ Some j → (o ≡ Some j) × (asks j ≡ true)
+pub stays_is : (asks : ℕ → Bool) (o : Option ℕ) (j : ℕ) → stays asks o ≡ Some j → (o ≡ Some j) × (asks j ≡ true)
 stays_is asks None j h = absurd (cc)
 stays_is asks (Some i) j h = elim (cases_Bool (asks i)) [
   | inl still ↦ let e : Some i ≡ Some j = rw still at h in let f : i ≡ j = cc in (e, subst (λ k. asks k ≡ true) f still)
@@ -61,27 +61,27 @@ stays_from : (asks : ℕ → Bool) (j : ℕ) → asks j ≡ true → stays asks 
 stays_from asks j h = rw h refl
 
 -- A claim that is made where a test passes.
-cond_some : (b : Bool) (o : Option ℕ) (k : ℕ) → cond b o None ≡ Some k → (b ≡ true) × (o ≡ Some k)
+pub cond_some : (b : Bool) (o : Option ℕ) (k : ℕ) → cond b o None ≡ Some k → (b ≡ true) × (o ≡ Some k)
 cond_some true o k h = (refl, h)
 cond_some false o k h = absurd (cc)
 
 cond_from : (b : Bool) (o : Option ℕ) (k : ℕ) → b ≡ true → o ≡ Some k → cond b o None ≡ Some k
 cond_from b o k e f = ap (λ c. cond c o None) e ∙ f
 
-active_of : (m : MachineDef) (rows : ℕ → RowDef) (j : ℕ) → Shows m rows → active_now m j ≡ true → is_active (under m rows) m.tick j ≡ true
+pub active_of : (m : MachineDef) (rows : ℕ → RowDef) (j : ℕ) → Shows m rows → active_now m j ≡ true → is_active (under m rows) m.tick j ≡ true
 active_of m rows j shows a = sym (active_shown m rows j shows) ∙ a
 
-now_active : (m : MachineDef) (rows : ℕ → RowDef) (j : ℕ) → Shows m rows → is_active (under m rows) m.tick j ≡ true → active_now m j ≡ true
+pub now_active : (m : MachineDef) (rows : ℕ → RowDef) (j : ℕ) → Shows m rows → is_active (under m rows) m.tick j ≡ true → active_now m j ≡ true
 now_active m rows j shows a = active_shown m rows j shows ∙ a
 
-task_below : (m : MachineDef) (rows : ℕ → RowDef) (j : ℕ) → Shows m rows → is_active (under m rows) m.tick j ≡ true → task_in m.list.jobs j < length m.list.set.tasks
+pub task_below : (m : MachineDef) (rows : ℕ → RowDef) (j : ℕ) → Shows m rows → is_active (under m rows) m.tick j ≡ true → task_in m.list.jobs j < length m.list.set.tasks
 task_below m rows j shows a = task_listed m.list j shows.machine.lawful (active_listed (under m rows) m.tick j a)
 
 -- What a job that is granted q is.
-record Due (m : MachineDef) (rows : ℕ → RowDef) (first bars : List ℕ) (q j : ℕ) : Type 0 where
-  asks : is_requester (under m rows) m.tick q j ≡ true
-  waiting : waiting_now m j ≡ true
-  due : is_due m first bars j ≡ true
+pub record Due (m : MachineDef) (rows : ℕ → RowDef) (first bars : List ℕ) (q j : ℕ) : Type 0 where
+  pub asks : is_requester (under m rows) m.tick q j ≡ true
+  pub waiting : waiting_now m j ≡ true
+  pub due : is_due m first bars j ≡ true
 
 asking_true : (q : ℕ) (p : Phase) → resource_in p ≡ Some q → is_asking q p ≡ true
 asking_true q Local h = absurd (cc)
@@ -92,7 +92,7 @@ requests_now : (m : MachineDef) (q j : ℕ) → active_now m j ≡ true → is_a
 unfolding requester_now
 requests_now m q j a h = and_from (active_now m j) (is_asking q (phase_now m j)) a h
 
-due_of : (m : MachineDef) (rows : ℕ → RowDef) (first bars : List ℕ) (q j : ℕ) → Shows m rows → active_now m j ≡ true → grant_claim m first bars j ≡ Some q → Due m rows first bars q j
+pub due_of : (m : MachineDef) (rows : ℕ → RowDef) (first bars : List ℕ) (q j : ℕ) → Shows m rows → active_now m j ≡ true → grant_claim m first bars j ≡ Some q → Due m rows first bars q j
 due_of m rows first bars q j shows a h =
     let parts : ((waiting_now m j && is_due m first bars j) ≡ true) × (resource_in (phase_now m j) ≡ Some q) = cond_some (waiting_now m j && is_due m first bars j) (resource_in (phase_now m j)) q h in
     let both : (waiting_now m j ≡ true) × (is_due m first bars j ≡ true) = and_parts (waiting_now m j) (is_due m first bars j) parts.0 in
@@ -231,7 +231,7 @@ claim_of_holds m rows k h shows holds =
     let at : HolderAt (under m rows) m.tick k h = holds_at_is (under m rows) m.tick k h holds in
     claim_of_holder m rows k at.request.resource h shows (requester_from (under m rows) m.tick at.request.resource h at.request.number at.request.active at.request.phase) at.holds at.request.home
 
-some_same : (a b : ℕ) → Some a ≡ Some b → a ≡ b
+pub some_same : (a b : ℕ) → Some a ≡ Some b → a ≡ b
 some_same a b h = cc
 
 holds_of_claim : (m : MachineDef) (rows : ℕ → RowDef) (k h : ℕ) → Shows m rows → is_active (under m rows) m.tick h ≡ true → holder_claim m (holder_in (rows m.tick)) h ≡ Some k
@@ -292,7 +292,9 @@ first_due m rows first bars k i noted r none = due w.job w.active w.own (waits_i
   column = column_of_request m rows k i shows r
 
   within : (1 ≤ k) × (k ≤ MOST_PROCESSORS)
-  within = subst (λ c. (1 ≤ c) × (c ≤ MOST_PROCESSORS)) column (column_within m rows i shows noted.accepted noted.homes r.active)
+  within =
+      let here : (1 ≤ column_now m i) × (column_now m i ≤ m.list.set.processors) = column_within m rows i shows noted.accepted noted.homes r.active in
+      (omega (arith, here.0, column), omega (arith, here.1, column, processors_within m.list.set noted.accepted))
 
   fresh : held_before (under m rows) m.tick r.resource ≡ Some i → ⊥
   fresh e =

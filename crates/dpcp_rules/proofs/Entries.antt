@@ -25,7 +25,7 @@ use Rattle.shared_rules.proofs.HolderTests.{right_of}
 use Rattle.shared_rules.proofs.Blocked.{same_bool}
 use Rattle.dpcp_rules.specs.Homes.{home_now, ceiling_now, column_in, column_now, waiting_place, kept_place, entry_at, IsLeast}
 use Rattle.dpcp_rules.specs.RowTests.{is_due}
-use Rattle.dpcp_rules.proofs.Shown.{RequestAt, request_at_is, unfinished, column_is, column_within}
+use Rattle.dpcp_rules.proofs.Shown.{RequestAt, request_at_is, unfinished, column_within, processors_within}
 
 -- A place that is none where a test fails.
 placed : (b : Bool) (c k : ℕ) → 1 ≤ k → (cond b c 0 == k) ≡ ((c == k) && b)
@@ -220,8 +220,9 @@ pub due_shown : (m : MachineDef) (rows : ℕ → RowDef) (first bars : List ℕ)
     → is_active (under m rows) m.tick j ≡ true → waiting_now m j ≡ true → is_due m first bars j ≡ is_granted (under m rows) m.tick (column_now m j) j
 unfolding is_granted
 due_shown m rows first bars j shows accepted suits waiting kept a w =
-    let within : (1 ≤ column_now m j) × (column_now m j ≤ MOST_PROCESSORS) = column_within m rows j shows accepted suits a in
+    let within : (1 ≤ column_now m j) × (column_now m j ≤ m.list.set.processors) = column_within m rows j shows accepted suits a in
+    let most : column_now m j ≤ MOST_PROCESSORS = omega (arith, within.1, processors_within m.list.set accepted) in
     let task : task_in m.list.jobs j < length m.list.set.tasks = task_listed m.list j shows.machine.lawful (active_listed (under m rows) m.tick j a) in
-    ap (λ b. b && ltb (task_in m.list.jobs j) (entry_at bars (column_now m j))) (first_shown m rows first (column_now m j) j shows waiting within.0 within.1 (waits_from m rows j shows a within.0 w))
+    ap (λ b. b && ltb (task_in m.list.jobs j) (entry_at bars (column_now m j))) (first_shown m rows first (column_now m j) j shows waiting within.0 most (waits_from m rows j shows a within.0 w))
     ∙ ap (λ b. is_first_waiting (under m rows) m.tick (column_now m j) j && b)
-      (below_is (task_in m.list.jobs j) (entry_at bars (column_now m j)) ∙ ap not (barred_shown m rows bars (column_now m j) (task_in m.list.jobs j) shows kept within.0 within.1 task))
+      (below_is (task_in m.list.jobs j) (entry_at bars (column_now m j)) ∙ ap not (barred_shown m rows bars (column_now m j) (task_in m.list.jobs j) shows kept within.0 most task))

@@ -10,3 +10,4 @@ pub mod Blocked
 pub mod Filling
 pub mod Chosen
 pub mod Written
+pub mod NextRow

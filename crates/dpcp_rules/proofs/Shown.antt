@@ -84,16 +84,20 @@ home_most : (o : Option ℕ) (most : ℕ) → IsSome o → ((k : ℕ) → o ≡ 
 home_most None most h f = absurd (cc)
 home_most (Some k) most h f = f k refl
 
-pub homes_within : (set : SetDef) (q : ℕ) → IsAccepted set → EachHasHome set → q < length set.resources → (1 ≤ home_in set q) × (home_in set q ≤ MOST_PROCESSORS)
+pub homes_within : (set : SetDef) (q : ℕ) → IsAccepted set → EachHasHome set → q < length set.resources → (1 ≤ home_in set q) × (home_in set q ≤ set.processors)
 unfolding IsAccepted
 homes_within set q accepted suits l =
     let ranges : KeepsRanges set = accepted in
-    let most : home_in set q ≤ set.processors = home_most (resource_at set q).home set.processors (suits q l) (λ k e. ranges.homes.homes_to q k l e) in
-    (home_least (resource_at set q).home (suits q l) (λ k e. ranges.homes.homes_from q k l e), omega (arith, most, ranges.sizes.processors_to))
+    (home_least (resource_at set q).home (suits q l) (λ k e. ranges.homes.homes_from q k l e),
+    home_most (resource_at set q).home set.processors (suits q l) (λ k e. ranges.homes.homes_to q k l e))
+
+pub processors_within : (set : SetDef) → IsAccepted set → set.processors ≤ MOST_PROCESSORS
+unfolding IsAccepted
+processors_within set accepted = let ranges : KeepsRanges set = accepted in ranges.sizes.processors_to
 
 -- So is where an active job runs.
 pub column_within : (m : MachineDef) (rows : ℕ → RowDef) (j : ℕ) → Shows m rows → IsAccepted m.list.set → EachHasHome m.list.set → is_active (under m rows) m.tick j ≡ true
-    → (1 ≤ column_now m j) × (column_now m j ≤ MOST_PROCESSORS)
+    → (1 ≤ column_now m j) × (column_now m j ≤ m.list.set.processors)
 unfolding IsAccepted
 column_within m rows j shows accepted suits a = go (phase_of (under m rows) m.tick j) refl where
   ranges : KeepsRanges m.list.set
@@ -102,12 +106,12 @@ column_within m rows j shows accepted suits a = go (phase_of (under m rows) m.ti
   listed : j < length m.list.jobs
   listed = active_listed (under m rows) m.tick j a
 
-  own : (1 ≤ processor_now m j) × (processor_now m j ≤ MOST_PROCESSORS)
+  own : (1 ≤ processor_now m j) × (processor_now m j ≤ m.list.set.processors)
   own =
       let numbers : TaskNumbers m.list.set (task_in m.list.jobs j) = ranges.numbers (task_in m.list.jobs j) (task_listed m.list j shows.machine.lawful listed) in
-      (numbers.processor_from, omega (arith, numbers.processor_to, ranges.sizes.processors_to))
+      (numbers.processor_from, numbers.processor_to)
 
-  go : (p : Phase) → phase_of (under m rows) m.tick j ≡ p → (1 ≤ column_now m j) × (column_now m j ≤ MOST_PROCESSORS)
+  go : (p : Phase) → phase_of (under m rows) m.tick j ≡ p → (1 ≤ column_now m j) × (column_now m j ≤ m.list.set.processors)
   go Local e = rw (column_is m rows j Local shows a e) own
   go Finished e = rw (column_is m rows j Finished shows a e) own
   go (Asking n q) e = rw (column_is m rows j (Asking n q) shows a e)

@@ -20,7 +20,7 @@ running_at m held row r = record {
   locals = filled_same m (local_claim m) r.before (length m.list.set.tasks) (running_in row.running) (running_on row) r.locals (running_same row);
 }
 
-choice_made : (m : MachineDef) (rows : ℕ → RowDef) (row : RowDef) (first bars : List ℕ) → Noted m rows first bars → rows m.tick ≡ row → IsSized m.list.set row
+pub choice_made : (m : MachineDef) (rows : ℕ → RowDef) (row : RowDef) (first bars : List ℕ) → Noted m rows first bars → rows m.tick ≡ row → IsSized m.list.set row
     → AreHolders m first bars (place_in row.holders) → IsRunning m (place_in row.holders) (running_in row.running) → IsDpcpChoice (under m rows) m.tick
 choice_made m rows row first bars noted e sized holders running =
     chosen_from m rows first bars

@@ -5,8 +5,11 @@
 mod blocking;
 mod choosing;
 mod judging;
+mod laws;
 mod lookup;
 mod tables;
+
+pub use laws::each_schedule_has_a_next_row;
 
 ghost use Rattle.sporadic_model.specs.Homes.{EachHasHome};
 ghost use Rattle.schedule_model.specs.Protocols.{dpcp_rule};
