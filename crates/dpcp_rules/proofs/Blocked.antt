@@ -52,4 +52,4 @@ unfolding blocked_now is_blocked is_dpcp_interference is_delayed runs_higher_loc
 blocked_shown m rows j shows run =
     rw (active_shown m rows j shows, runs_here m rows j shows run, interfered_shown m rows j (processor_now m j) (running_on (rows m.tick) (processor_now m j)) shows run refl)
     (three_tests (is_active (under m rows) m.tick j) (runs_in (rows m.tick) j)
-        (option_map_or (λ r. is_higher_local m.list.set (task_in m.list.jobs j) (task_in m.list.jobs r) && is_local (phase_of (under m rows) m.tick r)) (running_on (rows m.tick) (processor_now m j)) false))
+    (option_map_or (λ r. is_higher_local m.list.set (task_in m.list.jobs j) (task_in m.list.jobs r) && is_local (phase_of (under m rows) m.tick r)) (running_on (rows m.tick) (processor_now m j)) false))

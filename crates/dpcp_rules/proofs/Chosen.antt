@@ -208,8 +208,11 @@ made_grant m rows first bars made = record {
       let rh : Requester (under m rows) m.tick q h = requester_is (under m rows) m.tick q h due.asks in
       let rj : Requester (under m rows) m.tick q j = requester_is (under m rows) m.tick q j asks in
       one_active (under m rows) m.tick h j rh.active rj.active
-      (omega (arith, granted_leads m rows (home_of (under m rows) q) h j gh rj.active (granted_waits m rows (home_of (under m rows) q) j g),
-          granted_leads m rows (home_of (under m rows) q) j h g rh.active (granted_waits m rows (home_of (under m rows) q) h gh)))
+      (omega (
+        arith,
+        granted_leads m rows (home_of (under m rows) q) h j gh rj.active (granted_waits m rows (home_of (under m rows) q) j g),
+        granted_leads m rows (home_of (under m rows) q) j h g rh.active (granted_waits m rows (home_of (under m rows) q) h gh),
+      ))
 
   granted : (q j : ℕ) → is_requester (under m rows) m.tick q j ≡ true → is_granted (under m rows) m.tick (home_of (under m rows) q) j ≡ true
       → (o : Option ℕ) → holder_in (rows m.tick) q ≡ o → holder_in (rows m.tick) q ≡ Some j
@@ -274,8 +277,8 @@ unfolding is_barred
 nothing_barred m rows k x none =
     any_below-none_from (length m.list.set.resources) (λ q. (home_of (under m rows) q == k) && (is_kept (under m rows) m.tick q && leb (ceiling_rank (under m rows) q) x))
     (λ q l. sym (and_assoc (home_of (under m rows) q == k) (is_kept (under m rows) m.tick q) (leb (ceiling_rank (under m rows) q) x))
-        ∙ and_left ((home_of (under m rows) q == k) && is_kept (under m rows) m.tick q) (leb (ceiling_rank (under m rows) q) x)
-          (any_below-none (length m.list.set.resources) (λ q. (home_of (under m rows) q == k) && is_kept (under m rows) m.tick q) none q l))
+    ∙ and_left ((home_of (under m rows) q == k) && is_kept (under m rows) m.tick q) (leb (ceiling_rank (under m rows) q) x)
+    (any_below-none (length m.list.set.resources) (λ q. (home_of (under m rows) q == k) && is_kept (under m rows) m.tick q) none q l))
 
 -- Then the first that waits there is due.
 first_due : (m : MachineDef) (rows : ℕ → RowDef) (first bars : List ℕ) (k i : ℕ) → Noted m rows first bars → RequestAt (under m rows) m.tick k i
@@ -474,8 +477,8 @@ made_priority m rows first bars made = record {
       let active : is_active (under m rows) m.tick r ≡ true = active_of m rows r shows holder.active in
       let at : HolderAt (under m rows) m.tick k r = holds_at_is (under m rows) m.tick k r (holds_of_claim m rows k r shows active holder.claims) in
       absurd (both_ways (has_requests (under m rows) m.tick k) none
-          (request_among (under m rows) m.tick k r (active_listed (under m rows) m.tick r active)
-          (request_at_from (under m rows) m.tick k r at.request.number at.request.resource active at.request.phase at.request.home)))
+      (request_among (under m rows) m.tick k r (active_listed (under m rows) m.tick r active)
+      (request_at_from (under m rows) m.tick k r at.request.number at.request.resource active at.request.phase at.request.home)))
   locals k r i none own (inr taken) l =
       taken.first i (now_active m rows i shows l.active) (claim_of_local m rows k i shows l own) (task_below m rows i shows l.active)
 

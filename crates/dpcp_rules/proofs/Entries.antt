@@ -126,8 +126,8 @@ unfolding is_kept
 kept_shown m rows q k shows l =
     placed (is_some (stays (requester_now m q) (holder_now m q))) (home_now m q) k l
     ∙ ap (λ b. (home_now m q == k) && b)
-      (kept_some (requester_now m q) (holder_now m q) ∙ asks_same (requester_now m q) (λ j. is_requester (under m rows) m.tick q j) (holder_now m q) (λ j. requester_shown m rows q j shows)
-      ∙ ap (λ o. option_map_or (λ j. is_requester (under m rows) m.tick q j) o false) (shows.holders q))
+    (kept_some (requester_now m q) (holder_now m q) ∙ asks_same (requester_now m q) (λ j. is_requester (under m rows) m.tick q j) (holder_now m q) (λ j. requester_shown m rows q j shows)
+    ∙ ap (λ o. option_map_or (λ j. is_requester (under m rows) m.tick q j) o false) (shows.holders q))
 
 -- The table of kept ceilings says which tasks are barred.
 pub barred_shown : (m : MachineDef) (rows : ℕ → RowDef) (bars : List ℕ) (k x : ℕ) → Shows m rows → IsLeast (kept_place m) (ceiling_now m) (length m.list.set.tasks) (length m.list.set.resources) bars
@@ -136,11 +136,11 @@ unfolding is_barred
 barred_shown m rows bars k x shows least l h t =
     least k x h t
     ∙ any_below-agree (length m.list.set.resources) (λ q. (kept_place m q == k) && leb (ceiling_now m q) x)
-      (λ q. (home_of (under m rows) q == k) && (is_kept (under m rows) m.tick q && leb (ceiling_rank (under m rows) q) x)) (λ q b. each q) where
-        each : (q : ℕ) → ((kept_place m q == k) && leb (ceiling_now m q) x) ≡ ((home_of (under m rows) q == k) && (is_kept (under m rows) m.tick q && leb (ceiling_rank (under m rows) q) x))
-        each q =
-            ap (λ b. b && leb (ceiling_now m q) x) (kept_shown m rows q k shows l)
-            ∙ and_assoc (home_of (under m rows) q == k) (is_kept (under m rows) m.tick q) (leb (ceiling_now m q) x)
+    (λ q. (home_of (under m rows) q == k) && (is_kept (under m rows) m.tick q && leb (ceiling_rank (under m rows) q) x)) (λ q b. each q) where
+      each : (q : ℕ) → ((kept_place m q == k) && leb (ceiling_now m q) x) ≡ ((home_of (under m rows) q == k) && (is_kept (under m rows) m.tick q && leb (ceiling_rank (under m rows) q) x))
+      each q =
+          ap (λ b. b && leb (ceiling_now m q) x) (kept_shown m rows q k shows l)
+          ∙ and_assoc (home_of (under m rows) q == k) (is_kept (under m rows) m.tick q) (leb (ceiling_now m q) x)
 
 -- A task that waits is no higher than the table's entry.
 pub entry_low : (m : MachineDef) (rows : ℕ → RowDef) (first : List ℕ) (k i : ℕ) → Shows m rows → IsLeast (waiting_place m) (λ x. x) (length m.list.set.tasks) (length m.list.set.tasks) first
@@ -225,4 +225,4 @@ due_shown m rows first bars j shows accepted suits waiting kept a w =
     let task : task_in m.list.jobs j < length m.list.set.tasks = task_listed m.list j shows.machine.lawful (active_listed (under m rows) m.tick j a) in
     ap (λ b. b && ltb (task_in m.list.jobs j) (entry_at bars (column_now m j))) (first_shown m rows first (column_now m j) j shows waiting within.0 most (waits_from m rows j shows a within.0 w))
     ∙ ap (λ b. is_first_waiting (under m rows) m.tick (column_now m j) j && b)
-      (below_is (task_in m.list.jobs j) (entry_at bars (column_now m j)) ∙ ap not (barred_shown m rows bars (column_now m j) (task_in m.list.jobs j) shows kept within.0 most task))
+    (below_is (task_in m.list.jobs j) (entry_at bars (column_now m j)) ∙ ap not (barred_shown m rows bars (column_now m j) (task_in m.list.jobs j) shows kept within.0 most task))

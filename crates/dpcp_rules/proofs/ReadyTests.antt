@@ -147,8 +147,8 @@ priority_is m rows shows run h = record {
   local_runner k r (Asking n q) e none f =
       let holder : HolderAt (under m rows) m.tick k r = holds_at_is (under m rows) m.tick k r (runner_phase m rows k r n q run e f) in
       absurd (both_ways (has_requests (under m rows) m.tick k) none
-          (request_among (under m rows) m.tick k r (active_listed (under m rows) m.tick r (run.active k r e))
-          (request_at_from (under m rows) m.tick k r holder.request.number holder.request.resource holder.request.active holder.request.phase holder.request.home)))
+      (request_among (under m rows) m.tick k r (active_listed (under m rows) m.tick r (run.active k r e))
+      (request_at_from (under m rows) m.tick k r holder.request.number holder.request.resource holder.request.active holder.request.phase holder.request.home)))
 
   locals : (k r i : ℕ) → running_on (rows m.tick) k ≡ Some r → has_requests (under m rows) m.tick k ≡ false → processor_of (under m rows) i ≡ k → ActiveLocal (under m rows) m.tick i
       → task_of (under m rows) r ≤ task_of (under m rows) i

@@ -87,9 +87,10 @@ home_most (Some k) most h f = f k refl
 pub homes_within : (set : SetDef) (q : ℕ) → IsAccepted set → EachHasHome set → q < length set.resources → (1 ≤ home_in set q) × (home_in set q ≤ set.processors)
 unfolding IsAccepted
 homes_within set q accepted suits l =
-    let ranges : KeepsRanges set = accepted in
-    (home_least (resource_at set q).home (suits q l) (λ k e. ranges.homes.homes_from q k l e),
-    home_most (resource_at set q).home set.processors (suits q l) (λ k e. ranges.homes.homes_to q k l e))
+    let ranges : KeepsRanges set = accepted in (
+      home_least (resource_at set q).home (suits q l) (λ k e. ranges.homes.homes_from q k l e),
+      home_most (resource_at set q).home set.processors (suits q l) (λ k e. ranges.homes.homes_to q k l e),
+    )
 
 pub processors_within : (set : SetDef) → IsAccepted set → set.processors ≤ MOST_PROCESSORS
 unfolding IsAccepted

@@ -43,4 +43,4 @@ choice_written m rows first bars holders running written_holders written_running
     })
     (subst (λ h. AreHolders m first bars (place_in (map place_seen h))) (sym hs) granted)
     (subst (λ h. IsRunning m (place_in (map place_seen h)) (running_in (map place_seen written_running))) hd
-        (subst (λ r. IsRunning m (place_in (map place_seen held)) (running_in (map place_seen r))) (sym rs) ran))
+    (subst (λ r. IsRunning m (place_in (map place_seen held)) (running_in (map place_seen r))) (sym rs) ran))

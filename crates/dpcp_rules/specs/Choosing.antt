@@ -21,7 +21,8 @@ pub record Takes (m : MachineDef) (claim : ℕ → Option ℕ) (x k j : ℕ) : T
   pub active : active_now m j ≡ true
   pub claims : claim j ≡ Some k
   pub early : task_in m.list.jobs j < x
-  pub first : (i : ℕ) → active_now m i ≡ true → claim i ≡ Some k → task_in m.list.jobs i < x → task_in m.list.jobs j ≤ task_in m.list.jobs i
+  pub first : (i : ℕ) → active_now m i ≡ true → claim i ≡ Some k → task_in m.list.jobs i < x
+      → task_in m.list.jobs j ≤ task_in m.list.jobs i
 
 -- Are these the places once the tasks below x have come, where they were so at the start?
 pub record Filled (m : MachineDef) (claim start : ℕ → Option ℕ) (x : ℕ) (places : ℕ → Option ℕ) : Type 0 where

@@ -22,7 +22,8 @@ use sporadic_model::{ResourceId, TaskId};
 fn fill(places: &mut [Option<JobId>], i: usize, j: JobId)
     requires { i < length places.old }
     ensures len { length places.new ≡ length places.old }
-    ensures filled { (k : ℕ) → place_in (map place_seen places.new) k ≡ filled j.0 (Some i) (place_in (map place_seen places.old)) k }
+    ensures filled { (k : ℕ) → place_in (map place_seen places.new) k
+        ≡ filled j.0 (Some i) (place_in (map place_seen places.old)) k }
 {
     if named_at(places, i).is_none() {
         put(places, i, Some(j));
@@ -56,13 +57,7 @@ fn grant_claim(machine: &Machine, first: &[u32], bars: &[u32], j: JobId) -> Opti
 }
 
 /// Grants to the job what it is due.
-fn grant_to(
-    machine: &Machine,
-    first: &[u32],
-    bars: &[u32],
-    j: JobId,
-    holders: &mut [Option<JobId>],
-)
+fn grant_to(machine: &Machine, first: &[u32], bars: &[u32], j: JobId, holders: &mut [Option<JobId>])
     requires suits { EachHasHome machine.now.list.set }
     requires places { machine.now.list.set.processors < 65 }
     requires listed { j.0 < length machine.now.list.jobs }
@@ -158,7 +153,8 @@ fn hold_for(machine: &Machine, holders: &[Option<JobId>], x: TaskId, running: &m
     requires len { length running.old ≡ machine.now.list.set.processors }
     ensures len { length running.new ≡ length running.old }
     ensures filled { (k : ℕ) → running_in (map place_seen running.new) k
-        ≡ filled_by (holder_claim machine.now (place_in (map place_seen holders.now))) (current_now machine.now x.0) (running_in (map place_seen running.old)) k }
+        ≡ filled_by (holder_claim machine.now (place_in (map place_seen holders.now))) (current_now machine.now x.0)
+        (running_in (map place_seen running.old)) k }
 {
     match machine.current(x) {
         Some(j) => hold_on(machine, holders, j, running),

@@ -93,13 +93,7 @@ fn request_passes(machine: &Machine, first: &[u32], bars: &[u32], row: &Row, j: 
 }
 
 /// The same for the task's active job, where it has one.
-fn request_passes_for(
-    machine: &Machine,
-    first: &[u32],
-    bars: &[u32],
-    row: &Row,
-    x: TaskId,
-) -> bool
+fn request_passes_for(machine: &Machine, first: &[u32], bars: &[u32], row: &Row, x: TaskId) -> bool
     requires suits { EachHasHome machine.now.list.set }
     requires places { machine.now.list.set.processors < 65 }
     requires fits { IsRowFor machine.now.list (row_seen row.now) }

@@ -8,8 +8,8 @@ mod judging;
 mod laws;
 mod lookup;
 mod tables;
-
-pub use laws::each_schedule_has_a_next_row;
+#[cfg(test)]
+mod tests;
 
 ghost use Rattle.sporadic_model.specs.Homes.{EachHasHome};
 ghost use Rattle.schedule_model.specs.Protocols.{dpcp_rule};
@@ -19,6 +19,7 @@ ghost use Rattle.schedule_laws.proofs.DpcpLaws.{dpcp_one_of_three, dpcp_sound_ro
 ghost use Rattle.schedule_laws.proofs.DpcpAgreement.{dpcp_rules_read, dpcp_choice_reads};
 ghost use Rattle.schedule_laws.proofs.TickAgreement.{dpcp_interference_agree};
 
+pub use laws::each_schedule_has_a_next_row;
 use phase_machine::{Judge, Machine};
 use schedule_model::{BlockingProtocol, JobId, Row, Rule};
 

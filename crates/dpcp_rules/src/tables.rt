@@ -55,7 +55,8 @@ pub(crate) fn note_waiting(machine: &Machine, first: &mut [u32])
     requires suits { EachHasHome machine.now.list.set }
     requires len { length first.old ≡ 65 }
     ensures len { length first.new ≡ 65 }
-    ensures least { IsLeast (waiting_place machine.now) (λ x. x) (length machine.now.list.set.tasks) (length machine.now.list.set.tasks) first.new }
+    ensures least { IsLeast (waiting_place machine.now) (λ x. x)
+        (length machine.now.list.set.tasks) (length machine.now.list.set.tasks) first.new }
     ensures accepted { IsAccepted machine.now.list.set }
     ensures sizes { SetSizes machine.now.list.set }
 {
@@ -70,10 +71,15 @@ pub(crate) fn note_kept(machine: &Machine, bars: &mut [u32])
     requires suits { EachHasHome machine.now.list.set }
     requires len { length bars.old ≡ 65 }
     ensures len { length bars.new ≡ 65 }
-    ensures least { IsLeast (kept_place machine.now) (ceiling_now machine.now) (length machine.now.list.set.tasks) (length machine.now.list.set.resources) bars.new }
+    ensures least { IsLeast (kept_place machine.now) (ceiling_now machine.now)
+        (length machine.now.list.set.tasks) (length machine.now.list.set.resources) bars.new }
 {
     bars.fill(tasks_of(machine));
     for q in 0..resources_of(machine) {
-        note(bars, kept_place(machine, ResourceId(q)), ceiling_of(machine, ResourceId(q)));
+        note(
+            bars,
+            kept_place(machine, ResourceId(q)),
+            ceiling_of(machine, ResourceId(q)),
+        );
     }
 }
