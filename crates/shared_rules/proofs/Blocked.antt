@@ -11,7 +11,7 @@ use Rattle.phase_machine.proofs.Facts.{active_shown}
 use Rattle.shared_rules.specs.RowTests.{processor_now}
 use Rattle.shared_rules.specs.Blocked.{is_higher_beside, blocked_now}
 
-same_bool : (a b : Bool) → (a ≡ true → b ≡ true) → (b ≡ true → a ≡ true) → a ≡ b
+pub same_bool : (a b : Bool) → (a ≡ true → b ≡ true) → (b ≡ true → a ≡ true) → a ≡ b
 same_bool true b f g = sym (f refl)
 same_bool false true f g = g refl
 same_bool false false f g = refl
@@ -28,7 +28,7 @@ runs_here w t j run = same_bool (runs_in (w.row t) j) (is_job j (running_on (w.r
   back h = runs_from (w.row t) (processor_of w j) j (job_named j (running_on (w.row t) (processor_of w j)) h)
 
 -- Active, and neither running nor interfered with.
-three_tests : (a r h : Bool) → (a && (not r && not h)) ≡ ((a && not r) && not ((a && not r) && h))
+pub three_tests : (a r h : Bool) → (a && (not r && not h)) ≡ ((a && not r) && not ((a && not r) && h))
 three_tests true true h = refl
 three_tests true false h = refl
 three_tests false r h = refl

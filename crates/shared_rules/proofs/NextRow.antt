@@ -61,10 +61,10 @@ active_job_at o w t x = go (active_job_of w t x) refl where
       subst (IsActiveJob (scene_at o w t) x) (sym e) (a.0, a.1, λ i h own. one_active w t i j h a.0 (own ∙ sym a.1))
 
 -- Lists with these places.
-places_of : (ℕ → Option ℕ) → ℕ → List (Option ℕ)
+pub places_of : (ℕ → Option ℕ) → ℕ → List (Option ℕ)
 places_of f n = map f (range_with_len 0 n)
 
-place_of_list : (f : ℕ → Option ℕ) (n k : ℕ) → ((j : ℕ) → f k ≡ Some j → k < n) → get_or (places_of f n) k None ≡ f k
+pub place_of_list : (f : ℕ → Option ℕ) (n k : ℕ) → ((j : ℕ) → f k ≡ Some j → k < n) → get_or (places_of f n) k None ≡ f k
 unfolding places_of
 place_of_list f n k within = elim (cases_lt k n) [
   | inl below ↦ get_or-map-range_with_len f 0 n k k None below (omega arith)
@@ -74,7 +74,7 @@ place_of_list f n k within = elim (cases_lt k n) [
   nothing None e past = sym e
   nothing (Some j) e past = let l : k < n = within j e in absurd (omega arith)
 
-places_length : (f : ℕ → Option ℕ) (n : ℕ) → length (places_of f n) ≡ n
+pub places_length : (f : ℕ → Option ℕ) (n : ℕ) → length (places_of f n) ≡ n
 unfolding places_of
 places_length f n = length-map-range_with_len f 0 n
 
@@ -88,12 +88,12 @@ granted_same s x held more g same = record {
 }
 
 -- A schedule with another row has the same rows before.
-same_before : (w : Trace) (t : ℕ) (row : RowDef) → AgreeBefore w (with_row w t row) t
+pub same_before : (w : Trace) (t : ℕ) (row : RowDef) → AgreeBefore w (with_row w t row) t
 same_before w t row = record { set = refl; jobs = refl; rows = λ u l. sym (earlier u l) } where
   earlier : (u : ℕ) → u < t → cond (u == t) row (w.row u) ≡ w.row u
   earlier u l = let f : (u == t) ≡ false = ne_eqb u t (λ e. let x : u < t = l in omega arith) in rw f refl
 
-row_there : (w : Trace) (t : ℕ) (row : RowDef) → (with_row w t row).row t ≡ row
+pub row_there : (w : Trace) (t : ℕ) (row : RowDef) → (with_row w t row).row t ≡ row
 row_there w t row = let e : (t == t) ≡ true = eq-eqb t t refl in rw e refl
 
 scene_stays : (o : Ranks) (w : Trace) (t : ℕ) (row : RowDef) → AreLawfulJobs (jobs_of w) → RanksAgree o w (with_row w t row) t → IsSceneOf o (scene_at o w t) (with_row w t row) t

@@ -16,23 +16,23 @@ use Rattle.shared_rules.proofs.HolderTests.{keep_is, keep_from, grant_is, grant_
 use Rattle.shared_rules.proofs.ReadyTests.{idle_is, idle_from, priority_is, priority_from}
 
 -- Five tests that say of the rules whether they are kept, the last where the first is.
-record Tests (keeps : Rule → Trace → ℕ → Type 0) (w : Trace) (t : ℕ) (a b c d e : Bool) : Type 0 where
-  run_is : a ≡ true → keeps rule.Run w t
-  run_from : keeps rule.Run w t → a ≡ true
-  keep_is : b ≡ true → keeps rule.Keep w t
-  keep_from : keeps rule.Keep w t → b ≡ true
-  grant_is : c ≡ true → keeps rule.Grant w t
-  grant_from : keeps rule.Grant w t → c ≡ true
-  idle_is : d ≡ true → keeps rule.Idle w t
-  idle_from : keeps rule.Idle w t → d ≡ true
-  priority_is : a ≡ true → e ≡ true → keeps rule.Priority w t
-  priority_from : keeps rule.Run w t → keeps rule.Priority w t → e ≡ true
+pub record Tests (keeps : Rule → Trace → ℕ → Type 0) (w : Trace) (t : ℕ) (a b c d e : Bool) : Type 0 where
+  pub run_is : a ≡ true → keeps rule.Run w t
+  pub run_from : keeps rule.Run w t → a ≡ true
+  pub keep_is : b ≡ true → keeps rule.Keep w t
+  pub keep_from : keeps rule.Keep w t → b ≡ true
+  pub grant_is : c ≡ true → keeps rule.Grant w t
+  pub grant_from : keeps rule.Grant w t → c ≡ true
+  pub idle_is : d ≡ true → keeps rule.Idle w t
+  pub idle_from : keeps rule.Idle w t → d ≡ true
+  pub priority_is : a ≡ true → e ≡ true → keeps rule.Priority w t
+  pub priority_from : keeps rule.Run w t → keeps rule.Priority w t → e ≡ true
 
-abbrev first_of : Bool → Bool → Bool → Bool → Bool → Option Rule
+abbrev pub first_of : Bool → Bool → Bool → Bool → Bool → Option Rule
 first_of a b c d e =
     cond (not a) (Some rule.Run) (cond (not b) (Some rule.Keep) (cond (not c) (Some rule.Grant) (cond (not d) (Some rule.Idle) (cond (not e) (Some rule.Priority) None))))
 
-all_kept : (keeps : Rule → Trace → ℕ → Type 0) (w : Trace) (t : ℕ) (a b c d e : Bool) → Tests keeps w t a b c d e → first_of a b c d e ≡ None → KeepsRow keeps w t
+pub all_kept : (keeps : Rule → Trace → ℕ → Type 0) (w : Trace) (t : ℕ) (a b c d e : Bool) → Tests keeps w t a b c d e → first_of a b c d e ≡ None → KeepsRow keeps w t
 all_kept keeps w t false b c d e tests h = absurd (cc)
 all_kept keeps w t true false c d e tests h = absurd (cc)
 all_kept keeps w t true true false d e tests h = absurd (cc)
@@ -55,7 +55,7 @@ up_to keeps w t n a b c d most rule.Grant l = c l
 up_to keeps w t n a b c d most rule.Idle l = d l
 up_to keeps w t n a b c d most rule.Priority l = absurd (omega arith)
 
-first_broken : (keeps : Rule → Trace → ℕ → Type 0) (w : Trace) (t : ℕ) (a b c d e : Bool) (r : Rule) → Tests keeps w t a b c d e → first_of a b c d e ≡ Some r → Breaks keeps w t r
+pub first_broken : (keeps : Rule → Trace → ℕ → Type 0) (w : Trace) (t : ℕ) (a b c d e : Bool) (r : Rule) → Tests keeps w t a b c d e → first_of a b c d e ≡ Some r → Breaks keeps w t r
 first_broken keeps w t false b c d e r tests h =
     let same : rule.Run ≡ r = cc in
     subst (λ s. Breaks keeps w t s) same (record {

@@ -45,19 +45,23 @@ pub nothing_runs : (places : List (Option JobId)) (n : ℕ) → length places �
 nothing_runs places n size empty zero = refl
 nothing_runs places n size empty (suc c) = empty_past (map place_seen places) n c (length-map places place_seen ∙ size) empty
 
--- The passes begin.
+-- The passes begin: at each place stands the kept holder.
+pub kept_places : (m : MachineDef) (places : List (Option JobId)) → IsMachine m → length places ≡ length m.list.set.resources
+    → ((q : ℕ) → q < length m.list.set.resources → place_in (map place_seen places) q ≡ stays (requester_now m q) (holder_now m q))
+    → (q : ℕ) → place_in (map place_seen places) q ≡ stays (requester_now m q) (holder_now m q)
+kept_places m places machine size each q = elim (cases_lt q (length m.list.set.resources)) [
+  | inl within ↦ each q within
+  | inr past ↦
+      let l : length (map place_seen places) ≤ q = omega (arith, length-map places place_seen) in
+      let h : length m.holders ≤ q = omega (arith, machine.holders_length) in
+      let none : holder_now m q ≡ None = get_or_past m.holders q None h in
+      get_or_past (map place_seen places) q None l ∙ sym (ap (stays (requester_now m q)) none)
+]
+
 pub grants_begin : (m : MachineDef) (grant run : ℕ → ℕ) (places : List (Option JobId)) → IsMachine m → length places ≡ length m.list.set.resources
     → ((q : ℕ) → q < length m.list.set.resources → place_in (map place_seen places) q ≡ stays (requester_now m q) (holder_now m q)) → Granted (scene_now grant run m) 0 (place_in (map place_seen places))
-grants_begin m grant run places machine size each = granted_first (scene_now grant run m) (place_in (map place_seen places)) (λ q. all q ∙ kept_now m grant run q) where
-  all : (q : ℕ) → place_in (map place_seen places) q ≡ stays (requester_now m q) (holder_now m q)
-  all q = elim (cases_lt q (length m.list.set.resources)) [
-    | inl within ↦ each q within
-    | inr past ↦
-        let l : length (map place_seen places) ≤ q = omega (arith, length-map places place_seen) in
-        let h : length m.holders ≤ q = omega (arith, machine.holders_length) in
-        let none : holder_now m q ≡ None = get_or_past m.holders q None h in
-        get_or_past (map place_seen places) q None l ∙ sym (ap (stays (requester_now m q)) none)
-  ]
+grants_begin m grant run places machine size each =
+    granted_first (scene_now grant run m) (place_in (map place_seen places)) (λ q. kept_places m places machine size each q ∙ kept_now m grant run q)
 
 -- The holders, and what runs, are listed jobs.
 pub holders_named : (m : MachineDef) (grant run : ℕ → ℕ) (x : ℕ) (places : List (Option ℕ)) → Granted (scene_now grant run m) x (place_in places) → NamesBelow (length m.list.jobs) places

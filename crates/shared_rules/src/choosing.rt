@@ -16,7 +16,7 @@ use schedule_model::{JobId, Row};
 use sporadic_model::{ResourceId, TaskId};
 
 /// Names a job, or none, at a place of a row.
-fn put(places: &mut [Option<JobId>], i: usize, job: Option<JobId>)
+pub fn put(places: &mut [Option<JobId>], i: usize, job: Option<JobId>)
     requires { i < length places.old }
     ensures len { length places.new ≡ length places.old }
     ensures here { place_in (map place_seen places.new) i ≡ place_seen job }
@@ -26,7 +26,7 @@ fn put(places: &mut [Option<JobId>], i: usize, job: Option<JobId>)
 }
 
 /// The job that is named at a place, where the places name listed jobs.
-fn job_at(machine: &Machine, places: &[Option<JobId>], i: usize) -> Option<JobId>
+pub fn job_at(machine: &Machine, places: &[Option<JobId>], i: usize) -> Option<JobId>
     requires within { i < length places.now }
     requires named { NamesBelow (length machine.now.list.jobs) (map place_seen places.now) }
     ensures value { place_seen result ≡ place_in (map place_seen places.now) i }
@@ -36,7 +36,7 @@ fn job_at(machine: &Machine, places: &[Option<JobId>], i: usize) -> Option<JobId
 }
 
 /// The last row's holder, where it still requests the resource.
-fn kept(machine: &Machine, q: ResourceId) -> Option<JobId>
+pub fn kept(machine: &Machine, q: ResourceId) -> Option<JobId>
     requires { q.0 < length machine.now.list.set.resources }
     ensures { place_seen result ≡ stays (requester_now machine.now q.0) (holder_now machine.now q.0) }
 {
@@ -52,7 +52,7 @@ fn kept(machine: &Machine, q: ResourceId) -> Option<JobId>
 }
 
 /// Names the kept holders, and no others.
-fn keep_all(machine: &Machine, holders: &mut [Option<JobId>])
+pub fn keep_all(machine: &Machine, holders: &mut [Option<JobId>])
     requires { length holders.old ≡ length machine.now.list.set.resources }
     ensures len { length holders.new ≡ length holders.old }
     ensures each { (q : ℕ) → q < length holders.old → place_in (map place_seen holders.new) q
@@ -64,7 +64,7 @@ fn keep_all(machine: &Machine, holders: &mut [Option<JobId>])
 }
 
 /// The resource that the job requests, where it does.
-fn requested(machine: &Machine, j: JobId) -> Option<ResourceId>
+pub fn requested(machine: &Machine, j: JobId) -> Option<ResourceId>
     requires { j.0 < length machine.now.list.jobs }
     ensures value { option_map (λ q. q.0) result ≡ resource_in (phase_now machine.now j.0) }
     ensures within { IfSome result (λ q. q.0 < length machine.now.list.set.resources) }
@@ -172,7 +172,7 @@ fn grant_all<O: Order>(order: &O, machine: &Machine, holders: &mut [Option<JobId
 }
 
 /// Names a job, or none, in the column of processor `k`, counted from 1.
-fn put_on(running: &mut [Option<JobId>], k: u32, job: Option<JobId>)
+pub fn put_on(running: &mut [Option<JobId>], k: u32, job: Option<JobId>)
     requires least { 1 ≤ k }
     requires most { k ≤ length running.old }
     ensures len { length running.new ≡ length running.old }
@@ -183,7 +183,7 @@ fn put_on(running: &mut [Option<JobId>], k: u32, job: Option<JobId>)
 }
 
 /// The job that runs on processor `k`, where the columns name listed jobs.
-fn job_on(machine: &Machine, running: &[Option<JobId>], k: u32) -> Option<JobId>
+pub fn job_on(machine: &Machine, running: &[Option<JobId>], k: u32) -> Option<JobId>
     requires least { 1 ≤ k }
     requires most { k ≤ length running.now }
     requires named { NamesBelow (length machine.now.list.jobs) (map place_seen running.now) }
@@ -289,7 +289,7 @@ fn enter_for<O: Order>(
 }
 
 /// Names no job at any place.
-fn clear(places: &mut [Option<JobId>])
+pub fn clear(places: &mut [Option<JobId>])
     ensures len { length places.new ≡ length places.old }
     ensures empty { (i : ℕ) → i < length places.old → place_in (map place_seen places.new) i ≡ None }
 {

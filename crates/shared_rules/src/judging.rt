@@ -70,7 +70,7 @@ fn kept_passes(machine: &Machine, row: &Row, q: ResourceId) -> bool
 
 /// Keep: does each holder stay that still requests its resource?
 #[tactic(auto, unfolding(crate::specs::RowTests::passes_keep))]
-fn passes_keep(machine: &Machine, row: &Row) -> bool
+pub fn passes_keep(machine: &Machine, row: &Row) -> bool
     requires fits { IsRowFor machine.now.list (row_seen row.now) }
     ensures { result ≡ passes_keep machine.now (row_seen row.now) }
 {
@@ -95,7 +95,7 @@ fn holder_passes(machine: &Machine, row: &Row, q: ResourceId) -> bool
 }
 
 /// Does each holder request its resource?
-fn holders_pass(machine: &Machine, row: &Row) -> bool
+pub fn holders_pass(machine: &Machine, row: &Row) -> bool
     requires fits { IsRowFor machine.now.list (row_seen row.now) }
     ensures { result ≡ all_below (length machine.now.list.set.resources) (holder_passes machine.now (row_seen row.now)) }
 {

@@ -1,12 +1,13 @@
 //! The rules that MPCP and FMLP+ share, over the order in which a protocol grants requests and runs holders: judging a
-//! row, choosing one, and telling which ticks are blocked.
+//! row, choosing one, and telling which ticks are blocked. What does not depend on that order, as looking up what a row
+//! names and writing it, stands in public modules for the judges of other protocols.
 #![tactic(auto)]
 
 mod blocking;
-mod choosing;
-mod judging;
+pub mod choosing;
+pub mod judging;
 mod laws;
-mod lookup;
+pub mod lookup;
 mod order;
 
 pub use blocking::blocked_shared;

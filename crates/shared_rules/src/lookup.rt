@@ -11,7 +11,7 @@ use schedule_model::{JobId, Row};
 use sporadic_model::{ResourceId, TaskId};
 
 /// How many tasks the machine's set has.
-pub(crate) fn tasks_of(machine: &Machine) -> u32
+pub fn tasks_of(machine: &Machine) -> u32
     ensures value { result ≡ length machine.now.list.set.tasks }
     ensures machine { IsMachine machine.now }
 {
@@ -19,14 +19,14 @@ pub(crate) fn tasks_of(machine: &Machine) -> u32
 }
 
 /// How many resources it has.
-pub(crate) fn resources_of(machine: &Machine) -> u32
+pub fn resources_of(machine: &Machine) -> u32
     ensures { result ≡ length machine.now.list.set.resources }
 {
     machine.jobs().set().resources()
 }
 
 /// The job's task.
-pub(crate) fn task_of(machine: &Machine, j: JobId) -> TaskId
+pub fn task_of(machine: &Machine, j: JobId) -> TaskId
     requires { j.0 < length machine.now.list.jobs }
     ensures value { result.0 ≡ task_in machine.now.list.jobs j.0 }
     ensures within { result.0 < length machine.now.list.set.tasks }
@@ -35,7 +35,7 @@ pub(crate) fn task_of(machine: &Machine, j: JobId) -> TaskId
 }
 
 /// The processor that the job runs on, counted from 1.
-pub(crate) fn processor_of(machine: &Machine, j: JobId) -> u32
+pub fn processor_of(machine: &Machine, j: JobId) -> u32
     requires { j.0 < length machine.now.list.jobs }
     ensures value { result ≡ processor_now machine.now j.0 }
     ensures least { 1 ≤ result }
@@ -45,7 +45,7 @@ pub(crate) fn processor_of(machine: &Machine, j: JobId) -> u32
 }
 
 /// The job that is named at a place of a row.
-pub(crate) fn named_at(places: &[Option<JobId>], i: usize) -> Option<JobId>
+pub fn named_at(places: &[Option<JobId>], i: usize) -> Option<JobId>
     requires { i < length places.now }
     ensures { place_seen result ≡ slice_index_or (map place_seen places.now) i None }
 {
@@ -53,7 +53,7 @@ pub(crate) fn named_at(places: &[Option<JobId>], i: usize) -> Option<JobId>
 }
 
 /// What runs in the column, counted from 0.
-pub(crate) fn column_at(machine: &Machine, row: &Row, c: usize) -> Option<JobId>
+pub fn column_at(machine: &Machine, row: &Row, c: usize) -> Option<JobId>
     requires fits { IsRowFor machine.now.list (row_seen row.now) }
     requires column { c < length (row_seen row.now).running }
     ensures value { place_seen result ≡ slice_index_or (row_seen row.now).running c None }
@@ -63,7 +63,7 @@ pub(crate) fn column_at(machine: &Machine, row: &Row, c: usize) -> Option<JobId>
 }
 
 /// What holds the resource.
-pub(crate) fn holder_at(machine: &Machine, row: &Row, q: ResourceId) -> Option<JobId>
+pub fn holder_at(machine: &Machine, row: &Row, q: ResourceId) -> Option<JobId>
     requires fits { IsRowFor machine.now.list (row_seen row.now) }
     requires resource { q.0 < length machine.now.list.set.resources }
     ensures value { place_seen result ≡ holder_in (row_seen row.now) q.0 }
@@ -73,7 +73,7 @@ pub(crate) fn holder_at(machine: &Machine, row: &Row, q: ResourceId) -> Option<J
 }
 
 /// What runs on the job's processor?
-pub(crate) fn running_beside(machine: &Machine, row: &Row, j: JobId) -> Option<JobId>
+pub fn running_beside(machine: &Machine, row: &Row, j: JobId) -> Option<JobId>
     requires fits { IsRowFor machine.now.list (row_seen row.now) }
     requires listed { j.0 < length machine.now.list.jobs }
     ensures value { place_seen result ≡ running_on (row_seen row.now) (processor_now machine.now j.0) }
@@ -84,7 +84,7 @@ pub(crate) fn running_beside(machine: &Machine, row: &Row, j: JobId) -> Option<J
 
 /// Is the job in a request of the resource, and active?
 #[tactic(auto, unfolding(phase_machine::specs::Now::requester_now))]
-pub(crate) fn requests(machine: &Machine, q: ResourceId, j: JobId) -> bool
+pub fn requests(machine: &Machine, q: ResourceId, j: JobId) -> bool
     requires { j.0 < length machine.now.list.jobs }
     ensures { result ≡ requester_now machine.now q.0 j.0 }
 {
@@ -96,7 +96,7 @@ pub(crate) fn requests(machine: &Machine, q: ResourceId, j: JobId) -> bool
 }
 
 /// Is the job Local?
-pub(crate) fn is_local(machine: &Machine, j: JobId) -> bool
+pub fn is_local(machine: &Machine, j: JobId) -> bool
     requires { j.0 < length machine.now.list.jobs }
     ensures { result ≡ is_local_now machine.now j.0 }
 {
@@ -104,7 +104,7 @@ pub(crate) fn is_local(machine: &Machine, j: JobId) -> bool
 }
 
 /// With these holders: does the job hold what it requests?
-pub(crate) fn holds(machine: &Machine, holders: &[Option<JobId>], j: JobId) -> bool
+pub fn holds(machine: &Machine, holders: &[Option<JobId>], j: JobId) -> bool
     requires listed { j.0 < length machine.now.list.jobs }
     requires sized { length holders.now ≡ length machine.now.list.set.resources }
     ensures { result ≡ holds_now machine.now (λ q. slice_index_or (map place_seen holders.now) q None) j.0 }
@@ -116,7 +116,7 @@ pub(crate) fn holds(machine: &Machine, holders: &[Option<JobId>], j: JobId) -> b
 }
 
 /// Is the job Local, or with these holders the holder of what it requests?
-pub(crate) fn may_run(machine: &Machine, holders: &[Option<JobId>], j: JobId) -> bool
+pub fn may_run(machine: &Machine, holders: &[Option<JobId>], j: JobId) -> bool
     requires listed { j.0 < length machine.now.list.jobs }
     requires sized { length holders.now ≡ length machine.now.list.set.resources }
     ensures { result ≡ may_run_now machine.now (λ q. slice_index_or (map place_seen holders.now) q None) j.0 }

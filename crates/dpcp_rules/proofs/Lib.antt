@@ -1,0 +1,13 @@
+pub mod Least
+pub mod Shown
+pub mod Waiting
+pub mod Entries
+pub mod RunTest
+pub mod GrantTest
+pub mod ReadyTests
+pub mod Verdict
+pub mod Blocked
+pub mod Filling
+pub mod Chosen
+pub mod Written
+pub mod NextRow

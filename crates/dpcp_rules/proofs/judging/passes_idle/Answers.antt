@@ -1,0 +1,15 @@
+use Rattle.std.proofs.Common.{length, sym, ◌∙◌, arith}
+use Rattle.bounded_sums.proofs.TestLaws.{all_below-fails_from}
+use Rattle.schedule_model.specs.Seen.{row_seen}
+use Rattle.shared_rules.specs.RowTests.{current_passes, each_current}
+use Rattle.shared_rules.proofs.Loops.{all_next}
+use Rattle.dpcp_rules.specs.RowTests.{idle_passes, passes_idle}
+use Rattle.dpcp_rules.proofs.judging.passes_idle.Goals as goal
+
+pub returns-then-not-idle_passes_for : goal.returns-then-not-idle_passes_for
+unfolding passes_idle each_current
+returns-then-not-idle_passes_for c =
+    sym (all_below-fails_from (length c.args.machine.now.list.set.tasks) (current_passes c.args.machine.now (idle_passes c.args.machine.now (row_seen c.args.row.now))) c.loop-x.x (omega arith) (sym c.idle_passes_for.ensures ∙ c.if-not-idle_passes_for.true))
+
+pub loop-x-preserved : goal.loop-x-preserved
+loop-x-preserved c = all_next c.loop-x.x (current_passes c.args.machine.now (idle_passes c.args.machine.now (row_seen c.args.row.now))) c.loop-x.invariant (sym c.idle_passes_for.ensures ∙ c.if-not-idle_passes_for.false)

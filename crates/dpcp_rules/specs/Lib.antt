@@ -1,0 +1,5 @@
+pub mod Homes
+pub mod RowTests
+pub mod Blocked
+pub mod Choosing
+pub mod NextRow

@@ -1,0 +1,69 @@
+-- The rules of a row under DPCP as tests: what they look at is a machine's value, the row that comes next, and two tables:
+-- for each processor the first task that waits there, and the least ceiling that is kept there.
+use Rattle.std.specs.Prelude.{ℕ, ◌+◌, ◌==◌, ◌&&◌, ◌||◌, not, Bool, true, nat_le, nat_lt, if◌then◌else◌, List, length, Option, None, Some, is_some, slice_index_or}
+use Rattle.std.specs.Option.{option_map_or}
+use Rattle.bounded_sums.specs.Tests.{all_below}
+use Rattle.schedule_model.specs.RowDef.{RowDef, running_on, holder_in}
+use Rattle.schedule_model.specs.declared.rule.Rule.{Rule}
+use Rattle.schedule_model.specs.declared.rule.Rule.TheVariants as rule
+use Rattle.phase_machine.specs.MachineDef.{MachineDef, task_in}
+use Rattle.phase_machine.specs.Now.{active_now, waiting_now}
+use Rattle.shared_rules.specs.RowTests.{each_current, is_local_now, holds_now, may_run_now, passes_keep, holder_passes}
+use Rattle.dpcp_rules.specs.Homes.{column_now, entry_at}
+
+-- Run: is what runs in column c, counted from 0, active, Local or the holder of what it requests, and in its column?
+abbrev pub may_stand : MachineDef → RowDef → ℕ → ℕ → Bool
+may_stand m row c j = active_now m j && (may_run_now m (holder_in row) j && (column_now m j == c + 1))
+
+abbrev pub column_passes : MachineDef → RowDef → ℕ → Bool
+column_passes m row c = option_map_or (may_stand m row c) (slice_index_or row.running c None) true
+
+unfoldable pub passes_run : MachineDef → RowDef → Bool
+passes_run m row = all_below (length row.running) (column_passes m row)
+
+-- Grant: is job j's task, which waits, the first of those that wait at its processor, and higher than what is kept there?
+abbrev pub is_due : MachineDef → List ℕ → List ℕ → ℕ → Bool
+is_due m first bars j =
+    nat_le (task_in m.list.jobs j) (entry_at first (column_now m j)) && nat_lt (task_in m.list.jobs j) (entry_at bars (column_now m j))
+
+-- Of those that wait, does job j hold what it requests exactly where it is due?
+abbrev pub request_passes : MachineDef → List ℕ → List ℕ → RowDef → ℕ → Bool
+request_passes m first bars row j =
+    not (waiting_now m j) || (if is_due m first bars j then holds_now m (holder_in row) j else not (holds_now m (holder_in row) j))
+
+unfoldable pub passes_grant : MachineDef → List ℕ → List ℕ → RowDef → Bool
+passes_grant m first bars row =
+    all_below (length m.list.set.resources) (holder_passes m row) && each_current m (request_passes m first bars row)
+
+-- Idle: does something run where job j would?
+abbrev pub idle_passes : MachineDef → RowDef → ℕ → Bool
+idle_passes m row j = is_some (running_on row (column_now m j))
+
+unfoldable pub passes_idle : MachineDef → RowDef → Bool
+passes_idle m row = each_current m (idle_passes m row)
+
+-- Priority: does what runs where job j would go no later than j? A Local job goes after requests, and after Local jobs of
+-- higher tasks; a request gives way to holders alone, and a holder to holders of higher tasks.
+abbrev pub is_no_lower : MachineDef → ℕ → ℕ → Bool
+is_no_lower m r j = nat_le (task_in m.list.jobs r) (task_in m.list.jobs j)
+
+abbrev pub goes_first : MachineDef → RowDef → ℕ → Option ℕ → Bool
+goes_first m row j None = is_local_now m j
+goes_first m row j (Some r) =
+    if is_local_now m j then not (is_local_now m r) || is_no_lower m r j
+    else holds_now m (holder_in row) r && (not (holds_now m (holder_in row) j) || is_no_lower m r j)
+
+abbrev pub priority_passes : MachineDef → RowDef → ℕ → Bool
+priority_passes m row j = goes_first m row j (running_on row (column_now m j))
+
+unfoldable pub passes_priority : MachineDef → RowDef → Bool
+passes_priority m row = each_current m (priority_passes m row)
+
+-- The first rule whose test fails.
+abbrev pub first_failed : MachineDef → List ℕ → List ℕ → RowDef → Option Rule
+first_failed m first bars row =
+    if not (passes_run m row) then Some rule.Run
+    else (if not (passes_keep m row) then Some rule.Keep
+    else (if not (passes_grant m first bars row) then Some rule.Grant
+    else (if not (passes_idle m row) then Some rule.Idle
+    else (if not (passes_priority m row) then Some rule.Priority else None))))

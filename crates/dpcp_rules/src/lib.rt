@@ -1,0 +1,64 @@
+//! DPCP: requests run on their resource's home, are granted to the highest task that waits there where it is higher than the
+//! ceiling of all that is kept there, and holders run by base priority.
+#![tactic(auto)]
+
+mod blocking;
+mod choosing;
+mod judging;
+mod laws;
+mod lookup;
+mod tables;
+#[cfg(test)]
+mod tests;
+
+ghost use Rattle.sporadic_model.specs.Homes.{EachHasHome};
+ghost use Rattle.schedule_model.specs.Protocols.{dpcp_rule};
+ghost use Rattle.schedule_model.specs.Chosen.{IsDpcpChoice};
+ghost use Rattle.schedule_model.specs.BlockedTicks.{is_dpcp_interference};
+ghost use Rattle.schedule_laws.proofs.DpcpLaws.{dpcp_one_of_three, dpcp_sound_row, dpcp_chosen_keeps};
+ghost use Rattle.schedule_laws.proofs.DpcpAgreement.{dpcp_rules_read, dpcp_choice_reads};
+ghost use Rattle.schedule_laws.proofs.TickAgreement.{dpcp_interference_agree};
+
+pub use laws::each_schedule_has_a_next_row;
+use phase_machine::{Judge, Machine};
+use schedule_model::{BlockingProtocol, JobId, Row, Rule};
+
+/// The distributed priority ceiling protocol. It suits task sets in which each resource has a home.
+#[derive(Clone, Copy, Debug, PartialEq, Eq)]
+pub struct Dpcp;
+
+impl BlockingProtocol for Dpcp {
+    ghost suits = { λ p. EachHasHome };
+
+    ghost keeps = { λ p. dpcp_rule };
+
+    ghost chooses = { λ p. IsDpcpChoice };
+
+    ghost interferes = { λ p. is_dpcp_interference };
+
+    ghost one_of_three = { λ p w t j suits. dpcp_one_of_three w t j };
+
+    ghost sound_row = { λ p w t suits keeps. dpcp_sound_row w t keeps };
+
+    ghost chosen_keeps = { λ p w t suits chosen. dpcp_chosen_keeps w t chosen };
+}
+
+impl Judge for Dpcp {
+    fn judge(&self, machine: &Machine, row: &Row) -> Result<(), Rule> {
+        judging::judge(machine, row)
+    }
+
+    fn choose(&self, machine: &Machine, row: &mut Row) {
+        choosing::choose(machine, row);
+    }
+
+    fn blocked(&self, machine: &Machine, row: &Row, j: JobId) -> bool {
+        blocking::blocked(machine, row, j)
+    }
+
+    ghost rules_read = { λ p. dpcp_rules_read };
+
+    ghost choice_reads = { λ p. dpcp_choice_reads };
+
+    ghost ticks_read = { λ p. dpcp_interference_agree };
+}
