@@ -1,0 +1,4 @@
+pub mod RunLaws
+pub mod Counting
+pub mod Reaching
+pub mod Measuring

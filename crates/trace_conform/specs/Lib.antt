@@ -1,0 +1,6 @@
+pub mod Runs
+pub mod Counts
+pub mod Reached
+pub mod Measured
+pub mod Conforming
+pub mod ByProtocol

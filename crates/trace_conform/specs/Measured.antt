@@ -1,0 +1,41 @@
+-- The measures of a task, by the counts of its jobs and by what the machine says of them at the end.
+use Rattle.std.specs.Prelude.{ℕ, ◌-◌, ◌==◌, ◌&&◌, Bool, List, length, None, Some, if◌then◌else◌}
+use Rattle.bounded_sums.specs.Sums.{only_if}
+use Rattle.bounded_sums.specs.Tests.{count_below}
+use Rattle.schedule_model.specs.JobDef.{job_of}
+use Rattle.schedule_model.specs.Phase.{is_finished}
+use Rattle.schedule_model.specs.Measures.{MeasuresDef, greatest_below}
+use Rattle.phase_machine.specs.MachineDef.{MachineDef, task_in}
+use Rattle.phase_machine.specs.Now.{phase_now}
+use Rattle.trace_conform.specs.declared.counts.JobCount.{JobCount}
+use Rattle.trace_conform.specs.declared.measures.TaskMeasure.{TaskMeasure}
+use Rattle.trace_conform.specs.Counts.{count_at}
+
+-- What a contract sees of the measures of a task.
+abbrev pub measure_seen : TaskMeasure → MeasuresDef
+measure_seen m = record { finished = m.finished; response = m.response; blocking = m.blocking }
+
+-- What a look-up past the end gives.
+abbrev pub no_measure : TaskMeasure
+no_measure = record { finished = 0; response = None; blocking = 0 }
+
+-- Is job j of task x, and finished?
+unfoldable pub counts_now : MachineDef → ℕ → ℕ → Bool
+counts_now m x j = (task_in m.list.jobs j == x) && is_finished (phase_now m j)
+
+-- The response of job j, where it counts for task x; 0 where it doesn't.
+unfoldable pub response_now : MachineDef → List JobCount → ℕ → ℕ → ℕ
+response_now m counts x j = only_if (counts_now m x j) ((count_at counts j).end - (job_of m.list.jobs j).release)
+
+-- The blocking of job j, where it is of task x; 0 where it isn't.
+unfoldable pub blocking_now : MachineDef → List JobCount → ℕ → ℕ → ℕ
+blocking_now m counts x j = only_if (task_in m.list.jobs j == x) (count_at counts j).blocked
+
+-- The measures of task x.
+unfoldable pub measures_now : MachineDef → List JobCount → ℕ → MeasuresDef
+measures_now m counts x = record {
+  finished = count_below (length m.list.jobs) (counts_now m x);
+  response = if count_below (length m.list.jobs) (counts_now m x) == 0 then None
+      else Some (greatest_below (length m.list.jobs) (response_now m counts x));
+  blocking = greatest_below (length m.list.jobs) (blocking_now m counts x);
+}

@@ -1,0 +1,23 @@
+-- Where in a list of runs of equal rows is a machine that takes them tick by tick?
+use Rattle.std.specs.Prelude.{◌≡◌, ℕ, ◌<◌, true, List, length, take, slice_index_or}
+use Rattle.schedule_model.specs.RowDef.{RunDef, idle_row, row_in, ticks_of}
+use Rattle.schedule_model.specs.Fitting.{RowsDef, is_fitting}
+use Rattle.phase_machine.specs.MachineDef.{MachineDef}
+
+-- What a look-up past the end gives: a run of no ticks.
+abbrev pub no_run : RunDef
+no_run = record { ticks = 0; row = idle_row }
+
+-- Run number i.
+abbrev pub run_of : List RunDef → ℕ → RunDef
+run_of runs i = slice_index_or runs i no_run
+
+-- How many ticks do the runs before number i last?
+abbrev pub ticks_before : List RunDef → ℕ → ℕ
+ticks_before runs i = ticks_of (take i runs)
+
+-- Does the machine stand at a tick of run number i, of rows that fit its jobs?
+pub record IsAtRun (rows : RowsDef) (i : ℕ) (m : MachineDef) : Type 0 where
+  pub within : i < length rows.runs
+  pub fits : is_fitting rows m.list ≡ true
+  pub here : row_in rows.runs m.tick ≡ (run_of rows.runs i).row

@@ -1,0 +1,85 @@
+ghost use Rattle.std.specs.Prelude.{◌≡◌, true};
+ghost use Rattle.schedule_model.specs.RowDef.{trace_in, ticks_of};
+ghost use Rattle.schedule_model.specs.Fitting.{is_fitting};
+ghost use Rattle.trace_conform.specs.Conforming.{Conforms};
+ghost use Rattle.trace_conform.specs.ByProtocol.{rules_of, interference_of, IsServed};
+
+use crate::counts::no_counts;
+use crate::judging::judge_all;
+use crate::measures::{Measured, measure_all};
+use fmlp_rules::FmlpPlus;
+use mpcp_rules::Mpcp;
+use phase_machine::{Judge, Machine};
+use schedule_model::{JobList, RowList, Rule};
+use sporadic_model::Protocol;
+use std::alloc::Global;
+use thiserror::Error;
+
+/// Why a schedule is not measured.
+#[derive(Clone, Copy, Debug, PartialEq, Eq, Error)]
+pub enum Unlawful {
+    /// A row breaks a rule: the first such tick, and the first rule that its row breaks.
+    #[error("the row at tick {tick} breaks a rule")]
+    Broken {
+        /// The tick, counted from 0.
+        tick: u64,
+        /// The rule.
+        rule: Rule,
+    },
+    /// Memory was refused.
+    #[error("out of memory")]
+    Memory,
+}
+
+/// Judges each row by the protocol's rules and measures each task: Ok exactly where every row keeps all five rules; else
+/// the first row that breaks one.
+pub fn conform_with<P: Judge>(
+    alloc: Global,
+    protocol: &P,
+    jobs: &JobList,
+    rows: &RowList,
+) -> Result<Measured, Unlawful>
+    requires suits { P.suits protocol.now jobs.now.set }
+    requires fits { is_fitting rows.now jobs.now ≡ true }
+    ensures { Conforms (P.keeps protocol.now) (P.interferes protocol.now) (trace_in jobs.now rows.now.runs) (ticks_of rows.now.runs) result }
+{
+    let mut machine = match Machine::new(alloc, jobs) {
+        Ok(machine) => machine,
+        Err(_) => return Err(Unlawful::Memory),
+    };
+    let mut counts = match no_counts(alloc, jobs.len()) {
+        Ok(counts) => counts,
+        Err(_) => return Err(Unlawful::Memory),
+    };
+    match judge_all(protocol, rows, &mut machine, &mut counts) {
+        Ok(()) => {}
+        Err(breach) => {
+            return Err(Unlawful::Broken {
+                tick: breach.tick,
+                rule: breach.rule,
+            });
+        }
+    }
+    match measure_all(alloc, &machine, &counts) {
+        Ok(tasks) => Ok(Measured { tasks }),
+        Err(_) => Err(Unlawful::Memory),
+    }
+}
+
+/// The same by the protocol's name, of those whose rules are built: MPCP and FMLP+.
+pub fn conform(
+    alloc: Global,
+    protocol: Protocol,
+    jobs: &JobList,
+    rows: &RowList,
+) -> Result<Measured, Unlawful>
+    requires served { IsServed protocol }
+    requires fits { is_fitting rows.now jobs.now ≡ true }
+    ensures { Conforms (rules_of protocol) (interference_of protocol) (trace_in jobs.now rows.now.runs) (ticks_of rows.now.runs) result }
+{
+    match protocol {
+        Protocol::Mpcp => conform_with(alloc, &Mpcp, jobs, rows),
+        Protocol::FmlpPlus => conform_with(alloc, &FmlpPlus, jobs, rows),
+        Protocol::Dpcp => unreachable!(),
+    }
+}

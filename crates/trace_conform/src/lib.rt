@@ -1,0 +1,11 @@
+//! Judges a schedule by the rules of a locking protocol, and measures what it does to each task.
+#![tactic(auto)]
+
+mod conforming;
+mod counts;
+mod judging;
+mod measures;
+mod runs;
+
+pub use conforming::{Unlawful, conform, conform_with};
+pub use measures::{Measured, TaskMeasure};

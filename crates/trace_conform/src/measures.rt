@@ -1,0 +1,105 @@
+ghost use Rattle.std.specs.Prelude.{◌≡◌, ℕ, ◌<◌, length, IfOk, slice_index_or};
+ghost use Rattle.trace_conform.specs.Measured.{no_measure, measure_seen, counts_now, response_now, blocking_now, measures_now};
+
+use crate::counts::JobCount;
+use phase_machine::{Machine, Phase};
+use schedule_model::JobId;
+use sporadic_model::TaskId;
+use std::alloc::{AllocError, Global};
+
+/// What a schedule does to each task, in the order of the set.
+#[derive(Debug, Drop, PartialEq, Eq)]
+pub struct Measured {
+    /// One measure per task.
+    pub tasks: Vec<TaskMeasure>,
+}
+
+/// What a schedule does to the jobs of one task.
+#[derive(Clone, Copy, Debug, PartialEq, Eq)]
+pub struct TaskMeasure {
+    /// How many of its jobs finished.
+    pub finished: u64,
+    /// The greatest number of ticks that a finished job took from its release; none where none finished.
+    pub response: Option<u64>,
+    /// The greatest number of ticks at which a job was blocked, finished or not; 0 without a job.
+    pub blocking: u64,
+}
+
+/// Is the job one of the task, and finished?
+#[tactic(auto, unfolding(crate::specs::Measured::counts_now))]
+fn is_finished_job(machine: &Machine, x: TaskId, j: JobId) -> bool
+    requires { j.0 < length machine.now.list.jobs }
+    ensures { result ≡ counts_now machine.now x.0 j.0 }
+{
+    machine.jobs().job(j).task == x && machine.phase(j) == Phase::Finished
+}
+
+/// How long the job took, if it is a finished one of the task; else 0.
+#[tactic(auto, unfolding(crate::specs::Measured::response_now))]
+fn response_for(machine: &Machine, counts: &[JobCount], x: TaskId, j: JobId) -> u64
+    requires listed { j.0 < length machine.now.list.jobs }
+    requires size { length counts.now ≡ length machine.now.list.jobs }
+    ensures { result ≡ response_now machine.now counts.now x.0 j.0 }
+{
+    if is_finished_job(machine, x, j) {
+        return counts[j.0 as usize]
+            .end
+            .saturating_sub(machine.jobs().job(j).release);
+    }
+    0
+}
+
+/// At how many ticks the job was blocked, if it is one of the task; else 0.
+#[tactic(auto, unfolding(crate::specs::Measured::blocking_now))]
+fn blocking_for(machine: &Machine, counts: &[JobCount], x: TaskId, j: JobId) -> u64
+    requires listed { j.0 < length machine.now.list.jobs }
+    requires size { length counts.now ≡ length machine.now.list.jobs }
+    ensures { result ≡ blocking_now machine.now counts.now x.0 j.0 }
+{
+    if machine.jobs().job(j).task == x {
+        return counts[j.0 as usize].blocked;
+    }
+    0
+}
+
+/// The measures of the task, after all rows were taken and counted.
+#[tactic(auto, unfolding(crate::specs::Measured::measures_now))]
+fn measure_task(machine: &Machine, counts: &[JobCount], x: TaskId) -> TaskMeasure
+    requires size { length counts.now ≡ length machine.now.list.jobs }
+    ensures { measure_seen result ≡ measures_now machine.now counts.now x.0 }
+{
+    let mut finished = 0;
+    let mut response: u64 = 0;
+    let mut blocking: u64 = 0;
+    for j in 0..machine.jobs().len() {
+        if is_finished_job(machine, x, JobId(j)) {
+            finished += 1;
+        }
+        response = response.max(response_for(machine, counts, x, JobId(j)));
+        blocking = blocking.max(blocking_for(machine, counts, x, JobId(j)));
+    }
+    TaskMeasure {
+        finished,
+        response: if finished == 0 { None } else { Some(response) },
+        blocking,
+    }
+}
+
+/// The measures of all tasks, after all rows were taken and counted.
+pub(crate) fn measure_all(
+    alloc: Global,
+    machine: &Machine,
+    counts: &[JobCount],
+) -> Result<Vec<TaskMeasure>, AllocError>
+    requires size { length counts.now ≡ length machine.now.list.jobs }
+    ensures size { IfOk result (λ v. length v.items ≡ length machine.now.list.set.tasks) }
+    ensures each { IfOk result (λ v. (x : ℕ) → x < length machine.now.list.set.tasks
+        → measure_seen (slice_index_or v.items x no_measure) ≡ measures_now machine.now counts.now x) }
+{
+    let tasks = machine.jobs().set().tasks();
+    let mut measures = Vec::with_capacity(alloc, tasks as usize)?;
+    for x in 0..tasks {
+        measures.push(measure_task(machine, counts, TaskId(x)))?;
+    }
+    Ok(measures)
+}
