@@ -117,6 +117,7 @@ fn command_reply<R: Threads + Sync, S: Shelf>(
     shelf: &mut S,
     command: Command<'_>,
 ) -> Result<Reply, Halt>
+    requires { IsServed (form_seen command) }
     ensures reply { Answered result (IsReplyOf
         (record { names = S.names shelf.old; before = S.faults shelf.old; now = S.faults shelf.new; given = S.given shelf.new })
         (plan_of (form_seen command.entry))) }
