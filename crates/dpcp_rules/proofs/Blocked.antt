@@ -1,21 +1,20 @@
 -- The test of blocked jobs says which are blocked, in a row that keeps Run.
-use Rattle.std.proofs.Common.{◌≡◌, ℕ, ◌&&◌, not, Bool, true, false, refl, sym, ap, ◌∙◌, Option, Some, None}
+use Rattle.std.proofs.Common.{◌≡◌, ℕ, ◌&&◌, true, false, refl, sym, ap, ◌∙◌, Option, Some, None}
 use Rattle.std.specs.Option.{option_map_or}
 use Rattle.std.proofs.lemmas.Bool.{eq-eqb}
 use Rattle.sporadic_model.specs.SetDef.{is_higher_local}
 use Rattle.schedule_model.specs.RowDef.{RowDef, is_job, running_on, runs_in}
 use Rattle.schedule_model.specs.Phase.{Phase, is_local, is_asking, phase_of}
 use Rattle.schedule_model.specs.Phase.Phase.{Local, Asking, Finished}
-use Rattle.schedule_model.specs.Activity.{task_of, is_active}
+use Rattle.schedule_model.specs.Activity.{is_active}
 use Rattle.schedule_model.specs.DpcpRules.{KeepsRun}
 use Rattle.schedule_model.specs.BlockedTicks.{is_delayed, runs_higher_local, is_dpcp_interference, is_blocked}
 use Rattle.schedule_laws.proofs.ActiveJobs.{active_listed}
 use Rattle.schedule_laws.proofs.Rows.{job_named, named_job, runs_from, runs_where}
 use Rattle.phase_machine.specs.MachineDef.{MachineDef, task_in, under}
-use Rattle.phase_machine.specs.Now.{active_now}
 use Rattle.phase_machine.specs.Shows.{Shows}
 use Rattle.phase_machine.proofs.Facts.{phase_shown, active_shown}
-use Rattle.shared_rules.specs.RowTests.{processor_now, is_local_now}
+use Rattle.shared_rules.specs.RowTests.{processor_now}
 use Rattle.shared_rules.proofs.Blocked.{same_bool, three_tests}
 use Rattle.dpcp_rules.specs.Homes.{column_now}
 use Rattle.dpcp_rules.specs.Blocked.{is_interfered, blocked_now}

@@ -8,21 +8,20 @@ use Rattle.bounded_sums.specs.Tests.{all_below, any_below}
 use Rattle.bounded_sums.proofs.TestLaws.{all_below-each, any_below-from, any_below-some, any_below-none, any_below-none_from}
 use Rattle.sporadic_model.specs.SetDef.{SetDef}
 use Rattle.sporadic_model.specs.Users.{count_of, is_user, ceiling_of}
-use Rattle.sporadic_model.specs.Homes.{EachHasHome}
-use Rattle.sporadic_model.specs.Accepted.{IsAccepted, IsHighestUser, HasNoUser}
+use Rattle.sporadic_model.specs.Accepted.{IsHighestUser, HasNoUser}
 use Rattle.sporadic_model.specs.declared.limits.TheConstants.{MOST_PROCESSORS}
 use Rattle.sporadic_model.proofs.Laws.{highest_user, no_user}
 use Rattle.schedule_model.specs.declared.rule.Rule.{Rule}
 use Rattle.schedule_model.specs.declared.rule.Rule.TheVariants as rule
-use Rattle.schedule_model.specs.RowDef.{RowDef, is_job, running_on, holder_in, held_before}
+use Rattle.schedule_model.specs.RowDef.{RowDef, running_on, holder_in, held_before}
 use Rattle.schedule_model.specs.Phase.{Phase, is_local, is_asking, phase_of}
 use Rattle.schedule_model.specs.Phase.Phase.{Local, Asking, Finished}
 use Rattle.schedule_model.specs.Activity.{task_of, processor_of, is_active, is_requester, is_active_local, holds_by}
 use Rattle.schedule_model.specs.SharedRules.{KeepsKeep}
-use Rattle.schedule_model.specs.DpcpRules.{home_of, ceiling_rank, has_requests, has_request_at, holds_at, is_kept, waits_at, is_first_waiting, is_barred, is_granted, KeepsRun, KeepsGrant, KeepsIdle, RunsFirstHolder, KeepsPriority}
+use Rattle.schedule_model.specs.DpcpRules.{home_of, ceiling_rank, has_requests, holds_at, is_kept, waits_at, is_first_waiting, is_barred, is_granted, KeepsRun, KeepsGrant, KeepsIdle, RunsFirstHolder, KeepsPriority}
 use Rattle.schedule_model.specs.Protocols.{dpcp_rule}
 use Rattle.schedule_model.specs.Chosen.{IsSized, IsDpcpChoice}
-use Rattle.schedule_laws.proofs.ActiveJobs.{active_listed, one_active, Requester, requester_is, requester_from, requester_listed, ActiveLocal, active_local_is}
+use Rattle.schedule_laws.proofs.ActiveJobs.{active_listed, one_active, Requester, requester_is, requester_from, ActiveLocal, active_local_is}
 use Rattle.schedule_laws.proofs.Rows.{job_named, named_job}
 use Rattle.schedule_laws.proofs.RuleUses.{request_among}
 use Rattle.schedule_laws.proofs.Segments.{open_resource, open_user}
@@ -31,12 +30,12 @@ use Rattle.phase_machine.specs.Now.{phase_now, active_now, holder_now, requester
 use Rattle.phase_machine.specs.Shows.{Shows}
 use Rattle.phase_machine.proofs.Lawful.{task_listed}
 use Rattle.phase_machine.proofs.Facts.{active_shown, requester_shown}
-use Rattle.shared_rules.specs.RowTests.{processor_now, is_local_now, holds_now}
+use Rattle.shared_rules.specs.RowTests.{is_local_now, holds_now}
 use Rattle.shared_rules.specs.Scene.{stays, resource_in}
 use Rattle.shared_rules.proofs.HolderTests.{right_of}
 use Rattle.dpcp_rules.specs.Homes.{column_now, entry_at}
 use Rattle.dpcp_rules.specs.RowTests.{is_due}
-use Rattle.dpcp_rules.specs.Choosing.{Takes, Filled, grant_claim, holder_claim, local_claim, AreHolders, IsRunning}
+use Rattle.dpcp_rules.specs.Choosing.{Takes, grant_claim, holder_claim, local_claim, AreHolders, IsRunning}
 use Rattle.dpcp_rules.proofs.Shown.{RequestAt, request_at_is, request_at_from, HolderAt, holds_at_is, holds_at_from, phase_is, column_is, column_within, processors_within, unfinished}
 use Rattle.dpcp_rules.proofs.Waiting.{Requesting, waiting_asks, waits_new, waiting_of}
 use Rattle.dpcp_rules.proofs.Entries.{Waits, waits_is, waits_from, WaitsOf, entry_low, first_of, below_is, barred_shown}

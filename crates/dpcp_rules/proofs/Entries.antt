@@ -1,9 +1,9 @@
 -- What the tables say of who waits first at a processor, and of what is barred there.
-use Rattle.std.proofs.Common.{◌≡◌, ◌⊎◌, ℕ, ◌+◌, ◌<◌, ◌≤◌, ◌==◌, ◌&&◌, ◌||◌, not, zero, suc, Bool, true, false, List, length, refl, sym, ap, ◌∙◌, arith, inl, inr, Option, Some, None, cond, leb, ltb}
+use Rattle.std.proofs.Common.{◌≡◌, ◌⊎◌, ℕ, ◌<◌, ◌≤◌, ◌==◌, ◌&&◌, ◌||◌, not, Bool, true, false, List, length, refl, sym, ap, ◌∙◌, arith, inl, inr, Option, Some, None, cond, leb, ltb}
 use Rattle.std.specs.Prelude.{is_some}
 use Rattle.std.specs.Option.{option_map_or}
 use Rattle.std.proofs.Math.Bool.{and_assoc}
-use Rattle.std.proofs.lemmas.Bool.{cases_Bool, cases_lt, and_parts, and_from, both_ways, false_from_ne_true, eq-eqb, eqb-true, ne_eqb, leb-true, le-leb, leb-false, lt-ltb, ltb-true, not-true, or_left, or_right, not_from_false}
+use Rattle.std.proofs.lemmas.Bool.{cases_Bool, cases_lt, and_parts, and_from, false_from_ne_true, eq-eqb, eqb-true, ne_eqb, leb-true, le-leb, leb-false, lt-ltb, ltb-true, not-true, or_left, or_right, not_from_false}
 use Rattle.bounded_sums.specs.Tests.{all_below, any_below}
 use Rattle.bounded_sums.proofs.TestLaws.{all_below-each, all_below-from, any_below-from, any_below-some, any_below-agree}
 use Rattle.sporadic_model.specs.Homes.{EachHasHome}
@@ -16,7 +16,7 @@ use Rattle.schedule_model.specs.Activity.{task_of, is_active, is_requester, hold
 use Rattle.schedule_model.specs.DpcpRules.{home_of, ceiling_rank, is_at, has_request_at, is_kept, waits_at, is_first_waiting, is_barred, is_granted}
 use Rattle.schedule_laws.proofs.ActiveJobs.{active_listed}
 use Rattle.phase_machine.specs.MachineDef.{MachineDef, task_in, under}
-use Rattle.phase_machine.specs.Now.{phase_now, current_now, holder_now, requester_now, waiting_now, is_ready_before, is_waiting_before}
+use Rattle.phase_machine.specs.Now.{current_now, holder_now, requester_now, waiting_now, is_ready_before, is_waiting_before}
 use Rattle.phase_machine.specs.Shows.{Shows}
 use Rattle.phase_machine.proofs.Lawful.{task_listed}
 use Rattle.phase_machine.proofs.Facts.{phase_shown, current_shown, current_from, requester_shown, waiting_shown}

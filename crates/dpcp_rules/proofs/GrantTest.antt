@@ -1,29 +1,27 @@
 -- The test of Grant says that the row keeps it.
-use Rattle.std.proofs.Common.{◌≡◌, ℕ, ◌<◌, ◌≤◌, ◌||◌, not, Bool, true, false, List, length, refl, sym, ap, ◌∙◌, arith, inl, inr, Option, Some, None, cond}
+use Rattle.std.proofs.Common.{◌≡◌, ℕ, ◌<◌, not, Bool, true, false, List, length, refl, sym, ap, ◌∙◌, inl, inr, Option, Some, None, cond}
 use Rattle.std.specs.Option.{option_map_or}
-use Rattle.std.proofs.lemmas.Bool.{cases_Bool, and_parts, and_from, both_ways, not-true, not_from_false, false_from_ne_true, or_left, or_right}
+use Rattle.std.proofs.lemmas.Bool.{cases_Bool, and_parts, and_from, not_from_false, or_left, or_right}
 use Rattle.bounded_sums.specs.Tests.{all_below}
 use Rattle.bounded_sums.proofs.TestLaws.{all_below-each, all_below-from}
 use Rattle.sporadic_model.specs.Homes.{EachHasHome}
 use Rattle.sporadic_model.specs.Accepted.{IsAccepted}
-use Rattle.sporadic_model.specs.declared.limits.TheConstants.{MOST_PROCESSORS}
 use Rattle.schedule_model.specs.RowDef.{RowDef, is_job, holder_in, held_before}
-use Rattle.schedule_model.specs.Phase.{Phase, is_local, phase_of}
-use Rattle.schedule_model.specs.Phase.Phase.{Local, Asking, Finished}
+use Rattle.schedule_model.specs.Phase.Phase.{Asking}
 use Rattle.schedule_model.specs.Activity.{is_active, is_requester, holds_by}
-use Rattle.schedule_model.specs.DpcpRules.{home_of, waits_at, is_first_waiting, is_barred, is_granted, KeepsGrant}
-use Rattle.schedule_laws.proofs.ActiveJobs.{Requester, requester_is, requester_from, requester_listed}
+use Rattle.schedule_model.specs.DpcpRules.{home_of, waits_at, is_first_waiting, is_granted, KeepsGrant}
+use Rattle.schedule_laws.proofs.ActiveJobs.{Requester, requester_is, requester_listed}
 use Rattle.schedule_laws.proofs.Rows.{job_named, named_job}
-use Rattle.phase_machine.specs.MachineDef.{MachineDef, under, task_in}
-use Rattle.phase_machine.specs.Now.{phase_now, requester_now, waiting_now}
+use Rattle.phase_machine.specs.MachineDef.{MachineDef, under}
+use Rattle.phase_machine.specs.Now.{requester_now, waiting_now}
 use Rattle.phase_machine.specs.Shows.{Shows}
 use Rattle.phase_machine.proofs.Facts.{requester_shown}
 use Rattle.shared_rules.specs.RowTests.{each_current, holds_now, holder_passes}
 use Rattle.shared_rules.proofs.Currents.{each_is, each_from}
 use Rattle.shared_rules.proofs.HolderTests.{right_of}
-use Rattle.dpcp_rules.specs.Homes.{ceiling_now, column_now, waiting_place, kept_place, IsLeast}
+use Rattle.dpcp_rules.specs.Homes.{ceiling_now, waiting_place, kept_place, IsLeast}
 use Rattle.dpcp_rules.specs.RowTests.{is_due, request_passes, passes_grant}
-use Rattle.dpcp_rules.proofs.Shown.{phase_is, column_is, column_within}
+use Rattle.dpcp_rules.proofs.Shown.{phase_is, column_is}
 use Rattle.dpcp_rules.proofs.Waiting.{Requesting, waiting_asks, waits_new, waiting_of}
 use Rattle.dpcp_rules.proofs.Entries.{due_shown}
 

@@ -3,7 +3,6 @@ use Rattle.std.proofs.Common.{◌≡◌, ℕ, ◌+◌, ◌<◌, ◌≤◌, ◌==
 use Rattle.std.proofs.lemmas.List.{get_or-replicate}
 use Rattle.std.proofs.lemmas.Bool.{cases_Bool, false_from_ne_true, leb-true, le-leb, eqb-true, eqb-false, ne_eqb, leb-false, or_left, or_right, or_cases}
 use Rattle.bounded_sums.specs.Tests.{any_below}
-use Rattle.sporadic_model.specs.declared.limits.TheConstants.{MOST_PROCESSORS}
 use Rattle.shared_rules.proofs.Blocked.{same_bool}
 use Rattle.dpcp_rules.specs.Homes.{entry_at, IsLeast}
 

@@ -1,13 +1,12 @@
 -- After any rows that can be taken there is a chosen row.
-use Rattle.std.proofs.Common.{◌≡◌, ◌⊎◌, ℕ, ◌+◌, ◌<◌, ◌≤◌, zero, suc, true, List, length, refl, sym, ap, ◌∙◌, arith, inl, inr, Option, Some, None, subst, add-one, min, replicate}
+use Rattle.std.proofs.Common.{◌≡◌, ◌⊎◌, ℕ, ◌<◌, ◌≤◌, zero, suc, true, List, length, refl, sym, ◌∙◌, arith, inl, inr, Option, Some, None, subst, add-one, min, replicate}
 use Rattle.std.proofs.Math.ListN.{set}
-use Rattle.std.proofs.lemmas.Bool.{cases_lt, ne_eqb}
+use Rattle.std.proofs.lemmas.Bool.{cases_lt}
 use Rattle.std.proofs.lemmas.List.{get_or-set_same, get_or-set_other, length-set, length-replicate}
 use Rattle.sporadic_model.specs.Homes.{EachHasHome}
 use Rattle.sporadic_model.specs.Accepted.{IsAccepted}
 use Rattle.schedule_model.specs.LawfulJobs.{AreLawfulJobs}
-use Rattle.schedule_model.specs.RowDef.{RowDef, Trace, jobs_of, running_on}
-use Rattle.schedule_model.specs.Activity.{is_active, is_requester}
+use Rattle.schedule_model.specs.RowDef.{RowDef, Trace, jobs_of}
 use Rattle.schedule_model.specs.TakenRows.{CanBeTakenBefore}
 use Rattle.schedule_model.specs.Protocols.{dpcp_rule}
 use Rattle.schedule_model.specs.Keeping.{KeepsBefore}
@@ -30,11 +29,10 @@ use Rattle.shared_rules.specs.NextRow.{with_row}
 use Rattle.shared_rules.proofs.HolderTests.{held_within}
 use Rattle.shared_rules.proofs.NextRow.{places_of, place_of_list, places_length, same_before, row_there}
 use Rattle.dpcp_rules.specs.Homes.{ceiling_now, column_now, waiting_place, kept_place, entry_at, IsLeast}
-use Rattle.dpcp_rules.specs.Choosing.{filled_by, Takes, Filled, grant_claim, holder_claim, local_claim, AreHolders, IsRunning}
+use Rattle.dpcp_rules.specs.Choosing.{filled_by, Filled, grant_claim, holder_claim, local_claim, AreHolders, IsRunning}
 use Rattle.dpcp_rules.specs.NextRow.{HasChoice}
 use Rattle.dpcp_rules.proofs.Shown.{column_within}
 use Rattle.dpcp_rules.proofs.Least.{least_first, least_next, least_skip}
-use Rattle.dpcp_rules.proofs.GrantTest.{Noted}
 use Rattle.dpcp_rules.proofs.Filling.{filled_first, fills_go_on, filled_same}
 use Rattle.dpcp_rules.proofs.Chosen.{stays_is, cond_some, some_same, active_of, Due, due_of}
 use Rattle.dpcp_rules.proofs.Written.{choice_made}

@@ -1,9 +1,9 @@
 -- The tests of Idle and of Priority say that the row keeps them; that of Priority does so where Run is kept.
-use Rattle.std.proofs.Common.{◌≡◌, ℕ, ◌<◌, ◌≤◌, ◌&&◌, ◌||◌, not, Bool, true, false, length, refl, sym, ap, ◌∙◌, arith, inl, inr, Option, Some, None, cond, leb}
+use Rattle.std.proofs.Common.{◌≡◌, ℕ, ◌<◌, ◌≤◌, ◌&&◌, ◌||◌, not, Bool, true, false, length, refl, sym, ap, ◌∙◌, arith, inl, inr, Option, Some, None, cond}
 use Rattle.std.specs.Prelude.{is_some}
 use Rattle.std.proofs.lemmas.Bool.{cases_Bool, and_parts, and_from, or_left, or_right, not_from_false, both_ways, false_from_ne_true, leb-true, le-leb, eq-eqb}
 use Rattle.bounded_sums.proofs.TestLaws.{any_below-some}
-use Rattle.schedule_model.specs.RowDef.{RowDef, is_job, running_on, holder_in}
+use Rattle.schedule_model.specs.RowDef.{RowDef, running_on, holder_in}
 use Rattle.schedule_model.specs.Phase.{Phase, is_local, is_asking, phase_of}
 use Rattle.schedule_model.specs.Phase.Phase.{Local, Asking, Finished}
 use Rattle.schedule_model.specs.Activity.{task_of, processor_of, is_active, is_active_local, holds_by}
@@ -12,7 +12,6 @@ use Rattle.schedule_laws.proofs.ActiveJobs.{active_listed, ActiveLocal, active_l
 use Rattle.schedule_laws.proofs.Rows.{job_named, named_job}
 use Rattle.schedule_laws.proofs.RuleUses.{request_among}
 use Rattle.phase_machine.specs.MachineDef.{MachineDef, task_in, under}
-use Rattle.phase_machine.specs.Now.{phase_now}
 use Rattle.phase_machine.specs.Shows.{Shows}
 use Rattle.shared_rules.specs.RowTests.{is_local_now, holds_now}
 use Rattle.shared_rules.proofs.Currents.{each_is, each_from}

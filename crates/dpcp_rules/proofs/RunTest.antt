@@ -1,21 +1,21 @@
 -- The test of Run says that the row keeps it.
-use Rattle.std.proofs.Common.{◌≡◌, ℕ, ◌+◌, ◌<◌, ◌==◌, ◌||◌, zero, suc, true, false, length, refl, sym, ap, ◌∙◌, arith, Option, Some, None, get_or}
+use Rattle.std.proofs.Common.{◌≡◌, ℕ, ◌+◌, ◌==◌, ◌||◌, zero, suc, true, false, length, refl, sym, ap, ◌∙◌, arith, Option, Some, None, get_or}
 use Rattle.std.specs.Option.{option_map_or}
-use Rattle.std.proofs.lemmas.Bool.{and_parts, and_from, both_ways, eq-eqb, eqb-true}
+use Rattle.std.proofs.lemmas.Bool.{and_parts, and_from, eq-eqb, eqb-true}
 use Rattle.bounded_sums.proofs.TestLaws.{all_below-each, all_below-from}
-use Rattle.schedule_model.specs.RowDef.{RowDef, is_job, running_on, holder_in}
+use Rattle.schedule_model.specs.RowDef.{RowDef, running_on, holder_in}
 use Rattle.schedule_model.specs.Phase.{Phase, is_local, is_asking, phase_of}
 use Rattle.schedule_model.specs.Phase.Phase.{Local, Asking, Finished}
 use Rattle.schedule_model.specs.Activity.{processor_of, is_active, holds_by}
 use Rattle.schedule_model.specs.DpcpRules.{home_of, KeepsRun}
 use Rattle.schedule_laws.proofs.Rows.{job_named, named_job}
 use Rattle.phase_machine.specs.MachineDef.{MachineDef, under}
-use Rattle.phase_machine.specs.Now.{phase_now, active_now}
+use Rattle.phase_machine.specs.Now.{active_now}
 use Rattle.phase_machine.specs.Shows.{Shows}
 use Rattle.phase_machine.proofs.Facts.{active_shown}
 use Rattle.shared_rules.specs.RowTests.{may_run_now}
 use Rattle.shared_rules.proofs.RunTest.{some_within}
-use Rattle.dpcp_rules.specs.Homes.{column_in, column_now}
+use Rattle.dpcp_rules.specs.Homes.{column_now}
 use Rattle.dpcp_rules.specs.RowTests.{may_stand, column_passes, passes_run}
 use Rattle.dpcp_rules.proofs.Shown.{phase_is, column_is, unfinished}
 

@@ -1,18 +1,16 @@
 -- What an active job does, at a machine and in a schedule that it shows.
-use Rattle.std.proofs.Common.{◌≡◌, ◌⊎◌, ℕ, ◌<◌, ◌≤◌, ◌==◌, ◌&&◌, not, zero, suc, Bool, true, false, length, refl, sym, ap, ◌∙◌, arith, inl, inr, Option, Some, None, cond}
+use Rattle.std.proofs.Common.{◌≡◌, ℕ, ◌<◌, ◌≤◌, true, false, length, refl, sym, ap, ◌∙◌, Option, Some, None}
 use Rattle.std.specs.Prelude.{IsSome, unwrap_or}
 use Rattle.std.proofs.lemmas.Bool.{and_parts, and_from, both_ways, eq-eqb, eqb-true}
-use Rattle.sporadic_model.specs.SetDef.{SetDef, ResourceDef, resource_at}
+use Rattle.sporadic_model.specs.SetDef.{SetDef, resource_at}
 use Rattle.sporadic_model.specs.Homes.{home_in, EachHasHome}
 use Rattle.sporadic_model.specs.Accepted.{KeepsRanges, IsAccepted, TaskNumbers}
 use Rattle.sporadic_model.specs.declared.limits.TheConstants.{MOST_PROCESSORS}
-use Rattle.schedule_model.specs.JobDef.{job_of}
-use Rattle.schedule_model.specs.LawfulJobs.{IsLawfulJob}
-use Rattle.schedule_model.specs.RowDef.{Trace, RowDef, is_job, holder_in}
-use Rattle.schedule_model.specs.Phase.{Phase, is_local, is_finished, is_asking, phase_of}
+use Rattle.schedule_model.specs.RowDef.{Trace, RowDef, holder_in}
+use Rattle.schedule_model.specs.Phase.{Phase, is_finished, phase_of}
 use Rattle.schedule_model.specs.Phase.Phase.{Local, Asking, Finished}
-use Rattle.schedule_model.specs.Activity.{task_of, processor_of, is_active, is_requester, is_active_local, holds_by}
-use Rattle.schedule_model.specs.DpcpRules.{home_of, is_at, has_request_at, has_requests, holds_at}
+use Rattle.schedule_model.specs.Activity.{is_active, holds_by}
+use Rattle.schedule_model.specs.DpcpRules.{home_of, is_at, has_request_at, holds_at}
 use Rattle.schedule_laws.proofs.ActiveJobs.{Active, active_is, active_listed}
 use Rattle.schedule_laws.proofs.Rows.{job_named, holds_from}
 use Rattle.schedule_laws.proofs.Segments.{open_resource}
@@ -21,8 +19,8 @@ use Rattle.phase_machine.specs.Now.{phase_now}
 use Rattle.phase_machine.specs.Shows.{Shows}
 use Rattle.phase_machine.proofs.Lawful.{task_listed}
 use Rattle.phase_machine.proofs.Facts.{phase_shown}
-use Rattle.shared_rules.specs.RowTests.{processor_now, is_local_now, holds_now}
-use Rattle.dpcp_rules.specs.Homes.{home_now, column_in, column_now}
+use Rattle.shared_rules.specs.RowTests.{processor_now}
+use Rattle.dpcp_rules.specs.Homes.{column_in, column_now}
 
 -- An active job is in a phase at the machine that is its phase in the schedule.
 pub phase_is : (m : MachineDef) (rows : ℕ → RowDef) (j : ℕ) (p : Phase) → Shows m rows → is_active (under m rows) m.tick j ≡ true → phase_of (under m rows) m.tick j ≡ p → phase_now m j ≡ p

@@ -1,11 +1,10 @@
 -- The first test that fails is that of the first rule that the row breaks.
-use Rattle.std.proofs.Common.{◌≡◌, ℕ, ◌<◌, true, List, length, sym, subst, arith, Option, Some, None}
+use Rattle.std.proofs.Common.{◌≡◌, ℕ, ◌<◌, List, length, sym, subst, arith, Some, None}
 use Rattle.schedule_model.specs.declared.rule.Rule.{Rule}
 use Rattle.schedule_model.specs.RowDef.{RowDef, holder_in}
 use Rattle.schedule_model.specs.Protocols.{dpcp_rule}
 use Rattle.schedule_model.specs.Keeping.{KeepsRow, Breaks}
 use Rattle.phase_machine.specs.MachineDef.{MachineDef, under}
-use Rattle.phase_machine.specs.Shows.{Shows}
 use Rattle.phase_machine.specs.Taking.{IsRowFor}
 use Rattle.shared_rules.specs.RowTests.{passes_keep}
 use Rattle.shared_rules.proofs.RunTest.{some_within}

@@ -1,6 +1,6 @@
 -- Jobs that wait for what they request.
-use Rattle.std.proofs.Common.{◌≡◌, ℕ, ◌&&◌, ◌||◌, not, Bool, true, false, refl, sym, ap, ◌∙◌, Option, Some, None}
-use Rattle.std.proofs.lemmas.Bool.{and_parts, both_ways, false_from_ne_true, not-true, not_from_false}
+use Rattle.std.proofs.Common.{◌≡◌, ℕ, ◌&&◌, ◌||◌, not, Bool, true, false, refl, sym, ap, ◌∙◌, Option, Some}
+use Rattle.std.proofs.lemmas.Bool.{and_parts, both_ways, false_from_ne_true, not-true}
 use Rattle.schedule_model.specs.RowDef.{RowDef, is_job, held_before}
 use Rattle.schedule_model.specs.Phase.{Phase, is_local, phase_of}
 use Rattle.schedule_model.specs.Phase.Phase.{Local, Asking, Finished}

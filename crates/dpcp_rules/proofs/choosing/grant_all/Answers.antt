@@ -1,4 +1,4 @@
-use Rattle.std.proofs.Common.{length, map, sym, ◌∙◌, arith}
+use Rattle.std.proofs.Common.{map, ◌∙◌, arith}
 use Rattle.schedule_model.specs.Seen.{place_seen}
 use Rattle.phase_machine.specs.Now.{holder_now, requester_now}
 use Rattle.shared_rules.specs.Scene.{place_in, stays}

@@ -1,4 +1,4 @@
-use Rattle.std.proofs.Common.{length, map, refl, ◌∙◌, arith}
+use Rattle.std.proofs.Common.{map, refl, ◌∙◌, arith}
 use Rattle.schedule_model.specs.Seen.{place_seen}
 use Rattle.shared_rules.specs.Scene.{running_in}
 use Rattle.dpcp_rules.specs.Choosing.{local_claim}

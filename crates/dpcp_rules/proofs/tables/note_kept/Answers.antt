@@ -1,4 +1,4 @@
-use Rattle.std.proofs.Common.{◌≡◌, ◌∙◌, length, min, ap, arith}
+use Rattle.std.proofs.Common.{◌∙◌, length, min, ap}
 use Rattle.dpcp_rules.specs.Homes.{ceiling_now, kept_place, entry_at}
 use Rattle.dpcp_rules.proofs.Least.{fresh_table, least_first, least_next}
 use Rattle.dpcp_rules.proofs.tables.note_kept.Goals as goal

@@ -1,4 +1,4 @@
-use Rattle.std.proofs.Common.{length, sym, ap, ◌∙◌, arith}
+use Rattle.std.proofs.Common.{length, ◌∙◌}
 use Rattle.dpcp_rules.specs.Homes.{waiting_place}
 use Rattle.dpcp_rules.proofs.Least.{fresh_table, least_first, least_next}
 use Rattle.dpcp_rules.proofs.tables.note_waiting.Goals as goal
