@@ -1,8 +1,7 @@
 -- Laws of judging a schedule: there is one answer, with status 0 or 1.
 use Rattle.std.proofs.Common.{◌≡◌, ℕ, ◌<◌, ◌≤◌, ◌++◌, ◌==◌, refl, sym, ◌∙◌, ap, subst, arith, inl, inr, ◌⊎◌}
 use Rattle.std.proofs.lemmas.Bool.{cases_lt}
-use Rattle.std.specs.Prelude.{Bool, List, length, codes, decimal, if◌then◌else◌, slice_index_or}
-use Rattle.bounded_sums.specs.Sums.{collect_below}
+use Rattle.std.specs.Prelude.{Bool, length, codes, decimal, if◌then◌else◌, slice_index_or}
 use Rattle.sporadic_model.specs.SetDef.{SetDef, task_at}
 use Rattle.sporadic_model.specs.declared.ids.Protocol.{Protocol}
 use Rattle.schedule_model.specs.JobDef.{JobsDef}

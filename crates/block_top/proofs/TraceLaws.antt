@@ -1,5 +1,5 @@
 -- The bytes of jobs, and those of rows, are read in one way.
-use Rattle.std.proofs.Common.{◌≡◌, ℕ, ◌<◌, List, drop, refl, sym, ◌∙◌, ap, subst, arith, inl, inr, ◌⊎◌, Ok, Err, Some, None}
+use Rattle.std.proofs.Common.{◌≡◌, ℕ, ◌<◌, List, drop, sym, ◌∙◌, ap, subst, arith, inl, inr, ◌⊎◌, Ok, Err, Some, None}
 use Rattle.std.proofs.lemmas.Bool.{cases_lt}
 use Rattle.std.specs.Prelude.{Option}
 use Rattle.sporadic_model.specs.SetDef.{SetDef}
