@@ -17,3 +17,4 @@ pub mod ColumnSums
 pub mod Fractions
 pub mod EachRow
 pub mod Joined
+pub mod ChargedTicks
