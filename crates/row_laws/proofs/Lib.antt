@@ -18,3 +18,4 @@ pub mod Fractions
 pub mod EachRow
 pub mod Joined
 pub mod ChargedTicks
+pub mod InterferingCosts
