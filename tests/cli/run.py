@@ -4,7 +4,7 @@
     python3 tests/cli/run.py [PROGRAM] [--only WORD]
 
 The table stands in cases/, a file for each subject, and in the guide and the README: each command that these show is run as it stands
-there. A new file in cases/ is read by itself. PROGRAM is what `rt ci` or `./block` built, where none is given; WORD picks the cases whose
+there. A new file in cases/ is read by itself. The JSON Schemas of docs/schema are compared with the examples and the table. PROGRAM is what `rt ci` or `./block` built, where none is given; WORD picks the cases whose
 file or text has it. It needs Python's standard library alone.
 """
 import argparse
@@ -16,6 +16,7 @@ import sys
 import tempfile
 from pathlib import Path
 
+import schemas
 import setting
 from setting import TOP, Case
 
@@ -74,9 +75,9 @@ def differences(case, program):
     return found
 
 
-def run_table(program, only):
+def run_table(program, cases, only):
     passed, failed, skipped = 0, 0, {}
-    for name, case in table():
+    for name, case in cases:
         if only not in f"{name}: {case.shows}":
             continue
         reason = setting.lacking(case)
@@ -94,6 +95,16 @@ def run_table(program, only):
     return passed, failed
 
 
+def compare_schemas(cases):
+    found, count = schemas.differences(cases)
+    if found is None:
+        print("the schemas were not compared: python3-jsonschema is missing")
+        return 0, 0
+    for line in found:
+        print(line)
+    return count - len(found), len(found)
+
+
 def main():
     arguments = argparse.ArgumentParser()
     arguments.add_argument("program", nargs="?")
@@ -104,7 +115,10 @@ def main():
         # a copy, which another user can run too, and which a build beside this test doesn't change
         os.chmod(folder, 0o755)
         copy = shutil.copy(program, f"{folder}/block_cli")
-        passed, failed = run_table(copy, given.only)
+        cases = list(table())
+        passed, failed = run_table(copy, cases, given.only)
+        more_passed, more_failed = compare_schemas(cases)
+    passed, failed = passed + more_passed, failed + more_failed
     print(f"the program on real files: {passed} passed, {failed} failed")
     sys.exit(1 if failed or not passed else 0)
 
