@@ -7,9 +7,12 @@
 
 mod distributed;
 mod instances;
+mod item;
 mod laws;
 mod protocol;
 mod shared;
+mod tally;
 
 pub use laws::{charged_protocols_are_analysed, sound_bounds_are_never_passed};
+pub use item::{ChargeItem, ChargeStop, ChargeTable};
 pub use protocol::ChargedProtocol;
