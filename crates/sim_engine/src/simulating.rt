@@ -5,6 +5,7 @@ ghost use Rattle.schedule_model.specs.Fitting.{is_fitting};
 ghost use Rattle.schedule_model.specs.Keeping.{KeepsBefore, IsFirstUnlawful};
 ghost use Rattle.schedule_model.specs.declared.rule.Rule.{Rule};
 ghost use Rattle.sim_engine.specs.Joined.{AreJoined};
+ghost use Rattle.sim_engine.specs.Simulated.{EachLasts};
 
 use crate::choosing::{next_row, take_tick};
 use crate::places::{copy_of, idle_row};
@@ -30,6 +31,7 @@ pub fn simulate_with<P: Judge>(
     ensures keeps { IfOk result (λ rows. KeepsBefore (P.keeps protocol.now) (trace_in jobs.now rows.runs) ticks) }
     ensures unbroken { IfOk result (λ rows. (t : ℕ) (r : Rule)
         → IsFirstUnlawful (P.keeps protocol.now) (trace_in jobs.now rows.runs) (ticks_of rows.runs) t r → ⊥) }
+    ensures lasting { IfOk result (λ rows. EachLasts rows.runs) }
     ensures joined { IfOk result (λ rows. AreJoined rows.runs) }
     ensures fits { IfOk result (λ rows. is_fitting rows jobs.now ≡ true) }
 {
@@ -52,5 +54,6 @@ pub fn simulate_with<P: Judge>(
         )?;
     }
     push_run(&mut rows, last)?;
+    let _ticks = rows.ticks();
     Ok(rows)
 }
