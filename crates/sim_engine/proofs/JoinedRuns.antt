@@ -1,12 +1,8 @@
 -- Joined runs are known by their rows.
-use Rattle.std.proofs.Common.{◌≡◌, ℕ, ◌+◌, ◌<◌, ◌≤◌, Bool, true, List, [], ◌∷◌, refl, sym, ◌∙◌, ap, subst, arith, inl, inr}
-use Rattle.std.specs.Prelude.{nat_le}
-use Rattle.std.specs.List.{list_all}
-use Rattle.std.specs.Int.{is_in_range}
-use Rattle.std.proofs.lemmas.Bool.{and_parts, cases_lt, lt-ltb, le-ltb, leb-true}
+use Rattle.std.proofs.Common.{◌≡◌, ℕ, ◌+◌, ◌<◌, List, [], ◌∷◌, refl, sym, ◌∙◌, ap, arith, inl, inr}
+use Rattle.std.proofs.lemmas.Bool.{cases_lt, lt-ltb, le-ltb}
 use Rattle.std.proofs.lemmas.List.Sums.{sum_by-cons}
-use Rattle.sporadic_model.specs.declared.limits.TheConstants.{MOST_TICKS}
-use Rattle.schedule_model.specs.RowDef.{RowDef, RunDef, row_in, ticks_of}
+use Rattle.schedule_model.specs.RowDef.{RunDef, row_in, ticks_of}
 use Rattle.sim_engine.specs.Joined.{AreJoined}
 use Rattle.sim_engine.specs.Simulated.{EachLasts}
 
@@ -73,12 +69,3 @@ joined_once (x ∷ a) (y ∷ b) l m joined joined' total same =
     let rest : ticks_of a ≡ ticks_of b = omega (arith, total, ticks, ticks_first x a, ticks_first y b) in
     ap (λ run. run ∷ a) (same_run x y ticks (same_first x y a b l m same))
     ∙ ap (λ runs. y ∷ runs) (joined_once a b l.1 m.1 (joined_rest x a joined) (joined_rest y b joined') rest (same_rest x y a b ticks same))
-
--- Runs that each last from 1 to 10^9 ticks last.
-pub each_lasts : (runs : List RunDef) → list_all (λ run. is_in_range 1 MOST_TICKS run.ticks) runs ≡ true → EachLasts runs
-each_lasts [] lasting = tt
-each_lasts (run ∷ runs) lasting =
-    let within : RunDef → Bool = λ r. is_in_range 1 MOST_TICKS r.ticks in
-    let parts = and_parts (within run) (list_all within runs) lasting in
-    let least = and_parts (nat_le 1 run.ticks) (nat_le run.ticks MOST_TICKS) parts.0 in
-    (leb-true 1 run.ticks least.0, each_lasts runs parts.1)

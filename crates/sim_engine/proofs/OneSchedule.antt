@@ -1,9 +1,9 @@
 -- A protocol chooses one schedule for jobs.
-use Rattle.std.proofs.Common.{◌≡◌, ℕ, ◌<◌, List, refl, sym, ◌∙◌, arith, subst}
+use Rattle.std.proofs.Common.{◌≡◌, ℕ, List, refl, sym, ◌∙◌, arith}
 use Rattle.sporadic_model.specs.declared.ids.Protocol.{Protocol}
 use Rattle.sporadic_model.specs.declared.ids.Protocol.TheVariants as protocol
 use Rattle.schedule_model.specs.JobDef.{JobsDef}
-use Rattle.schedule_model.specs.RowDef.{RunDef, Trace, trace_in, ticks_of}
+use Rattle.schedule_model.specs.RowDef.{RunDef, Trace, trace_in}
 use Rattle.schedule_laws.specs.Agreement.{AgreeBefore}
 use Rattle.schedule_laws.proofs.SharedChoice.{mpcp_choice_one, fmlp_plus_choice_one, schedules_one}
 use Rattle.schedule_laws.proofs.DpcpChoice.{dpcp_choice_one}
