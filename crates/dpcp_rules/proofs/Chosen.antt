@@ -25,6 +25,7 @@ use Rattle.schedule_laws.proofs.ActiveJobs.{active_listed, one_active, Requester
 use Rattle.schedule_laws.proofs.Rows.{job_named, named_job}
 use Rattle.schedule_laws.proofs.RuleUses.{request_among}
 use Rattle.schedule_laws.proofs.Segments.{open_resource, open_user}
+use Rattle.stretch_laws.proofs.DpcpStretches.{ceiling_low}
 use Rattle.phase_machine.specs.MachineDef.{MachineDef, task_in, under}
 use Rattle.phase_machine.specs.Now.{phase_now, active_now, holder_now, requester_now, waiting_now}
 use Rattle.phase_machine.specs.Shows.{Shows}
@@ -129,20 +130,6 @@ holder_asks m rows first bars q j made e = elim (held_is m rows first bars q j m
 made_keep : (m : MachineDef) (rows : ℕ → RowDef) (first bars : List ℕ) → Made m rows first bars → KeepsKeep (under m rows) m.tick
 made_keep m rows first bars made q j e asks =
     made.holders.keeps q j (ap (stays (requester_now m q)) (made.noted.shows.holders q ∙ e) ∙ stays_from (requester_now m q) j (requester_shown m rows q j made.noted.shows ∙ asks))
-
--- A user of a resource is no higher than its ceiling.
-ceiling_low : (set : SetDef) (q x : ℕ) → is_user set q x ≡ true → x < length set.tasks → unwrap_or (ceiling_of set q) (length set.tasks) ≤ x
-ceiling_low set q x user l = go (ceiling_of set q) refl where
-  go : (o : Option ℕ) → ceiling_of set q ≡ o → unwrap_or (ceiling_of set q) (length set.tasks) ≤ x
-  go None e =
-      let none : HasNoUser set q = no_user set q e in
-      absurd (omega (arith, none x l, ltb-true 0 (count_of set x q) user))
-  go (Some c) e =
-      let highest : IsHighestUser set q c = highest_user set q c e in
-      elim (cases_lt x c) [
-        | inl above ↦ absurd (omega (arith, highest.highest x above, ltb-true 0 (count_of set x q) user))
-        | inr low ↦ omega (arith, low, ap (λ o. unwrap_or o (length set.tasks)) e)
-      ]
 
 kept_true : (m : MachineDef) (rows : ℕ → RowDef) (q h : ℕ) → held_before (under m rows) m.tick q ≡ Some h → is_requester (under m rows) m.tick q h ≡ true → is_kept (under m rows) m.tick q ≡ true
 unfolding is_kept

@@ -1,6 +1,6 @@
 -- Ticks of a steady stretch are alike: the same jobs are active, in the same phases, and after the first tick the row's holders
 -- are those of the row before.
-use Rattle.std.proofs.Common.{◌≡◌, ℕ, zero, suc, ◌+◌, ◌-◌, ◌<◌, ◌≤◌, ◌==◌, ◌&&◌, ◌||◌, not, Bool, true, false, length, refl, sym, ap, ◌∙◌, arith, inl, inr, Option, Some, None, leb}
+use Rattle.std.proofs.Common.{◌≡◌, ℕ, zero, suc, ◌+◌, ◌-◌, ◌<◌, ◌≤◌, ◌==◌, ◌&&◌, ◌||◌, not, false, length, refl, sym, ap, ◌∙◌, arith, inl, inr, Option, Some, None, leb}
 use Rattle.std.specs.Option.{option_map_or}
 use Rattle.std.proofs.lemmas.Bool.{cases_lt, cases_Bool, le-leb, lt-leb}
 use Rattle.std.proofs.lemmas.List.{get_or_past}
@@ -10,7 +10,7 @@ use Rattle.sporadic_model.specs.SetDef.{is_higher_local}
 use Rattle.schedule_model.specs.JobDef.{no_job, job_of}
 use Rattle.schedule_model.specs.RowDef.{Trace, running_on, holder_in, held_before, runs_in}
 use Rattle.schedule_model.specs.Phase.{is_local, is_finished, executed, phase_of}
-use Rattle.schedule_model.specs.Activity.{task_of, processor_of, is_pending, is_next, is_active, is_requester, holds_by, is_active_local, is_ready_holder, is_ready}
+use Rattle.schedule_model.specs.Activity.{task_of, processor_of, is_pending, is_next, is_active, is_requester, is_active_local, is_ready_holder, is_ready}
 use Rattle.schedule_model.specs.BlockedTicks.{is_delayed, runs_higher, runs_higher_local, is_shared_interference, is_dpcp_interference, is_blocked}
 use Rattle.schedule_laws.proofs.Ticks.{executed_waits, phase_same}
 use Rattle.stretch_laws.specs.Steady.{IsSteady}

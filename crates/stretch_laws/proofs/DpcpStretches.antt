@@ -1,6 +1,6 @@
 -- Under DPCP a lawful row stays as lawful through a steady stretch: the first request that waits at a processor is granted at
 -- the stretch's first tick, or something kept there bars it; so what waits from then on is barred by what is held.
-use Rattle.std.proofs.Common.{◌≡◌, ◌⊎◌, ℕ, zero, suc, ◌+◌, ◌<◌, ◌≤◌, ◌==◌, ◌&&◌, ◌||◌, not, Bool, true, false, length, refl, sym, ap, ◌∙◌, subst, arith, inl, inr, Option, Some, None, nat_le, unwrap_or}
+use Rattle.std.proofs.Common.{◌≡◌, ℕ, zero, suc, ◌+◌, ◌<◌, ◌≤◌, ◌==◌, ◌&&◌, ◌||◌, not, Bool, true, false, length, refl, sym, ap, ◌∙◌, subst, arith, inl, inr, Option, Some, None, nat_le, unwrap_or}
 use Rattle.std.specs.Option.{option_map_or}
 use Rattle.std.proofs.lemmas.Bool.{cases_lt, cases_Bool, both_ways, and_parts, and_from, eq-eqb, eqb-true, le-leb, leb-true, ltb-true, not-true, not_from_false, false_from_ne_true}
 use Rattle.bounded_sums.specs.Tests.{all_below, any_below}
@@ -10,21 +10,20 @@ use Rattle.sporadic_model.specs.Homes.{EachHasHome}
 use Rattle.sporadic_model.specs.Users.{count_of, is_user, ceiling_of}
 use Rattle.sporadic_model.specs.Accepted.{IsHighestUser, HasNoUser}
 use Rattle.sporadic_model.proofs.Laws.{highest_user, no_user}
-use Rattle.schedule_model.specs.declared.rule.Rule.{Rule}
 use Rattle.schedule_model.specs.declared.rule.Rule.TheVariants as rule
 use Rattle.schedule_model.specs.JobDef.{job_of}
 use Rattle.schedule_model.specs.LawfulJobs.{AreLawfulJobs, IsLawfulJob}
 use Rattle.schedule_model.specs.RowDef.{Trace, jobs_of, is_job, running_on, holder_in, held_before}
 use Rattle.schedule_model.specs.Phase.{Phase, is_local, is_asking, phase_of}
 use Rattle.schedule_model.specs.Phase.Phase.{Local, Asking, Finished}
-use Rattle.schedule_model.specs.Activity.{task_of, processor_of, is_active, is_requester, is_active_local, holds_by}
+use Rattle.schedule_model.specs.Activity.{task_of, is_active, is_requester, holds_by}
 use Rattle.schedule_model.specs.BlockedTicks.{is_dpcp_interference}
 use Rattle.schedule_model.specs.SharedRules.{KeepsKeep}
 use Rattle.schedule_model.specs.DpcpRules.{home_of, ceiling_rank, is_at, has_request_at, has_requests, holds_at, is_kept, waits_at, is_first_waiting, is_barred, is_granted, KeepsRun, KeepsGrant, KeepsIdle, RunsFirstHolder, KeepsPriority}
 use Rattle.schedule_model.specs.Protocols.{dpcp_rule}
 use Rattle.schedule_model.specs.Keeping.{KeepsRow}
 use Rattle.schedule_model.specs.Chosen.{IsDpcpChoice}
-use Rattle.schedule_laws.proofs.ActiveJobs.{active_listed, Requester, requester_is, requester_from, requester_listed}
+use Rattle.schedule_laws.proofs.ActiveJobs.{Requester, requester_is, requester_from, requester_listed}
 use Rattle.schedule_laws.proofs.Rows.{job_named, named_job}
 use Rattle.schedule_laws.proofs.Segments.{open_resource, open_user}
 use Rattle.stretch_laws.specs.Steady.{IsAsLawful, StaysLawful}

@@ -1,14 +1,12 @@
 -- Under MPCP, FMLP+ and each other order of grants and runs a lawful row stays as lawful through a steady stretch: no holder is
 -- new after its first tick, and who is ready is the same.
-use Rattle.std.proofs.Common.{◌≡◌, ℕ, ◌+◌, ◌<◌, ◌≤◌, true, false, length, refl, sym, ap, ◌∙◌, subst, arith, inl, inr, Some}
+use Rattle.std.proofs.Common.{◌≡◌, ℕ, ◌+◌, ◌<◌, ◌≤◌, true, length, refl, sym, ap, ◌∙◌, subst, arith, inl, inr, Some}
 use Rattle.std.proofs.lemmas.Bool.{cases_lt}
-use Rattle.sporadic_model.specs.SetDef.{SetDef}
-use Rattle.schedule_model.specs.declared.rule.Rule.{Rule}
 use Rattle.schedule_model.specs.declared.rule.Rule.TheVariants as rule
-use Rattle.schedule_model.specs.RowDef.{Trace, running_on, holder_in, held_before}
+use Rattle.schedule_model.specs.RowDef.{Trace, running_on}
 use Rattle.schedule_model.specs.Phase.{phase_of}
 use Rattle.schedule_model.specs.Phase.Phase.{Asking}
-use Rattle.schedule_model.specs.Activity.{task_of, processor_of, is_requester, is_active_local, is_ready_holder}
+use Rattle.schedule_model.specs.Activity.{task_of, processor_of, is_ready_holder}
 use Rattle.schedule_model.specs.BlockedTicks.{is_shared_interference}
 use Rattle.schedule_model.specs.SharedRules.{Ranks, KeepsRun, KeepsKeep, KeepsGrant, KeepsIdle, KeepsPriority}
 use Rattle.schedule_model.specs.Ranks.{boost_in, mpcp, fmlp_plus}
