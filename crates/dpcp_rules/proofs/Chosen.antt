@@ -1,16 +1,12 @@
 -- What the holders and the running jobs are once all tasks have come makes the row the chosen one.
 use Rattle.std.proofs.Common.{◌≡◌, ◌⊎◌, ℕ, ◌<◌, ◌≤◌, ◌==◌, ◌&&◌, ◌||◌, not, Bool, true, false, List, length, refl, sym, ap, ◌∙◌, arith, inl, inr, Option, Some, None, subst, cond, leb, ltb}
 use Rattle.std.specs.Option.{option_map_or}
-use Rattle.std.specs.Prelude.{unwrap_or}
 use Rattle.std.proofs.Math.Bool.{and_assoc}
-use Rattle.std.proofs.lemmas.Bool.{cases_Bool, cases_lt, and_parts, and_from, and_left, both_ways, false_from_ne_true, not-true, eq-eqb, eqb-true, le-leb, leb-true, ltb-true}
+use Rattle.std.proofs.lemmas.Bool.{cases_Bool, and_parts, and_from, and_left, both_ways, false_from_ne_true, not-true, eq-eqb, eqb-true, le-leb, leb-true}
 use Rattle.bounded_sums.specs.Tests.{all_below, any_below}
 use Rattle.bounded_sums.proofs.TestLaws.{all_below-each, any_below-from, any_below-some, any_below-none, any_below-none_from}
-use Rattle.sporadic_model.specs.SetDef.{SetDef}
-use Rattle.sporadic_model.specs.Users.{count_of, is_user, ceiling_of}
-use Rattle.sporadic_model.specs.Accepted.{IsHighestUser, HasNoUser}
+use Rattle.sporadic_model.specs.Users.{is_user}
 use Rattle.sporadic_model.specs.declared.limits.TheConstants.{MOST_PROCESSORS}
-use Rattle.sporadic_model.proofs.Laws.{highest_user, no_user}
 use Rattle.schedule_model.specs.declared.rule.Rule.{Rule}
 use Rattle.schedule_model.specs.declared.rule.Rule.TheVariants as rule
 use Rattle.schedule_model.specs.RowDef.{RowDef, running_on, holder_in, held_before}
