@@ -104,7 +104,10 @@ class Refusals:
 
 
 def shown(word):
-    return os.path.relpath(word, TOP) if os.path.isabs(word) else word
+    """A word of a command, without the folders above the top or above what was made here."""
+    if not os.path.isabs(word):
+        return word
+    return os.path.relpath(word, TOP) if word.startswith(f"{TOP}/") else os.path.basename(word)
 
 
 def commands_of(program, folder):
