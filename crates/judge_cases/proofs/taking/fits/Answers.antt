@@ -8,7 +8,7 @@ use Rattle.schedule_model.specs.RowDef.{running_on}
 use Rattle.schedule_model.specs.Seen.{place_seen, row_seen}
 use Rattle.phase_machine.specs.Taking.{IsRowFor}
 use Rattle.phase_machine.proofs.Named.{all_below_seen}
-use Rattle.judge_cases.proofs.tests.fits.Goals as goal
+use Rattle.judge_cases.proofs.taking.fits.Goals as goal
 
 row_for : (list : JobsDef) (row : Row) → length row.running.items ≡ list.set.processors → length row.holders.items ≡ length list.set.resources
     → list_all (λ o. is_below (length list.jobs) (place_seen o)) row.running.items ≡ true → list_all (λ o. is_below (length list.jobs) (place_seen o)) row.holders.items ≡ true
