@@ -5,3 +5,6 @@ mod Analysed
 mod Passing
 mod PassedNext
 mod TallyLaws
+mod Reaching
+mod Places
+mod TableLaws

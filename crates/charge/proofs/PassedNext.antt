@@ -1,11 +1,11 @@
 -- Which jobs have passed their bounds, one tick later: those before, and those that are due now. For the first of all it is enough to
 -- look at the active jobs.
-use Rattle.std.proofs.Common.{◌≡◌, ℕ, ◌+◌, ◌<◌, ◌≤◌, ◌==◌, ◌||◌, Bool, true, false, List, length, refl, sym, ap, ◌∙◌, arith, inl, inr}
+use Rattle.std.proofs.Common.{◌≡◌, ℕ, ◌+◌, ◌<◌, ◌≤◌, ◌==◌, ◌||◌, Bool, true, false, List, length, refl, sym, ap, ◌∙◌, arith, inl, inr, None}
 use Rattle.std.specs.Prelude.{nat_le, slice_index}
 use Rattle.std.proofs.lemmas.Bool.{cases_lt, cases_Bool, or_cases, or_left, or_right, and_parts, and_from, and_cases, not-true, not-false, not_from_false, leb-true, le-leb, eqb-true, eq-eqb, both_ways}
 use Rattle.bounded_sums.specs.Tests.{found_below}
 use Rattle.sporadic_model.specs.SetDef.{task_at}
-use Rattle.sporadic_model.specs.Accepted.{IsAccepted}
+use Rattle.sporadic_model.specs.Accepted.{TaskNumbers}
 use Rattle.schedule_model.specs.JobDef.{job_of}
 use Rattle.schedule_model.specs.LawfulJobs.{AreLawfulJobs}
 use Rattle.schedule_model.specs.RowDef.{RowDef, Trace, jobs_of}
@@ -18,10 +18,12 @@ use Rattle.phase_machine.specs.MachineDef.{MachineDef, under}
 use Rattle.phase_machine.specs.Shows.{Shows}
 use Rattle.phase_machine.proofs.Facts.{active_shown}
 use Rattle.charge_model.specs.Windows.{AreBounds, bound_end}
-use Rattle.charge_laws.proofs.Windows.{bounds_below_periods}
 use Rattle.charge.specs.Passed.{has_passed, first_passed}
 use Rattle.charge.specs.Due.{is_due}
 use Rattle.charge.proofs.Passing.{found_same, nothing_from}
+
+abbrev HaveNumbers : Trace → Type 0
+HaveNumbers w = (x : ℕ) → x < length w.set.tasks → TaskNumbers w.set x
 
 -- A job that has passed its bound.
 record Passed (w : Trace) (bound : ℕ → ℕ) (n j : ℕ) : Type 0 where
@@ -57,32 +59,31 @@ none_passed w bound lawful bounds = nothing_from (length w.jobs) (has_passed w b
 ])
 
 -- The bound of an earlier job of the task ends no later than the release of a job.
-ends_before : (w : Trace) (bound : ℕ → ℕ) (e j : ℕ) → IsAccepted w.set → AreLawfulJobs (jobs_of w) → AreBounds w.set bound → e < j
+ends_before : (w : Trace) (bound : ℕ → ℕ) (e j : ℕ) → HaveNumbers w → AreLawfulJobs (jobs_of w) → AreBounds w.set bound → e < j
     → j < length w.jobs → task_of w e ≡ task_of w j → bound_end w bound e ≤ (job_of w.jobs j).release
-ends_before w bound e j accepted lawful bounds l listed same =
-    let short : bound (task_of w e) ≤ (task_at w.set (task_of w e)).period =
-    bounds_below_periods w.set bound (task_of w e) accepted bounds (lawful.each e (omega (arith, l, listed))).task in
-    omega (arith, short, lawful.apart e j l listed same)
+ends_before w bound e j numbers lawful bounds l listed same =
+    let task : task_of w e < length w.set.tasks = (lawful.each e (omega (arith, l, listed))).task in
+    let number : TaskNumbers w.set (task_of w e) = numbers (task_of w e) task in
+    omega (arith, bounds.deadline (task_of w e) task, number.deadline_to, lawful.apart e j l listed same)
 
 -- The first job that has passed its bound at the tick at which it ends is active then.
-first_active : (w : Trace) (bound : ℕ → ℕ) (n j : ℕ) → IsAccepted w.set → AreLawfulJobs (jobs_of w) → AreBounds w.set bound
+first_active : (w : Trace) (bound : ℕ → ℕ) (n j : ℕ) → HaveNumbers w → AreLawfulJobs (jobs_of w) → AreBounds w.set bound
     → j < length w.jobs → Passed w bound n j → ((i : ℕ) → i < j → has_passed w bound n i ≡ false)
     → is_active w (bound_end w bound j) j ≡ true
-first_active w bound n j accepted lawful bounds l p first = active_from w (bound_end w bound j) j (record {
+first_active w bound n j numbers lawful bounds l p first = active_from w (bound_end w bound j) j (record {
   released = omega arith;
   unfinished = p.unfinished;
   next = λ e before same.
-      let ends : bound_end w bound e ≤ (job_of w.jobs j).release = ends_before w bound e j accepted lawful bounds before l same in
+      let ends : bound_end w bound e ≤ (job_of w.jobs j).release = ends_before w bound e j numbers lawful bounds before l same in
       finished_stays w (bound_end w bound e) (bound_end w bound j) e (omega (arith, ends))
       (passed_not w bound n e (first e before) (omega (arith, ends, p.within)));
 })
 
 -- One tick later.
-pub passed_next : (m : MachineDef) (rows : ℕ → RowDef) (bounds : List ℕ) (t : ℕ) → Shows m rows → m.tick ≡ t + 1 → IsAccepted m.list.set
-    → AreBounds m.list.set (slice_index bounds)
+pub passed_next : (m : MachineDef) (rows : ℕ → RowDef) (bounds : List ℕ) (t : ℕ) → Shows m rows → m.tick ≡ t + 1 → AreBounds m.list.set (slice_index bounds)
     → found_below (length m.list.jobs) (λ j. has_passed (under m rows) (slice_index bounds) t j || is_due m bounds j)
     ≡ first_passed (under m rows) (slice_index bounds) m.tick
-passed_next m rows bounds t shows tick accepted are =
+passed_next m rows bounds t shows tick are =
     found_same (length m.list.jobs) (λ j. has_passed w bound t j || is_due m bounds j) (has_passed w bound m.tick) more first where
       w : Trace
       w = under m rows
@@ -114,6 +115,6 @@ passed_next m rows bounds t shows tick accepted are =
             | inl now ↦
                 let e : bound_end w bound k ≡ m.tick = omega (arith, now, p.within, tick) in
                 let active : is_active w m.tick k ≡ true =
-                ap (λ u. is_active w u k) (sym e) ∙ first_active w bound m.tick k accepted shows.machine.lawful are l p earlier in
+                ap (λ u. is_active w u k) (sym e) ∙ first_active w bound m.tick k shows.machine.numbers shows.machine.lawful are l p earlier in
                 or_right _ _ (and_from _ _ (eq-eqb _ _ e) (active_shown m rows k shows ∙ active))
           ]

@@ -1,9 +1,10 @@
 ghost use Rattle.std.specs.Prelude.{◌≡◌, ℕ, ◌+◌, ◌<◌, length, slice_index, option_map, OnOk};
+ghost use Rattle.std.specs.Option.{option_and_then};
 ghost use Rattle.sporadic_model.specs.declared.limits.TheConstants.{MOST_TICKS};
 ghost use Rattle.schedule_model.specs.RowDef.{row_in};
 ghost use Rattle.schedule_model.specs.Keeping.{KeepsRow};
 ghost use Rattle.phase_machine.specs.MachineDef.{under};
-ghost use Rattle.phase_machine.specs.Now.{phase_now};
+ghost use Rattle.phase_machine.specs.Now.{phase_now, current_now};
 ghost use Rattle.phase_machine.specs.Shows.{Shows};
 ghost use Rattle.fragments.specs.declared.columns.Class.{Class as ClassDef};
 ghost use Rattle.charge_model.specs.Charges.{Charge};
@@ -81,6 +82,32 @@ fn place_at<P: ChargedProtocol>(
     }
 }
 
+/// The same for the task's active job, where it has one.
+fn place_in<P: ChargedProtocol>(
+    protocol: &P,
+    rows: &RowList,
+    i: usize,
+    machine: &Machine,
+    bounds: &[u64],
+    x: TaskId,
+) -> Option<Place>
+    requires suits { P.suits protocol.now machine.now.list.set }
+    requires at { IsAtRun rows.now i machine.now }
+    requires shows { Shows machine.now (row_in rows.now.runs) }
+    requires keeps { KeepsRow (P.keeps protocol.now) (under machine.now (row_in rows.now.runs)) machine.now.tick }
+    requires task { x.0 < length machine.now.list.set.tasks }
+    requires one_each { length bounds.now ≡ length machine.now.list.set.tasks }
+    requires bounds { AreBounds machine.now.list.set (slice_index bounds.now) }
+    ensures { result ≡ option_and_then
+        (place_at (P.charges protocol.now) (under machine.now (row_in rows.now.runs)) (slice_index bounds.now) machine.now.tick)
+        (current_now machine.now x.0) }
+{
+    match machine.current(x) {
+        Some(j) => place_at(protocol, rows, i, machine, bounds, j),
+        None => None,
+    }
+}
+
 /// Counts the tick that the machine stands at, in a row that keeps the rules: one job of each task is active, or none, and no other is
 /// blocked.
 pub(crate) fn charge_tick<P: ChargedProtocol>(
@@ -104,9 +131,10 @@ pub(crate) fn charge_tick<P: ChargedProtocol>(
         (ticks_before (P.charges protocol.now) (under machine.now (row_in rows.now.runs)) (slice_index bounds.now) (machine.now.tick + 1))) }
 {
     for x in 0..tasks_of(machine) {
-        if let Some(j) = machine.current(TaskId(x)) {
-            add_named(ticks, place_at(protocol, rows, i, machine, bounds, j))?;
-        }
+        add_named(
+            ticks,
+            place_in(protocol, rows, i, machine, bounds, TaskId(x)),
+        )?;
     }
     Ok(())
 }
