@@ -40,6 +40,8 @@ class Case:
     as_nobody: bool = False
     """Whether another user runs it where root runs the test, since root reads every file."""
     at: object = None
+    saves: str = ""
+    """The file there to which the answer is saved, which may then be any."""
 
     def word_list(self):
         words = self.words.split() if isinstance(self.words, str) else self.words
