@@ -146,10 +146,12 @@ def lacking(case):
 
 
 def can_be_nobody():
-    try:
-        return subprocess.run(["true"], user=NOBODY, group=NOBODY, extra_groups=[]).returncode == 0
-    except (OSError, subprocess.SubprocessError):
-        return False
+    with tempfile.TemporaryDirectory(prefix="block-") as folder:
+        os.chmod(folder, 0o755)
+        try:
+            return subprocess.run(["true"], cwd=folder, user=NOBODY, group=NOBODY, extra_groups=[]).returncode == 0
+        except (OSError, subprocess.SubprocessError):
+            return False
 
 
 def run(case, program):
