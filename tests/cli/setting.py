@@ -149,7 +149,7 @@ def can_be_nobody():
     with tempfile.TemporaryDirectory(prefix="block-") as folder:
         os.chmod(folder, 0o755)
         try:
-            return subprocess.run(["true"], cwd=folder, user=NOBODY, group=NOBODY, extra_groups=[]).returncode == 0
+            return subprocess.run(["test", "-r", folder], user=NOBODY, group=NOBODY, extra_groups=[]).returncode == 0
         except (OSError, subprocess.SubprocessError):
             return False
 
