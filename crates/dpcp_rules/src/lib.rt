@@ -8,8 +8,6 @@ mod judging;
 mod laws;
 mod lookup;
 mod tables;
-#[cfg(test)]
-mod tests;
 
 ghost use Rattle.sporadic_model.specs.Homes.{EachHasHome};
 ghost use Rattle.schedule_model.specs.Protocols.{dpcp_rule};
