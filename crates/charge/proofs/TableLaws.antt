@@ -3,7 +3,7 @@ use Rattle.std.proofs.Common.{◌≡◌, ℕ, zero, suc, ◌+◌, ◌<◌, ◌�
 use Rattle.std.specs.Prelude.{nat_lt, option_map, slice_index_or}
 use Rattle.std.specs.List.{All, Contains}
 use Rattle.std.specs.BTreeMap.{BTreeMap, get, IsOrdered}
-use Rattle.std.proofs.lemmas.Bool.{cases_lt, cases_Bool, and_parts, lt-ltb, le-ltb, eq-eqb, eqb-true}
+use Rattle.std.proofs.lemmas.Bool.{cases_lt, cases_Bool, and_parts, lt-ltb, le-ltb, eq-eqb, eqb-true, ne_eqb}
 use Rattle.std.proofs.lemmas.List.{get_or-map, length-map}
 use Rattle.std.proofs.lemmas.List.Elements.{All-map, All-weaker, recursion_from_All}
 use Rattle.std.proofs.lemmas.Map.Views.{All-found, Contains-from_lookup}
@@ -194,8 +194,7 @@ tick_there charges w bound n ticks t j tally l charge is_it executes =
       found : get place_cmp ticks p ≡ Some count
       found = tally p ∙ above count some where
         above : (m : ℕ) → 0 < m → positive m ≡ Some m
-        above zero h = absurd (omega arith)
-        above (suc m) h = refl
+        above m h = let f : (m == 0) ≡ false = ne_eqb m 0 (λ e. absurd (omega (arith, e, h))) in rw f refl
 
       among : Contains ticks.entries (p, count)
       among = Contains-from_lookup same_by_order p count ticks.entries found

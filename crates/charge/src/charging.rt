@@ -38,6 +38,7 @@ pub fn charge_with<P: ChargedProtocol>(
         (fractions_of (P.charges protocol.now) (trace_in jobs.now rows.now.runs) (slice_index bounds.now) (ticks_of rows.now.runs) j
         (P.columns_of protocol.now jobs.now.set (task_of (trace_in jobs.now rows.now.runs) j)))) }
 {
+    let _tasks = jobs.set().tasks();
     let mut machine = match Machine::new(alloc, jobs) {
         Ok(machine) => machine,
         Err(_) => return Err(ChargeStop::Memory),
