@@ -1,7 +1,7 @@
 -- What a contract sees of a command: the form of its words.
-use Rattle.std.specs.Prelude.{◌≡◌}
-use Rattle.sporadic_model.specs.declared.ids.Protocol.TheVariants.{FmlpPlus}
-use Rattle.block_top.specs.Words.{Form, Analyse, Report, Conform}
+use Rattle.std.specs.Prelude.{◌≤◌}
+use Rattle.sporadic_model.specs.declared.limits.TheConstants.{MOST_TICKS}
+use Rattle.block_top.specs.Words.{Form, Analyse, Report, Conform, Simulate}
 use Rattle.block_top.specs.declared.words.Command.{Command}
 use Rattle.block_top.specs.declared.words.Command.TheVariants as command
 
@@ -9,9 +9,9 @@ abbrev pub form_seen : Command → Form
 form_seen (command.Analyse protocol set allowance) = Analyse protocol set.now allowance
 form_seen (command.Report protocol set) = Report protocol set.now
 form_seen (command.Conform protocol set jobs rows) = Conform protocol set.now jobs.now rows.now
+form_seen (command.Simulate protocol set jobs ticks) = Simulate protocol set.now jobs.now ticks
 
--- Is the protocol one for which the command is there? Today schedules are judged under FMLP+ alone.
-abbrev pub IsServed : Form → Type 0
-IsServed (Analyse protocol set allowance) = Unit {0}
-IsServed (Report protocol set) = Unit {0}
-IsServed (Conform protocol set jobs rows) = protocol ≡ FmlpPlus
+-- Are the ticks of a simulation, where the form asks for one, as many as a schedule may have?
+abbrev pub HasSomeTicks : Form → Type 0
+HasSomeTicks (Simulate protocol set jobs ticks) = (1 ≤ ticks) × (ticks ≤ MOST_TICKS)
+HasSomeTicks _ = Unit {0}

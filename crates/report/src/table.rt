@@ -1,7 +1,7 @@
 ghost use Rattle.std.specs.Prelude.{◌≡◌, ◌+◌, ◌*◌, ◌/◌, ◌<◌, ◌≤◌, ◌++◌, length, IfOk, OnOk};
 ghost use Rattle.bounded_sums.specs.Sums.{collect_below};
 ghost use Rattle.sporadic_model.specs.SetDef.{task_at};
-ghost use Rattle.report.specs.Table.{header, ticks_columns, task_line, load_of, load_line, table_text};
+ghost use Rattle.report.specs.Table.{task_words, header, ticks_columns, task_columns, task_line, load_of, load_line, load_lines, table_text};
 
 use sporadic_model::{TaskId, TaskSet};
 use std::alloc::{AllocError, Global};
@@ -12,18 +12,24 @@ const NAME_WIDTH: usize = 32;
 
 const PROCESSOR_WIDTH: usize = 3;
 
-const TICKS_WIDTH: usize = 11;
+pub(crate) const TICKS_WIDTH: usize = 11;
 
-/// Adds the words above the columns.
-fn push_header(text: &mut Vec<u8>) -> Result<(), AllocError>
-    ensures { OnOk result (text.new.items ≡ text.old.items ++ header) }
+/// Adds the words above a task's columns.
+pub(crate) fn push_task_words(text: &mut Vec<u8>) -> Result<(), AllocError>
+    ensures { OnOk result (text.new.items ≡ text.old.items ++ task_words) }
 {
     push_left(text, NAME_WIDTH, b"task")?;
     push_right(text, PROCESSOR_WIDTH, b"cpu")?;
     push_right(text, TICKS_WIDTH, b"period")?;
     push_right(text, TICKS_WIDTH, b"deadline")?;
     push_right(text, TICKS_WIDTH, b"cost")?;
-    push_right(text, TICKS_WIDTH, b"local")?;
+    push_right(text, TICKS_WIDTH, b"local")
+}
+
+fn push_header(text: &mut Vec<u8>) -> Result<(), AllocError>
+    ensures { OnOk result (text.new.items ≡ text.old.items ++ header) }
+{
+    push_task_words(text)?;
     text.extend_from_slice(b"\n")
 }
 
@@ -38,14 +44,26 @@ fn push_ticks(text: &mut Vec<u8>, set: &TaskSet, x: TaskId) -> Result<(), AllocE
     push_right_number(text, TICKS_WIDTH, set.local(x))
 }
 
+/// Adds the columns of a task.
+pub(crate) fn push_task_columns(
+    text: &mut Vec<u8>,
+    set: &TaskSet,
+    x: TaskId,
+) -> Result<(), AllocError>
+    requires { x.0 < length set.now.tasks }
+    ensures { OnOk result (text.new.items ≡ text.old.items ++ task_columns (task_at set.now x.0)) }
+{
+    push_left(text, NAME_WIDTH, set.task_name(x).as_bytes())?;
+    push_right_number(text, PROCESSOR_WIDTH, u64::from(set.processor(x)))?;
+    push_ticks(text, set, x)
+}
+
 /// Adds the line of a task.
 fn push_task(text: &mut Vec<u8>, set: &TaskSet, x: TaskId) -> Result<(), AllocError>
     requires { x.0 < length set.now.tasks }
     ensures { OnOk result (text.new.items ≡ text.old.items ++ task_line (task_at set.now x.0)) }
 {
-    push_left(text, NAME_WIDTH, set.task_name(x).as_bytes())?;
-    push_right_number(text, PROCESSOR_WIDTH, u64::from(set.processor(x)))?;
-    push_ticks(text, set, x)?;
+    push_task_columns(text, set, x)?;
     text.extend_from_slice(b"\n")
 }
 
@@ -94,8 +112,8 @@ fn push_tasks(text: &mut Vec<u8>, set: &TaskSet) -> Result<(), AllocError>
 }
 
 /// Adds the lines of all processors.
-fn push_loads(text: &mut Vec<u8>, set: &TaskSet) -> Result<(), AllocError>
-    ensures { OnOk result (text.new.items ≡ text.old.items ++ collect_below set.now.processors (λ k. load_line set.now (k + 1))) }
+pub(crate) fn push_loads(text: &mut Vec<u8>, set: &TaskSet) -> Result<(), AllocError>
+    ensures { OnOk result (text.new.items ≡ text.old.items ++ load_lines set.now) }
 {
     for k in 0..set.processors() {
         push_load(text, set, k + 1)?;

@@ -1,5 +1,6 @@
-use crate::set_table;
-use sporadic_model::{Parts, RequestPart, ResourcePart, TaskPart, TaskSet};
+use crate::{full_table, set_table};
+use program_form::Certificate;
+use sporadic_model::{Parts, RequestPart, ResourcePart, TaskId, TaskPart, TaskSet};
 use std::alloc::{AllocError, Global};
 use std::test::Fail;
 
@@ -51,5 +52,29 @@ load 1 300000
 load 2 400000
 ";
     assert_eq!(rt; set_table(alloc, &set)?.as_slice(), want.as_bytes());
+    Ok(())
+}
+
+#[test]
+fn the_full_table_has_bounds_and_values(rt: HostRuntime) -> Result<(), Fail> {
+    let alloc = rt.alloc();
+    let set = TaskSet::new(alloc, two_tasks(alloc)?)?;
+    let certificate = Certificate {
+        bounds: vec![in alloc; 5, 5]?,
+        duals: Vec::new(alloc),
+    };
+    let want = "\
+task                            cpu     period   deadline       cost      local      bound   blocking      slack
+t1                                1         10         10          3          3          5          2          5
+t2                                2         10         10          4          4          5          1          5
+load 1 300000
+load 2 400000
+";
+    if set.tasks() != 2 || set.deadline(TaskId(0)) < 5 || set.deadline(TaskId(1)) < 5 {
+        assert!(rt; false, "both deadlines are 10");
+        return Ok(());
+    }
+    let text = full_table(alloc, &set, &certificate, &[2, 1])?;
+    assert_eq!(rt; text.as_slice(), want.as_bytes());
     Ok(())
 }

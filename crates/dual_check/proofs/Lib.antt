@@ -1,0 +1,4 @@
+pub mod PassLaws
+pub mod CappedSums
+pub mod WorthLaws
+pub mod Verdicts

@@ -1,0 +1,43 @@
+use Rattle.std.proofs.Common.{◌≡◌, ◌∙◌, ℕ, ◌+◌, ◌≤◌, ◌<◌, List, [], ◌∷◌, ◌++◌, length, slice_index, sym, subst, arith, rules}
+use Rattle.std.proofs.lemmas.List.{get_or_default, length-map}
+use Rattle.program_form.specs.Certificate.{DualDef, CertificateDef, dual_seen, certificate_seen}
+use Rattle.program_form.specs.Program.{ProgramDef}
+use Rattle.program_sources.specs.Recurrence.{SourceDef}
+use Rattle.program_sources.specs.Valid.{dual_at}
+use Rattle.dual_check.specs.declared.duals.DualWorth.{DualWorth}
+use Rattle.dual_check.specs.Tests.{HasNumerators, HasDualSize}
+use Rattle.dual_check.specs.Answers.{source_for, IsWorth, IsWorthOf, AreWorths}
+use Rattle.dual_check.proofs.WorthLaws.{dual_seen_at, one_more_worth}
+use Rattle.dual_check.proofs.duals.weigh_duals.Goals as goal
+
+pub weigh-requires-clause-denominator : goal.weigh-requires-clause-denominator
+weigh-requires-clause-denominator g c =
+    let here : c.loop-i.i < length c.args.certificate.now.duals.items = omega (arith, c.requires.dual_each) in
+    let seen : dual_at (certificate_seen c.args.certificate.now).duals c.loop-i.i ≡ dual_seen c.index-dual.result.now =
+    dual_seen_at c.args.certificate.now.duals.items c.loop-i.i c.index-dual.result.now here c.index-dual.ensures in
+    let least : 1 ≤ (dual_at (certificate_seen c.args.certificate.now).duals c.loop-i.i).den =
+    c.requires.denominators c.loop-i.i (omega (arith, here, length-map c.args.certificate.now.duals.items dual_seen)) in
+    subst (λ (d : DualDef). 1 ≤ d.den) seen least
+
+pub loop-i-preserved : goal.loop-i-preserved
+loop-i-preserved g c =
+    let f : SourceDef = source_for (g.P.ProgramSource.program_of c.args.protocol.now) (g.P.ProgramSource.interfering c.args.protocol.now) c.args.set.now in
+    let cert : CertificateDef = certificate_seen c.args.certificate.now in
+    let i : ℕ = c.loop-i.i in
+    let here : i < length c.args.certificate.now.duals.items = omega (arith, c.requires.dual_each) in
+    let seen : dual_at cert.duals i ≡ dual_seen c.index-dual.result.now =
+    dual_seen_at c.args.certificate.now.duals.items i c.index-dual.result.now here c.index-dual.ensures in
+    let p : ProgramDef = c.in-Ok.program in
+    let same : p ≡ f.program i cert.bounds = rw (c.deref.ensures.value) at c.in-Ok.ensures in
+    let bound : c.index.result.now ≡ slice_index cert.bounds i =
+    c.index.ensures ∙ get_or_default cert.bounds i c.index.result.now 0 (omega (arith, c.requires.within.one_each)) in
+    let size : HasNumerators p (dual_seen c.index-dual.result.now) = search rules in
+    let sized : HasDualSize f cert i =
+    subst (λ (q : ProgramDef). HasNumerators q (dual_at cert.duals i)) same (subst (λ (d : DualDef). HasNumerators p d) (sym seen) size) in
+    let own : IsWorth c.weigh.result p (dual_at cert.duals i) (slice_index cert.bounds i) =
+    subst (λ (d : DualDef). IsWorth c.weigh.result p d (slice_index cert.bounds i)) (sym seen)
+    (subst (λ (b : ℕ). IsWorth c.weigh.result p (dual_seen c.index-dual.result.now) b) bound c.weigh.ensures) in
+    let pushed : c.push.new.self.items ≡ c.loop-i.worths.items ++ c.weigh.result ∷ [] = c.in-Ok-push.ensures.items in
+    let is : IsWorthOf f cert i c.weigh.result =
+    subst (λ (q : ProgramDef). IsWorth c.weigh.result q (dual_at cert.duals i) (slice_index cert.bounds i)) same own in
+    subst (AreWorths f cert (i + 1)) (sym {A = List DualWorth} pushed) (one_more_worth f cert i c.loop-i.worths.items c.weigh.result c.loop-i.invariant sized is)

@@ -1,0 +1,4 @@
+pub mod Tests
+pub mod Failures
+pub mod Answers
+pub mod Soundness

@@ -1,0 +1,25 @@
+use sporadic_model::TaskId;
+
+/// What is known of a certificate that is valid.
+#[derive(Debug, Drop)]
+pub struct Valid {
+    /// The value of each task's dual: the most ticks for which a job of it is blocked.
+    pub values: Vec<u64>,
+}
+
+/// Why a certificate is not valid: the first test that fails, each being tried over all tasks before the next.
+#[derive(Clone, Copy, Debug, PartialEq, Eq)]
+pub enum Invalid {
+    /// It has not one bound and one dual for each task.
+    Size,
+    /// This task's bound passes its deadline.
+    Bound(TaskId),
+    /// This task's dual has not one numerator for each row of its program.
+    DualSize(TaskId),
+    /// This task's dual does not hold this column of its program.
+    Cover(TaskId, u32),
+    /// This task's bound is too small: its cost, its dual's value and the interference of higher tasks pass it.
+    Small(TaskId),
+    /// No memory is left.
+    Memory,
+}

@@ -1,0 +1,95 @@
+//! What each task's dual is worth for its program.
+
+ghost use Rattle.std.specs.Prelude.{◌≡◌, ◌<◌, ◌≤◌, ◌^◌, Option, map, length, vec_len, option_map};
+ghost use Rattle.program_form.specs.Certificate.{dual_seen, certificate_seen};
+ghost use Rattle.program_form.specs.Program.{columns, height};
+ghost use Rattle.program_sources.specs.Bounds.{AreWithinDeadlines};
+ghost use Rattle.dual_check.specs.Tests.{HoldsColumn};
+ghost use Rattle.dual_check.specs.Failures.{Finds};
+ghost use Rattle.dual_check.specs.Answers.{source_for, HasDenominators, IsWorth, Weighs, FindsUncovered};
+
+use crate::answer::Invalid;
+use crate::sums::{holds_column, value_to};
+use program_form::{Certificate, Dual, Program};
+use program_sources::ProgramSource;
+use sporadic_model::{TaskId, TaskSet};
+use std::alloc::{AllocError, Global};
+
+/// What a dual is worth for its program.
+#[derive(Clone, Copy, Debug)]
+pub(crate) enum DualWorth {
+    /// This is the first column that it does not hold.
+    Uncovered(u32),
+    /// It holds all columns and has this value, in ticks, which counts no further than one above the bound.
+    Covering(u64),
+}
+
+fn first_uncovered(program: &Program, dual: &Dual) -> Option<u32>
+    requires numerators { vec_len dual.now.num ≡ height program.now }
+    ensures { Finds result (columns program.now) (HoldsColumn program.now (dual_seen dual.now)) }
+{
+    for column in 0..program.columns() {
+        if !holds_column(program, dual, column) {
+            return Some(column);
+        }
+    }
+    None
+}
+
+fn weigh(program: &Program, dual: &Dual, bound: u64) -> DualWorth
+    requires bound { bound < 2 ^ 63 }
+    requires denominator { 1 ≤ dual.now.den }
+    requires numerators { vec_len dual.now.num ≡ height program.now }
+    ensures { IsWorth result program.now (dual_seen dual.now) bound }
+{
+    match first_uncovered(program, dual) {
+        Some(column) => DualWorth::Uncovered(column),
+        None => DualWorth::Covering(value_to(program, dual, bound)),
+    }
+}
+
+/// What each dual is worth for its task's program at the certificate's bounds, or the first that has not one numerator for
+/// each row.
+pub(crate) fn weigh_duals<P: ProgramSource>(
+    alloc: Global,
+    set: &TaskSet,
+    protocol: &P,
+    certificate: &Certificate,
+) -> Result<Vec<DualWorth>, Invalid>
+    requires suits { P.suits protocol.now set.now }
+    requires within { AreWithinDeadlines set.now certificate.now.bounds.items }
+    requires dual_each { vec_len certificate.now.duals ≡ length set.now.tasks }
+    requires denominators { HasDenominators (certificate_seen certificate.now) }
+    ensures { Weighs result (source_for (P.program_of protocol.now) (P.interfering protocol.now) set.now) (certificate_seen certificate.now) }
+{
+    let mut worths = Vec::new(alloc);
+    for i in 0..set.tasks() {
+        let task = TaskId(i);
+        let program = match protocol.program(alloc, set, task, &certificate.bounds) {
+            Ok(program) => program,
+            Err(AllocError) => return Err(Invalid::Memory),
+        };
+        let dual = &certificate.duals[i as usize];
+        if dual.num.len() != program.rows() as usize {
+            return Err(Invalid::DualSize(task));
+        }
+        match worths.push(weigh(&program, dual, certificate.bounds[i as usize])) {
+            Ok(()) => {}
+            Err(_) => return Err(Invalid::Memory),
+        }
+    }
+    Ok(worths)
+}
+
+/// The first task whose dual leaves a column, and that column.
+pub(crate) fn first_uncovered_of(worths: &[DualWorth]) -> Option<(TaskId, u32)>
+    requires { length worths.now < 2 ^ 32 }
+    ensures { FindsUncovered (option_map (λ found. (found.0.0, found.1)) result) worths.now }
+{
+    for (i, worth) in worths.iter().enumerate() {
+        if let DualWorth::Uncovered(column) = *worth {
+            return Some((TaskId(i as u32), column));
+        }
+    }
+    None
+}

@@ -1,0 +1,163 @@
+ghost use Rattle.std.specs.Prelude.{◌≡◌, ℕ, ◌<◌, ◌≤◌, List, map, length, vec_len, option_map, slice_index, ◌^◌, ◌↔◌, IsTrue, IfOk, IfErr};
+ghost use Rattle.program_form.specs.Certificate.{certificate_seen};
+ghost use Rattle.sporadic_model.specs.Homes.{HasHomesFor};
+ghost use Rattle.program_sources.specs.Bounds.{AreWithinDeadlines, AreFromCostsAbove};
+ghost use Rattle.program_sources.specs.Recurrence.{response_with};
+ghost use Rattle.sporadic_model.specs.SetDef.{task_at};
+ghost use Rattle.program_sources.specs.Valid.{IsValid};
+ghost use Rattle.soundness_laws.specs.Analyses.{source_of};
+ghost use Rattle.dual_check.specs.Failures.{Finds};
+ghost use Rattle.dual_check.specs.Answers.{source_for, HasDenominators, worth_at, IsCovering, counted, AreWorths, Judges, Sums};
+ghost use Rattle.dual_check.specs.Soundness.{SoundUnder};
+
+use crate::answer::{Invalid, Valid};
+use crate::duals::{DualWorth, first_uncovered_of, weigh_duals};
+use program_form::Certificate;
+use program_sources::ProgramSource;
+use protocol_programs::Written;
+use sporadic_model::{Protocol, TaskId, TaskSet};
+use std::alloc::Global;
+
+/// Whether each dual's denominator is at least 1.
+pub fn has_denominators(certificate: &Certificate) -> bool
+    ensures { IsTrue result ↔ HasDenominators (certificate_seen certificate.now) }
+{
+    for i in 0..certificate.duals.len() {
+        if certificate.duals[i].den == 0 {
+            return false;
+        }
+    }
+    true
+}
+
+/// The first task whose bound passes its deadline.
+fn first_late(set: &TaskSet, bounds: &[u64]) -> Option<TaskId>
+    requires { length bounds.now ≡ length set.now.tasks }
+    ensures { Finds (option_map (λ x. x.0) result) (length set.now.tasks) (λ i. slice_index bounds.now i ≤ (task_at set.now i).deadline) }
+{
+    for i in 0..set.tasks() {
+        if bounds[i as usize] > set.deadline(TaskId(i)) {
+            return Some(TaskId(i));
+        }
+    }
+    None
+}
+
+/// The value of a dual that holds all columns.
+fn value_of(worth: DualWorth) -> u64
+    ensures { result ≡ counted worth }
+{
+    match worth {
+        DualWorth::Uncovered(_) => 0,
+        DualWorth::Covering(value) => value,
+    }
+}
+
+/// The response time of task `i` with this blocking, in ticks.
+fn response<P: ProgramSource>(
+    set: &TaskSet,
+    protocol: &P,
+    i: TaskId,
+    bounds: &[u64],
+    blocking: u64,
+) -> u64
+    requires suits { P.suits protocol.now set.now }
+    requires task { i.0 < length set.now.tasks }
+    requires within { AreWithinDeadlines set.now bounds.now }
+    requires from_costs { AreFromCostsAbove set.now bounds.now i.0 }
+    requires most { blocking < 2 ^ 63 }
+    ensures { result ≡ response_with (source_for (P.program_of protocol.now) (P.interfering protocol.now) set.now) bounds.now i.0 blocking }
+{
+    let _tasks = set.tasks();
+    set.cost(i) + blocking + protocol.interference(set, i, bounds)
+}
+
+/// The values of the duals, or the first task for which its dual's is too great. A task's interference is formed only once
+/// the bounds of the higher tasks are enough, and so at least their costs.
+fn add_up<P: ProgramSource>(
+    alloc: Global,
+    set: &TaskSet,
+    protocol: &P,
+    certificate: &Certificate,
+    worths: &[DualWorth],
+) -> Result<Vec<u64>, Invalid>
+    requires suits { P.suits protocol.now set.now }
+    requires within { AreWithinDeadlines set.now certificate.now.bounds.items }
+    requires worths { AreWorths (source_for (P.program_of protocol.now) (P.interfering protocol.now) set.now) (certificate_seen certificate.now) (length set.now.tasks) worths.now }
+    requires covering { (i : ℕ) → i < length set.now.tasks → IsCovering (worth_at worths.now i) }
+    ensures { Sums result (source_for (P.program_of protocol.now) (P.interfering protocol.now) set.now) (certificate_seen certificate.now) }
+{
+    let mut values = Vec::new(alloc);
+    for i in 0..set.tasks() {
+        let task = TaskId(i);
+        let bound = certificate.bounds[i as usize];
+        let value = value_of(worths[i as usize]);
+        if response(set, protocol, task, &certificate.bounds, value) > bound {
+            return Err(Invalid::Small(task));
+        }
+        match values.push(value) {
+            Ok(()) => {}
+            Err(_) => return Err(Invalid::Memory),
+        }
+    }
+    Ok(values)
+}
+
+/// Judges a certificate for the programs of a source, which suits the set. Each dual's denominator is at least 1.
+///
+/// `Ok` has the values of the duals, in ticks. `Invalid` names the first test that fails, each being tried over all tasks before
+/// the next, and comes as `Memory` for want of memory alone.
+pub fn check_with<P: ProgramSource>(
+    alloc: Global,
+    protocol: &P,
+    set: &TaskSet,
+    certificate: &Certificate,
+) -> Result<Valid, Invalid>
+    requires suits { P.suits protocol.now set.now }
+    requires denominators { HasDenominators (certificate_seen certificate.now) }
+
+    // Valid with the duals' values, or the first failure.
+    ensures judges { Judges result (source_for (P.program_of protocol.now) (P.interfering protocol.now) set.now) (certificate_seen certificate.now) }
+
+    // Only want of memory keeps a valid one from being Ok.
+    ensures accepts { IsValid (source_for (P.program_of protocol.now) (P.interfering protocol.now) set.now) (certificate_seen certificate.now) → IfErr result (λ e. e ≡ Invalid.Memory) }
+{
+    let count = set.tasks() as usize;
+    if certificate.bounds.len() != count || certificate.duals.len() != count {
+        return Err(Invalid::Size);
+    }
+    if let Some(task) = first_late(set, &certificate.bounds) {
+        return Err(Invalid::Bound(task));
+    }
+    let worths = match weigh_duals(alloc, set, protocol, certificate) {
+        Ok(worths) => worths,
+        Err(failure) => return Err(failure),
+    };
+    if let Some((task, column)) = first_uncovered_of(&worths) {
+        return Err(Invalid::Cover(task, column));
+    }
+    match add_up(alloc, set, protocol, certificate, &worths) {
+        Ok(values) => Ok(Valid { values }),
+        Err(failure) => Err(failure),
+    }
+}
+
+/// Judges a certificate for the programs that are written down for the protocol. Under DPCP each resource has a home, and each
+/// dual's denominator is at least 1.
+pub fn check(
+    alloc: Global,
+    protocol: Protocol,
+    set: &TaskSet,
+    certificate: &Certificate,
+) -> Result<Valid, Invalid>
+    requires suits { HasHomesFor protocol set.now }
+    requires denominators { HasDenominators (certificate_seen certificate.now) }
+    ensures judges { Judges result (source_of protocol set.now) (certificate_seen certificate.now) }
+    ensures accepts { IsValid (source_of protocol set.now) (certificate_seen certificate.now) → IfErr result (λ e. e ≡ Invalid.Memory) }
+
+    // What is Ok holds in every schedule that keeps the protocol's rules, of whatever lawful jobs.
+    ensures sound { IfOk result (λ v. SoundUnder protocol set.now certificate.now.bounds.items v.values.items) }
+{
+    let _tasks = set.tasks();
+    check_with(alloc, &Written(protocol), set, certificate)
+}
