@@ -2,3 +2,4 @@ pub mod Charges
 pub mod Windows
 pub mod Interferers
 pub mod Fractions
+pub mod ChargedTicks

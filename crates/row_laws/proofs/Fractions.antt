@@ -4,7 +4,7 @@ use Rattle.std.specs.Prelude.{slice_index}
 use Rattle.std.specs.List.{All, Contains}
 use Rattle.std.proofs.Math.Nat.{mul_comm, mul_assoc, mul-div_cancel_left, div-mul-le_self, mul-le-mul_right}
 use Rattle.std.proofs.lemmas.List.{get_or-map, length-map}
-use Rattle.std.proofs.lemmas.List.Elements.{All-filter, All-get_or, All-head, All-tail}
+use Rattle.std.proofs.lemmas.List.Elements.{All-filter, All-get_or, All-from_get_or, All-head, All-tail}
 use Rattle.bounded_sums.specs.Sums.{sum_below}
 use Rattle.bounded_sums.specs.Tests.{count_below}
 use Rattle.bounded_sums.proofs.SumLaws.{sum_below-agree, sum_below-list_by, sum_below-times_right}
@@ -57,6 +57,17 @@ factor_of set (c ∷ cs) (suc k) d l =
       turned : (a s l m : ℕ) → s ≡ l * m → a * s ≡ l * (a * m)
       turned a s l m e = ap (λ z. a * z) e ∙ sym (mul_assoc a l m) ∙ ap (λ z. z * m) (mul_comm a l) ∙ mul_assoc l a m
 
+-- And where the product is positive, so is each length.
+pub lengths_positive : (set : SetDef) (cs : List ColumnDef) → 0 < product_of_lengths set cs → HaveLengths set cs
+lengths_positive set cs some =
+    All-from_get_or (λ (c : ColumnDef). 0 < length_of set c.task c.resource) cs no_column (λ k l.
+    let f : (m : ℕ) × (product_of_lengths set cs ≡ length_of set (get_or cs k no_column).task (get_or cs k no_column).resource * m) =
+    factor_of set cs k no_column l in
+    factor_some (length_of set (get_or cs k no_column).task (get_or cs k no_column).resource) f.0 (rw (← f.1) some)) where
+      factor_some : (a b : ℕ) → 0 < a * b → 0 < a
+      factor_some zero b x = absurd (omega arith)
+      factor_some (suc a) b x = omega arith
+
 -- A whole of scale s, shared out over a length: what each tick is worth.
 abbrev pub share_of : SetDef → ℕ → ℕ → ℕ → ℕ
 share_of set s x q = s / length_of set x q
@@ -88,15 +99,13 @@ whole_share set s ticks c m some e =
 abbrev scale_of : Protocol → SetDef → ℕ → ℕ
 scale_of p set i = product_of_lengths set (columns_of p set i)
 
-column_share : (p : Protocol) (set : SetDef) (i k ticks : ℕ) → HaveLengths set (columns_of p set i) → k < length (columns_of p set i)
-    → WholeShare set (scale_of p set i) ticks (get_or (columns_of p set i) k no_column)
-column_share p set i k ticks have l =
+whole_in : (set : SetDef) (cs : List ColumnDef) (k ticks : ℕ) → HaveLengths set cs → k < length cs
+    → WholeShare set (product_of_lengths set cs) ticks (get_or cs k no_column)
+whole_in set cs k ticks have l =
     let f : (m : ℕ) × (product_of_lengths set cs ≡ length_of set (get_or cs k no_column).task (get_or cs k no_column).resource * m) =
     factor_of set cs k no_column l in
-    whole_share set (scale_of p set i) ticks (get_or cs k no_column) f.0
-    (All-get_or (λ (c : ColumnDef). 0 < length_of set c.task c.resource) cs k no_column l have) f.1 where
-      cs : List ColumnDef
-      cs = columns_of p set i
+    whole_share set (product_of_lengths set cs) ticks (get_or cs k no_column) f.0
+    (All-get_or (λ (c : ColumnDef). 0 < length_of set c.task c.resource) cs k no_column l have) f.1
 
 -- A row of the program that is there.
 no_row : ConstraintDef
@@ -139,7 +148,7 @@ row_ticks charges p w bound n j k have =
           → k.coefficient (get_or cs c no_column) * fractions_of charges w bound n j cs c ≡ part (get_or cs c no_column)
       of_column c l =
           let d : ColumnDef = get_or cs c no_column in
-          let a : WholeShare w.set (scale_of p w.set (task_of w j)) (ticks d) d = column_share p w.set (task_of w j) c (ticks d) have l in
+          let a : WholeShare w.set (scale_of p w.set (task_of w j)) (ticks d) d = whole_in w.set cs c (ticks d) have l in
           ap (λ z. k.coefficient d * z) a.fraction ∙ turned (k.coefficient d) (ticks d) (share d)
 
 -- So where the ticks meet each kind of row, the fractions are a scaled point.
@@ -198,17 +207,18 @@ fractions_are_point charges p w bounds n j have each = record { positive = produ
       ap (λ z. scale_of p w.set i * z) limits in
       omega (arith, number, same, row_ticks charges p w (slice_index bounds) n j k have, ticks, whole)
 
--- The fractions are worth at least the blocked ticks, where each of these lies in one of the program's columns.
-pub fractions_worth : (charges : Charges) (p : Protocol) (w : Trace) (bounds : List ℕ) (n j : ℕ) (counts : ℕ → Bool)
-    → HaveLengths w.set (columns_of p w.set (task_of w j))
-    → ((t : ℕ) → t < window_end w (slice_index bounds) n j → counts t ≡ true
-    → (d : ColumnDef) × (charged_column charges w t j ≡ Some d) × Contains (columns_of p w.set (task_of w j)) d)
-    → count_below (window_end w (slice_index bounds) n j) counts * product_of_lengths w.set (columns_of p w.set (task_of w j))
-    ≤ worth (program_of p w.set (task_of w j) bounds) (fractions_of charges w (slice_index bounds) n j (columns_of p w.set (task_of w j)))
+-- The fractions are worth at least the blocked ticks, where each of these lies in one of the columns, and the program's columns
+-- are these.
+pub columns_worth : (charges : Charges) (w : Trace) (bound : ℕ → ℕ) (n j : ℕ) (program : ProgramDef) (cs : List ColumnDef)
+    (counts : ℕ → Bool) → program.costs ≡ map (cost_of w.set) cs → HaveLengths w.set cs
+    → ((t : ℕ) → t < window_end w bound n j → counts t ≡ true
+    → (d : ColumnDef) × (charged_column charges w t j ≡ Some d) × Contains cs d)
+    → count_below (window_end w bound n j) counts * product_of_lengths w.set cs
+    ≤ worth program (fractions_of charges w bound n j cs)
 unfolding ticks_in
-fractions_worth charges p w bounds n j counts have placed =
+columns_worth charges w bound n j program cs counts costs have placed =
     let number : sum_below (columns program) term ≡ sum_below (length cs) term =
-    ap (λ z. sum_below z term) (length-map cs (cost_of w.set)) in
+    ap (λ z. sum_below z term) (ap (λ (xs : List ℕ). length xs) costs ∙ length-map cs (cost_of w.set)) in
     let same : sum_below (length cs) term ≡ sum_below (length cs) (λ c. ticks (get_or cs c no_column) * scale) =
     sum_below-agree (length cs) term (λ c. ticks (get_or cs c no_column) * scale) (λ c l. of_column c l) in
     let times : sum_below (length cs) (λ c. ticks (get_or cs c no_column) * scale)
@@ -218,32 +228,35 @@ fractions_worth charges p w bounds n j counts have placed =
     ap (λ z. z * scale) (sum_below-list_by ticks no_column cs) in
     let most : count_below e counts ≤ sum_by ticks cs = columns_hold (λ t. charged_column charges w t j) counts e cs placed in
     omega (arith, number, same, times, list, mul-le-mul_right scale most) where
-      i : ℕ
-      i = task_of w j
-
-      cs : List ColumnDef
-      cs = columns_of p w.set i
-
-      program : ProgramDef
-      program = program_of p w.set i bounds
-
       scale : ℕ
       scale = product_of_lengths w.set cs
 
       e : ℕ
-      e = window_end w (slice_index bounds) n j
+      e = window_end w bound n j
 
       ticks : ColumnDef → ℕ
       ticks = λ c. count_below e (λ t. is_in c (charged_column charges w t j))
 
       term : ℕ → ℕ
-      term = λ c. cost program c * fractions_of charges w (slice_index bounds) n j cs c
+      term = λ c. cost program c * fractions_of charges w bound n j cs c
 
       of_column : (c : ℕ) → c < length cs → term c ≡ ticks (get_or cs c no_column) * scale
       of_column c l =
           let d : ColumnDef = get_or cs c no_column in
-          let a : WholeShare w.set scale (ticks d) d = column_share p w.set i c (ticks d) have l in
-          let costs : cost program c ≡ length_of w.set d.task d.resource = get_or-map (cost_of w.set) cs c no_column 0 l in
-          ap (λ z. z * fractions_of charges w (slice_index bounds) n j cs c) costs
+          let a : WholeShare w.set scale (ticks d) d = whole_in w.set cs c (ticks d) have l in
+          let cost_is : cost program c ≡ length_of w.set d.task d.resource =
+          ap (λ (xs : List ℕ). slice_index xs c) costs ∙ get_or-map (cost_of w.set) cs c no_column 0 l in
+          ap (λ z. z * fractions_of charges w bound n j cs c) cost_is
           ∙ ap (λ z. length_of w.set d.task d.resource * z) a.fraction
           ∙ turned (length_of w.set d.task d.resource) (ticks d) (share_of w.set scale d.task d.resource) ∙ ap (λ z. ticks d * z) a.whole
+
+-- So it is for the written programs.
+pub fractions_worth : (charges : Charges) (p : Protocol) (w : Trace) (bounds : List ℕ) (n j : ℕ) (counts : ℕ → Bool)
+    → HaveLengths w.set (columns_of p w.set (task_of w j))
+    → ((t : ℕ) → t < window_end w (slice_index bounds) n j → counts t ≡ true
+    → (d : ColumnDef) × (charged_column charges w t j ≡ Some d) × Contains (columns_of p w.set (task_of w j)) d)
+    → count_below (window_end w (slice_index bounds) n j) counts * product_of_lengths w.set (columns_of p w.set (task_of w j))
+    ≤ worth (program_of p w.set (task_of w j) bounds) (fractions_of charges w (slice_index bounds) n j (columns_of p w.set (task_of w j)))
+fractions_worth charges p w bounds n j counts have placed =
+    columns_worth charges w (slice_index bounds) n j (program_of p w.set (task_of w j) bounds) (columns_of p w.set (task_of w j)) counts
+    refl have placed

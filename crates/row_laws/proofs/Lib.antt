@@ -17,3 +17,5 @@ pub mod ColumnSums
 pub mod Fractions
 pub mod EachRow
 pub mod Joined
+pub mod ChargedTicks
+pub mod InterferingCosts

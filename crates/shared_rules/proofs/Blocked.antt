@@ -17,7 +17,7 @@ same_bool false true f g = g refl
 same_bool false false f g = refl
 
 -- In a row that keeps Run a job runs exactly where it stands in its processor's column.
-runs_here : (w : Trace) (t j : ℕ) → KeepsRun w t → runs_in (w.row t) j ≡ is_job j (running_on (w.row t) (processor_of w j))
+pub runs_here : (w : Trace) (t j : ℕ) → KeepsRun w t → runs_in (w.row t) j ≡ is_job j (running_on (w.row t) (processor_of w j))
 runs_here w t j run = same_bool (runs_in (w.row t) j) (is_job j (running_on (w.row t) (processor_of w j))) there back where
   there : runs_in (w.row t) j ≡ true → is_job j (running_on (w.row t) (processor_of w j)) ≡ true
   there h =

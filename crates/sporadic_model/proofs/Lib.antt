@@ -3,3 +3,4 @@ pub mod Finding
 pub mod Ranges
 pub mod Acceptance
 pub mod Laws
+pub mod Kept

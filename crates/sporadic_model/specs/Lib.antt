@@ -6,4 +6,5 @@ pub mod Homes
 pub mod Refusals
 pub mod Faults
 pub mod Accepted
+pub mod Demands
 pub mod SetView

@@ -1,11 +1,15 @@
--- What a contract sees of a task set: the record of its parts, and that they are accepted.
+-- What a contract sees of a task set: the record of its parts. They are accepted, and what the set keeps beside them is theirs.
+use Rattle.std.specs.Prelude.{◌≡◌, map}
 use Rattle.sporadic_model.specs.SetDef.{SetDef}
 use Rattle.sporadic_model.specs.Seen.{parts_seen}
 use Rattle.sporadic_model.specs.Accepted.{IsAccepted}
+use Rattle.sporadic_model.specs.Demands.{demands_in, AreCeilings}
 use Rattle.sporadic_model.specs.declared.task_set.TaskSet.TheInside.{Inside}
 
 abbrev pub set_view : Inside → SetDef
 set_view s = parts_seen s.parts
 
-abbrev pub IsKept : Inside → Type 0
-IsKept s = IsAccepted (parts_seen s.parts)
+pub record IsKept (s : Inside) : Type 0 where
+  pub accepted : IsAccepted (parts_seen s.parts)
+  pub demands : map (λ row. row.items) s.demands.items ≡ demands_in (parts_seen s.parts)
+  pub ceilings : AreCeilings (parts_seen s.parts) s.ceilings.items

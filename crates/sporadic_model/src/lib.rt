@@ -2,6 +2,7 @@
 //! accepted set answers. Tasks stand from the highest base priority to the lowest.
 #![tactic(auto)]
 
+mod demands;
 mod ids;
 mod jobs;
 mod judging;

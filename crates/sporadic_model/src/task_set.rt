@@ -1,23 +1,31 @@
-ghost use Rattle.std.specs.Prelude.{◌≡◌, ℕ, ◌<◌, ◌≤◌, length, IfSome, IfNone, IsTrue, option_map, find};
+ghost use Rattle.std.specs.Prelude.{◌≡◌, ℕ, ◌<◌, ◌≤◌, length, IfOk, IfErr, IfSome, IfNone, IsTrue, option_map, find};
 ghost use Rattle.sporadic_model.specs.SetDef.{task_at, resource_at, is_higher_local};
 ghost use Rattle.sporadic_model.specs.Users.{numbers, entry_of, count_of, length_of, is_remote_user, ceiling_of, remote_ceiling_of, task_with_name, resource_with_name};
 ghost use Rattle.sporadic_model.specs.Seen.{parts_seen, task_seen, resource_seen, request_seen};
 ghost use Rattle.sporadic_model.specs.Refusals.{Judged};
+ghost use Rattle.sporadic_model.specs.Demands.{IsDemand};
 ghost use Rattle.sporadic_model.specs.Accepted.{IsAccepted, TaskNumbers, RequestNumbers, EntryNumbers, SetSizes, AreNamed, AreHomes, AreEntries, IsHighestUser, HasNoUser, IsHighestRemoteUser, HasNoRemoteUser, IsBoost};
 
+use crate::demands::{Demand, ceiling_at, ceilings_of, demand_at, demands_of};
 use crate::ids::{ResourceId, TaskId};
 use crate::judging::first_refusal;
 use crate::limits::{MOST_COUNT, MOST_PROCESSORS, MOST_RESOURCES, MOST_TASKS, MOST_TICKS};
-use crate::lookup::{entry_for, place_of_resource, place_of_task, resource_part, task_part};
-use crate::parts::{Parts, RequestPart, ResourcePart, TaskPart};
+use crate::lookup::{place_of_resource, place_of_task, resource_part, task_part};
+use crate::parts::{Parts, ResourcePart, TaskPart};
 use crate::refusal::ModelRefusal;
-use std::alloc::Global;
+use std::alloc::{AllocError, Global};
 use std::marker::Model;
 
 /// An accepted task set. Its tasks stand from the highest base priority to the lowest.
+///
+/// It resolves the requests of its tasks once, when it is made, so that no look-up by number searches names.
 #[derive(Drop)]
 pub struct TaskSet {
     parts: Parts,
+    // What each task may ask of each resource: a row per task, and in it a demand per resource.
+    demands: Vec<Vec<Demand>>,
+    // The highest user of each resource.
+    ceilings: Vec<Option<TaskId>>,
 }
 
 impl Model for TaskSet {
@@ -36,14 +44,36 @@ impl TaskSet {
     /// Accepts the parts, or names the first refusal that is due. The refusals are tried in the order
     /// in which they stand in [`ModelRefusal`], each over the whole set, and each names the first place
     /// in the order of resources, then tasks, then a task's request entries. The set keeps the parts as
-    /// they are; the allocator is for what it may come to hold besides.
-    pub fn new(_alloc: Global, parts: Parts) -> Result<TaskSet, ModelRefusal>
+    /// they are. Only what is accepted takes memory: for what each task may ask of each resource, and for
+    /// the ceilings of the resources; where that is refused, the answer is `Memory`.
+    pub fn new(alloc: Global, parts: Parts) -> Result<TaskSet, ModelRefusal>
         ensures { Judged result (parts_seen parts) }
     {
         match first_refusal(&parts) {
             Some(refusal) => Err(refusal),
-            None => Ok(TaskSet { parts }),
+            None => TaskSet::resolved(alloc, parts),
         }
+    }
+
+    /// The set of accepted parts, with the requests of its tasks resolved.
+    fn resolved(alloc: Global, parts: Parts) -> Result<TaskSet, ModelRefusal>
+        requires { IsAccepted (parts_seen parts) }
+        ensures ok { IfOk result (λ set. set ≡ parts_seen parts) }
+        ensures err { IfErr result (λ refusal. refusal ≡ ModelRefusal.Memory) }
+    {
+        let demands = match demands_of(alloc, &parts) {
+            Ok(demands) => demands,
+            Err(AllocError) => return Err(ModelRefusal::Memory),
+        };
+        let ceilings = match ceilings_of(alloc, &parts, &demands) {
+            Ok(ceilings) => ceilings,
+            Err(AllocError) => return Err(ModelRefusal::Memory),
+        };
+        Ok(TaskSet {
+            parts,
+            demands,
+            ceilings,
+        })
     }
 
     /// Task `x`'s part.
@@ -165,15 +195,16 @@ impl TaskSet {
         self.task(x).local
     }
 
-    /// The task's entry for the resource.
-    fn entry(&self, x: TaskId, q: ResourceId) -> Option<&RequestPart>
+    /// What the task may ask of the resource.
+    fn demand(&self, x: TaskId, q: ResourceId) -> Demand
         requires task { x.0 < length self.now.tasks }
         requires resource { q.0 < length self.now.resources }
-        ensures value { option_map (λ e. request_seen e.now) result ≡ entry_of self.now x.0 q.0 }
-        ensures numbers { IfSome result (λ e. EntryNumbers self.now x.0 (request_seen e.now)) }
+        ensures count { result.count ≡ count_of self.now x.0 q.0 }
+        ensures length { result.length ≡ length_of self.now x.0 q.0 }
+        ensures numbers { IsDemand self.now x.0 result }
         ensures task { TaskNumbers self.now x.0 }
     {
-        entry_for(&self.task(x).requests, self.resource(q).name.as_bytes())
+        demand_at(&self.demands, x.0 as usize, q.0 as usize)
     }
 
     /// How often a job of the task may request the resource: at most 1000, and 0 without an entry.
@@ -183,10 +214,7 @@ impl TaskSet {
         ensures value { result ≡ count_of self.now x.0 q.0 }
         ensures most { result ≤ MOST_COUNT }
     {
-        match self.entry(x, q) {
-            Some(entry) => entry.count,
-            None => 0,
-        }
+        self.demand(x, q).count
     }
 
     /// For how many ticks one request of the resource by the task may last: below the task's cost, and
@@ -199,10 +227,7 @@ impl TaskSet {
         ensures ticks { result ≤ MOST_TICKS }
         ensures least { 0 < count_of self.now x.0 q.0 → 1 ≤ result }
     {
-        match self.entry(x, q) {
-            Some(entry) => entry.length,
-            None => 0,
-        }
+        self.demand(x, q).length
     }
 
     /// The processor at which the resource's requests run, where one was given.
@@ -226,12 +251,7 @@ impl TaskSet {
         ensures within { IfSome result (λ x. x.0 < length self.now.tasks) }
         ensures none { IfNone result (HasNoUser self.now q.0) }
     {
-        for x in 0..self.tasks() {
-            if self.count(TaskId(x), q) > 0 {
-                return Some(TaskId(x));
-            }
-        }
-        None
+        ceiling_at(&self.ceilings, q.0 as usize)
     }
 
     /// Does the task use the resource, from another processor than `k`?

@@ -371,6 +371,14 @@ fn answers_the_ceilings(rt: HostRuntime) -> Result<(), Fail> {
         [set.ceiling(r), set.ceiling(s), set.ceiling(u)],
         [Some(TaskId(0)), Some(TaskId(1)), None]
     );
+    Ok(())
+}
+
+#[test]
+fn answers_the_boosts(rt: HostRuntime) -> Result<(), Fail> {
+    let set = shared_set(rt.alloc())?;
+    let (r, s, u) = (ResourceId(0), ResourceId(1), ResourceId(2));
+    assert!(rt; set.resources() == 3);
     assert_eq!(rt;
         [set.boost(r, 1), set.boost(r, 2)],
         [Some(TaskId(0)), Some(TaskId(0))]

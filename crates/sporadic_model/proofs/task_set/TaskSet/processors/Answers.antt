@@ -7,18 +7,18 @@ use Rattle.sporadic_model.proofs.task_set.TaskSet.processors.Goals as goal
 
 pub overflow_cast-result : goal.overflow_cast-result
 overflow_cast-result c =
-    let sizes : SetSizes (parts_seen c.self.inside.parts) = sizes_of_accepted _ c.self.invariant in
+    let sizes : SetSizes (parts_seen c.self.inside.parts) = sizes_of_accepted _ c.self.invariant.accepted in
     let parts = length-map resource_seen c.self.inside.parts.resources.items in
     omega arith
 
 pub returns-clause-most : goal.returns-clause-most
 returns-clause-most c =
-    let sizes : SetSizes (parts_seen c.self.inside.parts) = sizes_of_accepted _ c.self.invariant in
+    let sizes : SetSizes (parts_seen c.self.inside.parts) = sizes_of_accepted _ c.self.invariant.accepted in
     let parts = length-map resource_seen c.self.inside.parts.resources.items in
     omega arith
 
 pub returns-clause-least : goal.returns-clause-least
 returns-clause-least c =
-    let sizes : SetSizes (parts_seen c.self.inside.parts) = sizes_of_accepted _ c.self.invariant in
+    let sizes : SetSizes (parts_seen c.self.inside.parts) = sizes_of_accepted _ c.self.invariant.accepted in
     let parts = length-map resource_seen c.self.inside.parts.resources.items in
     omega arith

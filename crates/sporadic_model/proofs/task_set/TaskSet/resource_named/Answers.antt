@@ -13,7 +13,7 @@ overflow_cast-result c =
     let set : SetDef = parts_seen c.self.inside.parts in
     let found : resource_with_name set c.args.name.now ≡ Some c.in-Some.q =
     ap (λ l. position (λ r. bytes_eq r.name c.args.name.now) (map resource_seen l)) (sym c.deref.ensures.value) ∙ sym c.place_of_resource.ensures ∙ c.in-Some.is in
-    let sizes : SetSizes set = sizes_of_accepted set c.self.invariant in
+    let sizes : SetSizes set = sizes_of_accepted set c.self.invariant.accepted in
     let within : c.in-Some.q < length set.resources = (named_resource set c.args.name.now c.in-Some.q found).0 in
     omega arith
 

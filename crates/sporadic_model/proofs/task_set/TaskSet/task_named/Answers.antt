@@ -13,7 +13,7 @@ overflow_cast-result c =
     let set : SetDef = parts_seen c.self.inside.parts in
     let found : task_with_name set c.args.name.now ≡ Some c.in-Some.x =
     ap (λ l. position (λ t. bytes_eq t.name c.args.name.now) (map task_seen l)) (sym c.deref.ensures.value) ∙ sym c.place_of_task.ensures ∙ c.in-Some.is in
-    let sizes : SetSizes set = sizes_of_accepted set c.self.invariant in
+    let sizes : SetSizes set = sizes_of_accepted set c.self.invariant.accepted in
     let within : c.in-Some.x < length set.tasks = (named_task set c.args.name.now c.in-Some.x found).0 in
     omega arith
 

@@ -1,0 +1,4 @@
+mod SharedNow
+mod DistributedNow
+mod Uncharged
+mod Analysed

@@ -1,0 +1,22 @@
+-- Whose bounds end at the tick at which a machine stands.
+use Rattle.std.specs.Prelude.{ℕ, ◌+◌, ◌==◌, ◌&&◌, Bool, nat_lt, nat_le, if◌then◌else◌, List, slice_index, Option, None, Some}
+use Rattle.schedule_model.specs.JobDef.{job_of}
+use Rattle.phase_machine.specs.MachineDef.{MachineDef, task_in}
+use Rattle.phase_machine.specs.Now.{active_now}
+
+-- By when is job j to be finished: its release plus its task's bound.
+abbrev pub end_now : MachineDef → List ℕ → ℕ → ℕ
+end_now m bounds j = (job_of m.list.jobs j).release + slice_index bounds (task_in m.list.jobs j)
+
+-- Is job j active, so not finished, at the machine's tick, at which its bound ends?
+abbrev pub is_due : MachineDef → List ℕ → ℕ → Bool
+is_due m bounds j = (end_now m bounds j == m.tick) && active_now m j
+
+-- The same, for the jobs of the first x tasks.
+unfoldable pub is_due_below : MachineDef → List ℕ → ℕ → ℕ → Bool
+is_due_below m bounds x j = nat_lt (task_in m.list.jobs j) x && is_due m bounds j
+
+-- The lower number of the two, where the first is there.
+abbrev pub least_of : Option ℕ → ℕ → Option ℕ
+least_of None j = Some j
+least_of (Some i) j = if nat_le i j then Some i else Some j

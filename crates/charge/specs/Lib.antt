@@ -1,0 +1,9 @@
+pub mod Seen
+pub mod ChargeNow
+pub mod Requests
+pub mod Table
+pub mod Passed
+pub mod Charging
+pub mod Tally
+pub mod Due
+pub mod Reached

@@ -1,0 +1,63 @@
+-- The table of charges: each blocked tick of each job's window, counted with the request to which it is charged.
+use Rattle.std.specs.Prelude.{◌≡◌, ℕ, ◌<◌, ◌==◌, ◌&&◌, Bool, true, false, List, length, Option}
+use Rattle.std.specs.Option.{option_map_or}
+use Rattle.std.specs.List.{All, Contains}
+use Rattle.std.specs.List.Sorted.{IsStrictlySortedBy}
+use Rattle.std.specs.Ordering.{nat_cmp, ordering_then}
+use Rattle.std.specs.declared.cmp.Ordering.{Ordering}
+use Rattle.bounded_sums.specs.Tests.{count_below}
+use Rattle.schedule_model.specs.RowDef.{Trace}
+use Rattle.schedule_model.specs.BlockedTicks.{is_blocked}
+use Rattle.fragments.specs.declared.columns.Class.{Class}
+use Rattle.charge_model.specs.Charges.{Charge}
+use Rattle.charge_model.specs.Windows.{window_end}
+use Rattle.charge.specs.declared.item.ChargeItem.{ChargeItem}
+use Rattle.charge.specs.Requests.{ChargedRequest, charged_request, class_rank}
+
+-- So many ticks of job `blocked`, charged to this request of job `blocker`, in this way.
+pub record ItemDef : Type 0 where
+  pub blocked : ℕ
+  pub blocker : ℕ
+  pub request : ℕ
+  pub resource : ℕ
+  pub class : Class
+  pub ticks : ℕ
+
+-- What a contract sees of an item.
+abbrev pub item_seen : ChargeItem → ItemDef
+item_seen i = record {
+  blocked = i.blocked.0;
+  blocker = i.blocker.0;
+  request = i.request;
+  resource = i.resource.0;
+  class = i.class;
+  ticks = i.ticks;
+}
+
+-- Is it the item's request?
+abbrev pub is_of : ItemDef → Option ChargedRequest → Bool
+is_of item named =
+    option_map_or (λ r. (r.job == item.blocker) && ((r.number == item.request)
+    && ((r.resource == item.resource) && (class_rank r.class == class_rank item.class)))) named false
+
+-- At how many ticks of its window, in a schedule of n rows, is the item's blocked job charged to the item's request?
+unfoldable pub charged_ticks : (Trace → ℕ → ℕ → Option Charge) → Trace → (ℕ → ℕ) → ℕ → ItemDef → ℕ
+charged_ticks charges w bound n item =
+    count_below (window_end w bound n item.blocked) (λ t. is_of item (charged_request charges w t item.blocked))
+
+-- The order of the table: by the blocked job, its blocker, the request, and the class.
+abbrev pub item_cmp : ItemDef → ItemDef → Ordering
+item_cmp a b =
+    ordering_then (nat_cmp a.blocked b.blocked) (ordering_then (nat_cmp a.blocker b.blocker)
+    (ordering_then (nat_cmp a.request b.request) (nat_cmp (class_rank a.class) (class_rank b.class))))
+
+-- Is it the table of a schedule of n rows: strictly in order, each item of a listed job with all its ticks and at least one, and
+-- an item for each blocked tick of each job's window?
+pub record IsChargeTable (charges : Trace → ℕ → ℕ → Option Charge) (interferes : Trace → ℕ → ℕ → Bool) (w : Trace) (bound : ℕ → ℕ)
+    (n : ℕ) (items : List ItemDef) : Type 0 where
+  pub sorted : IsStrictlySortedBy item_cmp items
+  pub listed : All (λ item. item.blocked < length w.jobs) items
+  pub some : All (λ item. 0 < item.ticks) items
+  pub counted : All (λ item. item.ticks ≡ charged_ticks charges w bound n item) items
+  pub all : (t j : ℕ) → j < length w.jobs → t < window_end w bound n j → is_blocked interferes w t j ≡ true
+      → (item : ItemDef) × Contains items item × (item.blocked ≡ j) × (is_of item (charged_request charges w t j) ≡ true)

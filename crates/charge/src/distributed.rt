@@ -1,0 +1,91 @@
+ghost use Rattle.std.specs.Prelude.{◌≡◌, ℕ, ◌<◌, ◌≤◌, length, IfSome};
+ghost use Rattle.sporadic_model.specs.Homes.{EachHasHome, home_in};
+ghost use Rattle.schedule_model.specs.RowDef.{RowDef};
+ghost use Rattle.schedule_model.specs.Protocols.{dpcp_rule};
+ghost use Rattle.schedule_model.specs.Keeping.{KeepsRow};
+ghost use Rattle.schedule_model.specs.Seen.{row_seen};
+ghost use Rattle.phase_machine.specs.MachineDef.{under};
+ghost use Rattle.phase_machine.specs.Now.{phase_now};
+ghost use Rattle.phase_machine.specs.Shows.{Shows};
+ghost use Rattle.phase_machine.specs.Taking.{IsRowFor};
+ghost use Rattle.charge_model.specs.Charges.{class_at_home, dpcp_charge};
+ghost use Rattle.charge.specs.Seen.{charge_seen};
+ghost use Rattle.charge.specs.ChargeNow.{home_charge_now, dpcp_charge_now};
+
+use crate::shared::charge_to;
+use dpcp_rules::Dpcp;
+use fragments::Class;
+use phase_machine::{Judge, Machine, Phase};
+use schedule_model::{JobId, Row};
+use shared_rules::lookup::{column_at, running_beside};
+use sporadic_model::ResourceId;
+
+/// The processor at which requests of the resource run, counted from 1.
+fn home_of(machine: &Machine, q: ResourceId) -> u32
+    requires suits { EachHasHome machine.now.list.set }
+    requires resource { q.0 < length machine.now.list.set.resources }
+    ensures value { result ≡ home_in machine.now.list.set q.0 }
+    ensures least { 1 ≤ result }
+    ensures most { result ≤ machine.now.list.set.processors }
+{
+    match machine.jobs().set().home(q) {
+        Some(k) => k,
+        None => 0,
+    }
+}
+
+/// Direct where the job is in a request of the resource, else indirect.
+fn class_at_home(machine: &Machine, q: ResourceId, y: JobId) -> Class
+    requires { y.0 < length machine.now.list.jobs }
+    ensures { result ≡ class_at_home q.0 (phase_now machine.now y.0) }
+{
+    match machine.phase(y) {
+        Phase::Asking(_, r) if r == q => Class::Direct,
+        _ => Class::Indirect,
+    }
+}
+
+/// The charge of a job in a request of the resource: to what runs on its home.
+fn charge_at_home(machine: &Machine, row: &Row, q: ResourceId) -> Option<(JobId, Class)>
+    requires suits { EachHasHome machine.now.list.set }
+    requires fits { IsRowFor machine.now.list (row_seen row.now) }
+    requires resource { q.0 < length machine.now.list.set.resources }
+    ensures value { charge_seen result ≡ home_charge_now machine.now (row_seen row.now) q.0 }
+    ensures listed { IfSome result (λ c. c.0.0 < length machine.now.list.jobs) }
+{
+    match column_at(machine, row, home_of(machine, q) as usize - 1) {
+        Some(y) => Some((y, class_at_home(machine, q, y))),
+        None => None,
+    }
+}
+
+/// The charge of a blocked job.
+fn charge_of_blocked(machine: &Machine, row: &Row, j: JobId) -> Option<(JobId, Class)>
+    requires suits { EachHasHome machine.now.list.set }
+    requires fits { IsRowFor machine.now.list (row_seen row.now) }
+    requires listed { j.0 < length machine.now.list.jobs }
+    ensures value { charge_seen result ≡ dpcp_charge_now machine.now (row_seen row.now) j.0 }
+    ensures listed { IfSome result (λ c. c.0.0 < length machine.now.list.jobs) }
+{
+    match machine.phase(j) {
+        Phase::Local => charge_to(Class::Preemption, running_beside(machine, row, j)),
+        Phase::Asking(_, q) => charge_at_home(machine, row, q),
+        Phase::Finished => None,
+    }
+}
+
+/// The charge of the tick for the job under DPCP.
+pub(crate) fn charged_distributed(machine: &Machine, row: &Row, j: JobId) -> Option<(JobId, Class)>
+    requires suits { EachHasHome machine.now.list.set }
+    requires fits { IsRowFor machine.now.list (row_seen row.now) }
+    requires listed { j.0 < length machine.now.list.jobs }
+    ensures value { (rows : ℕ → RowDef) → Shows machine.now rows → rows machine.now.tick ≡ row_seen row.now
+        → KeepsRow dpcp_rule (under machine.now rows) machine.now.tick
+        → charge_seen result ≡ dpcp_charge (under machine.now rows) machine.now.tick j.0 }
+    ensures listed { IfSome result (λ c. c.0.0 < length machine.now.list.jobs) }
+{
+    if Dpcp.blocked(machine, row, j) {
+        return charge_of_blocked(machine, row, j);
+    }
+    None
+}

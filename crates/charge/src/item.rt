@@ -1,0 +1,47 @@
+use fragments::Class;
+use schedule_model::{JobId, Rule};
+use sporadic_model::ResourceId;
+use thiserror::Error;
+
+/// So many ticks at which a job was blocked, all charged to one request of another job, in one way.
+#[derive(Clone, Copy, Debug, PartialEq, Eq)]
+pub struct ChargeItem {
+    /// The blocked job.
+    pub blocked: JobId,
+    /// The job whose request executed.
+    pub blocker: JobId,
+    /// The number of its request: that of its segment in the job's script, counted from 0.
+    pub request: u32,
+    /// The resource that was requested.
+    pub resource: ResourceId,
+    /// The way in which it blocked.
+    pub class: Class,
+    /// The number of ticks, at least 1.
+    pub ticks: u64,
+}
+
+/// The charges of a schedule, in order of the blocked job, the blocker, the request and the class.
+#[derive(Debug, Drop, PartialEq, Eq)]
+pub struct ChargeTable {
+    /// One item for each request and each way in which it blocked a job within the job's bound.
+    pub charges: Vec<ChargeItem>,
+}
+
+/// Why a schedule is not charged. The causes are tried in the order in which they stand here.
+#[derive(Clone, Copy, Debug, PartialEq, Eq, Error)]
+pub enum ChargeStop {
+    /// A row breaks a rule: the first such tick, and the first rule that its row breaks.
+    #[error("the row at tick {tick} breaks a rule")]
+    Unlawful {
+        /// The tick, counted from 0.
+        tick: u64,
+        /// The rule.
+        rule: Rule,
+    },
+    /// All rows keep the rules, and a job, the first of these, was not finished at its release plus its bound.
+    #[error("a job has passed its bound")]
+    BoundPassed(JobId),
+    /// Memory was refused.
+    #[error("out of memory")]
+    Memory,
+}

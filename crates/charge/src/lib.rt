@@ -1,0 +1,18 @@
+//! Charges each blocked tick of a schedule to the request that executes at it, under MPCP, FMLP+ and DPCP, and says what is
+//! true of these charges.
+//!
+//! A protocol that implements [`ChargedProtocol`] gives its programs and its charges, and the laws that tie them together:
+//! from these alone it follows that the bounds of a valid certificate are sound.
+#![tactic(auto)]
+
+mod distributed;
+mod instances;
+mod item;
+mod laws;
+mod protocol;
+mod shared;
+mod tally;
+
+pub use laws::{charged_protocols_are_analysed, sound_bounds_are_never_passed};
+pub use item::{ChargeItem, ChargeStop, ChargeTable};
+pub use protocol::ChargedProtocol;

@@ -1,0 +1,88 @@
+-- Each blocked tick is charged to one request, which executes, in a column of the job's program; and where a point meets its
+-- rows, a dual bounds these ticks.
+use Rattle.std.proofs.Common.{◌≡◌, ℕ, ◌<◌, ◌≤◌, Bool, true, List, map, arith}
+use Rattle.std.specs.Prelude.{slice_index}
+use Rattle.bounded_sums.specs.Tests.{count_below}
+use Rattle.program_form.specs.Program.{ProgramDef}
+use Rattle.program_form.specs.Points.{IsScaledPoint}
+use Rattle.program_form.specs.Duals.{Covers, dual_value}
+use Rattle.program_form.proofs.Duality.{dual_bounds}
+use Rattle.sporadic_model.specs.declared.ids.Protocol.{Protocol}
+use Rattle.sporadic_model.specs.declared.ids.Protocol.TheVariants as protocol
+use Rattle.schedule_model.specs.LawfulJobs.{AreLawfulJobs}
+use Rattle.schedule_model.specs.RowDef.{Trace, jobs_of}
+use Rattle.schedule_model.specs.Activity.{task_of}
+use Rattle.schedule_model.specs.SharedRules.{Ranks}
+use Rattle.schedule_model.specs.Ranks.{mpcp, fmlp_plus}
+use Rattle.schedule_model.specs.Protocols.{shared_rule, dpcp_rule}
+use Rattle.schedule_model.specs.Keeping.{KeepsBefore}
+use Rattle.schedule_model.specs.BlockedTicks.{is_shared_interference, is_dpcp_interference, is_blocked}
+use Rattle.fragments.specs.ColumnDef.{ColumnDef}
+use Rattle.fragments.specs.Columns.{columns_of}
+use Rattle.program_laws.specs.Programs.{cost_of}
+use Rattle.charge_model.specs.Charges.{shared_charge, dpcp_charge}
+use Rattle.charge_model.specs.ChargedTicks.{IsCharged}
+use Rattle.charge_model.specs.Windows.{window_end}
+use Rattle.charge_model.specs.Fractions.{product_of_lengths, fractions_of}
+use Rattle.charge_laws.proofs.SharedCharging.{SharedCharged, shared_charged, shared_executes}
+use Rattle.charge_laws.proofs.DpcpCharging.{DpcpCharged, dpcp_charged, dpcp_executes}
+use Rattle.row_laws.proofs.Brings.{Charges}
+use Rattle.row_laws.proofs.SharedPlacement.{Sharing, mpcp_shares, fmlp_shares}
+use Rattle.row_laws.proofs.Fractions.{lengths_positive, columns_worth}
+use Rattle.row_laws.proofs.Joined.{InColumn, shared_in_column, dpcp_in_column}
+
+shared_is_charged : (p : Protocol) (o : Ranks) (w : Trace) (n t j : ℕ) → Sharing p o → AreLawfulJobs (jobs_of w)
+    → KeepsBefore (shared_rule o) w n → t < n → is_blocked is_shared_interference w t j ≡ true
+    → IsCharged shared_charge (columns_of p w.set (task_of w j)) w t j
+shared_is_charged p o w n t j sharing lawful keeps l blocked =
+    let s : SharedCharged o w t j = shared_charged o w t j (keeps t l) blocked in
+    let a : InColumn shared_charge p w t j = shared_in_column p o w n t j sharing lawful keeps l blocked in
+    record {
+      charge = s.charge;
+      is_it = s.is_it;
+      executes = shared_executes o w t j s.charge (keeps t l) s.is_it;
+      column = a.column;
+      lies_in = a.is_it;
+      there = a.there;
+    }
+
+pub mpcp_is_charged : (w : Trace) (n t j : ℕ) → AreLawfulJobs (jobs_of w) → KeepsBefore (shared_rule mpcp) w n → t < n
+    → is_blocked is_shared_interference w t j ≡ true → IsCharged shared_charge (columns_of protocol.Mpcp w.set (task_of w j)) w t j
+mpcp_is_charged w n t j lawful keeps l blocked = shared_is_charged protocol.Mpcp mpcp w n t j mpcp_shares lawful keeps l blocked
+
+pub fmlp_is_charged : (w : Trace) (n t j : ℕ) → AreLawfulJobs (jobs_of w) → KeepsBefore (shared_rule fmlp_plus) w n → t < n
+    → is_blocked is_shared_interference w t j ≡ true
+    → IsCharged shared_charge (columns_of protocol.FmlpPlus w.set (task_of w j)) w t j
+fmlp_is_charged w n t j lawful keeps l blocked = shared_is_charged protocol.FmlpPlus fmlp_plus w n t j fmlp_shares lawful keeps l blocked
+
+pub dpcp_is_charged : (w : Trace) (n t j : ℕ) → AreLawfulJobs (jobs_of w) → KeepsBefore dpcp_rule w n → t < n
+    → is_blocked is_dpcp_interference w t j ≡ true → IsCharged dpcp_charge (columns_of protocol.Dpcp w.set (task_of w j)) w t j
+dpcp_is_charged w n t j lawful keeps l blocked =
+    let s : DpcpCharged w t j = dpcp_charged w t j (keeps t l) blocked in
+    let a : InColumn dpcp_charge protocol.Dpcp w t j = dpcp_in_column w n t j lawful keeps l blocked in
+    record {
+      charge = s.charge;
+      is_it = s.is_it;
+      executes = dpcp_executes w t j s.charge (keeps t l) s.is_it;
+      column = a.column;
+      lies_in = a.is_it;
+      there = a.there;
+    }
+
+-- Whatever the protocol: where the fractions of a window are a point of a program with these columns, and each blocked tick is
+-- charged in one of them, a dual bounds the blocked ticks.
+pub charged_bounded : (charges : Charges) (interferes : Trace → ℕ → ℕ → Bool) (w : Trace) (bounds : List ℕ) (n j den : ℕ)
+    (num : ℕ → ℕ) (program : ProgramDef) (cs : List ColumnDef) → program.costs ≡ map (cost_of w.set) cs
+    → IsScaledPoint program (product_of_lengths w.set cs) (fractions_of charges w (slice_index bounds) n j cs)
+    → ((t : ℕ) → t < n → is_blocked interferes w t j ≡ true → IsCharged charges cs w t j) → Covers program den num
+    → count_below (window_end w (slice_index bounds) n j) (λ t. is_blocked interferes w t j) ≤ dual_value program den num
+charged_bounded charges interferes w bounds n j den num program cs costs point charged covers =
+    dual_bounds program den num (count_below (window_end w (slice_index bounds) n j) (λ t. is_blocked interferes w t j)) covers
+    (record {
+      scale = product_of_lengths w.set cs;
+      point = fractions_of charges w (slice_index bounds) n j cs;
+      is_point = point;
+      reached = columns_worth charges w (slice_index bounds) n j program cs (λ t. is_blocked interferes w t j) costs
+          (lengths_positive w.set cs point.positive)
+          (λ t l blocked. let a : IsCharged charges cs w t j = charged t (omega arith) blocked in (a.column, a.lies_in, a.there));
+    })

@@ -1,0 +1,41 @@
+-- The interfering cost of each protocol: from 1 to the task's cost, and no job interferes at more ticks than that.
+use Rattle.std.proofs.Common.{ℕ, ◌<◌, ◌≤◌, length}
+use Rattle.bounded_sums.specs.Tests.{count_below}
+use Rattle.sporadic_model.specs.SetDef.{SetDef, task_at}
+use Rattle.sporadic_model.specs.Accepted.{IsAccepted}
+use Rattle.sporadic_model.specs.declared.ids.Protocol.{Protocol}
+use Rattle.sporadic_model.specs.declared.ids.Protocol.TheVariants as protocol
+use Rattle.sporadic_model.proofs.Laws.{numbers_of_accepted}
+use Rattle.schedule_model.specs.JobDef.{job_of}
+use Rattle.schedule_model.specs.LawfulJobs.{IsLawfulJob}
+use Rattle.schedule_model.specs.RowDef.{Trace}
+use Rattle.schedule_model.specs.Activity.{task_of}
+use Rattle.schedule_model.specs.Ranks.{mpcp, fmlp_plus}
+use Rattle.schedule_model.specs.Protocols.{shared_rule, dpcp_rule}
+use Rattle.schedule_model.specs.Keeping.{KeepsBefore}
+use Rattle.schedule_model.specs.BlockedTicks.{is_shared_interference, is_dpcp_interference}
+use Rattle.schedule_laws.proofs.SharedLaws.{shared_runs_active}
+use Rattle.program_laws.specs.Programs.{interfering_cost}
+use Rattle.program_laws.proofs.WrittenPrograms as written
+use Rattle.charge_model.specs.Interferers.{interferes_with_some}
+use Rattle.charge_laws.proofs.Interference.{interferes_within_cost, interferes_within_local}
+
+pub interfering_least : (p : Protocol) (set : SetDef) (h : ℕ) → IsAccepted set → h < length set.tasks → 1 ≤ interfering_cost p set h
+interfering_least p set h accepted l = written.interfering_least p set h (numbers_of_accepted set h accepted l)
+
+pub interfering_most : (p : Protocol) (set : SetDef) (h : ℕ) → IsAccepted set → h < length set.tasks
+    → interfering_cost p set h ≤ (task_at set h).cost
+interfering_most p set h accepted l = written.interfering_most p set h (numbers_of_accepted set h accepted l)
+
+pub mpcp_interferes_within : (w : Trace) (n y : ℕ) → KeepsBefore (shared_rule mpcp) w n → IsLawfulJob w.set (job_of w.jobs y)
+    → count_below n (λ t. interferes_with_some is_shared_interference w t y) ≤ interfering_cost protocol.Mpcp w.set (task_of w y)
+mpcp_interferes_within w n y keeps lawful = interferes_within_cost is_shared_interference w n y (shared_runs_active mpcp w n keeps) lawful
+
+pub fmlp_interferes_within : (w : Trace) (n y : ℕ) → KeepsBefore (shared_rule fmlp_plus) w n → IsLawfulJob w.set (job_of w.jobs y)
+    → count_below n (λ t. interferes_with_some is_shared_interference w t y) ≤ interfering_cost protocol.FmlpPlus w.set (task_of w y)
+fmlp_interferes_within w n y keeps lawful =
+    interferes_within_cost is_shared_interference w n y (shared_runs_active fmlp_plus w n keeps) lawful
+
+pub dpcp_interferes_within : (w : Trace) (n y : ℕ) → KeepsBefore dpcp_rule w n → IsLawfulJob w.set (job_of w.jobs y)
+    → count_below n (λ t. interferes_with_some is_dpcp_interference w t y) ≤ interfering_cost protocol.Dpcp w.set (task_of w y)
+dpcp_interferes_within w n y keeps lawful = interferes_within_local w n y lawful

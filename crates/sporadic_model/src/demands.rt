@@ -1,0 +1,110 @@
+ghost use Rattle.std.specs.Prelude.{◌≡◌, ℕ, ◌<◌, [], length, map, slice_index_or, option_map, None, IfOk};
+ghost use Rattle.sporadic_model.specs.SetDef.{task_at, resource_at};
+ghost use Rattle.sporadic_model.specs.Seen.{parts_seen, task_seen, resource_seen};
+ghost use Rattle.sporadic_model.specs.Users.{ceiling_of};
+ghost use Rattle.sporadic_model.specs.Accepted.{IsAccepted};
+ghost use Rattle.sporadic_model.specs.Demands.{demand_for, demands_in, demand_in, AreCeilings};
+
+use crate::ids::TaskId;
+use crate::lookup::entry_for;
+use crate::parts::{Parts, ResourcePart, TaskPart};
+use std::alloc::{AllocError, Global};
+
+/// What a task may ask of a resource: how often a job requests it, and for how many ticks at most. Both
+/// are 0 where the task has no entry for it.
+#[derive(Clone, Copy)]
+pub(crate) struct Demand {
+    pub(crate) count: u64,
+    pub(crate) length: u64,
+}
+
+/// What the task may ask of the resource.
+fn demand_of(task: &TaskPart, resource: &ResourcePart) -> Demand
+    ensures { result ≡ demand_for (task_seen task.now) (resource_seen resource.now) }
+{
+    match entry_for(&task.requests, resource.name.as_bytes()) {
+        Some(entry) => Demand {
+            count: entry.count,
+            length: entry.length,
+        },
+        None => Demand {
+            count: 0,
+            length: 0,
+        },
+    }
+}
+
+/// What the task may ask of each resource.
+fn demands_of_task(
+    alloc: Global,
+    task: &TaskPart,
+    resources: &[ResourcePart],
+) -> Result<Vec<Demand>, AllocError>
+    ensures { IfOk result (λ v. v.items ≡ map (demand_for (task_seen task.now)) (map resource_seen resources.now)) }
+{
+    let mut row = Vec::with_capacity(alloc, resources.len())?;
+    for resource in resources {
+        row.push(demand_of(task, resource))?;
+    }
+    Ok(row)
+}
+
+/// What each task may ask of each resource, task by task.
+pub(crate) fn demands_of(alloc: Global, parts: &Parts) -> Result<Vec<Vec<Demand>>, AllocError>
+    ensures { IfOk result (λ v. map (λ row. row.items) v.items ≡ demands_in (parts_seen parts.now)) }
+{
+    let mut rows = Vec::with_capacity(alloc, parts.tasks.len())?;
+    for task in &parts.tasks {
+        rows.push(demands_of_task(alloc, task, &parts.resources)?)?;
+    }
+    Ok(rows)
+}
+
+/// What task `x` may ask of resource `q`.
+pub(crate) fn demand_at(demands: &[Vec<Demand>], x: usize, q: usize) -> Demand
+    requires task { x < length demands.now }
+    requires resource { q < length (slice_index_or (map (λ row. row.items) demands.now) x []) }
+    ensures { result ≡ demand_in (map (λ row. row.items) demands.now) x q }
+{
+    demands[x][q]
+}
+
+/// The highest task that uses resource `q`.
+fn highest_user(parts: &Parts, demands: &[Vec<Demand>], q: usize) -> Option<TaskId>
+    requires accepted { IsAccepted (parts_seen parts.now) }
+    requires kept { map (λ row. row.items) demands.now ≡ demands_in (parts_seen parts.now) }
+    requires resource { q < length (parts_seen parts.now).resources }
+    ensures { option_map (λ x. x.0) result ≡ ceiling_of (parts_seen parts.now) q }
+{
+    for x in 0..parts.tasks.len() {
+        if demand_at(demands, x, q).count > 0 {
+            return Some(TaskId(x as u32));
+        }
+    }
+    None
+}
+
+/// The ceiling of each resource.
+pub(crate) fn ceilings_of(
+    alloc: Global,
+    parts: &Parts,
+    demands: &[Vec<Demand>],
+) -> Result<Vec<Option<TaskId>>, AllocError>
+    requires accepted { IsAccepted (parts_seen parts.now) }
+    requires kept { map (λ row. row.items) demands.now ≡ demands_in (parts_seen parts.now) }
+    ensures { IfOk result (λ v. AreCeilings (parts_seen parts.now) v.items) }
+{
+    let mut ceilings = Vec::with_capacity(alloc, parts.resources.len())?;
+    for q in 0..parts.resources.len() {
+        ceilings.push(highest_user(parts, demands, q))?;
+    }
+    Ok(ceilings)
+}
+
+/// The ceiling of resource `q`.
+pub(crate) fn ceiling_at(ceilings: &[Option<TaskId>], q: usize) -> Option<TaskId>
+    requires { q < length ceilings.now }
+    ensures { result ≡ slice_index_or ceilings.now q None }
+{
+    ceilings[q]
+}

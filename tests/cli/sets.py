@@ -1,0 +1,73 @@
+"""Inputs that several cases share, and what is written of them."""
+import json
+
+
+def resource(name, home=None):
+    return {"name": name} if home is None else {"name": name, "home": home}
+
+
+def task(name, processor, period, cost, *requests, **more):
+    """A task; a request is a resource and a length, or a resource, a length and a count."""
+    listed = [{"resource": one[0], "count": one[2] if len(one) > 2 else 1, "length": one[1]} for one in requests]
+    return {"name": name, "processor": processor, "period": period, "cost": cost, "requests": listed, **more}
+
+
+def task_set(processors, resources, *tasks):
+    return json.dumps({"processors": processors, "resources": resources, "tasks": list(tasks)}) + "\n"
+
+
+def certificate(protocol, bounds, duals):
+    """The text of a certificate; a dual is a list of numerators over 1, or a denominator and such a list."""
+    whole = [dual if isinstance(dual, tuple) else (1, dual) for dual in duals]
+    written = {
+        "bounds": bounds,
+        "duals": [{"den": den, "num": num} for den, num in whole],
+        "protocol": protocol,
+        "verdict": "schedulable",
+        "version": 1,
+    }
+    return json.dumps(written, separators=(",", ":")) + "\n"
+
+
+def pair(resources=None, first=None, second=None):
+    """Two tasks on two processors that share the resource q, or the same with some members changed."""
+    one = {**task("t1", 1, 10, 3, ("q", 1)), **(first or {})}
+    two = {**task("t2", 2, 10, 4, ("q", 2)), **(second or {})}
+    return task_set(2, [resource("q", 2)] if resources is None else resources, one, two)
+
+
+PAIR = pair()
+PAIR_CERTIFICATE = certificate("fmlp+", [5, 5], [[2, 0, 0, 0], [1, 0, 0, 0]])
+PAIR_JOBS = "task,release,script\nt1,0,1 q:1 1\nt2,0,1 q:2 1\n"
+PAIR_ROWS = "ticks,P1,P2,q\n1,1,2,\n2,,2,2\n1,1,2,1\n1,1,,\n"
+PAIR_MEASURED = "lawful 5\nt1 1 5 2\nt2 1 4 0\n"
+
+FIVE = task_set(2, [resource("q")], task("t1", 1, 10, 2), task("t2", 1, 20, 4, ("q", 2)), task("t3", 2, 20, 5, ("q", 3)))
+
+SIX = task_set(
+    3,
+    [resource("q1"), resource("q2")],
+    task("t1", 1, 100, 4, ("q1", 1), ("q2", 1)),
+    task("t2", 2, 100, 4, ("q1", 3), ("q2", 2)),
+    task("t3", 3, 100, 3, ("q1", 2)),
+)
+SIX_CERTIFICATE = certificate("mpcp", [8, 8, 7], [(3, [0, 4, 0, 1, 0, 6, 0]), [1, 1, 2, 0, 0, 0], [1, 3, 0, 0]])
+
+# the program of t1 has one optimum, at a point whose least common denominator passes 64 bits
+WIDE = task_set(
+    5,
+    [resource(f"q{k}") for k in range(1, 5)],
+    task("t1", 1, 10**9, 10, ("q1", 1), ("q2", 1), ("q3", 1), ("q4", 1)),
+    task("t2", 2, 10**9, 300000001, ("q1", 268435456), ("q2", 300000000)),
+    task("t3", 3, 10**9, 300000001, ("q1", 129140163), ("q3", 300000000)),
+    task("t4", 4, 10**9, 300000001, ("q1", 244140625), ("q4", 300000000)),
+    task("t5", 5, 10**9, 2000, ("q1", 1000)),
+)
+
+# as many processors, tasks, resources and requests as a set may have, with the longest names
+NAMES = [f"{k:_>32}" for k in range(64)]
+GREATEST = task_set(
+    64,
+    [resource(f"{k:.>32}", k + 1) for k in range(32)],
+    *(task(NAMES[k], k + 1, 10**9, 10**9, *((f"{q % 32:.>32}", 1, 1) for q in range(4 * k, 4 * k + 4))) for k in range(64)),
+)

@@ -1,0 +1,116 @@
+#!/usr/bin/env python3
+"""Runs the drawing tools on the examples and on wrong input.
+
+    python3 tests/tools.py
+
+What a schedule comes to is compared in full; of the pictures it looks whether they are well formed and name what they show, which needs
+matplotlib and is left out with a word where no Python here has it.
+"""
+import subprocess
+import sys
+import tempfile
+from pathlib import Path
+from xml.etree import ElementTree
+
+TOP = Path(__file__).resolve().parent.parent
+TOOLS = TOP / "tools"
+PAIR = [TOP / "examples" / name for name in ("pair.json", "pair-jobs.csv", "pair-rows.csv")]
+STUDY = "step mpcp fmlp+ dpcp\n1 20 20 20\n2 20 19 20\n3 11 9 12\nstopped 3\n"
+
+# a set, jobs and rows under DPCP: a request of another processor's task runs on its resource's home
+HOMES = {
+    "set": '{"processors":2,"resources":[{"name":"a","home":2}],"tasks":['
+    '{"name":"t1","processor":1,"period":9,"cost":3,"requests":[{"resource":"a","count":1,"length":1}]},'
+    '{"name":"t2","processor":2,"period":9,"deadline":8,"cost":4,"requests":[{"resource":"a","count":1,"length":2}]},'
+    '{"name":"t3","processor":2,"period":9,"cost":2}]}',
+    "jobs": "task,release,script\nt1,0,1 a:1 1\nt2,0,1 a:2 1\nt3,1,2\n",
+    "rows": "ticks,P1,P2,a\n1,1,2,\n2,,2,2\n1,,1,1\n1,1,2,\n2,,3,\n",
+}
+
+# who executes from when to when, where, and in which request; and who is blocked from when to when
+PAIR_BOXES = (
+    [("control", 0, 1, 1, None), ("sense", 0, 1, 2, None), ("sense", 1, 3, 2, "bus"), ("control", 3, 4, 1, "bus"), ("sense", 3, 4, 2, None), ("control", 4, 5, 1, None)],
+    [("control", 1, 3)],
+)
+# the request of t2 serves its resource, so it blocks t3; that of t1 blocks t2, which is Local again, and t3
+HOMES_BOXES = (
+    [("t1", 0, 1, 1, None), ("t2", 0, 1, 2, None), ("t2", 1, 3, 2, "a"), ("t1", 3, 4, 2, "a"), ("t1", 4, 5, 1, None), ("t2", 4, 5, 2, None), ("t3", 5, 7, 2, None)],
+    [("t1", 1, 3), ("t3", 1, 4), ("t2", 3, 4)],
+)
+
+REFUSED = [
+    ("draw_schedule.py", [], "draw_schedule.py: the words are SET JOBS ROWS OUT.svg"),
+    ("draw_schedule.py", ["none", *PAIR[1:], "out.svg"], "draw_schedule.py: none can't be read: No such file or directory"),
+    ("draw_schedule.py", [PAIR[1], *PAIR[1:], "out.svg"], None),
+    ("draw_schedule.py", [PAIR[0], PAIR[2], PAIR[2], "out.svg"], f"draw_schedule.py: {PAIR[2]} doesn't begin with the line task,release,script"),
+    ("draw_schedule.py", [*PAIR, "none/out.svg"], None),
+    ("draw_study.py", ["study"], "draw_study.py: the words are STUDY.txt OUT.svg, and SETS or nothing"),
+    ("draw_study.py", [PAIR[2], "out.svg"], None),
+    ("draw_study.py", ["study", "out.svg", "19"], "draw_study.py: SETS is '19', and study counts 20 sets in a step"),
+]
+
+
+def boxes_of(paths):
+    picture = schedule.picture_of(*paths)
+    executed = [(box.job.task.name, box.start, box.end, box.processor, box.resource) for box in picture.executed]
+    return sorted(executed, key=lambda box: (box[1], box[3])), [(box.job.task.name, box.start, box.end) for box in picture.blocked]
+
+
+def python_that_draws():
+    for python in (sys.executable, "/usr/bin/python3"):
+        if Path(python).is_file() and subprocess.run([python, "-c", "import matplotlib"], capture_output=True).returncode == 0:
+            return python
+    return None
+
+
+def drawn(python, tool, words, folder, shown):
+    """What is wrong with the picture that a tool draws, or None."""
+    ran = subprocess.run([python, TOOLS / tool, *words], cwd=folder, capture_output=True, text=True)
+    if ran.returncode != 0 or ran.stdout or ran.stderr:
+        return f"{tool} ended with {ran.returncode}: {ran.stdout}{ran.stderr}"
+    text = (Path(folder) / "out.svg").read_text()
+    ElementTree.fromstring(text)
+    missing = [word for word in shown if f"<!-- {word} -->" not in text]
+    return f"{tool} shows no {missing}" if missing else None
+
+
+def refused(python, tool, words, folder, line):
+    """What is wrong with how a tool refuses wrong input, or None."""
+    ran = subprocess.run([python, TOOLS / tool, *words], cwd=folder, capture_output=True, text=True)
+    is_line = ran.stderr.startswith(f"{tool}: ") and ran.stderr.count("\n") == 1 and line in (None, ran.stderr[:-1])
+    return None if ran.returncode == 1 and not ran.stdout and is_line else f"{tool} {words} ended with {ran.returncode}: {ran.stdout}{ran.stderr}"
+
+
+def problems(folder):
+    paths = []
+    for name, text in HOMES.items():
+        paths.append(Path(folder) / name)
+        paths[-1].write_text(text)
+    (Path(folder) / "study").write_text(STUDY)
+    for given, wanted in ((PAIR, PAIR_BOXES), (paths, HOMES_BOXES)):
+        found = boxes_of(given)
+        yield None if found == wanted else f"the boxes of {given[0].name} are {found}, and not {wanted}"
+    python = python_that_draws()
+    if python is None:
+        print("the pictures were not drawn: python3-matplotlib is missing")
+        return
+    yield drawn(python, "draw_schedule.py", [*PAIR, "out.svg"], folder, ["control", "sense", "in bus", "blocked", "P2", "ticks"])
+    yield drawn(python, "draw_schedule.py", [*paths, "out.svg"], folder, ["t3", "in a", "release", "deadline"])
+    yield drawn(python, "draw_study.py", ["study", "out.svg"], folder, ["mpcp", "fmlp+", "dpcp", "schedulable sets", "3 analyses ended without an answer"])
+    yield drawn(python, "draw_study.py", ["study", "out.svg", "20"], folder, ["schedulable sets, %"])
+    for tool, words, line in REFUSED:
+        yield refused(python, tool, words, folder, line)
+
+
+def main():
+    with tempfile.TemporaryDirectory(prefix="block-") as folder:
+        found = list(problems(folder))
+    wrong = [problem for problem in found if problem is not None]
+    print(*wrong, f"the drawing tools: {len(found) - len(wrong)} passed, {len(wrong)} failed", sep="\n")
+    sys.exit(1 if wrong else 0)
+
+
+sys.path.insert(0, str(TOOLS))
+import schedule  # noqa: E402
+
+main()
