@@ -8,9 +8,9 @@ use Rattle.response_fixpoint.specs.Written.{written}
 use Rattle.response_fixpoint.proofs.RunLaws.{one_ending}
 use Rattle.report.specs.Table.{table_text}
 use Rattle.block_top.specs.Plans.{Answer, Known, IsOutcomeOf}
-use Rattle.block_top.specs.Words.{Form, Analyse, Report, Conform}
-use Rattle.block_top.specs.Commands.{ending_answer, IsAnalysis, analysis_of, table_of, plan_of}
-use Rattle.block_top.specs.Inputs.{set_input, jobs_input, rows_input}
+use Rattle.block_top.specs.Words.{Form, Analyse, Check, Report, FullReport, Conform}
+use Rattle.block_top.specs.Commands.{ending_answer, IsAnalysis, analysis_of, table_of, checked_answer, reported_answer, plan_of}
+use Rattle.block_top.specs.Inputs.{set_input, cert_input, jobs_input, rows_input}
 use Rattle.block_top.specs.Run.{AnalysisEnds, IsWideEnding, IsAllowanceEnding}
 use Rattle.block_top.proofs.PlanLaws.{IsPlain, IsLawfulWork, IsLawful, plain_at, plain_same, stopped_status}
 use Rattle.schedule_model.specs.RowDef.{trace_in, ticks_of}
@@ -18,6 +18,8 @@ use Rattle.trace_conform.specs.ByProtocol.{rules_of, interference_of}
 use Rattle.block_top.proofs.InputLaws.{set_reads_once}
 use Rattle.block_top.proofs.TraceLaws.{jobs_read_once, rows_read_once}
 use Rattle.block_top.proofs.ConformLaws.{conformance_lawful, conformance_not_above}
+use Rattle.block_top.proofs.JudgementLaws.{judgement_lawful, judgement_not_above}
+use Rattle.block_top.proofs.CertInputLaws.{cert_reads_once}
 
 one_analysis : (protocol : Protocol) (set : SetDef) (allowance : ℕ) (a b : Answer) → IsAnalysis protocol set allowance a → IsAnalysis protocol set allowance b → a ≡ b
 one_analysis protocol set allowance a b (e, ends, is) (f, ends', is') =
@@ -57,6 +59,10 @@ table_lawful set = record {
 -- Every command is lawful.
 pub lawful : (form : Form) → IsLawful (plan_of form)
 lawful (Analyse protocol name allowance) = (set_reads_once protocol, λ bytes set. analysis_lawful protocol set allowance)
+lawful (Check protocol set cert) =
+    (set_reads_once protocol, λ bytes tasks. (cert_reads_once protocol, λ bytes c. judgement_lawful protocol tasks c checked_answer refl))
+lawful (FullReport protocol set cert) =
+    (set_reads_once protocol, λ bytes tasks. (cert_reads_once protocol, λ bytes c. judgement_lawful protocol tasks c (reported_answer protocol tasks c) refl))
 lawful (Report protocol name) = (set_reads_once protocol, λ bytes set. table_lawful set)
 lawful (Conform protocol set jobs rows) =
     (set_reads_once protocol, λ bytes tasks. (jobs_read_once tasks, λ bytes list. (rows_read_once list, λ bytes schedule. conformance_lawful protocol list schedule)))
@@ -91,6 +97,14 @@ only_wide k (Analyse protocol name allowance) a (inr (bytes, set, read, last, (e
   ends = ends;
   is = wide_ending protocol set e a is five;
 }
+only_wide k (Check protocol set cert) a (inl stopped) five = absurd (not_three a 5 (stopped_status k (set_input protocol) set a stopped) five (omega arith))
+only_wide k (Check protocol set cert) a (inr (bytes, tasks, read, last, inl stopped)) five = absurd (not_three a 5 (stopped_status k (cert_input protocol) cert a stopped) five (omega arith))
+only_wide k (Check protocol set cert) a (inr (bytes, tasks, read, last, inr (bytes', c, read', last', out))) five =
+    absurd (judgement_not_above protocol tasks c checked_answer a 5 refl out five (omega arith))
+only_wide k (FullReport protocol set cert) a (inl stopped) five = absurd (not_three a 5 (stopped_status k (set_input protocol) set a stopped) five (omega arith))
+only_wide k (FullReport protocol set cert) a (inr (bytes, tasks, read, last, inl stopped)) five = absurd (not_three a 5 (stopped_status k (cert_input protocol) cert a stopped) five (omega arith))
+only_wide k (FullReport protocol set cert) a (inr (bytes, tasks, read, last, inr (bytes', c, read', last', out))) five =
+    absurd (judgement_not_above protocol tasks c (reported_answer protocol tasks c) a 5 refl out five (omega arith))
 only_wide k (Report protocol name) a (inl stopped) five = absurd (not_three a 5 (stopped_status k (set_input protocol) name a stopped) five (omega arith))
 only_wide k (Report protocol name) a (inr (bytes, set, read, last, out)) five = let s : a.status ≡ 0 = ap (λ x. x.status) out in absurd (omega (arith, s, five))
 only_wide k (Conform protocol set jobs rows) a (inl stopped) five = absurd (not_three a 5 (stopped_status k (set_input protocol) set a stopped) five (omega arith))
@@ -114,6 +128,14 @@ only_short k (Analyse protocol name allowance) a (inr (bytes, set, read, last, (
   ends = ends;
   is = short_ending protocol set e a is six;
 }
+only_short k (Check protocol set cert) a (inl stopped) six = absurd (not_three a 6 (stopped_status k (set_input protocol) set a stopped) six (omega arith))
+only_short k (Check protocol set cert) a (inr (bytes, tasks, read, last, inl stopped)) six = absurd (not_three a 6 (stopped_status k (cert_input protocol) cert a stopped) six (omega arith))
+only_short k (Check protocol set cert) a (inr (bytes, tasks, read, last, inr (bytes', c, read', last', out))) six =
+    absurd (judgement_not_above protocol tasks c checked_answer a 6 refl out six (omega arith))
+only_short k (FullReport protocol set cert) a (inl stopped) six = absurd (not_three a 6 (stopped_status k (set_input protocol) set a stopped) six (omega arith))
+only_short k (FullReport protocol set cert) a (inr (bytes, tasks, read, last, inl stopped)) six = absurd (not_three a 6 (stopped_status k (cert_input protocol) cert a stopped) six (omega arith))
+only_short k (FullReport protocol set cert) a (inr (bytes, tasks, read, last, inr (bytes', c, read', last', out))) six =
+    absurd (judgement_not_above protocol tasks c (reported_answer protocol tasks c) a 6 refl out six (omega arith))
 only_short k (Report protocol name) a (inl stopped) six = absurd (not_three a 6 (stopped_status k (set_input protocol) name a stopped) six (omega arith))
 only_short k (Report protocol name) a (inr (bytes, set, read, last, out)) six = let s : a.status ≡ 0 = ap (λ x. x.status) out in absurd (omega (arith, s, six))
 only_short k (Conform protocol set jobs rows) a (inl stopped) six = absurd (not_three a 6 (stopped_status k (set_input protocol) set a stopped) six (omega arith))
