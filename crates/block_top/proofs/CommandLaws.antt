@@ -1,5 +1,5 @@
 -- Laws of the commands: each has one outcome for each shelf, and its status is one that is its own.
-use Rattle.std.proofs.Common.{◌≡◌, ℕ, ◌≤◌, refl, sym, ◌∙◌, ap, arith, inl, inr, ◌⊎◌}
+use Rattle.std.proofs.Common.{◌≡◌, ℕ, ◌≤◌, List, refl, sym, ◌∙◌, ap, arith, inl, inr, ◌⊎◌}
 use Rattle.sporadic_model.specs.SetDef.{SetDef}
 use Rattle.sporadic_model.specs.declared.ids.Protocol.{Protocol}
 use Rattle.response_fixpoint.specs.Rounds.{Ending, Schedulable, NotShown, Wide, Allowance, EndsIn}
@@ -7,19 +7,20 @@ use Rattle.response_fixpoint.specs.Runs.{rounds_of}
 use Rattle.response_fixpoint.specs.Written.{written}
 use Rattle.response_fixpoint.proofs.RunLaws.{one_ending}
 use Rattle.report.specs.Table.{table_text}
-use Rattle.block_top.specs.Plans.{Answer, Known, IsOutcomeOf}
-use Rattle.block_top.specs.Words.{Form, Analyse, Check, Report, FullReport, Conform}
-use Rattle.block_top.specs.Commands.{ending_answer, IsAnalysis, analysis_of, table_of, checked_answer, reported_answer, plan_of}
-use Rattle.block_top.specs.Inputs.{set_input, cert_input, jobs_input, rows_input}
+use Rattle.block_top.specs.Plans.{Answer, Plan, Working, Reading, Known, IsOutcomeOf}
+use Rattle.block_top.specs.Words.{Form, Analyse, Check, Report, FullReport, Conform, Simulate}
+use Rattle.block_top.specs.Commands.{ending_answer, IsAnalysis, analysis_of, IsTable, table_of, checked_answer, reported_answer, conformance_of, plan_of}
+use Rattle.block_top.specs.Inputs.{set_input}
 use Rattle.block_top.specs.Run.{AnalysisEnds, IsWideEnding, IsAllowanceEnding}
 use Rattle.block_top.proofs.PlanLaws.{IsPlain, IsLawfulWork, IsLawful, plain_at, plain_same, stopped_status}
-use Rattle.schedule_model.specs.RowDef.{trace_in, ticks_of}
-use Rattle.trace_conform.specs.ByProtocol.{rules_of, interference_of}
+use Rattle.schedule_model.specs.JobDef.{JobsDef}
+use Rattle.schedule_model.specs.Fitting.{RowsDef}
 use Rattle.block_top.proofs.InputLaws.{set_reads_once}
 use Rattle.block_top.proofs.TraceLaws.{jobs_read_once, rows_read_once}
-use Rattle.block_top.proofs.ConformLaws.{conformance_lawful, conformance_not_above}
-use Rattle.block_top.proofs.JudgementLaws.{judgement_lawful, judgement_not_above}
+use Rattle.block_top.proofs.ConformLaws.{conformance_lawful}
+use Rattle.block_top.proofs.JudgementLaws.{judgement_lawful, judgement_quiet}
 use Rattle.block_top.proofs.CertInputLaws.{cert_reads_once}
+use Rattle.block_top.proofs.SimulationLaws.{simulation_lawful, simulation_quiet}
 
 one_analysis : (protocol : Protocol) (set : SetDef) (allowance : ℕ) (a b : Answer) → IsAnalysis protocol set allowance a → IsAnalysis protocol set allowance b → a ≡ b
 one_analysis protocol set allowance a b (e, ends, is) (f, ends', is') =
@@ -66,6 +67,7 @@ lawful (FullReport protocol set cert) =
 lawful (Report protocol name) = (set_reads_once protocol, λ bytes set. table_lawful set)
 lawful (Conform protocol set jobs rows) =
     (set_reads_once protocol, λ bytes tasks. (jobs_read_once tasks, λ bytes list. (rows_read_once list, λ bytes schedule. conformance_lawful protocol list schedule)))
+lawful (Simulate protocol set jobs ticks) = (set_reads_once protocol, λ bytes tasks. (jobs_read_once tasks, λ bytes list. simulation_lawful protocol list ticks))
 
 -- An analysis has status 5 or 6 only where its rounds end so.
 pub wide_ending : (protocol : Protocol) (set : SetDef) (e : Ending) (a : Answer) → a ≡ ending_answer protocol set e → a.status ≡ 5 → (i : ℕ) × (e ≡ Wide i)
@@ -80,11 +82,43 @@ short_ending protocol set (NotShown i value) a is six = let s : a.status ≡ 1 =
 short_ending protocol set (Wide i) a is six = let s : a.status ≡ 5 = ap (λ x. x.status) is in absurd (omega (arith, s, six))
 short_ending protocol set Allowance a is six = refl
 
-not_three : (a : Answer) (n : ℕ) → a.status ≡ 3 → a.status ≡ n → 4 ≤ n → ⊥
-not_three a n three is most = absurd (omega (arith, three, is, most))
+-- Has the work a status of at most 1, and so has each work that the plan may come to?
+abbrev pub IsQuiet : Plan → Type 0
+IsQuiet (Working work) = (a : Answer) → work.answers a → a.status ≤ 1
+IsQuiet (Reading input name next) = (bytes : List ℕ) (value : input.Value) → IsQuiet (next bytes value)
+
+-- Then its outcome is that an input is refused, or has such a status.
+quiet_outcome : (k : Known) (p : Plan) (a : Answer) → IsQuiet p → IsOutcomeOf k p a → a.status ≤ 3
+quiet_outcome k (Working work) a quiet out = omega (arith, quiet a out)
+quiet_outcome k (Reading input name next) a quiet (inl stopped) = omega (arith, stopped_status k input name a stopped)
+quiet_outcome k (Reading input name next) a quiet (inr (bytes, value, read, last, out)) = quiet_outcome k (next bytes value) a (quiet bytes value) out
+
+table_quiet : (set : SetDef) (a : Answer) → IsTable set a → a.status ≤ 1
+table_quiet set a is = omega (arith, ap (λ x. x.status) is)
+
+conformance_quiet : (p : Protocol) (list : JobsDef) (rows : RowsDef) (a : Answer) → (conformance_of p list rows).answers a → a.status ≤ 1
+conformance_quiet p list rows a is = elim ((conformance_lawful p list rows).well tt a is) [ inl zero ↦ omega (arith, zero) | inr one ↦ omega (arith, one) ]
+
+not_quiet : (k : Known) (p : Plan) (a : Answer) (n : ℕ) → IsQuiet p → IsOutcomeOf k p a → a.status ≡ n → 4 ≤ n → ⊥
+not_quiet k p a n quiet out is most = absurd (omega (arith, quiet_outcome k p a quiet out, is, most))
+
+report_quiet : (p : Protocol) (name : List ℕ) → IsQuiet (plan_of (Report p name))
+report_quiet p name = λ bytes set. table_quiet set
+
+check_quiet : (p : Protocol) (set cert : List ℕ) → IsQuiet (plan_of (Check p set cert))
+check_quiet p set cert = λ bytes tasks b c a is. judgement_quiet p tasks c checked_answer a refl is
+
+full_report_quiet : (p : Protocol) (set cert : List ℕ) → IsQuiet (plan_of (FullReport p set cert))
+full_report_quiet p set cert = λ bytes tasks b c a is. judgement_quiet p tasks c (reported_answer p tasks c) a refl is
+
+conform_quiet : (p : Protocol) (set jobs rows : List ℕ) → IsQuiet (plan_of (Conform p set jobs rows))
+conform_quiet p set jobs rows = λ bytes tasks b list c schedule. conformance_quiet p list schedule
+
+simulate_quiet : (p : Protocol) (set jobs : List ℕ) (n : ℕ) → IsQuiet (plan_of (Simulate p set jobs n))
+simulate_quiet p set jobs n = λ bytes tasks b list. simulation_quiet p list n
 
 pub only_wide : (k : Known) (form : Form) (a : Answer) → IsOutcomeOf k (plan_of form) a → a.status ≡ 5 → AnalysisEnds k form IsWideEnding
-only_wide k (Analyse protocol name allowance) a (inl stopped) five = absurd (not_three a 5 (stopped_status k (set_input protocol) name a stopped) five (omega arith))
+only_wide k (Analyse protocol name allowance) a (inl stopped) five = absurd (omega (arith, stopped_status k (set_input protocol) name a stopped, five))
 only_wide k (Analyse protocol name allowance) a (inr (bytes, set, read, last, (e, ends, is))) five = record {
   protocol = protocol;
   name = name;
@@ -97,25 +131,17 @@ only_wide k (Analyse protocol name allowance) a (inr (bytes, set, read, last, (e
   ends = ends;
   is = wide_ending protocol set e a is five;
 }
-only_wide k (Check protocol set cert) a (inl stopped) five = absurd (not_three a 5 (stopped_status k (set_input protocol) set a stopped) five (omega arith))
-only_wide k (Check protocol set cert) a (inr (bytes, tasks, read, last, inl stopped)) five = absurd (not_three a 5 (stopped_status k (cert_input protocol) cert a stopped) five (omega arith))
-only_wide k (Check protocol set cert) a (inr (bytes, tasks, read, last, inr (bytes', c, read', last', out))) five =
-    absurd (judgement_not_above protocol tasks c checked_answer a 5 refl out five (omega arith))
-only_wide k (FullReport protocol set cert) a (inl stopped) five = absurd (not_three a 5 (stopped_status k (set_input protocol) set a stopped) five (omega arith))
-only_wide k (FullReport protocol set cert) a (inr (bytes, tasks, read, last, inl stopped)) five = absurd (not_three a 5 (stopped_status k (cert_input protocol) cert a stopped) five (omega arith))
-only_wide k (FullReport protocol set cert) a (inr (bytes, tasks, read, last, inr (bytes', c, read', last', out))) five =
-    absurd (judgement_not_above protocol tasks c (reported_answer protocol tasks c) a 5 refl out five (omega arith))
-only_wide k (Report protocol name) a (inl stopped) five = absurd (not_three a 5 (stopped_status k (set_input protocol) name a stopped) five (omega arith))
-only_wide k (Report protocol name) a (inr (bytes, set, read, last, out)) five = let s : a.status ≡ 0 = ap (λ x. x.status) out in absurd (omega (arith, s, five))
-only_wide k (Conform protocol set jobs rows) a (inl stopped) five = absurd (not_three a 5 (stopped_status k (set_input protocol) set a stopped) five (omega arith))
-only_wide k (Conform protocol set jobs rows) a (inr (bytes, tasks, read, last, inl stopped)) five = absurd (not_three a 5 (stopped_status k (jobs_input tasks) jobs a stopped) five (omega arith))
-only_wide k (Conform protocol set jobs rows) a (inr (bytes, tasks, read, last, inr (bytes', list, read', last', inl stopped))) five =
-    absurd (not_three a 5 (stopped_status k (rows_input list) rows a stopped) five (omega arith))
-only_wide k (Conform protocol set jobs rows) a (inr (bytes, tasks, read, last, inr (bytes', list, read', last', inr (bytes'', schedule, read'', last'', out)))) five =
-    absurd (conformance_not_above (rules_of protocol) (interference_of protocol) (trace_in list schedule.runs) (ticks_of schedule.runs) a 5 out five (omega arith))
+only_wide k (Check protocol set cert) a out five = absurd (not_quiet k (plan_of (Check protocol set cert)) a 5 (check_quiet protocol set cert) out five (omega arith))
+only_wide k (FullReport protocol set cert) a out five =
+    absurd (not_quiet k (plan_of (FullReport protocol set cert)) a 5 (full_report_quiet protocol set cert) out five (omega arith))
+only_wide k (Report protocol name) a out five = absurd (not_quiet k (plan_of (Report protocol name)) a 5 (report_quiet protocol name) out five (omega arith))
+only_wide k (Conform protocol set jobs rows) a out five =
+    absurd (not_quiet k (plan_of (Conform protocol set jobs rows)) a 5 (conform_quiet protocol set jobs rows) out five (omega arith))
+only_wide k (Simulate protocol set jobs ticks) a out five =
+    absurd (not_quiet k (plan_of (Simulate protocol set jobs ticks)) a 5 (simulate_quiet protocol set jobs ticks) out five (omega arith))
 
 pub only_short : (k : Known) (form : Form) (a : Answer) → IsOutcomeOf k (plan_of form) a → a.status ≡ 6 → AnalysisEnds k form IsAllowanceEnding
-only_short k (Analyse protocol name allowance) a (inl stopped) six = absurd (not_three a 6 (stopped_status k (set_input protocol) name a stopped) six (omega arith))
+only_short k (Analyse protocol name allowance) a (inl stopped) six = absurd (omega (arith, stopped_status k (set_input protocol) name a stopped, six))
 only_short k (Analyse protocol name allowance) a (inr (bytes, set, read, last, (e, ends, is))) six = record {
   protocol = protocol;
   name = name;
@@ -128,19 +154,11 @@ only_short k (Analyse protocol name allowance) a (inr (bytes, set, read, last, (
   ends = ends;
   is = short_ending protocol set e a is six;
 }
-only_short k (Check protocol set cert) a (inl stopped) six = absurd (not_three a 6 (stopped_status k (set_input protocol) set a stopped) six (omega arith))
-only_short k (Check protocol set cert) a (inr (bytes, tasks, read, last, inl stopped)) six = absurd (not_three a 6 (stopped_status k (cert_input protocol) cert a stopped) six (omega arith))
-only_short k (Check protocol set cert) a (inr (bytes, tasks, read, last, inr (bytes', c, read', last', out))) six =
-    absurd (judgement_not_above protocol tasks c checked_answer a 6 refl out six (omega arith))
-only_short k (FullReport protocol set cert) a (inl stopped) six = absurd (not_three a 6 (stopped_status k (set_input protocol) set a stopped) six (omega arith))
-only_short k (FullReport protocol set cert) a (inr (bytes, tasks, read, last, inl stopped)) six = absurd (not_three a 6 (stopped_status k (cert_input protocol) cert a stopped) six (omega arith))
-only_short k (FullReport protocol set cert) a (inr (bytes, tasks, read, last, inr (bytes', c, read', last', out))) six =
-    absurd (judgement_not_above protocol tasks c (reported_answer protocol tasks c) a 6 refl out six (omega arith))
-only_short k (Report protocol name) a (inl stopped) six = absurd (not_three a 6 (stopped_status k (set_input protocol) name a stopped) six (omega arith))
-only_short k (Report protocol name) a (inr (bytes, set, read, last, out)) six = let s : a.status ≡ 0 = ap (λ x. x.status) out in absurd (omega (arith, s, six))
-only_short k (Conform protocol set jobs rows) a (inl stopped) six = absurd (not_three a 6 (stopped_status k (set_input protocol) set a stopped) six (omega arith))
-only_short k (Conform protocol set jobs rows) a (inr (bytes, tasks, read, last, inl stopped)) six = absurd (not_three a 6 (stopped_status k (jobs_input tasks) jobs a stopped) six (omega arith))
-only_short k (Conform protocol set jobs rows) a (inr (bytes, tasks, read, last, inr (bytes', list, read', last', inl stopped))) six =
-    absurd (not_three a 6 (stopped_status k (rows_input list) rows a stopped) six (omega arith))
-only_short k (Conform protocol set jobs rows) a (inr (bytes, tasks, read, last, inr (bytes', list, read', last', inr (bytes'', schedule, read'', last'', out)))) six =
-    absurd (conformance_not_above (rules_of protocol) (interference_of protocol) (trace_in list schedule.runs) (ticks_of schedule.runs) a 6 out six (omega arith))
+only_short k (Check protocol set cert) a out six = absurd (not_quiet k (plan_of (Check protocol set cert)) a 6 (check_quiet protocol set cert) out six (omega arith))
+only_short k (FullReport protocol set cert) a out six =
+    absurd (not_quiet k (plan_of (FullReport protocol set cert)) a 6 (full_report_quiet protocol set cert) out six (omega arith))
+only_short k (Report protocol name) a out six = absurd (not_quiet k (plan_of (Report protocol name)) a 6 (report_quiet protocol name) out six (omega arith))
+only_short k (Conform protocol set jobs rows) a out six =
+    absurd (not_quiet k (plan_of (Conform protocol set jobs rows)) a 6 (conform_quiet protocol set jobs rows) out six (omega arith))
+only_short k (Simulate protocol set jobs ticks) a out six =
+    absurd (not_quiet k (plan_of (Simulate protocol set jobs ticks)) a 6 (simulate_quiet protocol set jobs ticks) out six (omega arith))

@@ -99,13 +99,6 @@ conformance_lawful protocol jobs rows =
       well = λ well a is. conformance_status keeps interferes w n a is;
     }
 
-pub conformance_not_above : (keeps : Rule → Trace → ℕ → Type 0) (interferes : Trace → ℕ → ℕ → Bool) (w : Trace) (n : ℕ) (a : Answer) (m : ℕ)
-    → IsConformance keeps interferes w n a → a.status ≡ m → 2 ≤ m → ⊥
-conformance_not_above keeps interferes w n a m is it most = elim (conformance_status keeps interferes w n a is) [
-  | inl zero ↦ absurd (omega (arith, zero, it, most))
-  | inr one ↦ absurd (omega (arith, one, it, most))
-]
-
 -- The text with the measures that were taken is that with the measures of the schedule.
 lawful_same : (set : SetDef) (n : ℕ) (f g : ℕ → MeasuresDef) → ((x : ℕ) → x < length set.tasks → f x ≡ g x) → lawful_text set n f ≡ lawful_text set n g
 lawful_same set n f g same =

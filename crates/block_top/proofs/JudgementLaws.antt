@@ -47,13 +47,13 @@ judgement_lawful protocol set c valid zero = record {
   well = λ ends a is. judgement_status protocol set c valid a zero is;
 }
 
-not_above : (a : Answer) (n : ℕ) → (a.status ≡ 0) ⊎ (a.status ≡ 1) → a.status ≡ n → 2 ≤ n → ⊥
-not_above a n (inl zero) is most = absurd (omega (arith, zero, is, most))
-not_above a n (inr one) is most = absurd (omega (arith, one, is, most))
+at_most_one : (a : Answer) → (a.status ≡ 0) ⊎ (a.status ≡ 1) → a.status ≤ 1
+at_most_one a (inl zero) = omega (arith, zero)
+at_most_one a (inr one) = omega (arith, one)
 
-pub judgement_not_above : (protocol : Protocol) (set : SetDef) (c : CertificateDef) (valid a : Answer) (n : ℕ) → valid.status ≡ 0
-    → IsJudgement protocol set c valid a → a.status ≡ n → 2 ≤ n → ⊥
-judgement_not_above protocol set c valid a n zero judged is most = not_above a n (judgement_status protocol set c valid a zero judged) is most
+pub judgement_quiet : (protocol : Protocol) (set : SetDef) (c : CertificateDef) (valid a : Answer) → valid.status ≡ 0
+    → IsJudgement protocol set c valid a → a.status ≤ 1
+judgement_quiet protocol set c valid a zero judged = at_most_one a (judgement_status protocol set c valid a zero judged)
 
 -- The task that a failure names is one of the set.
 pub fails_task : (protocol : Protocol) (set : SetDef) (c : CertificateDef) (e : Invalid) → IsFailure e (written protocol set) c → FailsTask set e

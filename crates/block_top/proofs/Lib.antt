@@ -2,6 +2,7 @@ pub mod PlanLaws
 pub mod InputLaws
 pub mod TraceLaws
 pub mod ConformLaws
+pub mod SimulationLaws
 pub mod CommandLaws
 pub mod ReplyLaws
 pub mod RunLaws

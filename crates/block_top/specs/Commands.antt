@@ -13,14 +13,17 @@ use Rattle.dual_check.specs.declared.answer.Invalid.{Invalid}
 use Rattle.report.specs.Table.{table_text}
 use Rattle.report.specs.FullTable.{full_text}
 use Rattle.schedule_model.specs.JobDef.{JobsDef}
-use Rattle.schedule_model.specs.RowDef.{Trace, trace_in, ticks_of}
+use Rattle.schedule_model.specs.RowDef.{RunDef, Trace, trace_in, ticks_of}
 use Rattle.schedule_model.specs.Fitting.{RowsDef}
 use Rattle.schedule_model.specs.Keeping.{KeepsBefore, IsFirstUnlawful}
 use Rattle.schedule_model.specs.Measures.{measures_of}
 use Rattle.schedule_model.specs.declared.rule.Rule.{Rule}
 use Rattle.trace_conform.specs.ByProtocol.{rules_of, interference_of}
+use Rattle.trace_csv.specs.Written.{rows_text}
+use Rattle.sim_engine.specs.ByProtocol.{choice_of}
+use Rattle.sim_engine.specs.Simulated.{IsSimulated}
 use Rattle.block_top.specs.Plans.{Answer, Work, Plan, Working, Reading}
-use Rattle.block_top.specs.Words.{Form, Analyse, Check, Report, FullReport, Conform}
+use Rattle.block_top.specs.Words.{Form, Analyse, Check, Report, FullReport, Conform, Simulate}
 use Rattle.block_top.specs.Texts.{not_shown_text, wide_text, allowance_text, lawful_text, broken_text, valid_text, invalid_text}
 use Rattle.block_top.specs.Inputs.{set_input, cert_input, jobs_input, rows_input}
 
@@ -96,6 +99,19 @@ judging_rows protocol rows list = Reading (rows_input list) rows (λ bytes sched
 abbrev pub judging_jobs : Protocol → List ℕ → List ℕ → SetDef → Plan
 judging_jobs protocol jobs rows set = Reading (jobs_input set) jobs (λ bytes list. judging_rows protocol rows list)
 
+-- The answer of a simulation of these jobs over n ticks: the rows that the protocol chooses.
+abbrev pub IsSimulation : Protocol → JobsDef → ℕ → Answer → Type 0
+IsSimulation protocol list n answer = (runs : List RunDef) × IsSimulated (choice_of protocol) list n runs
+    × (answer ≡ record { status = 0; text = rows_text list.set runs })
+
+-- Simulating these jobs, which there always is.
+abbrev pub simulation_of : Protocol → JobsDef → ℕ → Work
+simulation_of protocol list n = record { answers = IsSimulation protocol list n; ends = Unit {0} }
+
+-- Reading jobs of this set, and simulating them.
+abbrev pub simulating_jobs : Protocol → List ℕ → ℕ → SetDef → Plan
+simulating_jobs protocol jobs n set = Reading (jobs_input set) jobs (λ bytes list. Working (simulation_of protocol list n))
+
 -- What each form of words does.
 abbrev pub plan_of : Form → Plan
 plan_of (Analyse protocol name allowance) = Reading (set_input protocol) name (λ bytes set. Working (analysis_of protocol set allowance))
@@ -103,3 +119,4 @@ plan_of (Check protocol set cert) = Reading (set_input protocol) set (λ bytes t
 plan_of (FullReport protocol set cert) = Reading (set_input protocol) set (λ bytes tasks. with_certificate protocol cert (full_table_of protocol tasks))
 plan_of (Report protocol name) = Reading (set_input protocol) name (λ bytes set. Working (table_of set))
 plan_of (Conform protocol set jobs rows) = Reading (set_input protocol) set (λ bytes tasks. judging_jobs protocol jobs rows tasks)
+plan_of (Simulate protocol set jobs ticks) = Reading (set_input protocol) set (λ bytes tasks. simulating_jobs protocol jobs ticks tasks)

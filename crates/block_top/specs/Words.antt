@@ -1,8 +1,9 @@
 -- The forms of words that the program answers.
-use Rattle.std.specs.Prelude.{◌≡◌, refl, ℕ, ◌&&◌, List, [], ◌∷◌, map, Option, Some, None, if◌then◌else◌, option_map, String, string_bytes, codes}
+use Rattle.std.specs.Prelude.{◌≡◌, refl, ℕ, List, [], ◌∷◌, map, Option, Some, None, if◌then◌else◌, option_map, String, string_bytes, codes}
 use Rattle.std.specs.Global.{Global}
 use Rattle.std.specs.Str.{bytes_eq}
 use Rattle.sporadic_model.specs.declared.ids.Protocol.{Protocol}
+use Rattle.sporadic_model.specs.declared.limits.TheConstants.{MOST_TICKS}
 use Rattle.sporadic_model.specs.declared.ids.Protocol.TheVariants.{Mpcp, FmlpPlus, Dpcp}
 use Rattle.text_pieces.specs.Numbers.{number_between}
 use Rattle.block_top.specs.declared.words.TheConstants.{DEFAULT_ALLOWANCE, GREATEST_ALLOWANCE}
@@ -19,6 +20,8 @@ pub data Form : Type 0 where
   FullReport : Protocol → List ℕ → List ℕ → Form
   -- the protocol, the set, the jobs, the rows
   Conform : Protocol → List ℕ → List ℕ → List ℕ → Form
+  -- the protocol, the set, the jobs, the ticks
+  Simulate : Protocol → List ℕ → List ℕ → ℕ → Form
 
 -- Which protocol does this word name?
 abbrev pub protocol_of : List ℕ → Option Protocol
@@ -47,17 +50,23 @@ form_of_four command protocol name last =
     else if bytes_eq command (codes "report") then option_map (λ p. FullReport p name last) (protocol_of protocol)
     else None
 
+-- Which form have these words of `simulate`, whose protocol and ticks are as they were read?
+abbrev pub simulate_form : Option Protocol → List ℕ → List ℕ → Option ℕ → Option Form
+simulate_form (Some protocol) set jobs (Some ticks) = Some (Simulate protocol set jobs ticks)
+simulate_form _ set jobs _ = None
+
 -- Which form do these five words have?
 abbrev pub form_of_five : List ℕ → List ℕ → List ℕ → List ℕ → List ℕ → Option Form
-form_of_five command protocol set jobs rows = if bytes_eq command (codes "conform") && bytes_eq protocol (codes "fmlp+")
-    then Some (Conform FmlpPlus set jobs rows)
+form_of_five command protocol set jobs last =
+    if bytes_eq command (codes "conform") then option_map (λ p. Conform p set jobs last) (protocol_of protocol)
+    else if bytes_eq command (codes "simulate") then simulate_form (protocol_of protocol) set jobs (number_between 1 MOST_TICKS last)
     else None
 
 -- Which form do the words have, if any?
 abbrev pub form_of : List (List ℕ) → Option Form
 form_of (command ∷ protocol ∷ name ∷ []) = form_of_three command protocol name
 form_of (command ∷ protocol ∷ name ∷ last ∷ []) = form_of_four command protocol name last
-form_of (command ∷ protocol ∷ set ∷ jobs ∷ rows ∷ []) = form_of_five command protocol set jobs rows
+form_of (command ∷ protocol ∷ set ∷ jobs ∷ last ∷ []) = form_of_five command protocol set jobs last
 form_of _ = None
 
 -- the allowance of units where the words give none

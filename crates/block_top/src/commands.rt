@@ -1,8 +1,9 @@
-ghost use Rattle.std.specs.Prelude.{◌≡◌, is_some, IfOk};
-ghost use Rattle.block_top.specs.Words.{Analyse, Check, Report, FullReport, Conform, words_seen};
+ghost use Rattle.std.specs.Prelude.{◌≤◌, is_some, IfOk};
+ghost use Rattle.sporadic_model.specs.declared.limits.TheConstants.{MOST_TICKS};
 ghost use Rattle.sporadic_model.specs.Homes.{HasHomesFor};
-ghost use Rattle.block_top.specs.FormSeen.{form_seen, IsServed};
-ghost use Rattle.block_top.specs.Commands.{check_of, full_table_of, with_certificate, judging_rows, judging_jobs, plan_of};
+ghost use Rattle.block_top.specs.Words.{Analyse, Check, Report, FullReport, Conform, Simulate, words_seen};
+ghost use Rattle.block_top.specs.FormSeen.{form_seen, HasSomeTicks};
+ghost use Rattle.block_top.specs.Commands.{check_of, full_table_of, with_certificate, judging_rows, judging_jobs, simulating_jobs, plan_of};
 ghost use Rattle.block_top.specs.Outcome.{IsReplyOf, IsReply};
 ghost use Rattle.block_top.specs.Replies.{reply_seen, Answered, Keeps};
 
@@ -10,7 +11,7 @@ use crate::halt::{Halt, Reply, settled};
 use crate::input::{get_cert, get_jobs, get_rows, get_set};
 use crate::judging::{judgement, proved_table};
 use crate::words::{Command, command_of};
-use crate::work::{analysis, conformance, no_form, table};
+use crate::work::{analysis, conformance, no_form, simulation, table};
 use outside_ports::Shelf;
 use schedule_model::JobList;
 use sporadic_model::{Protocol, TaskSet};
@@ -135,7 +136,7 @@ fn rows_reply<S: Shelf>(
     jobs: &JobList<'_>,
     rows: &str,
 ) -> Result<Reply, Halt>
-    requires { protocol ≡ Protocol.FmlpPlus }
+    requires { HasHomesFor protocol jobs.now.set }
     ensures reply { Answered result (IsReplyOf
         (record { names = S.names shelf.old; before = S.faults shelf.old; now = S.faults shelf.new; given = S.given shelf.new })
         (judging_rows protocol rows.now jobs.now)) }
@@ -155,7 +156,7 @@ fn jobs_reply<S: Shelf>(
     jobs: &str,
     rows: &str,
 ) -> Result<Reply, Halt>
-    requires { protocol ≡ Protocol.FmlpPlus }
+    requires { HasHomesFor protocol set.now }
     ensures reply { Answered result (IsReplyOf
         (record { names = S.names shelf.old; before = S.faults shelf.old; now = S.faults shelf.new; given = S.given shelf.new })
         (judging_jobs protocol jobs.now rows.now set.now)) }
@@ -175,7 +176,6 @@ fn conform_reply<S: Shelf>(
     jobs: &str,
     rows: &str,
 ) -> Result<Reply, Halt>
-    requires { protocol ≡ Protocol.FmlpPlus }
     ensures reply { Answered result (IsReplyOf
         (record { names = S.names shelf.old; before = S.faults shelf.old; now = S.faults shelf.new; given = S.given shelf.new })
         (plan_of (Conform protocol set.now jobs.now rows.now))) }
@@ -186,6 +186,49 @@ fn conform_reply<S: Shelf>(
     jobs_reply(alloc, shelf, protocol, &set, jobs, rows)
 }
 
+/// Reads the jobs of `simulate`, once its set is read, and does its work.
+fn simulated_reply<S: Shelf>(
+    alloc: Global,
+    shelf: &mut S,
+    protocol: Protocol,
+    set: &TaskSet,
+    jobs: &str,
+    ticks: u64,
+) -> Result<Reply, Halt>
+    requires suits { HasHomesFor protocol set.now }
+    requires some { 1 ≤ ticks }
+    requires most { ticks ≤ MOST_TICKS }
+    ensures reply { Answered result (IsReplyOf
+        (record { names = S.names shelf.old; before = S.faults shelf.old; now = S.faults shelf.new; given = S.given shelf.new })
+        (simulating_jobs protocol jobs.now ticks set.now)) }
+    ensures keeps { Keeps (S.names shelf.old) (S.names shelf.new) (is_some (S.rest shelf.old)) (is_some (S.rest shelf.new))
+        (S.faults shelf.old) (S.faults shelf.new) (S.steady shelf.old) (S.steady shelf.new) }
+{
+    let (_bytes, jobs) = get_jobs(alloc, shelf, set, jobs)?;
+    simulation(alloc, protocol, &jobs, ticks)
+}
+
+/// Reads the inputs of `simulate`, and does its work.
+fn simulate_reply<S: Shelf>(
+    alloc: Global,
+    shelf: &mut S,
+    protocol: Protocol,
+    set: &str,
+    jobs: &str,
+    ticks: u64,
+) -> Result<Reply, Halt>
+    requires some { 1 ≤ ticks }
+    requires most { ticks ≤ MOST_TICKS }
+    ensures reply { Answered result (IsReplyOf
+        (record { names = S.names shelf.old; before = S.faults shelf.old; now = S.faults shelf.new; given = S.given shelf.new })
+        (plan_of (Simulate protocol set.now jobs.now ticks))) }
+    ensures keeps { Keeps (S.names shelf.old) (S.names shelf.new) (is_some (S.rest shelf.old)) (is_some (S.rest shelf.new))
+        (S.faults shelf.old) (S.faults shelf.new) (S.steady shelf.old) (S.steady shelf.new) }
+{
+    let (_bytes, set) = get_set(alloc, shelf, protocol, set)?;
+    simulated_reply(alloc, shelf, protocol, &set, jobs, ticks)
+}
+
 /// Does what the words ask for.
 fn command_reply<R: Threads + Sync, S: Shelf>(
     rt: &R,
@@ -193,7 +236,7 @@ fn command_reply<R: Threads + Sync, S: Shelf>(
     shelf: &mut S,
     command: Command<'_>,
 ) -> Result<Reply, Halt>
-    requires { IsServed (form_seen command) }
+    requires { HasSomeTicks (form_seen command) }
     ensures reply { Answered result (IsReplyOf
         (record { names = S.names shelf.old; before = S.faults shelf.old; now = S.faults shelf.new; given = S.given shelf.new })
         (plan_of (form_seen command.entry))) }
@@ -223,6 +266,12 @@ fn command_reply<R: Threads + Sync, S: Shelf>(
             jobs,
             rows,
         } => conform_reply(alloc, shelf, protocol, set, jobs, rows),
+        Command::Simulate {
+            protocol,
+            set,
+            jobs,
+            ticks,
+        } => simulate_reply(alloc, shelf, protocol, set, jobs, ticks),
     }
 }
 

@@ -148,7 +148,8 @@ fn jobs_refusal(alloc: Global, cause: JobsRefusal) -> Halt
 
 /// The jobs that the bytes are, or the reply that refuses them.
 fn take_jobs<'a>(alloc: Global, set: &'a TaskSet, bytes: &[u8]) -> Result<JobList<'a>, Halt>
-    ensures { IsTaken (jobs_input set.now) bytes.now result }
+    ensures taken { IsTaken (jobs_input set.now) bytes.now result }
+    ensures of_set { IfOk result (λ jobs. jobs.set ≡ set.now) }
 {
     match read_jobs(alloc, set, bytes) {
         Ok(jobs) => Ok(jobs),
@@ -167,6 +168,7 @@ pub fn get_jobs<'a, S: Shelf>(
     ensures got { IsGot
         (record { names = S.names shelf.old; before = S.faults shelf.old; now = S.faults shelf.new; given = S.given shelf.new })
         (jobs_input set.now) name.now result }
+    ensures of_set { IfOk result (λ got. got.1.set ≡ set.now) }
     ensures keeps { Keeps (S.names shelf.old) (S.names shelf.new) (is_some (S.rest shelf.old)) (is_some (S.rest shelf.new))
         (S.faults shelf.old) (S.faults shelf.new) (S.steady shelf.old) (S.steady shelf.new) }
 {

@@ -163,6 +163,15 @@ fn refuses_words_without_a_form(rt: HostRuntime) -> Result<(), Fail> {
     ] {
         assert_eq!(rt; ran(&rt, alloc, &words, SET_A.as_bytes())?, want);
     }
+    for words in [
+        ["conform", "edf", "set", "jobs", "rows"],
+        ["simulate", "edf", "set", "jobs", "5"],
+        ["simulate", "mpcp", "set", "jobs", "0"],
+        ["simulate", "mpcp", "set", "jobs", "05"],
+        ["simulate", "mpcp", "set", "jobs", "1000000001"],
+    ] {
+        assert_eq!(rt; ran(&rt, alloc, &words, SET_A.as_bytes())?, want);
+    }
     Ok(())
 }
 
@@ -435,7 +444,7 @@ const JOBS_A: &str = "task,release,script\nt1,0,1 q:1 1\nt2,0,1 q:2 1\n";
 
 const ROWS_A: &str = "ticks,P1,P2,q\n1,1,2,\n2,,2,2\n1,1,2,1\n1,1,,\n";
 
-/// Runs `conform` over a shelf with a set, jobs and rows.
+/// Runs `conform` under FMLP+ over a shelf with a set, jobs and rows.
 fn conformed<R: Threads + Sync>(
     rt: &R,
     alloc: Global,
@@ -444,12 +453,24 @@ fn conformed<R: Threads + Sync>(
     rows: &str,
     failing_reads: &[u64],
 ) -> Result<Given, AllocError> {
-    let mut words = Vec::new(alloc);
-    for word in ["conform", "fmlp+", "set", "jobs", "rows"] {
-        words.push(String::from_str(alloc, word)?)?;
+    let words = ["conform", "fmlp+", "set", "jobs", "rows"];
+    ran_with(rt, alloc, &words, [set, jobs, rows], failing_reads)
+}
+
+/// Runs the words over a shelf with a set, jobs and rows.
+fn ran_with<R: Threads + Sync>(
+    rt: &R,
+    alloc: Global,
+    words: &[&str],
+    texts: [&str; 3],
+    failing_reads: &[u64],
+) -> Result<Given, AllocError> {
+    let mut given = Vec::new(alloc);
+    for word in words {
+        given.push(String::from_str(alloc, word)?)?;
     }
     let mut files = Vec::new(alloc);
-    for (name, text) in [("set", set), ("jobs", jobs), ("rows", rows)] {
+    for (name, text) in [("set", texts[0]), ("jobs", texts[1]), ("rows", texts[2])] {
         files.push((
             String::from_str(alloc, name)?,
             Vec::from_slice(alloc, text.as_bytes())?,
@@ -457,7 +478,7 @@ fn conformed<R: Threads + Sync>(
     }
     let mut shelf = MemShelf::new(files, 1000, Vec::from_slice(alloc, failing_reads)?);
     let mut sink = MemSink::new(alloc, 1_000_000, 4096, Vec::new(alloc))?;
-    let Status(status) = run(rt, alloc, &words, &mut shelf, &mut sink);
+    let Status(status) = run(rt, alloc, &given, &mut shelf, &mut sink);
     Ok(Given {
         status,
         written: Vec::from_slice(alloc, sink.written())?,
@@ -566,5 +587,59 @@ fn each_input_is_read_after_the_one_before_it(rt: HostRuntime) -> Result<(), Fai
     let absent = ["conform", "fmlp+", "set", "jobs", "rows"];
     let given = ran(&rt, alloc, &absent, SET_A.as_bytes())?;
     assert_eq!(rt; given, answer(alloc, 3, "refused jobs absent\n")?);
+    Ok(())
+}
+
+/// Both requests are issued at tick 1, and the higher task's is served first, on its own processor.
+const IN_PLACE: &str = "ticks,P1,P2,q\n1,1,2,\n1,1,,1\n1,1,2,2\n1,,2,2\n1,,2,\n";
+
+/// The same, on the home of the resource.
+const AT_HOME: &str = "ticks,P1,P2,q\n1,1,2,\n1,,1,1\n1,1,2,2\n1,,2,2\n1,,2,\n";
+
+#[test]
+fn simulates_and_judges_under_each_protocol(rt: HostRuntime) -> Result<(), Fail> {
+    let alloc = rt.alloc();
+    let lawful = answer(alloc, 0, "lawful 5\nt1 1 3 0\nt2 1 5 1\n")?;
+    for (protocol, rows, status, text) in [
+        ("mpcp", IN_PLACE, 1, "broken 1 grant\n"),
+        ("fmlp+", IN_PLACE, 0, "lawful 5\nt1 1 5 2\nt2 1 4 0\n"),
+        ("dpcp", AT_HOME, 1, "broken 1 grant\n"),
+    ] {
+        let simulate = ["simulate", protocol, "set", "jobs", "5"];
+        let conform = ["conform", protocol, "set", "jobs", "rows"];
+        let made = ran_with(&rt, alloc, &simulate, [SET_A, JOBS_A, ""], &[])?;
+        assert_eq!(rt; made, answer(alloc, 0, rows)?);
+        let judged = ran_with(&rt, alloc, &conform, [SET_A, JOBS_A, rows], &[])?;
+        assert_eq!(rt; judged, lawful);
+        let other = ran_with(&rt, alloc, &conform, [SET_A, JOBS_A, ROWS_A], &[])?;
+        assert_eq!(rt; other, answer(alloc, status, text)?);
+    }
+    Ok(())
+}
+
+#[test]
+fn schedules_under_dpcp_ask_for_homes_first(rt: HostRuntime) -> Result<(), Fail> {
+    let alloc = rt.alloc();
+    let homeless = SET_A.replacen(alloc, ",\"home\":2", "", 1)?;
+    for (set, words, text) in [
+        (
+            homeless.as_str(),
+            ["conform", "dpcp", "set", "jobs", "rows"],
+            "refused set nohome resource 1\n",
+        ),
+        (
+            homeless.as_str(),
+            ["simulate", "dpcp", "set", "jobs", "5"],
+            "refused set nohome resource 1\n",
+        ),
+        (
+            SET_A,
+            ["simulate", "dpcp", "set", "jobs", "5"],
+            "refused jobs fields 0\n",
+        ),
+    ] {
+        let given = ran_with(&rt, alloc, &words, [set, "task\n", ROWS_A], &[])?;
+        assert_eq!(rt; given, answer(alloc, 3, text)?);
+    }
     Ok(())
 }

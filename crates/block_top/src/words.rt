@@ -1,10 +1,11 @@
 ghost use Rattle.std.specs.Prelude.{◌≡◌, option_map, IfSome};
-ghost use Rattle.block_top.specs.Words.{protocol_of, form_of_three, analyse_form, form_of_four, form_of_five, form_of, words_seen};
+ghost use Rattle.sporadic_model.specs.declared.limits.TheConstants.{MOST_TICKS};
 ghost use Rattle.text_pieces.specs.Numbers.{number_between};
 ghost use Rattle.block_top.specs.declared.words.TheConstants.{GREATEST_ALLOWANCE};
-ghost use Rattle.block_top.specs.FormSeen.{form_seen, IsServed};
+ghost use Rattle.block_top.specs.Words.{protocol_of, form_of_three, analyse_form, form_of_four, simulate_form, form_of_five, form_of, words_seen};
+ghost use Rattle.block_top.specs.FormSeen.{form_seen, HasSomeTicks};
 
-use sporadic_model::Protocol;
+use sporadic_model::{MOST_TICKS, Protocol};
 use text_pieces::number_between;
 
 /// The units that the programs of an analysis may take in all, where the words don't say.
@@ -46,6 +47,13 @@ pub enum Command<'a> {
         jobs: &'a str,
         rows: &'a str,
     },
+    /// Make the schedule of so many ticks for the jobs of this name, which are of the set of this name.
+    Simulate {
+        protocol: Protocol,
+        set: &'a str,
+        jobs: &'a str,
+        ticks: u64,
+    },
 }
 
 /// The protocol that a word names.
@@ -63,7 +71,7 @@ fn protocol_named(word: &str) -> Option<Protocol>
 /// What three words ask for.
 fn command_of_three<'a>(command: &str, protocol: &str, set: &'a str) -> Option<Command<'a>>
     ensures form { option_map form_seen result ≡ form_of_three command.now protocol.now set.now }
-    ensures served { IfSome result (λ c. IsServed (form_seen c)) }
+    ensures ticks { IfSome result (λ c. HasSomeTicks (form_seen c)) }
 {
     if command == "analyse" {
         return protocol_named(protocol).map(|protocol| Command::Analyse {
@@ -81,7 +89,7 @@ fn command_of_three<'a>(command: &str, protocol: &str, set: &'a str) -> Option<C
 /// What an analysis with this allowance asks for.
 fn analyse_within<'a>(protocol: &str, set: &'a str, allowance: &str) -> Option<Command<'a>>
     ensures form { option_map form_seen result ≡ analyse_form (protocol_of protocol.now) set.now (number_between 1 GREATEST_ALLOWANCE allowance.now) }
-    ensures served { IfSome result (λ c. IsServed (form_seen c)) }
+    ensures ticks { IfSome result (λ c. HasSomeTicks (form_seen c)) }
 {
     match (
         protocol_named(protocol),
@@ -104,7 +112,7 @@ fn command_of_four<'a>(
     last: &'a str,
 ) -> Option<Command<'a>>
     ensures form { option_map form_seen result ≡ form_of_four command.now protocol.now set.now last.now }
-    ensures served { IfSome result (λ c. IsServed (form_seen c)) }
+    ensures ticks { IfSome result (λ c. HasSomeTicks (form_seen c)) }
 {
     if command == "analyse" {
         return analyse_within(protocol, set, last);
@@ -126,24 +134,48 @@ fn command_of_four<'a>(
     None
 }
 
+/// What the words of `simulate` ask for, whose protocol is as it was read.
+fn simulation_of<'a>(
+    protocol: Option<Protocol>,
+    set: &'a str,
+    jobs: &'a str,
+    ticks: &str,
+) -> Option<Command<'a>>
+    ensures form { option_map form_seen result ≡ simulate_form protocol set.now jobs.now (number_between 1 MOST_TICKS ticks.now) }
+    ensures ticks { IfSome result (λ c. HasSomeTicks (form_seen c)) }
+{
+    match (protocol, number_between(ticks.as_bytes(), 1, MOST_TICKS)) {
+        (Some(protocol), Some(ticks)) => Some(Command::Simulate {
+            protocol,
+            set,
+            jobs,
+            ticks,
+        }),
+        _ => None,
+    }
+}
+
 /// What five words ask for.
 fn command_of_five<'a>(
     command: &str,
     protocol: &str,
     set: &'a str,
     jobs: &'a str,
-    rows: &'a str,
+    last: &'a str,
 ) -> Option<Command<'a>>
-    ensures form { option_map form_seen result ≡ form_of_five command.now protocol.now set.now jobs.now rows.now }
-    ensures served { IfSome result (λ c. IsServed (form_seen c)) }
+    ensures form { option_map form_seen result ≡ form_of_five command.now protocol.now set.now jobs.now last.now }
+    ensures ticks { IfSome result (λ c. HasSomeTicks (form_seen c)) }
 {
-    if command == "conform" && protocol == "fmlp+" {
-        return Some(Command::Conform {
-            protocol: Protocol::FmlpPlus,
+    if command == "conform" {
+        return protocol_named(protocol).map(|protocol| Command::Conform {
+            protocol,
             set,
             jobs,
-            rows,
+            rows: last,
         });
+    }
+    if command == "simulate" {
+        return simulation_of(protocol_named(protocol), set, jobs, last);
     }
     None
 }
@@ -151,7 +183,7 @@ fn command_of_five<'a>(
 /// What the words ask for, or none where they have no form. The words are read by exact number and place.
 pub fn command_of(words: &[String]) -> Option<Command<'_>>
     ensures form { option_map form_seen result ≡ form_of (words_seen words.now) }
-    ensures served { IfSome result (λ c. IsServed (form_seen c)) }
+    ensures ticks { IfSome result (λ c. HasSomeTicks (form_seen c)) }
 {
     match words {
         [command, protocol, set] => {
@@ -163,12 +195,12 @@ pub fn command_of(words: &[String]) -> Option<Command<'_>>
             set.as_str(),
             last.as_str(),
         ),
-        [command, protocol, set, jobs, rows] => command_of_five(
+        [command, protocol, set, jobs, last] => command_of_five(
             command.as_str(),
             protocol.as_str(),
             set.as_str(),
             jobs.as_str(),
-            rows.as_str(),
+            last.as_str(),
         ),
         _ => None,
     }

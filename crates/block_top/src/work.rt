@@ -1,13 +1,15 @@
-ghost use Rattle.std.specs.Prelude.{◌≡◌, ◌<◌, length, map, IfOk, slice_index_or};
+ghost use Rattle.std.specs.Prelude.{◌≡◌, ◌<◌, ◌≤◌, true, length, map, IfOk, slice_index_or};
 ghost use Rattle.program_form.specs.Certificate.{dual_seen};
+ghost use Rattle.sporadic_model.specs.declared.limits.TheConstants.{MOST_TICKS};
 ghost use Rattle.sporadic_model.specs.Homes.{HasHomesFor};
 ghost use Rattle.response_fixpoint.specs.Rounds.{Schedulable, NotShown, Wide, Allowance};
 ghost use Rattle.schedule_model.specs.RowDef.{trace_in, ticks_of};
-ghost use Rattle.schedule_model.specs.Fitting.{IsMadeFor};
+ghost use Rattle.schedule_model.specs.Fitting.{is_fitting, IsMadeFor};
+ghost use Rattle.trace_csv.specs.Written.{rows_text};
 ghost use Rattle.trace_conform.specs.Measured.{measure_seen, no_measure};
 ghost use Rattle.trace_conform.specs.ByProtocol.{rules_of, interference_of};
 ghost use Rattle.block_top.specs.Texts.{lawful_text, broken_text};
-ghost use Rattle.block_top.specs.Commands.{ending_answer, IsAnalysis, IsTable, IsConformance};
+ghost use Rattle.block_top.specs.Commands.{ending_answer, IsAnalysis, IsTable, IsConformance, IsSimulation};
 ghost use Rattle.block_top.specs.Outcome.{refused_words};
 ghost use Rattle.block_top.specs.Replies.{reply_seen, Answered, RepliesTo};
 ghost use Rattle.block_top.specs.Reached.{NamesTask};
@@ -18,10 +20,12 @@ use program_form::Certificate;
 use report::set_table;
 use response_fixpoint::{Stop, Verdict, analyse};
 use schedule_model::{JobList, RowList, Rule};
+use sim_engine::simulate;
 use sporadic_model::{Protocol, TaskId, TaskSet};
 use std::alloc::{AllocError, Global};
 use std::thread::Threads;
 use trace_conform::{TaskMeasure, Unlawful, conform};
+use trace_csv::write_rows;
 
 /// The reply with a certificate.
 fn certificate_reply(
@@ -171,7 +175,7 @@ pub fn conformance(
     jobs: &JobList<'_>,
     rows: &RowList,
 ) -> Result<Reply, Halt>
-    requires served { protocol ≡ Protocol.FmlpPlus }
+    requires suits { HasHomesFor protocol jobs.now.set }
     requires made { IsMadeFor rows.now jobs.now }
     ensures { Answered result (IsConformance (rules_of protocol) (interference_of protocol)
         (trace_in jobs.now rows.now.runs) (ticks_of rows.now.runs)) }
@@ -182,6 +186,33 @@ pub fn conformance(
         Err(Unlawful::Broken { tick, rule }) => Ok(broken_reply(alloc, tick, rule)?),
         Err(Unlawful::Memory) => Err(Halt::Memory),
     }
+}
+
+/// The text of rows that fit the jobs.
+fn rows_of_jobs(alloc: Global, jobs: &JobList<'_>, rows: &RowList) -> Result<Vec<u8>, AllocError>
+    requires { is_fitting rows.now jobs.now ≡ true }
+    ensures { IfOk result (λ text. text.items ≡ rows_text jobs.now.set rows.now.runs) }
+{
+    write_rows(alloc, jobs.set(), rows)
+}
+
+/// The work of `simulate`.
+pub fn simulation(
+    alloc: Global,
+    protocol: Protocol,
+    jobs: &JobList<'_>,
+    ticks: u64,
+) -> Result<Reply, Halt>
+    requires suits { HasHomesFor protocol jobs.now.set }
+    requires some { 1 ≤ ticks }
+    requires most { ticks ≤ MOST_TICKS }
+    ensures { Answered result (IsSimulation protocol jobs.now ticks) }
+{
+    let rows = simulate(alloc, protocol, jobs, ticks)?;
+    Ok(Reply {
+        status: 0,
+        text: rows_of_jobs(alloc, jobs, &rows)?,
+    })
 }
 
 /// The reply to words that have no form.

@@ -3,3 +3,5 @@ pub mod ChosenRows
 pub mod Runs
 pub mod WrittenRows
 mod JoinedExamples
+pub mod JoinedRuns
+pub mod OneSchedule

@@ -6,6 +6,7 @@ use Rattle.schedule_model.specs.JobDef.{JobsDef}
 use Rattle.schedule_model.specs.RowDef.{RowDef, RunDef, row_in, ticks_of}
 use Rattle.schedule_laws.proofs.Agreement.{runs_agree, run_added}
 use Rattle.sim_engine.specs.Joined.{AreJoined}
+use Rattle.sim_engine.specs.Simulated.{EachLasts}
 
 -- The ticks of a run more.
 pub ticks_with : (runs : List RunDef) (run : RunDef) → ticks_of (runs ++ run ∷ []) ≡ ticks_of runs + run.ticks
@@ -39,3 +40,8 @@ pub joined_more : (runs : List RunDef) (last next : RunDef) → AreJoined (runs 
 joined_more [] last next joined other = (other, tt)
 joined_more (x ∷ []) last next joined other = (joined.0, (other, tt))
 joined_more (x ∷ y ∷ runs) last next joined other = (joined.0, joined_more (y ∷ runs) last next joined.1 other)
+
+-- A run that lasts may follow runs that do.
+pub lasting_more : (runs : List RunDef) (run : RunDef) → EachLasts runs → 1 ≤ run.ticks → EachLasts (runs ++ run ∷ [])
+lasting_more [] run lasting lasts = (lasts, tt)
+lasting_more (x ∷ runs) run lasting lasts = (lasting.0, lasting_more runs run lasting.1 lasts)

@@ -6,17 +6,17 @@ use Rattle.std.proofs.lemmas.Bool.{and_parts, and_from, le-leb, le-ltb}
 use Rattle.std.proofs.lemmas.List.Folds.{list_all-append}
 use Rattle.sporadic_model.specs.declared.limits.TheConstants.{MOST_TICKS}
 use Rattle.schedule_model.specs.JobDef.{JobsDef}
-use Rattle.schedule_model.specs.RowDef.{RowDef, RunDef, Trace, row_in, ticks_of, trace_in}
+use Rattle.schedule_model.specs.RowDef.{RowDef, RunDef, Trace, row_in, ticks_of}
 use Rattle.schedule_model.specs.Fitting.{RowsDef, is_sized, names_jobs, fits_row, is_fitting, first_refusal, with_run}
 use Rattle.schedule_laws.specs.Agreement.{ChoiceReadsUpTo}
 use Rattle.schedule_laws.proofs.TakenRows.{fits_jobs_passes}
 use Rattle.phase_machine.specs.MachineDef.{MachineDef}
 use Rattle.phase_machine.specs.Taking.{IsRowFor}
-use Rattle.sim_engine.specs.Joined.{AreJoined}
+use Rattle.sim_engine.specs.Simulated.{IsSimulated}
 use Rattle.sim_engine.specs.Choosing.{AreChosenSoFar}
 use Rattle.sim_engine.specs.Writing.{rows_with, all_runs, AddsRow, IsUnderWay}
 use Rattle.sim_engine.proofs.ChosenRows.{over, chosen_again}
-use Rattle.sim_engine.proofs.Runs.{ticks_with, longer_before, added_before, added_here, joined_longer, joined_more}
+use Rattle.sim_engine.proofs.Runs.{ticks_with, longer_before, added_before, added_here, joined_longer, joined_more, lasting_more}
 
 -- A row that fits the jobs passes the test that it does.
 passes : (list : JobsDef) (row : RowDef) → IsRowFor list row → fits_row list.set.processors (length list.set.resources) (length list.jobs) row ≡ true
@@ -58,6 +58,7 @@ first_run chooses m n list rows row copy start same tick fits made copied next f
       fits = refl;
       last_fits = subst (λ (l : JobsDef). IsRowFor l row) (sym same) fits;
       lasts = omega arith;
+      lasting = tt;
       joined = tt;
     })
 
@@ -72,6 +73,7 @@ go_on chooses m n rows last row reads u list tick next same = record {
   fits = subst (λ (l : JobsDef). is_fitting rows l ≡ true) (sym list) u.fits;
   last_fits = subst (λ (l : JobsDef). IsRowFor l last.row) (sym list) u.last_fits;
   lasts = omega arith;
+  lasting = u.lasting;
   joined = joined_longer rows.runs last.row last.ticks (last.ticks + 1) u.joined;
 } where
   later : ℕ → RowDef
@@ -94,6 +96,7 @@ begin_anew chooses m n rows last row reads u list tick next fits other = record 
   fits = subst (λ (l : JobsDef). is_fitting (with_run rows last) l ≡ true) (sym list) (fits_more m.list rows last u.fits u.last_fits);
   last_fits = subst (λ (l : JobsDef). IsRowFor l row) (sym list) fits;
   lasts = omega arith;
+  lasting = lasting_more rows.runs last u.lasting u.lasts;
   joined = joined_more rows.runs last (record { ticks = 1; row = row }) u.joined other;
 } where
   later : ℕ → RowDef
@@ -115,17 +118,15 @@ one_more chooses m n rows after last next row reads u list tick taken fits (inr 
     rw (other.ended, other.begun) (begin_anew chooses m n rows last row reads u list tick taken fits other.other)
 
 -- What stands at the end, where the last run has ended too.
-pub record IsSimulated (chooses : Trace → ℕ → Type 0) (list : JobsDef) (n : ℕ) (rows : RowsDef) : Type 0 where
-  pub ticks : ticks_of rows.runs ≡ n
-  pub chosen : (t : ℕ) → t < n → chooses (trace_in list rows.runs) t
-  pub joined : AreJoined rows.runs
-  pub fits : is_fitting rows list ≡ true
-
 pub simulated : (chooses : Trace → ℕ → Type 0) (m : MachineDef) (list : JobsDef) (n : ℕ) (rows after : RowsDef) (last : RunDef) → IsUnderWay chooses m rows last → m.list ≡ list → m.tick ≡ n
-    → after ≡ with_run rows last → IsSimulated chooses list n after
+    → after ≡ with_run rows last → IsSimulated chooses list n after.runs
 simulated chooses m list n rows after last u same tick e = rw e (record {
   ticks = omega (arith, ticks_with rows.runs last, u.tick, tick);
   chosen = λ t l. subst (λ (l : JobsDef). chooses (over l (row_in (all_runs rows last))) t) same (u.chosen.chosen t (omega (arith, l, tick)));
+  lasting = lasting_more rows.runs last u.lasting u.lasts;
   joined = u.joined;
-  fits = subst (λ (l : JobsDef). is_fitting (with_run rows last) l ≡ true) same (fits_more m.list rows last u.fits u.last_fits);
 })
+
+pub fits_jobs : (chooses : Trace → ℕ → Type 0) (m : MachineDef) (list : JobsDef) (rows after : RowsDef) (last : RunDef) → IsUnderWay chooses m rows last → m.list ≡ list
+    → after ≡ with_run rows last → is_fitting after list ≡ true
+fits_jobs chooses m list rows after last u same e = rw e (subst (λ (l : JobsDef). is_fitting (with_run rows last) l ≡ true) same (fits_more m.list rows last u.fits u.last_fits))

@@ -6,6 +6,7 @@ use Rattle.schedule_model.specs.Fitting.{RowsDef, is_fitting, with_run}
 use Rattle.phase_machine.specs.MachineDef.{MachineDef}
 use Rattle.phase_machine.specs.Taking.{IsRowFor}
 use Rattle.sim_engine.specs.Joined.{AreJoined}
+use Rattle.sim_engine.specs.Simulated.{EachLasts}
 use Rattle.sim_engine.specs.Choosing.{AreChosenSoFar}
 
 -- The list of these runs that is made for the jobs.
@@ -32,7 +33,7 @@ abbrev pub AddsRow : RowsDef → RunDef → RowDef → RowsDef → RunDef → Ty
 AddsRow rows last row after next = GoesOn rows last row after next ⊎ BeginsAnew rows last row after next
 
 -- Is a schedule being written: have the runs so far the rows that the machine has taken, each the chosen one, and fits
--- each run the machine's jobs and have another row than the one before it?
+-- each run the machine's jobs, last a tick or more and have another row than the one before it?
 pub record IsUnderWay (chooses : Trace → ℕ → Type 0) (m : MachineDef) (rows : RowsDef) (last : RunDef) : Type 0 where
   pub chosen : AreChosenSoFar chooses (row_in (all_runs rows last)) m
   pub tick : m.tick ≡ ticks_of rows.runs + last.ticks
@@ -40,4 +41,5 @@ pub record IsUnderWay (chooses : Trace → ℕ → Type 0) (m : MachineDef) (row
   pub fits : is_fitting rows m.list ≡ true
   pub last_fits : IsRowFor m.list last.row
   pub lasts : 1 ≤ last.ticks
+  pub lasting : EachLasts rows.runs
   pub joined : AreJoined (all_runs rows last)

@@ -1,10 +1,10 @@
-ghost use Rattle.std.specs.Prelude.{◌≡◌, ℕ, ◌<◌, ◌≤◌, true, IfOk};
+ghost use Rattle.std.specs.Prelude.{◌≡◌, ℕ, ◌≤◌, true, IfOk};
 ghost use Rattle.sporadic_model.specs.declared.limits.TheConstants.{MOST_TICKS};
 ghost use Rattle.schedule_model.specs.RowDef.{trace_in, ticks_of};
 ghost use Rattle.schedule_model.specs.Fitting.{is_fitting};
 ghost use Rattle.schedule_model.specs.Keeping.{KeepsBefore, IsFirstUnlawful};
 ghost use Rattle.schedule_model.specs.declared.rule.Rule.{Rule};
-ghost use Rattle.sim_engine.specs.Joined.{AreJoined};
+ghost use Rattle.sim_engine.specs.Simulated.{IsSimulated};
 
 use crate::choosing::{next_row, take_tick};
 use crate::places::{copy_of, idle_row};
@@ -25,12 +25,10 @@ pub fn simulate_with<P: Judge>(
     requires suits { P.suits protocol.now jobs.now.set }
     requires some { 1 ≤ ticks }
     requires most { ticks ≤ MOST_TICKS }
-    ensures ticks { IfOk result (λ rows. ticks_of rows.runs ≡ ticks) }
-    ensures chosen { IfOk result (λ rows. (t : ℕ) → t < ticks → P.chooses protocol.now (trace_in jobs.now rows.runs) t) }
+    ensures simulated { IfOk result (λ rows. IsSimulated (P.chooses protocol.now) jobs.now ticks rows.runs) }
     ensures keeps { IfOk result (λ rows. KeepsBefore (P.keeps protocol.now) (trace_in jobs.now rows.runs) ticks) }
     ensures unbroken { IfOk result (λ rows. (t : ℕ) (r : Rule)
         → IsFirstUnlawful (P.keeps protocol.now) (trace_in jobs.now rows.runs) (ticks_of rows.runs) t r → ⊥) }
-    ensures joined { IfOk result (λ rows. AreJoined rows.runs) }
     ensures fits { IfOk result (λ rows. is_fitting rows jobs.now ≡ true) }
 {
     let mut machine = Machine::new(alloc, jobs)?;

@@ -17,8 +17,3 @@ abbrev pub interference_of : Protocol → Trace → ℕ → ℕ → Bool
 interference_of protocol.Mpcp = is_shared_interference
 interference_of protocol.FmlpPlus = is_shared_interference
 interference_of protocol.Dpcp = is_dpcp_interference
-
--- Are schedules of the protocol judged by its name? Not yet those of DPCP.
-abbrev pub IsServed : Protocol → Type 0
-IsServed protocol.Dpcp = ⊥
-IsServed p = Unit {0}

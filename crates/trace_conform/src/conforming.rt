@@ -1,12 +1,14 @@
 ghost use Rattle.std.specs.Prelude.{◌≡◌, true};
+ghost use Rattle.sporadic_model.specs.Homes.{HasHomesFor};
 ghost use Rattle.schedule_model.specs.RowDef.{trace_in, ticks_of};
 ghost use Rattle.schedule_model.specs.Fitting.{is_fitting};
 ghost use Rattle.trace_conform.specs.Conforming.{Conforms};
-ghost use Rattle.trace_conform.specs.ByProtocol.{rules_of, interference_of, IsServed};
+ghost use Rattle.trace_conform.specs.ByProtocol.{rules_of, interference_of};
 
 use crate::counts::no_counts;
 use crate::judging::judge_all;
 use crate::measures::{Measured, measure_all};
+use dpcp_rules::Dpcp;
 use fmlp_rules::FmlpPlus;
 use mpcp_rules::Mpcp;
 use phase_machine::{Judge, Machine};
@@ -66,20 +68,20 @@ pub fn conform_with<P: Judge>(
     }
 }
 
-/// The same by the protocol's name, of those whose rules are built: MPCP and FMLP+.
+/// The same by the protocol's name. Under DPCP each resource of the set has a home.
 pub fn conform(
     alloc: Global,
     protocol: Protocol,
     jobs: &JobList,
     rows: &RowList,
 ) -> Result<Measured, Unlawful>
-    requires served { IsServed protocol }
+    requires suits { HasHomesFor protocol jobs.now.set }
     requires fits { is_fitting rows.now jobs.now ≡ true }
     ensures { Conforms (rules_of protocol) (interference_of protocol) (trace_in jobs.now rows.now.runs) (ticks_of rows.now.runs) result }
 {
     match protocol {
         Protocol::Mpcp => conform_with(alloc, &Mpcp, jobs, rows),
         Protocol::FmlpPlus => conform_with(alloc, &FmlpPlus, jobs, rows),
-        Protocol::Dpcp => unreachable!(),
+        Protocol::Dpcp => conform_with(alloc, &Dpcp, jobs, rows),
     }
 }

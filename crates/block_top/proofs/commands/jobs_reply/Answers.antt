@@ -1,9 +1,15 @@
+use Rattle.std.proofs.Common.{sym, subst}
+use Rattle.sporadic_model.specs.SetDef.{SetDef}
+use Rattle.sporadic_model.specs.Homes.{HasHomesFor}
 use Rattle.block_top.specs.Inputs.{jobs_input}
 use Rattle.block_top.specs.Commands.{judging_rows}
 use Rattle.block_top.specs.Outcome.{IsReplyOf}
 use Rattle.block_top.specs.Replies.{Answered}
 use Rattle.block_top.proofs.ReplyLaws.{replied_got}
 use Rattle.block_top.proofs.commands.jobs_reply.Goals as goal
+
+pub rows_reply-requires : goal.rows_reply-requires
+rows_reply-requires g c = subst (λ (s : SetDef). HasHomesFor c.args.protocol s) (sym c.in_ok-_bytes.ensures.of_set) c.requires
 
 pub returns-clause-reply : goal.returns-clause-reply
 returns-clause-reply g c =

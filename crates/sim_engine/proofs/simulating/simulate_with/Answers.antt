@@ -4,7 +4,8 @@ use Rattle.schedule_model.specs.RowDef.{RowDef, idle_row, trace_in}
 use Rattle.schedule_model.specs.Chosen.{IsSized}
 use Rattle.schedule_model.specs.Seen.{row_seen, run_seen}
 use Rattle.phase_machine.specs.Taking.{IsRowFor}
-use Rattle.sim_engine.proofs.WrittenRows.{run_free, first_run, IsSimulated, simulated}
+use Rattle.sim_engine.specs.Simulated.{IsSimulated}
+use Rattle.sim_engine.proofs.WrittenRows.{run_free, first_run, simulated, fits_jobs}
 use Rattle.sim_engine.proofs.simulating.simulate_with.Goals as goal
 
 pub next_row-requires-clause-reached : goal.next_row-requires-clause-reached
@@ -32,10 +33,20 @@ push_run-requires-clause-free g c =
     run_free (g.P.BlockingProtocol.chooses c.args.protocol.now) c.loop.machine c.loop.rows (run_seen c.loop.last) c.loop.invariant.under_way
     (omega (arith, c.loop.invariant.tick, c.loop.auto.counter-end c.requires.some, c.requires.most))
 
+pub returns-clause-simulated : goal.returns-clause-simulated
+returns-clause-simulated g c =
+    simulated (g.P.BlockingProtocol.chooses c.args.protocol.now) c.loop.machine c.args.jobs.now c.args.ticks c.loop.rows c.push_run.new.rows (run_seen c.loop.last) c.loop.invariant.under_way
+    c.loop.invariant.list (omega (arith, c.loop.invariant.tick, c.loop-test.false, c.loop.auto.counter-end c.requires.some)) c.in_ok-push_run.ensures
+
 pub returns-clause-unbroken : goal.returns-clause-unbroken
 returns-clause-unbroken g c =
-    let s : IsSimulated (g.P.BlockingProtocol.chooses c.args.protocol.now) c.args.jobs.now c.args.ticks c.push_run.new.rows =
+    let s : IsSimulated (g.P.BlockingProtocol.chooses c.args.protocol.now) c.args.jobs.now c.args.ticks c.push_run.new.rows.runs =
     simulated (g.P.BlockingProtocol.chooses c.args.protocol.now) c.loop.machine c.args.jobs.now c.args.ticks c.loop.rows c.push_run.new.rows (run_seen c.loop.last) c.loop.invariant.under_way
     c.loop.invariant.list (omega (arith, c.loop.invariant.tick, c.loop-test.false, c.loop.auto.counter-end c.requires.some)) c.in_ok-push_run.ensures in
     λ t r first. first.breaks.broken
     (g.P.BlockingProtocol.chosen_keeps c.args.protocol.now (trace_in c.args.jobs.now c.push_run.new.rows.runs) t c.requires.suits (s.chosen t (omega (arith, first.within, s.ticks))) r)
+
+pub returns-clause-fits : goal.returns-clause-fits
+returns-clause-fits g c =
+    fits_jobs (g.P.BlockingProtocol.chooses c.args.protocol.now) c.loop.machine c.args.jobs.now c.loop.rows c.push_run.new.rows (run_seen c.loop.last) c.loop.invariant.under_way
+    c.loop.invariant.list c.in_ok-push_run.ensures

@@ -1,0 +1,149 @@
+ghost use Rattle.std.specs.Prelude.{◌≡◌, true, IfOk};
+ghost use Rattle.sporadic_model.specs.Homes.{HasHomesFor};
+ghost use Rattle.schedule_model.specs.Fitting.{is_fitting};
+
+use schedule_model::{JobList, RowList};
+use sim_engine::simulate;
+use sporadic_model::{Protocol, TaskSet};
+use std::alloc::{AllocError, Global};
+use std::test::Fail;
+use taskset_json::home_check;
+use trace_conform::{TaskMeasure, conform};
+use trace_csv::{read_jobs, write_rows};
+
+/// The set from its text, which has the homes that the protocol asks for.
+fn set_of(alloc: Global, protocol: Protocol, text: &str) -> Result<TaskSet, Fail>
+    ensures { IfOk result (λ set. HasHomesFor protocol set) }
+{
+    if text.len() >= 2_147_483_648 {
+        return Err("too long".into());
+    }
+    let set = match taskset_json::read(alloc, text.as_bytes()) {
+        Ok(set) => set,
+        Err(_) => return Err("the set is refused".into()),
+    };
+    match home_check(&set, protocol) {
+        Ok(()) => Ok(set),
+        Err(_) => Err("a home is missing".into()),
+    }
+}
+
+/// The jobs of the set from their text.
+fn jobs_of<'a>(alloc: Global, set: &'a TaskSet, text: &str) -> Result<JobList<'a>, Fail>
+    ensures { IfOk result (λ jobs. jobs.set ≡ set.now) }
+{
+    match read_jobs(alloc, set, text.as_bytes()) {
+        Ok(jobs) => Ok(jobs),
+        Err(_) => Err("the jobs are refused".into()),
+    }
+}
+
+/// The rows that the protocol chooses for the jobs in ten ticks.
+fn ten_ticks(alloc: Global, protocol: Protocol, jobs: &JobList) -> Result<RowList, Fail>
+    requires { HasHomesFor protocol jobs.now.set }
+    ensures { IfOk result (λ rows. is_fitting rows jobs.now ≡ true) }
+{
+    Ok(simulate(alloc, protocol, jobs, 10)?)
+}
+
+fn written(alloc: Global, jobs: &JobList, rows: &RowList) -> Result<Vec<u8>, AllocError>
+    requires { is_fitting rows.now jobs.now ≡ true }
+{
+    write_rows(alloc, jobs.set(), rows)
+}
+
+/// Their text.
+fn text_of(alloc: Global, protocol: Protocol, set: &str, jobs: &str) -> Result<Vec<u8>, Fail> {
+    let set = set_of(alloc, protocol, set)?;
+    let jobs = jobs_of(alloc, &set, jobs)?;
+    let rows = ten_ticks(alloc, protocol, &jobs)?;
+    Ok(written(alloc, &jobs, &rows)?)
+}
+
+/// A task of each of three processors; they share `q`, whose home is a fourth processor without tasks.
+const SHARED: &str = r#"{"processors":4,"resources":[{"name":"q","home":4}],"tasks":[
+{"name":"t1","processor":1,"period":20,"cost":3,"requests":[{"resource":"q","count":1,"length":1}]},
+{"name":"t2","processor":2,"period":20,"cost":3,"requests":[{"resource":"q","count":1,"length":1}]},
+{"name":"t3","processor":3,"period":20,"cost":5,"requests":[{"resource":"q","count":1,"length":3}]}]}"#;
+
+/// The requests are issued at the ticks 3, 2 and 1.
+const SHARED_JOBS: &str = "task,release,script\nt1,2,1 q:1 1\nt2,1,1 q:1 1\nt3,0,1 q:3 1\n";
+
+/// `t3` has `q` from tick 1 on. At tick 4, where it ends, `q` goes to the higher task of the two that wait.
+const BY_TASK: &str =
+    "ticks,P1,P2,P3,P4,q\n1,,,3,,\n1,,2,3,,3\n1,1,,3,,3\n1,,,3,,3\n1,1,,3,,1\n1,1,2,,,2\n1,,2,,,\n3,,,,,\n";
+
+/// At tick 4 it goes to the request that was issued first.
+const BY_ISSUE: &str =
+    "ticks,P1,P2,P3,P4,q\n1,,,3,,\n1,,2,3,,3\n1,1,,3,,3\n1,,,3,,3\n1,,2,3,,2\n1,1,2,,,1\n1,1,,,,\n3,,,,,\n";
+
+/// The requests run on the fourth processor, where two wait at tick 3. `t1` is no higher than the ceiling of `q`, which is
+/// `t1`, and gets it at tick 4, where `t3` ends.
+const AT_HOME: &str =
+    "ticks,P1,P2,P3,P4,q\n1,,,3,,\n1,,2,,3,3\n1,1,,,3,3\n1,,,,3,3\n1,,,3,1,1\n1,1,,,2,2\n1,,2,,,\n3,,,,,\n";
+
+#[test]
+fn each_protocol_makes_its_own_schedule(rt: HostRuntime) -> Result<(), Fail> {
+    for (protocol, rows) in [
+        (Protocol::Mpcp, BY_TASK),
+        (Protocol::FmlpPlus, BY_ISSUE),
+        (Protocol::Dpcp, AT_HOME),
+    ] {
+        assert_eq!(rt;
+            text_of(rt.alloc(), protocol, SHARED, SHARED_JOBS)?.as_slice(),
+            rows.as_bytes()
+        );
+    }
+    Ok(())
+}
+
+/// Each task uses its own resource; both have their home at a third processor.
+const APART: &str =
+    r#"{"processors":3,"resources":[{"name":"a","home":3},{"name":"b","home":3}],"tasks":[
+{"name":"t1","processor":1,"period":20,"cost":3,"requests":[{"resource":"a","count":1,"length":1}]},
+{"name":"t2","processor":2,"period":20,"cost":5,"requests":[{"resource":"b","count":1,"length":3}]}]}"#;
+
+const APART_JOBS: &str = "task,release,script\nt1,1,1 a:1 1\nt2,0,1 b:3 1\n";
+
+/// At tick 2 `t1` is higher than the ceiling of `b`, which is `t2`, so that it holds beside `t2` and runs before it.
+const BOTH_HOLD: &str =
+    "ticks,P1,P2,P3,a,b\n1,,2,,,\n1,1,,2,,2\n1,,,1,1,2\n1,1,,2,,2\n1,,,2,,2\n1,,2,,,\n4,,,,,\n";
+
+#[test]
+fn the_higher_of_two_holders_runs_at_home(rt: HostRuntime) -> Result<(), Fail> {
+    assert_eq!(rt;
+        text_of(rt.alloc(), Protocol::Dpcp, APART, APART_JOBS)?.as_slice(),
+        BOTH_HOLD.as_bytes()
+    );
+    Ok(())
+}
+
+/// What is measured of each task over ten ticks under DPCP.
+fn measures_of(alloc: Global, set: &str, jobs: &str) -> Result<Vec<TaskMeasure>, Fail> {
+    let set = set_of(alloc, Protocol::Dpcp, set)?;
+    let jobs = jobs_of(alloc, &set, jobs)?;
+    let rows = ten_ticks(alloc, Protocol::Dpcp, &jobs)?;
+    match conform(alloc, Protocol::Dpcp, &jobs, &rows) {
+        Ok(measured) => Ok(measured.tasks),
+        Err(_) => Err("unlawful, or out of memory".into()),
+    }
+}
+
+/// `t1` waits at tick 3, and `t2` from tick 2 to tick 4. They are finished at the ticks 6, 7 and 5.
+#[test]
+fn a_simulated_schedule_is_lawful_and_measured(rt: HostRuntime) -> Result<(), Fail> {
+    let wanted = [(4, 1), (6, 3), (5, 0)];
+    let tasks = measures_of(rt.alloc(), SHARED, SHARED_JOBS)?;
+    assert_eq!(rt; tasks.len(), wanted.len());
+    for (task, (response, blocking)) in tasks.iter().zip(wanted) {
+        assert!(rt;
+            *task
+                == TaskMeasure {
+                    finished: 1,
+                    response: Some(response),
+                    blocking
+                }
+        );
+    }
+    Ok(())
+}
