@@ -7,8 +7,9 @@ It wants `rt` on the path. The others are measured where they are installed, and
     plain   the same run in plain Rust over rows of nonzero cells (bench/plain_run.rs), by `rustc`; timed around its run alone
     glpk    `glpsol` of the package glpk-utils, in floating point, and with --exact
     qsopt   `esolver` of the package qsopt-ex, which is exact
-The last two are timed as processes, less the time of a process that solves one column. Where `cc` is installed the memory that the
-exchanges take is counted too: the allocations of a whole run, less those of a run that ends before its first exchange.
+The last two are timed as processes, less the time of a process that solves one column. Of each program the least of three times counts.
+Where `cc` is installed the memory that the exchanges take is counted too: the allocations of a whole run, less those of a run that ends
+before its first exchange.
 The program that solves is built in a temporary directory; building proves it and the crates below it, which takes some minutes.
 FILE is bench/programs.txt where none is given. A line of it is a program: the costs, then for each row, after a semicolon, its limit
 and its coefficients, each as COLUMN:NUMBER with columns counted from 0. Lines that begin with # are comments. A program of 768
@@ -29,6 +30,7 @@ from commands import run
 TOP = Path(__file__).resolve().parent.parent
 CRATES = ["number_laws", "bounded_sums", "fraction128", "program_form", "exchange_runs", "simplex"]
 UNITS = 1_000_000
+TRIES = 3
 
 RATTLE = r"""//! Solves the programs of a file, one after the other, and writes a line for each.
 #![tactic(auto)]
@@ -257,6 +259,12 @@ def solve_qsopt(folder, costs, rows):
     sys.exit("esolver wrote no optimum")
 
 
+def least(solver):
+    """The answers of some tries, each with the least of its nanoseconds."""
+    tries = [solver() for _ in range(TRIES)]
+    return [(*answers[0][:-1], min(answer[-1] for answer in answers)) for answers in zip(*tries)]
+
+
 def allocations(program, folder, programs, units):
     """How many times a run of the programs with so many units takes memory."""
     (folder / "numbers.txt").write_text(numbers(programs, units))
@@ -290,7 +298,7 @@ def compare(name, ours, theirs, exact):
 
 def measure(program, folder, programs):
     (folder / "numbers.txt").write_text(numbers(programs, UNITS))
-    ours = solve_ours(program, folder)
+    ours = least(lambda: solve_ours(program, folder))
     solved = [i for i, answer in enumerate(ours) if answer[0] is not None]
     exchanges = sum(ours[i][1] for i in solved)
     print(f"{len(programs)} programs, {len(solved)} solved by {exchanges} exchanges, {len(programs) - len(solved)} wide")
@@ -299,7 +307,7 @@ def measure(program, folder, programs):
     if shutil.which("rustc") is None:
         print("rustc is missing: no run in plain Rust to compare with")
     else:
-        compare("plain", ours, solve_plain(folder, programs), True)
+        compare("plain", ours, least(lambda: solve_plain(folder, programs)), True)
     one = ([1], [(1, {0: 1})])
     for name, tool, package, exact, solver in (
         ("glpk", "glpsol", "glpk-utils", False, lambda p: solve_glpk(folder, *p, [])),
@@ -310,7 +318,7 @@ def measure(program, folder, programs):
             print(f"{tool} is missing (package {package}): nothing to compare with")
             continue
         start = min(solver(one)[1] for _ in range(5))
-        theirs = [solver(p) if ours[i][0] is not None else (None, 0) for i, p in enumerate(programs)]
+        theirs = least(lambda: [solver(p) if ours[i][0] is not None else (None, 0) for i, p in enumerate(programs)])
         compare(name, ours, [(value, max(took - start, 0)) for value, took in theirs], exact)
 
 

@@ -2,3 +2,9 @@ mod SharedNow
 mod DistributedNow
 mod Uncharged
 mod Analysed
+mod Passing
+mod PassedNext
+mod TallyLaws
+mod Reaching
+mod Places
+mod TableLaws

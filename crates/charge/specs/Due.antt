@@ -16,7 +16,13 @@ is_due m bounds j = (end_now m bounds j == m.tick) && active_now m j
 unfoldable pub is_due_below : MachineDef → List ℕ → ℕ → ℕ → Bool
 is_due_below m bounds x j = nat_lt (task_in m.list.jobs j) x && is_due m bounds j
 
--- The lower number of the two, where the first is there.
-abbrev pub least_of : Option ℕ → ℕ → Option ℕ
-least_of None j = Some j
-least_of (Some i) j = if nat_le i j then Some i else Some j
+-- Which job is due, where this one, if there is one, is its task's active one: it, where its bound ends now.
+abbrev pub due_of : MachineDef → List ℕ → Option ℕ → Option ℕ
+due_of m bounds None = None
+due_of m bounds (Some j) = if end_now m bounds j == m.tick then Some j else None
+
+-- The lower number of the two, or the one that is there.
+abbrev pub least_of : Option ℕ → Option ℕ → Option ℕ
+least_of None o = o
+least_of (Some i) None = Some i
+least_of (Some i) (Some j) = if nat_le i j then Some i else Some j

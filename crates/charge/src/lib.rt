@@ -5,14 +5,20 @@
 //! from these alone it follows that the bounds of a valid certificate are sound.
 #![tactic(auto)]
 
+mod charging;
+mod counting;
 mod distributed;
+mod due;
 mod instances;
 mod item;
 mod laws;
 mod protocol;
 mod shared;
+mod table;
 mod tally;
+mod walking;
 
+pub use charging::charge_with;
 pub use laws::{charged_protocols_are_analysed, sound_bounds_are_never_passed};
 pub use item::{ChargeItem, ChargeStop, ChargeTable};
 pub use protocol::ChargedProtocol;

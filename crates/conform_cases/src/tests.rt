@@ -1,17 +1,47 @@
-use schedule_model::Rule;
+use schedule_model::{JobList, RowList, Rule};
 use sporadic_model::{Protocol, TaskSet};
-use std::alloc::Global;
+use std::alloc::{AllocError, Global};
 use std::test::Fail;
 use trace_conform::{Measured, TaskMeasure, Unlawful, conform};
+use worked_files::*;
 
 /// The set from its text.
-fn set_of(alloc: Global, text: &[u8]) -> Result<TaskSet, Fail> {
+fn set_of(alloc: Global, text: &str) -> Result<TaskSet, Fail> {
     if text.len() >= 2_147_483_648 {
         return Err("too long".into());
     }
-    match taskset_json::read(alloc, text) {
+    match taskset_json::read(alloc, text.as_bytes()) {
         Ok(set) => Ok(set),
         Err(_) => Err("the set is refused".into()),
+    }
+}
+
+/// `FINISHED RESPONSE BLOCKING`, where the response may be `-`.
+fn measure_text(alloc: Global, measure: &TaskMeasure) -> Result<String, AllocError> {
+    let finished = measure.finished;
+    let blocking = measure.blocking;
+    match measure.response {
+        Some(response) => format!(in alloc; " | {finished} {response} {blocking}"),
+        None => format!(in alloc; " | {finished} - {blocking}"),
+    }
+}
+
+/// `lawful TICKS`, then the measures of each task.
+fn measured_text(alloc: Global, ticks: u64, measured: &Measured) -> Result<String, AllocError> {
+    let mut text = format!(in alloc; "lawful {ticks}")?;
+    for measure in &measured.tasks {
+        text.push_str(measure_text(alloc, measure)?.as_str())?;
+    }
+    Ok(text)
+}
+
+fn rule_word(rule: Rule) -> &'static str {
+    match rule {
+        Rule::Run => "run",
+        Rule::Keep => "keep",
+        Rule::Grant => "grant",
+        Rule::Idle => "idle",
+        Rule::Priority => "priority",
     }
 }
 
@@ -19,201 +49,122 @@ fn set_of(alloc: Global, text: &[u8]) -> Result<TaskSet, Fail> {
 fn answer(
     alloc: Global,
     mpcp: bool,
-    set: &TaskSet,
-    jobs: &[u8],
-    rows: &[u8],
+    jobs: &JobList,
+    rows: &RowList,
 ) -> Result<Result<Measured, Unlawful>, Fail> {
-    let jobs = match trace_csv::read_jobs(alloc, set, jobs) {
-        Ok(jobs) => jobs,
-        Err(_) => return Err("the jobs are refused".into()),
-    };
-    let rows = match trace_csv::read_rows(alloc, &jobs, rows) {
-        Ok(rows) => rows,
-        Err(_) => return Err("the rows are refused".into()),
-    };
-    if !rows.fits(&jobs) {
+    if !rows.fits(jobs) {
         return Err("the rows don't fit the jobs".into());
     }
     if mpcp {
-        return Ok(conform(alloc, Protocol::Mpcp, &jobs, &rows));
+        return Ok(conform(alloc, Protocol::Mpcp, jobs, rows));
     }
-    Ok(conform(alloc, Protocol::FmlpPlus, &jobs, &rows))
+    Ok(conform(alloc, Protocol::FmlpPlus, jobs, rows))
 }
 
-/// The measures of a lawful schedule.
-fn measures(
-    alloc: Global,
-    set: &TaskSet,
-    jobs: &[u8],
-    rows: &[u8],
-) -> Result<Vec<TaskMeasure>, Fail> {
-    match answer(alloc, false, set, jobs, rows)? {
-        Ok(measured) => Ok(measured.tasks),
-        Err(_) => Err("unlawful".into()),
-    }
-}
-
-/// The tick and the rule of the first row that breaks one, if one does.
-fn broken(
-    alloc: Global,
-    mpcp: bool,
-    set: &TaskSet,
-    jobs: &[u8],
-    rows: &[u8],
-) -> Result<Option<(u64, Rule)>, Fail> {
-    match answer(alloc, mpcp, set, jobs, rows)? {
-        Ok(_) => Ok(None),
-        Err(Unlawful::Broken { tick, rule }) => Ok(Some((tick, rule))),
+/// The same as a text, for the texts of a set, jobs and rows; `broken TICK RULE` where a row breaks a rule.
+fn answer_text(alloc: Global, mpcp: bool, schedule: [&str; 3]) -> Result<String, Fail> {
+    let [set, jobs, rows] = schedule;
+    let set = set_of(alloc, set)?;
+    let Ok(jobs) = trace_csv::read_jobs(alloc, &set, jobs.as_bytes()) else {
+        return Err("the jobs are refused".into());
+    };
+    let Ok(rows) = trace_csv::read_rows(alloc, &jobs, rows.as_bytes()) else {
+        return Err("the rows are refused".into());
+    };
+    match answer(alloc, mpcp, &jobs, &rows)? {
+        Ok(measured) => Ok(measured_text(alloc, rows.ticks(), &measured)?),
+        Err(Unlawful::Broken { tick, rule }) => {
+            let rule = rule_word(rule);
+            Ok(format!(in alloc; "broken {tick} {rule}")?)
+        }
         Err(Unlawful::Memory) => Err("out of memory".into()),
     }
 }
 
-/// Two tasks on two processors that share a resource.
-const PAIR: &[u8] =
-    b"{\"processors\":2,\"resources\":[{\"name\":\"q\",\"home\":2}],\"tasks\":[{\"name\":\"t1\",\"processor\":1,\"period\":10,\"cost\":3,\"requests\":[{\"resource\":\"q\",\"count\":1,\"length\":1}]},{\"name\":\"t2\",\"processor\":2,\"period\":10,\"cost\":4,\"requests\":[{\"resource\":\"q\",\"count\":1,\"length\":2}]}]}\n";
+/// A schedule, and what is answered of it.
+type Case = ([&'static str; 3], &'static str);
 
-const PAIR_JOBS: &[u8] = b"task,release,script\nt1,0,1 q:1 1\nt2,0,1 q:2 1\n";
+/// Headers alone.
+const NO_JOBS: &str = "task,release,script\n";
 
-/// Both requests are issued at tick 1, and the lower task's is served first.
-const PAIR_ROWS: &[u8] = b"ticks,P1,P2,q\n1,1,2,\n2,,2,2\n1,1,2,1\n1,1,,\n";
+const NO_ROWS: &str = "ticks,P1,P2,q\n";
 
-/// Two tasks on one processor, and a third on another.
-const FIVE: &[u8] =
-    b"{\"processors\":2,\"resources\":[{\"name\":\"q\"}],\"tasks\":[{\"name\":\"t1\",\"processor\":1,\"period\":10,\"cost\":2},{\"name\":\"t2\",\"processor\":1,\"period\":20,\"cost\":4,\"requests\":[{\"resource\":\"q\",\"count\":1,\"length\":2}]},{\"name\":\"t3\",\"processor\":2,\"period\":20,\"cost\":5,\"requests\":[{\"resource\":\"q\",\"count\":1,\"length\":3}]}]}\n";
+/// The schedule ends while both jobs have ticks left, and the first is blocked at two.
+const PAIR_CUT: &str = "ticks,P1,P2,q\n1,1,2,\n2,,2,2\n";
 
-const FIVE_JOBS: &[u8] = b"task,release,script\nt1,0,2\nt2,0,1 q:2 1\n";
+/// The lower task's job has one tick behind it when the schedule ends.
+const FIVE_CUT: &str = "ticks,P1,P2,q\n2,1,,\n1,2,,\n";
+
+const BY_FMLP_PLUS: [Case; 16] = [
+    (
+        [PAIR, PAIR_JOBS, PAIR_LOWER_FIRST],
+        "lawful 5 | 1 5 2 | 1 4 0",
+    ),
+    (
+        [PAIR, PAIR_JOBS, PAIR_HIGHER_FIRST],
+        "lawful 5 | 1 3 0 | 1 5 1",
+    ),
+    ([PAIR, PAIR_JOBS, PAIR_CUT], "lawful 3 | 0 - 2 | 0 - 0"),
+    ([PAIR, NO_JOBS, NO_ROWS], "lawful 0 | 0 - 0 | 0 - 0"),
+    (
+        [FIVE, FIVE_LOCAL_JOBS, FIVE_CUT],
+        "lawful 3 | 1 2 0 | 0 - 0 | 0 - 0",
+    ),
+    (
+        [FIVE, FIVE_JOBS, FIVE_ROWS],
+        "lawful 7 | 1 3 1 | 1 6 0 | 1 7 2",
+    ),
+    ([TURNS, TURNS_JOBS, TURNS_ROWS], "lawful 5 | 1 2 0 | 2 4 0"),
+    ([ENDS, ENDS_JOBS, ENDS_ROWS], "lawful 6 | 2 3 0 | 1 4 1"),
+    (
+        [BOOST, BOOST_JOBS, BOOST_ROWS],
+        "lawful 4 | 0 - 0 | 1 2 0 | 1 3 1 | 1 3 0 | 0 - 0",
+    ),
+    ([PAIR, PAIR_JOBS, PAIR_CROSSED], "broken 0 run"),
+    ([PAIR, PAIR_JOBS, PAIR_TAKEN_AWAY], "broken 2 keep"),
+    ([PAIR, PAIR_JOBS, PAIR_HELD_TOO_LONG], "broken 3 grant"),
+    ([PAIR, PAIR_JOBS, PAIR_IDLE], "broken 0 idle"),
+    ([FIVE, FIVE_JOBS, FIVE_IDLE_ROWS], "broken 2 idle"),
+    (
+        [FIVE, FIVE_LOCAL_JOBS, FIVE_LOWER_RUNS],
+        "broken 0 priority",
+    ),
+    (
+        [BOOST, BOOST_LATER_JOBS, BOOST_BY_CEILING],
+        "broken 3 priority",
+    ),
+];
+
+const BY_MPCP: [Case; 3] = [
+    ([PAIR, PAIR_JOBS, PAIR_LOWER_FIRST], "broken 1 grant"),
+    (
+        [BOOST, BOOST_LATER_JOBS, BOOST_BY_CEILING],
+        "lawful 5 | 0 - 0 | 0 - 0 | 1 5 2 | 1 2 0 | 1 3 0",
+    ),
+    (
+        [BOOST, BOOST_LATER_JOBS, BOOST_BY_ISSUE],
+        "broken 3 priority",
+    ),
+];
 
 #[test]
-fn a_lawful_schedule_is_measured(rt: HostRuntime) -> Result<(), Fail> {
-    let set = set_of(rt.alloc(), PAIR)?;
-    let tasks = measures(rt.alloc(), &set, PAIR_JOBS, PAIR_ROWS)?;
-    let wanted = [
-        TaskMeasure {
-            finished: 1,
-            response: Some(5),
-            blocking: 2,
-        },
-        TaskMeasure {
-            finished: 1,
-            response: Some(4),
-            blocking: 0,
-        },
-    ];
-    assert!(rt; tasks.as_slice() == wanted.as_slice());
+fn schedules_are_measured_or_their_first_broken_rule_is_named_under_fmlp_plus(
+    rt: HostRuntime,
+) -> Result<(), Fail> {
+    for (schedule, wanted) in BY_FMLP_PLUS {
+        let text = answer_text(rt.alloc(), false, schedule)?;
+        assert_eq!(rt; text.as_str(), wanted, "at {}", schedule[2]);
+    }
     Ok(())
 }
 
 #[test]
-fn a_schedule_without_jobs_and_rows_is_lawful(rt: HostRuntime) -> Result<(), Fail> {
-    let set = set_of(rt.alloc(), PAIR)?;
-    let tasks = measures(
-        rt.alloc(),
-        &set,
-        b"task,release,script\n",
-        b"ticks,P1,P2,q\n",
-    )?;
-    let none = TaskMeasure {
-        finished: 0,
-        response: None,
-        blocking: 0,
-    };
-    assert!(rt; tasks.as_slice() == [none, none].as_slice());
-    Ok(())
-}
-
-#[test]
-fn ticks_of_a_higher_job_on_the_processor_are_not_blocked(rt: HostRuntime) -> Result<(), Fail> {
-    let set = set_of(rt.alloc(), FIVE)?;
-    let tasks = measures(
-        rt.alloc(),
-        &set,
-        FIVE_JOBS,
-        b"ticks,P1,P2,q\n2,1,,\n1,2,,\n",
-    )?;
-    let wanted = [
-        TaskMeasure {
-            finished: 1,
-            response: Some(2),
-            blocking: 0,
-        },
-        TaskMeasure {
-            finished: 0,
-            response: None,
-            blocking: 0,
-        },
-        TaskMeasure {
-            finished: 0,
-            response: None,
-            blocking: 0,
-        },
-    ];
-    assert!(rt; tasks.as_slice() == wanted.as_slice());
-    Ok(())
-}
-
-#[test]
-fn the_first_broken_rule_is_named(rt: HostRuntime) -> Result<(), Fail> {
-    let set = set_of(rt.alloc(), PAIR)?;
-    assert_eq!(rt;
-        broken(rt.alloc(), true, &set, PAIR_JOBS, PAIR_ROWS)?,
-        Some((1, Rule::Grant))
-    );
-    assert_eq!(rt;
-        broken(
-            rt.alloc(),
-            false,
-            &set,
-            PAIR_JOBS,
-            b"ticks,P1,P2,q\n1,2,1,\n"
-        )?,
-        Some((0, Rule::Run))
-    );
-    assert_eq!(rt;
-        broken(
-            rt.alloc(),
-            false,
-            &set,
-            PAIR_JOBS,
-            b"ticks,P1,P2,q\n1,,2,\n"
-        )?,
-        Some((0, Rule::Idle))
-    );
-    assert_eq!(rt;
-        broken(
-            rt.alloc(),
-            false,
-            &set,
-            PAIR_JOBS,
-            b"ticks,P1,P2,q\n1,1,2,\n1,,2,2\n1,1,,1\n"
-        )?,
-        Some((2, Rule::Keep))
-    );
-    let five = set_of(rt.alloc(), FIVE)?;
-    assert_eq!(rt;
-        broken(
-            rt.alloc(),
-            false,
-            &five,
-            FIVE_JOBS,
-            b"ticks,P1,P2,q\n1,2,,\n"
-        )?,
-        Some((0, Rule::Priority))
-    );
-    Ok(())
-}
-
-#[test]
-fn a_run_of_many_ticks_breaks_in_its_middle(rt: HostRuntime) -> Result<(), Fail> {
-    let set = set_of(rt.alloc(), PAIR)?;
-    assert_eq!(rt;
-        broken(
-            rt.alloc(),
-            false,
-            &set,
-            PAIR_JOBS,
-            b"ticks,P1,P2,q\n1,1,2,\n3,,2,2\n"
-        )?,
-        Some((3, Rule::Grant))
-    );
+fn schedules_are_measured_or_their_first_broken_rule_is_named_under_mpcp(
+    rt: HostRuntime,
+) -> Result<(), Fail> {
+    for (schedule, wanted) in BY_MPCP {
+        let text = answer_text(rt.alloc(), true, schedule)?;
+        assert_eq!(rt; text.as_str(), wanted, "at {}", schedule[2]);
+    }
     Ok(())
 }

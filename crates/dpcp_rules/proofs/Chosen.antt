@@ -1,16 +1,12 @@
 -- What the holders and the running jobs are once all tasks have come makes the row the chosen one.
 use Rattle.std.proofs.Common.{◌≡◌, ◌⊎◌, ℕ, ◌<◌, ◌≤◌, ◌==◌, ◌&&◌, ◌||◌, not, Bool, true, false, List, length, refl, sym, ap, ◌∙◌, arith, inl, inr, Option, Some, None, subst, cond, leb, ltb}
 use Rattle.std.specs.Option.{option_map_or}
-use Rattle.std.specs.Prelude.{unwrap_or}
 use Rattle.std.proofs.Math.Bool.{and_assoc}
-use Rattle.std.proofs.lemmas.Bool.{cases_Bool, cases_lt, and_parts, and_from, and_left, both_ways, false_from_ne_true, not-true, eq-eqb, eqb-true, le-leb, leb-true, ltb-true}
+use Rattle.std.proofs.lemmas.Bool.{cases_Bool, and_parts, and_from, and_left, both_ways, false_from_ne_true, not-true, eq-eqb, eqb-true, le-leb, leb-true}
 use Rattle.bounded_sums.specs.Tests.{all_below, any_below}
 use Rattle.bounded_sums.proofs.TestLaws.{all_below-each, any_below-from, any_below-some, any_below-none, any_below-none_from}
-use Rattle.sporadic_model.specs.SetDef.{SetDef}
-use Rattle.sporadic_model.specs.Users.{count_of, is_user, ceiling_of}
-use Rattle.sporadic_model.specs.Accepted.{IsHighestUser, HasNoUser}
+use Rattle.sporadic_model.specs.Users.{is_user}
 use Rattle.sporadic_model.specs.declared.limits.TheConstants.{MOST_PROCESSORS}
-use Rattle.sporadic_model.proofs.Laws.{highest_user, no_user}
 use Rattle.schedule_model.specs.declared.rule.Rule.{Rule}
 use Rattle.schedule_model.specs.declared.rule.Rule.TheVariants as rule
 use Rattle.schedule_model.specs.RowDef.{RowDef, running_on, holder_in, held_before}
@@ -25,6 +21,7 @@ use Rattle.schedule_laws.proofs.ActiveJobs.{active_listed, one_active, Requester
 use Rattle.schedule_laws.proofs.Rows.{job_named, named_job}
 use Rattle.schedule_laws.proofs.RuleUses.{request_among}
 use Rattle.schedule_laws.proofs.Segments.{open_resource, open_user}
+use Rattle.stretch_laws.proofs.DpcpStretches.{ceiling_low}
 use Rattle.phase_machine.specs.MachineDef.{MachineDef, task_in, under}
 use Rattle.phase_machine.specs.Now.{phase_now, active_now, holder_now, requester_now, waiting_now}
 use Rattle.phase_machine.specs.Shows.{Shows}
@@ -129,20 +126,6 @@ holder_asks m rows first bars q j made e = elim (held_is m rows first bars q j m
 made_keep : (m : MachineDef) (rows : ℕ → RowDef) (first bars : List ℕ) → Made m rows first bars → KeepsKeep (under m rows) m.tick
 made_keep m rows first bars made q j e asks =
     made.holders.keeps q j (ap (stays (requester_now m q)) (made.noted.shows.holders q ∙ e) ∙ stays_from (requester_now m q) j (requester_shown m rows q j made.noted.shows ∙ asks))
-
--- A user of a resource is no higher than its ceiling.
-ceiling_low : (set : SetDef) (q x : ℕ) → is_user set q x ≡ true → x < length set.tasks → unwrap_or (ceiling_of set q) (length set.tasks) ≤ x
-ceiling_low set q x user l = go (ceiling_of set q) refl where
-  go : (o : Option ℕ) → ceiling_of set q ≡ o → unwrap_or (ceiling_of set q) (length set.tasks) ≤ x
-  go None e =
-      let none : HasNoUser set q = no_user set q e in
-      absurd (omega (arith, none x l, ltb-true 0 (count_of set x q) user))
-  go (Some c) e =
-      let highest : IsHighestUser set q c = highest_user set q c e in
-      elim (cases_lt x c) [
-        | inl above ↦ absurd (omega (arith, highest.highest x above, ltb-true 0 (count_of set x q) user))
-        | inr low ↦ omega (arith, low, ap (λ o. unwrap_or o (length set.tasks)) e)
-      ]
 
 kept_true : (m : MachineDef) (rows : ℕ → RowDef) (q h : ℕ) → held_before (under m rows) m.tick q ≡ Some h → is_requester (under m rows) m.tick q h ≡ true → is_kept (under m rows) m.tick q ≡ true
 unfolding is_kept

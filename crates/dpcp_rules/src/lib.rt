@@ -8,8 +8,6 @@ mod judging;
 mod laws;
 mod lookup;
 mod tables;
-#[cfg(test)]
-mod tests;
 
 ghost use Rattle.sporadic_model.specs.Homes.{EachHasHome};
 ghost use Rattle.schedule_model.specs.Protocols.{dpcp_rule};
@@ -18,6 +16,7 @@ ghost use Rattle.schedule_model.specs.BlockedTicks.{is_dpcp_interference};
 ghost use Rattle.schedule_laws.proofs.DpcpLaws.{dpcp_one_of_three, dpcp_sound_row, dpcp_chosen_keeps};
 ghost use Rattle.schedule_laws.proofs.DpcpAgreement.{dpcp_rules_read, dpcp_choice_reads};
 ghost use Rattle.schedule_laws.proofs.TickAgreement.{dpcp_interference_agree};
+ghost use Rattle.stretch_laws.proofs.DpcpStretches.{dpcp_stays_lawful};
 
 pub use laws::each_schedule_has_a_next_row;
 use phase_machine::{Judge, Machine};
@@ -61,4 +60,6 @@ impl Judge for Dpcp {
     ghost choice_reads = { λ p. dpcp_choice_reads };
 
     ghost ticks_read = { λ p. dpcp_interference_agree };
+
+    ghost stays_lawful = { λ p. dpcp_stays_lawful };
 }

@@ -2,6 +2,7 @@ ghost use Rattle.std.specs.Prelude.{◌≡◌, ◌<◌, ◌++◌, map, length, O
 ghost use Rattle.std.specs.List.{filter};
 ghost use Rattle.bounded_sums.specs.Sums.{collect_below};
 ghost use Rattle.bounded_sums.specs.Tests.{any_below};
+ghost use Rattle.sporadic_model.specs.SetDef.{task_at};
 ghost use Rattle.sporadic_model.specs.Users.{is_user};
 ghost use Rattle.sporadic_model.specs.Homes.{HasHomesFor, home_in};
 ghost use Rattle.fragments.specs.ColumnDef.{column_seen, classes_of, is_direct, is_indirect, is_preemption};
@@ -87,46 +88,52 @@ fn stands_beside(set: &TaskSet, i: TaskId, x: TaskId, y: TaskId) -> bool
     share_processor(set, y, x) && y.0 != x.0 && y.0 != i.0
 }
 
-// Is the task `y` with the resource `r` a path from `i` to the requests?
-fn leads(
-    set: &TaskSet,
-    protocol: Protocol,
-    i: TaskId,
-    c: Fragment,
-    y: TaskId,
-    r: ResourceId,
-) -> bool
+// May `i` wait for the resource `r`, another one than the requests', whose holder waits for its processor while they run there?
+fn stands_behind(set: &TaskSet, protocol: Protocol, i: TaskId, c: Fragment, r: ResourceId) -> bool
     requires task { i.0 < length set.now.tasks }
     requires column { c.task.0 < length set.now.tasks }
     requires resource { c.resource.0 < length set.now.resources }
-    requires other { y.0 < length set.now.tasks }
     requires by { r.0 < length set.now.resources }
-    ensures { result ≡ is_path protocol set.now i.0 c.task.0 c.resource.0 y.0 r.0 }
+    ensures { result ≡ (not (r.0 == c.resource.0) && (is_user set.now r.0 i.0 && may_run_before protocol set.now (task_at set.now c.task.0).processor c.resource.0 r.0)) }
 {
-    stands_beside(set, i, c.task, y)
-        && r.0 != c.resource.0
+    r.0 != c.resource.0
         && uses(set, i, r)
-        && uses(set, y, r)
         && runs_before(set, protocol, set.processor(c.task), c.resource, r)
 }
 
-// Is it one with some resource?
-fn leads_by(set: &TaskSet, protocol: Protocol, i: TaskId, c: Fragment, y: TaskId) -> bool
-    requires task { i.0 < length set.now.tasks }
-    requires column { c.task.0 < length set.now.tasks }
-    requires resource { c.resource.0 < length set.now.resources }
+// Is `y` a task beside `x`, and neither `x` nor `i`, that uses the resource `r`?
+fn is_user_beside(set: &TaskSet, i: TaskId, x: TaskId, r: ResourceId, y: TaskId) -> bool
+    requires task { x.0 < length set.now.tasks }
+    requires by { r.0 < length set.now.resources }
     requires other { y.0 < length set.now.tasks }
-    ensures { result ≡ any_below (length set.now.resources) (λ r. is_path protocol set.now i.0 c.task.0 c.resource.0 y.0 r) }
+    ensures { result ≡ ((have_one_processor set.now y.0 x.0 && (not (y.0 == x.0) && not (y.0 == i.0))) && is_user set.now r.0 y.0) }
 {
-    if !stands_beside(set, i, c.task, y) {
-        return false;
-    }
-    for r in 0..set.resources() {
-        if leads(set, protocol, i, c, y, ResourceId(r)) {
+    stands_beside(set, i, x, y) && uses(set, y, r)
+}
+
+// Is there one?
+fn has_user_beside(set: &TaskSet, i: TaskId, x: TaskId, r: ResourceId) -> bool
+    requires task { x.0 < length set.now.tasks }
+    requires by { r.0 < length set.now.resources }
+    ensures { result ≡ any_below (length set.now.tasks) (λ y. (have_one_processor set.now y x.0 && (not (y == x.0) && not (y == i.0))) && is_user set.now r.0 y) }
+{
+    for y in 0..set.tasks() {
+        if is_user_beside(set, i, x, r, TaskId(y)) {
             return true;
         }
     }
     false
+}
+
+// Is some task with the resource `r` a path from `i` to the requests?
+fn leads_by(set: &TaskSet, protocol: Protocol, i: TaskId, c: Fragment, r: ResourceId) -> bool
+    requires task { i.0 < length set.now.tasks }
+    requires column { c.task.0 < length set.now.tasks }
+    requires resource { c.resource.0 < length set.now.resources }
+    requires by { r.0 < length set.now.resources }
+    ensures { result ≡ any_below (length set.now.tasks) (λ y. is_path protocol set.now i.0 c.task.0 c.resource.0 y r.0) }
+{
+    stands_behind(set, protocol, i, c, r) && has_user_beside(set, i, c.task, r)
 }
 
 // Is there a path from `i` to the requests?
@@ -136,8 +143,8 @@ fn reaches(set: &TaskSet, protocol: Protocol, i: TaskId, c: Fragment) -> bool
     requires resource { c.resource.0 < length set.now.resources }
     ensures { result ≡ has_path protocol set.now i.0 c.task.0 c.resource.0 }
 {
-    for y in 0..set.tasks() {
-        if leads_by(set, protocol, i, c, TaskId(y)) {
+    for r in 0..set.resources() {
+        if leads_by(set, protocol, i, c, ResourceId(r)) {
             return true;
         }
     }

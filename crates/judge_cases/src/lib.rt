@@ -1,5 +1,11 @@
-//! Worked cases of FMLP+ and MPCP: rows that are chosen, rows that break a rule, and ticks at which jobs are blocked.
+//! Worked cases of the machine and of the judges of FMLP+, MPCP and DPCP: what is answered at each tick, and which rows are lawful.
 #![tactic(auto)]
 
 #[cfg(test)]
+mod judged;
+#[cfg(test)]
+mod taking;
+#[cfg(test)]
 mod tests;
+#[cfg(test)]
+mod told;

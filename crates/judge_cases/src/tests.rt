@@ -1,392 +1,254 @@
-ghost use Rattle.std.specs.Prelude.{◌≡◌, ℕ, ◌<◌, true, false, Some, None, map, length, slice_index_or};
-ghost use Rattle.std.specs.List.{list_all};
-ghost use Rattle.schedule_model.specs.LawfulJobs.{is_resource_in, are_resources_in};
-ghost use Rattle.schedule_model.specs.Fitting.{is_below};
-ghost use Rattle.schedule_model.specs.Seen.{place_seen, segment_seen, row_seen};
-ghost use Rattle.phase_machine.specs.Now.{active_now};
-ghost use Rattle.phase_machine.specs.Taking.{IsRowFor, CanTake};
-ghost use Rattle.sporadic_model.specs.SetDef.{SetDef};
-
-use fmlp_rules::FmlpPlus;
-use mpcp_rules::Mpcp;
-use phase_machine::{Judge, Machine};
-use schedule_model::{Job, JobId, JobList, Row, Rule, Segment};
-use sporadic_model::{Parts, RequestPart, ResourceId, ResourcePart, TaskId, TaskPart, TaskSet};
-use std::alloc::{AllocError, Global};
+use crate::judged::judged;
+use crate::told::told;
+use sporadic_model::{Protocol, TaskSet};
+use std::alloc::Global;
 use std::test::Fail;
+use worked_files::*;
 
-const Q: ResourceId = ResourceId(0);
-
-/// A task by its processor, its period and cost, and the length of its one request of `q`, if it may make one.
-type Task = (u64, u64, u64, Option<u64>);
-
-fn task_of(alloc: Global, name: &str, task: &Task) -> Result<TaskPart, AllocError> {
-    let (processor, period, cost, length) = *task;
-    let mut requests = Vec::new(alloc);
-    if let Some(length) = length {
-        requests.push(RequestPart {
-            resource: String::from_str(alloc, "q")?,
-            count: 1,
-            length,
-        })?;
+/// The set from its text.
+fn set_of(alloc: Global, text: &str) -> Result<TaskSet, Fail> {
+    if text.len() >= 2_147_483_648 {
+        return Err("too long".into());
     }
-    Ok(TaskPart {
-        name: String::from_str(alloc, name)?,
-        processor,
-        period,
-        deadline: period,
-        cost,
-        local: cost,
-        requests,
-    })
-}
-
-/// Two tasks, `t1` the higher, and a resource `q`.
-fn set_of(alloc: Global, processors: u64, tasks: &[Task; 2]) -> Result<TaskSet, Fail> {
-    let mut parts = Parts {
-        processors,
-        resources: Vec::new(alloc),
-        tasks: Vec::new(alloc),
-    };
-    let name = String::from_str(alloc, "q")?;
-    parts.resources.push(ResourcePart { name, home: None })?;
-    parts.tasks.push(task_of(alloc, "t1", &tasks[0])?)?;
-    parts.tasks.push(task_of(alloc, "t2", &tasks[1])?)?;
-    match TaskSet::new(alloc, parts) {
+    match taskset_json::read(alloc, text.as_bytes()) {
         Ok(set) => Ok(set),
-        Err(_) => Err("refused".into()),
+        Err(_) => Err("the set is refused".into()),
     }
 }
 
-/// The local ticks of a segment, and the length of its request of `q`, if it has one.
-type Part = (u64, Option<u64>);
-
-/// A job by its task, its release and its script.
-type Work = (u32, u64, &'static [Part]);
-
-fn job_of(alloc: Global, work: &Work) -> Result<Job, AllocError> {
-    let (task, release, parts) = *work;
-    let mut script = Vec::new(alloc);
-    for (local, length) in parts {
-        let request = match *length {
-            Some(length) => Some((Q, length)),
-            None => None,
-        };
-        script.push(Segment {
-            local: *local,
-            request,
-        })?;
-    }
-    Ok(Job {
-        task: TaskId(task),
-        release,
-        script,
-    })
-}
-
-fn requests_below(segment: &Segment, resources: u32) -> bool
-    ensures { result ≡ is_resource_in resources (segment_seen segment.now) }
-{
-    match segment.request {
-        Some((q, _)) => q.0 < resources,
-        None => true,
-    }
-}
-
-fn each_requests_below(script: &[Segment], resources: u32) -> bool
-    ensures { result ≡ list_all (λ s. is_resource_in resources (segment_seen s)) script.now }
-{
-    script
-        .iter()
-        .all(|segment| requests_below(segment, resources))
-}
-
-fn request_below(script: &[Segment], resources: u32) -> bool
-    ensures { result ≡ are_resources_in resources (map segment_seen script.now) }
-{
-    each_requests_below(script, resources)
-}
-
-fn list_of<'a>(alloc: Global, set: &'a TaskSet, work: &[Work]) -> Result<JobList<'a>, Fail> {
-    let mut jobs = JobList::new(alloc, set);
-    for one in work {
-        let job = job_of(alloc, one)?;
-        let set = jobs.set();
-        if job.task.0 >= set.tasks() || !request_below(&job.script, set.resources()) {
-            return Err("no such task or resource".into());
-        }
-        match jobs.push(job) {
-            Ok(()) => {}
-            Err(_) => return Err("refused".into()),
-        }
-    }
-    Ok(jobs)
-}
-
-fn are_below(places: &[Option<JobId>], jobs: u32) -> bool
-    ensures { result ≡ list_all (λ o. is_below jobs (place_seen o)) places.now }
-{
-    places.iter().all(|place| match place {
-        Some(job) => job.0 < jobs,
-        None => true,
-    })
-}
-
-/// Does one of the first columns run the job?
-fn runs_before(running: &[Option<JobId>], c: usize, j: JobId) -> bool
-    requires { c < length running.now }
-    ensures { result ≡ false → (b : ℕ) → b < c → slice_index_or running.now b None ≡ Some j → ⊥ }
-{
-    for b in 0..c {
-        if running[b] == Some(j) {
-            return true;
-        }
-    }
-    false
-}
-
-/// Is each of these running jobs active, and in one column only?
-fn run_well(machine: &Machine, running: &[Option<JobId>]) -> bool
-    requires { (c : ℕ) (j : JobId) → slice_index_or running.now c None ≡ Some j → j.0 < length machine.now.list.jobs }
-    ensures active { result ≡ true → (c : ℕ) (j : JobId) → c < length running.now → slice_index_or running.now c None ≡ Some j
-        → active_now machine.now j.0 ≡ true }
-    ensures once { result ≡ true → (b c : ℕ) (j : JobId) → b < c → c < length running.now → slice_index_or running.now c None ≡ Some j
-        → slice_index_or running.now b None ≡ Some j → ⊥ }
-{
-    for c in 0..running.len() {
-        if !runs_alone(machine, running, c) {
-            return false;
-        }
-    }
-    true
-}
-
-/// Is the job in this column, if there is one, active, and in no column before?
-fn runs_alone(machine: &Machine, running: &[Option<JobId>], c: usize) -> bool
-    requires column { c < length running.now }
-    requires listed { (c : ℕ) (j : JobId) → slice_index_or running.now c None ≡ Some j → j.0 < length machine.now.list.jobs }
-    ensures active { result ≡ true → (j : JobId) → slice_index_or running.now c None ≡ Some j → active_now machine.now j.0 ≡ true }
-    ensures once { result ≡ true → (b : ℕ) (j : JobId) → b < c → slice_index_or running.now c None ≡ Some j
-        → slice_index_or running.now b None ≡ Some j → ⊥ }
-{
-    match running[c] {
-        Some(j) => machine.active(j) && !runs_before(running, c, j),
-        None => true,
-    }
-}
-
-/// Can the machine take the row?
-fn can_take(machine: &Machine, row: &Row) -> bool
-    ensures { result ≡ true → CanTake machine.now (row_seen row.now) }
-{
-    let jobs = machine.jobs();
-    let set = jobs.set();
-    if row.running.len() != set.processors() as usize {
-        return false;
-    }
-    if row.holders.len() != set.resources() as usize {
-        return false;
-    }
-    if !are_below(&row.running, jobs.len()) {
-        return false;
-    }
-    if !are_below(&row.holders, jobs.len()) {
-        return false;
-    }
-    run_well(machine, &row.running)
-}
-
-fn named(job: Option<u32>) -> Option<JobId> {
-    match job {
-        Some(job) => Some(JobId(job)),
-        None => None,
-    }
-}
-
-fn row_of(alloc: Global, running: &[Option<u32>], holder: Option<u32>) -> Result<Row, AllocError> {
-    let mut row = Row {
-        running: Vec::new(alloc),
-        holders: Vec::new(alloc),
+/// What is told of a schedule, given as the texts of its set, jobs and rows.
+fn told_of(alloc: Global, schedule: [&str; 3]) -> Result<String, Fail> {
+    let [set, jobs, rows] = schedule;
+    let set = set_of(alloc, set)?;
+    let Ok(jobs) = trace_csv::read_jobs(alloc, &set, jobs.as_bytes()) else {
+        return Err("the jobs are refused".into());
     };
-    for job in running {
-        row.running.push(named(*job))?;
-    }
-    row.holders.push(named(holder))?;
-    Ok(row)
+    let Ok(rows) = trace_csv::read_rows(alloc, &jobs, rows.as_bytes()) else {
+        return Err("the rows are refused".into());
+    };
+    told(alloc, &jobs, &rows)
 }
 
-/// Is the row one for the machine's jobs: has it the set's sizes, and does it name listed jobs alone?
-fn fits(machine: &Machine, row: &Row) -> bool
-    ensures { result ≡ true → IsRowFor machine.now.list (row_seen row.now) }
-{
-    let jobs = machine.jobs();
-    let set = jobs.set();
-    if row.running.len() != set.processors() as usize {
-        return false;
-    }
-    if row.holders.len() != set.resources() as usize {
-        return false;
-    }
-    if !are_below(&row.running, jobs.len()) {
-        return false;
-    }
-    are_below(&row.holders, jobs.len())
+/// How the schedule is judged.
+fn judged_of(alloc: Global, protocol: Protocol, schedule: [&str; 3]) -> Result<String, Fail> {
+    let [set, jobs, rows] = schedule;
+    let set = set_of(alloc, set)?;
+    let Ok(jobs) = trace_csv::read_jobs(alloc, &set, jobs.as_bytes()) else {
+        return Err("the jobs are refused".into());
+    };
+    let Ok(rows) = trace_csv::read_rows(alloc, &jobs, rows.as_bytes()) else {
+        return Err("the rows are refused".into());
+    };
+    judged(alloc, protocol, &jobs, &rows)
 }
 
-/// The first row that is judged to break a rule, with that rule; the number of rows and no rule where each keeps them.
-fn first_broken<P: Judge>(
-    alloc: Global,
-    protocol: &P,
-    jobs: &JobList,
-    rows: &[Named],
-) -> Result<(usize, Option<Rule>), Fail>
-    requires suits { (set : SetDef) → P.suits protocol.now set }
-{
-    let mut machine = Machine::new(alloc, jobs)?;
-    for (t, names) in rows.iter().enumerate() {
-        let row = row_of(alloc, &names.0, names.1)?;
-        if !fits(&machine, &row) {
-            return Err("not a row for the jobs".into());
-        }
-        match protocol.judge(&machine, &row) {
-            Ok(()) => {}
-            Err(rule) => return Ok((t, Some(rule))),
-        }
-        if machine.tick() >= 1_000_000_000 || !can_take(&machine, &row) {
-            return Err("not a row to take".into());
-        }
-        machine.advance(&row);
-    }
-    Ok((rows.len(), None))
-}
+/// A schedule, and the lines that are told of it.
+type Told = ([&'static str; 3], &'static str);
 
-/// Which of both jobs are blocked?
-fn blocked<P: Judge>(protocol: &P, machine: &Machine, row: &Row) -> Option<[bool; 2]>
-    requires suits { (set : SetDef) → P.suits protocol.now set }
-{
-    if machine.jobs().len() != 2 || !fits(machine, row) {
-        return None;
-    }
-    Some([
-        protocol.blocked(machine, row, JobId(0)),
-        protocol.blocked(machine, row, JobId(1)),
-    ])
-}
-
-/// The first tick at which another row is chosen than the table's, or at which other jobs are blocked.
-fn first_other<P: Judge>(
-    alloc: Global,
-    protocol: &P,
-    jobs: &JobList,
-    ticks: &[(Named, [bool; 2])],
-) -> Result<Option<usize>, Fail>
-    requires suits { (set : SetDef) → P.suits protocol.now set }
-{
-    let mut machine = Machine::new(alloc, jobs)?;
-    for (t, tick) in ticks.iter().enumerate() {
-        let (names, wanted) = *tick;
-        let mut row = row_of(alloc, &[None, None], Some(0))?;
-        if !fits(&machine, &row) {
-            return Ok(Some(t));
-        }
-        protocol.choose(&machine, &mut row);
-        if row != row_of(alloc, &names.0, names.1)? {
-            return Ok(Some(t));
-        }
-        if blocked(protocol, &machine, &row) != Some(wanted) {
-            return Ok(Some(t));
-        }
-        if machine.tick() >= 1_000_000_000 || !can_take(&machine, &row) {
-            return Ok(Some(t));
-        }
-        machine.advance(&row);
-    }
-    Ok(None)
-}
-
-/// What runs on each of two processors, and who holds the resource.
-type Named = ([Option<u32>; 2], Option<u32>);
-
-const PAIR: [Task; 2] = [(1, 10, 3, Some(1)), (2, 10, 4, Some(2))];
-
-const PAIR_JOBS: [Work; 2] = [
-    (0, 0, &[(1, Some(1)), (1, None)]),
-    (1, 0, &[(1, Some(2)), (1, None)]),
-];
-
-/// Both requests are issued at tick 1, and the higher task's is served first.
-const CHOSEN: [(Named, [bool; 2]); 5] = [
-    (([Some(0), Some(1)], None), [false, false]),
-    (([Some(0), None], Some(0)), [false, true]),
-    (([Some(0), Some(1)], Some(1)), [false, false]),
-    (([None, Some(1)], Some(1)), [false, false]),
-    (([None, Some(1)], None), [false, false]),
-];
-
-/// The lower task's is served first.
-const LOWER_FIRST: [Named; 5] = [
-    ([Some(0), Some(1)], None),
-    ([None, Some(1)], Some(1)),
-    ([None, Some(1)], Some(1)),
-    ([Some(0), Some(1)], Some(0)),
-    ([Some(0), None], None),
-];
-
-const CROSSED: [Named; 1] = [([Some(1), Some(0)], None)];
-
-const TWICE: [Named; 1] = [([Some(0), Some(0)], None)];
-
-const IDLE: [Named; 1] = [([None, Some(1)], None)];
-
-const TAKEN_AWAY: [Named; 3] = [
-    ([Some(0), Some(1)], None),
-    ([None, Some(1)], Some(1)),
-    ([Some(0), None], Some(0)),
+const TOLD: [Told; 10] = [
+    (
+        [PAIR, PAIR_JOBS, PAIR_LOWER_FIRST],
+        "local/ar local/ar | 1 2 | -
+q#0/aw@1 q#0/aw@1 | 1 2 | -
+q#0/aw@1 q#0/ar@1 | 1 2 | 2
+q#0/aw@1 local/ar | 1 2 | 2
+local/ar ended/ | 1 - | 1
+ended/ ended/ | - - | -
+",
+    ),
+    (
+        [PAIR, PAIR_JOBS, PAIR_HIGHER_FIRST],
+        "local/ar local/ar | 1 2 | -
+q#0/aw@1 q#0/aw@1 | 1 2 | -
+local/ar q#0/aw@1 | 1 2 | 1
+ended/ q#0/ar@1 | - 2 | 2
+ended/ local/ar | - 2 | 2
+ended/ ended/ | - - | -
+",
+    ),
+    (
+        [FIVE, FIVE_LOCAL_JOBS, FIVE_LOWER_RUNS],
+        "local/ar local/ar | 1 2 - | -
+local/ar q#0/aw@1 | 1 2 - | -
+",
+    ),
+    (
+        [FIVE, FIVE_JOBS, FIVE_ROWS],
+        "local/ local/ar local/ar | - 2 3 | -
+local/ q#0/aw@1 q#0/aw@1 | - 2 3 | -
+local/ar q#0/ar@1 q#0/aw@1 | 1 2 3 | 2
+local/ar local/ar q#0/aw@1 | 1 2 3 | 2
+local/ar local/ar q#0/ar@1 | 1 2 3 | 3
+ended/ local/ar q#0/ar@1 | - 2 3 | 3
+ended/ ended/ local/ar | - - 3 | 3
+ended/ ended/ ended/ | - - - | -
+",
+    ),
+    (
+        [TURNS, TURNS_JOBS, TURNS_ROWS],
+        "local/ar local/ar local/ | 1 2 | -
+q#0/aw@1 local/ar local/ | 1 2 | -
+ended/ local/ar local/ | - 2 | 1
+ended/ local/ar local/ | - 2 | -
+ended/ ended/ local/ar | - 3 | -
+ended/ ended/ ended/ | - - | -
+",
+    ),
+    (
+        [ENDS, ENDS_JOBS, ENDS_ROWS],
+        "local/ar local/ local/ar | 1 3 | -
+q#0/aw@1 local/ local/ar | 1 3 | -
+q#0/ar@1 local/ q#0/aw@2 | 1 3 | 1
+ended/ local/ar q#0/aw@2 | 2 3 | 1
+ended/ q#0/aw@4 ended/ | 2 - | 3
+ended/ q#0/ar@4 ended/ | 2 - | 2
+ended/ ended/ ended/ | - - | 2
+",
+    ),
+    (
+        [BOOST, BOOST_JOBS, BOOST_ROWS],
+        "local/ar local/ local/ar | - 1 - 3 - | - -
+b#0/aw@1 local/ar b#0/aw@1 | - 1 2 3 - | - -
+ended/ a#0/aw@2 b#0/aw@1 | - - 2 3 - | - 1
+ended/ a#0/ar@2 ended/ | - - 2 - - | 2 3
+ended/ ended/ ended/ | - - - - - | 2 -
+",
+    ),
+    (
+        [BOOST, BOOST_LATER_JOBS, BOOST_BY_ISSUE],
+        "local/ar local/ar local/ | - - 2 - 1 | - -
+a#0/aw@1 local/ar local/ | - - 2 - 1 | - -
+a#0/ar@1 a#0/aw@2 local/ar | - - 2 3 1 | 1 -
+ended/ a#0/aw@2 b#0/aw@3 | - - 2 3 - | 1 -
+ended/ ended/ b#0/ar@3 | - - - 3 - | 2 3
+ended/ ended/ ended/ | - - - - - | - 3
+",
+    ),
+    (
+        [HOME, HOME_JOBS, HOME_ROWS],
+        "local/ local/ar | - 2 | - -
+local/ar a#0/aw@1 | 1 2 | - -
+b#0/aw@2 a#0/ar@1 | 1 2 | 2 -
+b#0/aw@2 local/ar | 1 2 | 2 -
+local/ar ended/ | 1 - | - 1
+ended/ ended/ | - - | - -
+",
+    ),
+    (
+        [APART, APART_JOBS, APART_ROWS],
+        "local/ local/ar | - 2 | - -
+local/ar b#0/aw@1 | 1 2 | - -
+a#0/aw@2 b#0/ar@1 | 1 2 | - 2
+local/ar b#0/ar@1 | 1 2 | 1 2
+ended/ b#0/ar@1 | - 2 | - 2
+ended/ local/ar | - 2 | - 2
+ended/ ended/ | - - | - -
+",
+    ),
 ];
 
 #[test]
-fn rows_are_chosen_for_the_higher_task(rt: HostRuntime) -> Result<(), Fail> {
-    let set = set_of(rt.alloc(), 2, &PAIR)?;
-    let jobs = list_of(rt.alloc(), &set, &PAIR_JOBS)?;
-    assert_eq!(rt; first_other(rt.alloc(), &FmlpPlus, &jobs, &CHOSEN)?, None);
-    assert_eq!(rt; first_other(rt.alloc(), &Mpcp, &jobs, &CHOSEN)?, None);
+fn the_machine_tells_what_stands_at_each_tick(rt: HostRuntime) -> Result<(), Fail> {
+    for (schedule, wanted) in TOLD {
+        let text = told_of(rt.alloc(), schedule)?;
+        assert_eq!(rt; text.as_str(), wanted);
+    }
+    Ok(())
+}
+
+/// A schedule, and how it is judged.
+type Judged = ([&'static str; 3], &'static str);
+
+const BY_FMLP_PLUS: [Judged; 20] = [
+    ([PAIR, PAIR_JOBS, PAIR_LOWER_FIRST], "- 1 1 - - lawful"),
+    ([PAIR, PAIR_JOBS, PAIR_HIGHER_FIRST], "- 2 - - - chosen"),
+    ([PAIR, PAIR_JOBS, PAIR_TAKEN_AWAY], "- 1 keep"),
+    ([PAIR, PAIR_JOBS, PAIR_HELD_TOO_LONG], "- 1 1 grant"),
+    ([PAIR, PAIR_JOBS, PAIR_UNSERVED], "- grant"),
+    ([PAIR, PAIR_JOBS, PAIR_CROSSED], "run"),
+    ([PAIR, PAIR_JOBS, PAIR_TWICE], "run"),
+    ([PAIR, PAIR_JOBS, PAIR_IDLE], "idle"),
+    ([FIVE, FIVE_LOCAL_JOBS, FIVE_LOWER_RUNS], "priority"),
+    ([FIVE, FIVE_JOBS, FIVE_ROWS], "- 3 1+3 - - - - chosen"),
+    ([FIVE, FIVE_JOBS, FIVE_IDLE_ROWS], "- 2 idle"),
+    ([TURNS, TURNS_JOBS, TURNS_ROWS], "- - - - - chosen"),
+    ([TURNS, TURNS_JOBS, TURNS_TOO_EARLY], "- - run"),
+    ([ENDS, ENDS_JOBS, ENDS_ROWS], "- - 3 - - - chosen"),
+    ([ENDS, ENDS_JOBS, ENDS_HELD_TOO_LONG], "- - 3 grant"),
+    ([ENDS, ENDS_JOBS, ENDS_HELD_TOO_EARLY], "- - 3 grant"),
+    ([BOOST, BOOST_JOBS, BOOST_ROWS], "- - 2 - chosen"),
+    ([BOOST, BOOST_JOBS, BOOST_BY_TASK], "- - priority"),
+    (
+        [BOOST, BOOST_LATER_JOBS, BOOST_BY_ISSUE],
+        "- - 2 - - chosen",
+    ),
+    (
+        [BOOST, BOOST_LATER_JOBS, BOOST_BY_CEILING],
+        "- - 2 priority",
+    ),
+];
+
+const BY_MPCP: [Judged; 15] = [
+    ([PAIR, PAIR_JOBS, PAIR_LOWER_FIRST], "- grant"),
+    ([PAIR, PAIR_JOBS, PAIR_HIGHER_FIRST], "- 2 - - - chosen"),
+    ([PAIR, PAIR_JOBS, PAIR_UNSERVED], "- grant"),
+    ([PAIR, PAIR_JOBS, PAIR_CROSSED], "run"),
+    ([PAIR, PAIR_JOBS, PAIR_IDLE], "idle"),
+    ([FIVE, FIVE_LOCAL_JOBS, FIVE_LOWER_RUNS], "priority"),
+    ([FIVE, FIVE_JOBS, FIVE_ROWS], "- 3 1+3 - - - - chosen"),
+    ([FIVE, FIVE_JOBS, FIVE_TAKEN_AWAY], "- 3 keep"),
+    ([TURNS, TURNS_JOBS, TURNS_ROWS], "- - - - - chosen"),
+    ([ENDS, ENDS_JOBS, ENDS_ROWS], "- - 3 - - - chosen"),
+    ([BOOST, BOOST_JOBS, BOOST_ROWS], "- - 2 - chosen"),
+    ([BOOST, BOOST_JOBS, BOOST_BY_TASK], "- - priority"),
+    (
+        [BOOST, BOOST_LATER_JOBS, BOOST_BY_CEILING],
+        "- - 2 2 - chosen",
+    ),
+    ([BOOST, BOOST_LATER_JOBS, BOOST_BY_ISSUE], "- - 2 priority"),
+    ([HOME, HOME_JOBS, HOME_ROWS], "- run"),
+];
+
+const BY_DPCP: [Judged; 11] = [
+    ([PAIR, PAIR_JOBS, PAIR_LOWER_FIRST], "- grant"),
+    ([PAIR, PAIR_JOBS, PAIR_HIGHER_FIRST], "- run"),
+    ([HOME, HOME_JOBS, HOME_ROWS], "- - 1 - - chosen"),
+    ([HOME, HOME_JOBS, HOME_AT_ONCE], "- - grant"),
+    ([HOME, HOME_JOBS, HOME_TAKEN_AWAY], "- - keep"),
+    ([HOME, HOME_JOBS, HOME_LOCAL_AWAY], "run"),
+    ([HOME, HOME_JOBS, HOME_IDLE], "idle"),
+    ([APART, APART_JOBS, APART_ROWS], "- - 2 - - - chosen"),
+    ([APART, APART_JOBS, APART_LOWER_RUNS], "- - priority"),
+    (
+        [APART, APART_TOGETHER_JOBS, APART_ONE_GRANT],
+        "- 2 - - chosen",
+    ),
+    ([APART, APART_TOGETHER_JOBS, APART_TWO_GRANTS], "- grant"),
+];
+
+#[test]
+fn fmlp_plus_judges_chooses_and_tells_blocked_jobs(rt: HostRuntime) -> Result<(), Fail> {
+    for (schedule, wanted) in BY_FMLP_PLUS {
+        let text = judged_of(rt.alloc(), Protocol::FmlpPlus, schedule)?;
+        assert_eq!(rt; text.as_str(), wanted, "at {}", schedule[2]);
+    }
     Ok(())
 }
 
 #[test]
-fn requests_of_one_tick_go_in_either_order_under_fmlp_plus(rt: HostRuntime) -> Result<(), Fail> {
-    let set = set_of(rt.alloc(), 2, &PAIR)?;
-    let jobs = list_of(rt.alloc(), &set, &PAIR_JOBS)?;
-    assert_eq!(rt;
-        first_broken(rt.alloc(), &FmlpPlus, &jobs, &LOWER_FIRST)?,
-        (5, None)
-    );
-    assert_eq!(rt;
-        first_broken(rt.alloc(), &Mpcp, &jobs, &LOWER_FIRST)?,
-        (1, Some(Rule::Grant))
-    );
+fn mpcp_judges_chooses_and_tells_blocked_jobs(rt: HostRuntime) -> Result<(), Fail> {
+    for (schedule, wanted) in BY_MPCP {
+        let text = judged_of(rt.alloc(), Protocol::Mpcp, schedule)?;
+        assert_eq!(rt; text.as_str(), wanted, "at {}", schedule[2]);
+    }
     Ok(())
 }
 
 #[test]
-fn the_first_broken_rule_is_named(rt: HostRuntime) -> Result<(), Fail> {
-    let set = set_of(rt.alloc(), 2, &PAIR)?;
-    let jobs = list_of(rt.alloc(), &set, &PAIR_JOBS)?;
-    assert_eq!(rt;
-        first_broken(rt.alloc(), &FmlpPlus, &jobs, &CROSSED)?,
-        (0, Some(Rule::Run))
-    );
-    assert_eq!(rt;
-        first_broken(rt.alloc(), &FmlpPlus, &jobs, &TWICE)?,
-        (0, Some(Rule::Run))
-    );
-    assert_eq!(rt;
-        first_broken(rt.alloc(), &FmlpPlus, &jobs, &IDLE)?,
-        (0, Some(Rule::Idle))
-    );
-    assert_eq!(rt;
-        first_broken(rt.alloc(), &FmlpPlus, &jobs, &TAKEN_AWAY)?,
-        (2, Some(Rule::Keep))
-    );
+fn dpcp_judges_chooses_and_tells_blocked_jobs(rt: HostRuntime) -> Result<(), Fail> {
+    for (schedule, wanted) in BY_DPCP {
+        let text = judged_of(rt.alloc(), Protocol::Dpcp, schedule)?;
+        assert_eq!(rt; text.as_str(), wanted, "at {}", schedule[2]);
+    }
     Ok(())
 }

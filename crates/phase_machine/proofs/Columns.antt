@@ -54,9 +54,9 @@ or_none true = refl
 or_none false = refl
 
 -- A column that names another job, or none, moves no place.
-pub moved_past : (jobs : List JobDef) (after x : ℕ) (names : List (Option ℕ)) (n : ℕ) (o : Option ℕ) (p q r : Place) → n < length names → get_or names n None ≡ o
-    → is_job p.job o ≡ false → r ≡ q → MovesTo jobs after (take n names) x p q → MovesTo jobs after (take (n + 1) names) x p r
-moved_past jobs after x names n o p q r l e other same moves = record {
+pub moved_past : (jobs : List JobDef) (after more x : ℕ) (names : List (Option ℕ)) (n : ℕ) (o : Option ℕ) (p q r : Place) → n < length names → get_or names n None ≡ o
+    → is_job p.job o ≡ false → r ≡ q → MovesTo jobs after more (take n names) x p q → MovesTo jobs after more (take (n + 1) names) x p r
+moved_past jobs after more x names n o p q r l e other same moves = record {
   runs = λ h. rw same (moves.runs (sym before ∙ h));
   stays = λ h. same ∙ moves.stays (sym before ∙ h);
 } where
@@ -64,9 +64,9 @@ moved_past jobs after x names n o p q r l e other same moves = record {
   before = column_more names n p.job o l e ∙ ap (λ b. list_any (is_job p.job) (take n names) || b) other ∙ or_none (list_any (is_job p.job) (take n names))
 
 -- The column that names a place's job makes it step.
-pub moved_here : (jobs : List JobDef) (after x : ℕ) (names : List (Option ℕ)) (n j : ℕ) (p q r : Place) → n < length names → get_or names n None ≡ Some j → p.job ≡ j
-    → q ≡ p → StepsTo jobs after x q r → MovesTo jobs after (take (n + 1) names) x p r
-moved_here jobs after x names n j p q r l e own still steps = record {
+pub moved_here : (jobs : List JobDef) (after more x : ℕ) (names : List (Option ℕ)) (n j : ℕ) (p q r : Place) → n < length names → get_or names n None ≡ Some j → p.job ≡ j
+    → q ≡ p → StepsTo jobs after more x q r → MovesTo jobs after more (take (n + 1) names) x p r
+moved_here jobs after more x names n j p q r l e own still steps = record {
   runs = λ h. rw (← still) steps;
   stays = λ h. absurd (both h);
 } where
@@ -77,19 +77,19 @@ moved_here jobs after x names n j p q r l e own still steps = record {
   both h = let x : true ≡ false = sym named ∙ h in cc
 
 -- So all places move with the column.
-pub column_moves : (list : JobsDef) (after : ℕ) (names : List (Option ℕ)) (n j : ℕ) (first now next : List Place) → ArePlaces list first → AreCurrent list.jobs first names
+pub column_moves : (list : JobsDef) (after more : ℕ) (names : List (Option ℕ)) (n j : ℕ) (first now next : List Place) → ArePlaces list first → AreCurrent list.jobs first names
     → n < length names → get_or names n None ≡ Some j
-    → ((x : ℕ) → x < length list.set.tasks → MovesTo list.jobs after (take n names) x (get_or first x no_place) (get_or now x no_place))
-    → StepsTo list.jobs after (task_in list.jobs j) (get_or now (task_in list.jobs j) no_place) (get_or next (task_in list.jobs j) no_place)
+    → ((x : ℕ) → x < length list.set.tasks → MovesTo list.jobs after more (take n names) x (get_or first x no_place) (get_or now x no_place))
+    → StepsTo list.jobs after more (task_in list.jobs j) (get_or now (task_in list.jobs j) no_place) (get_or next (task_in list.jobs j) no_place)
     → ((x : ℕ) → (x ≡ task_in list.jobs j → ⊥) → get_or next x no_place ≡ get_or now x no_place)
-    → (x : ℕ) → x < length list.set.tasks → MovesTo list.jobs after (take (n + 1) names) x (get_or first x no_place) (get_or next x no_place)
-column_moves list after names n j first now next places current l e moves own others x b = elim (cases_eq x (task_in list.jobs j)) [
+    → (x : ℕ) → x < length list.set.tasks → MovesTo list.jobs after more (take (n + 1) names) x (get_or first x no_place) (get_or next x no_place)
+column_moves list after more names n j first now next places current l e moves own others x b = elim (cases_eq x (task_in list.jobs j)) [
   | inl same ↦
       let here : (get_or first x no_place).job ≡ j = rw same (current.current n j e) in
       let none : list_any (is_job (get_or first x no_place).job) (take n names) ≡ false = rw here (not_before list.jobs first names n j current e) in
-      moved_here list.jobs after x names n j (get_or first x no_place) (get_or now x no_place) (get_or next x no_place) l e here ((moves x b).stays none) (rw same own)
+      moved_here list.jobs after more x names n j (get_or first x no_place) (get_or now x no_place) (get_or next x no_place) l e here ((moves x b).stays none) (rw same own)
   | inr other ↦
-      moved_past list.jobs after x names n (Some j) (get_or first x no_place) (get_or now x no_place) (get_or next x no_place) l e (elsewhere other) (others x other) (moves x b)
+      moved_past list.jobs after more x names n (Some j) (get_or first x no_place) (get_or now x no_place) (get_or next x no_place) l e (elsewhere other) (others x other) (moves x b)
 ] where
   elsewhere : (x ≡ task_in list.jobs j → ⊥) → is_job (get_or first x no_place).job (Some j) ≡ false
   elsewhere other = ne_eqb j (get_or first x no_place).job (λ same. other (own_task same))
@@ -100,8 +100,8 @@ column_moves list after names n j first now next places current l e moves own ot
           sym ((places.each x b).own listed) ∙ ap (task_in list.jobs) (sym same)
 
 -- At a column the place of its job's task is where it was at first.
-pub still_there : (list : JobsDef) (after : ℕ) (names : List (Option ℕ)) (n j : ℕ) (first now : List Place) → AreCurrent list.jobs first names → get_or names n None ≡ Some j
-    → MovesTo list.jobs after (take n names) (task_in list.jobs j) (get_or first (task_in list.jobs j) no_place) (get_or now (task_in list.jobs j) no_place)
+pub still_there : (list : JobsDef) (after more : ℕ) (names : List (Option ℕ)) (n j : ℕ) (first now : List Place) → AreCurrent list.jobs first names → get_or names n None ≡ Some j
+    → MovesTo list.jobs after more (take n names) (task_in list.jobs j) (get_or first (task_in list.jobs j) no_place) (get_or now (task_in list.jobs j) no_place)
     → get_or now (task_in list.jobs j) no_place ≡ get_or first (task_in list.jobs j) no_place
-still_there list after names n j first now current e moves =
+still_there list after more names n j first now current e moves =
     moves.stays (rw (current.current n j e) (not_before list.jobs first names n j current e))

@@ -1,5 +1,5 @@
 -- Each schedule whose rows can be taken is shown by some machine.
-use Rattle.std.proofs.Common.{◌≡◌, ◌⊎◌, ℕ, zero, suc, ◌+◌, ◌<◌, ◌≤◌, ◌==◌, ◌&&◌, Bool, List, [], ◌∷◌, ◌++◌, length, get_or, replicate, refl, sym, subst, ◌∙◌, arith, add-one, length-append, inl, inr, None, leb, cond}
+use Rattle.std.proofs.Common.{◌≡◌, ◌⊎◌, ℕ, zero, suc, ◌+◌, ◌<◌, ◌≤◌, ◌==◌, ◌&&◌, Bool, List, [], ◌∷◌, ◌++◌, length, get_or, replicate, refl, sym, ap, subst, ◌∙◌, arith, add-one, length-append, inl, inr, None, leb, cond}
 use Rattle.std.specs.List.{list_any}
 use Rattle.std.proofs.lemmas.Bool.{cases_lt, cases_Bool, and_parts, and_from, leb-true, le-leb, eqb-true, eq-eqb}
 use Rattle.std.proofs.lemmas.List.{get_or_append_left, get_or_at}
@@ -70,7 +70,7 @@ coming_exists list t x due lawful numbers is = elim (cases_lt due (length list.j
 ]
 
 -- The place after the row.
-step_exists : (jobs : List JobDef) (after x : ℕ) (p : Place) → p.job < length jobs → (n : Place) × StepsTo jobs after x p n
+step_exists : (jobs : List JobDef) (after x : ℕ) (p : Place) → p.job < length jobs → (n : Place) × StepsTo jobs after 1 x p n
 step_exists jobs after x p l = elim (cases_lt (p.ticks + 1) (segment_ticks (segment_in jobs p.job p.segment))) [
   | inl further ↦ (
     record { job = p.job; segment = p.segment; ticks = p.ticks + 1; issued = cond (p.ticks + 1 == (segment_in jobs p.job p.segment).local) after p.issued },
@@ -89,11 +89,11 @@ step_exists jobs after x p l = elim (cases_lt (p.ticks + 1) (segment_ticks (segm
   ]
 ]
 
-move_exists : (m : MachineDef) (row : RowDef) (x : ℕ) → CanTake m row → (n : Place) × MovesTo m.list.jobs (m.tick + 1) row.running x (place_of m x) n
+move_exists : (m : MachineDef) (row : RowDef) (x : ℕ) → CanTake m row → (n : Place) × MovesTo m.list.jobs (m.tick + 1) 1 row.running x (place_of m x) n
 unfolding runs_in
 move_exists m row x can = elim (cases_Bool (list_any (is_job (place_of m x).job) row.running)) [
   | inl runs ↦
-      let step : (n : Place) × StepsTo m.list.jobs (m.tick + 1) x (place_of m x) n = step_exists m.list.jobs (m.tick + 1) x (place_of m x) (runs_listed m row (place_of m x).job can runs).0 in
+      let step : (n : Place) × StepsTo m.list.jobs (m.tick + 1) 1 x (place_of m x) n = step_exists m.list.jobs (m.tick + 1) x (place_of m x) (runs_listed m row (place_of m x).job can runs).0 in
       (step.0, record { runs = λ _. step.1; stays = λ waits. absurd (cc) })
   | inr waits ↦ (place_of m x, record { runs = λ runs. absurd (cc); stays = λ _. refl })
 ]
@@ -119,8 +119,8 @@ at_first w lawful numbers =
 one_more : (w : Trace) (m : MachineDef) → m.list ≡ jobs_of w → Shows m w.row → CanTake m (w.row m.tick) → Shown w (m.tick + 1)
 one_more w m list shows can =
     let places : (l : List Place) × (length l ≡ length m.list.set.tasks)
-    × ((x : ℕ) → x < length m.list.set.tasks → MovesTo m.list.jobs (m.tick + 1) (w.row m.tick).running x (place_of m x) (get_or l x no_place)) =
-    listed_each no_place (λ x p. MovesTo m.list.jobs (m.tick + 1) (w.row m.tick).running x (place_of m x) p) (length m.list.set.tasks) (λ x l. move_exists m (w.row m.tick) x can) in
+    × ((x : ℕ) → x < length m.list.set.tasks → MovesTo m.list.jobs (m.tick + 1) 1 (w.row m.tick).running x (place_of m x) (get_or l x no_place)) =
+    listed_each no_place (λ x p. MovesTo m.list.jobs (m.tick + 1) 1 (w.row m.tick).running x (place_of m x) p) (length m.list.set.tasks) (λ x l. move_exists m (w.row m.tick) x can) in
     let coming : (l : List ℕ) × (length l ≡ length m.list.set.tasks) × ((x : ℕ) → x < length m.list.set.tasks → IsComing m.list.jobs (m.tick + 1) x (get_or l x 0)) =
     listed_each 0 (λ x j. IsComing m.list.jobs (m.tick + 1) x j) (length m.list.set.tasks)
     (λ x l. coming_exists m.list (m.tick + 1) x (coming_of m x) shows.machine.lawful (shows.machine.numbers x l) (due_later m.list.jobs m.tick x (coming_of m x) (shows.machine.coming x l))) in
@@ -129,7 +129,7 @@ one_more w m list shows can =
       places = places.0;
       holders = (w.row m.tick).holders;
       coming = coming.0;
-      shows = taken_shows m (w.row m.tick) n can (record {
+      shows = taken_shows m (w.row m.tick) 1 n can (λ i some l. absurd (omega (arith, some, l))) (omega arith) (record {
         list = sym list;
         tick = refl;
         holders = refl;
@@ -137,7 +137,7 @@ one_more w m list shows can =
         moved = places.2;
         coming_size = coming.1 ∙ sym shows.machine.coming_length;
         coming = coming.2;
-      }) w.row shows refl;
+      }) w.row shows (λ i l. ap w.row (omega (arith, l)));
     }
 
 -- So each schedule is shown, as far as its rows can be taken.

@@ -3,7 +3,11 @@ pub mod Lawful
 pub mod Facts
 pub mod Columns
 pub mod Placing
+pub mod GoingOn
+pub mod PhaseEnds
 pub mod Taking
+pub mod Stretches
+pub mod Least
 pub mod Coming
 pub mod Named
 pub mod Existence

@@ -19,14 +19,14 @@ use Rattle.phase_machine.proofs.Lawful.{script_of, script_some, local_some}
 use Rattle.phase_machine.proofs.Facts.{own_phase, phase_standing}
 
 -- A place that steps is a place.
-pub stepped_place : (list : JobsDef) (after x : ℕ) (p n : Place) → AreLawfulJobs list → p.job < length list.jobs → IsPlace list.jobs x p → StepsTo list.jobs after x p n
+pub stepped_place : (list : JobsDef) (after more x : ℕ) (p n : Place) → AreLawfulJobs list → p.job < length list.jobs → IsPlace list.jobs x p → StepsTo list.jobs after more x p n
     → IsPlace list.jobs x n
-stepped_place list after x p n lawful l place steps = elim (cases_lt (p.ticks + 1) (segment_ticks (segment_in list.jobs p.job p.segment))) [
+stepped_place list after more x p n lawful l place steps = elim (cases_lt (p.ticks + more) (segment_ticks (segment_in list.jobs p.job p.segment))) [
   | inl further ↦ rw (steps.further further) (record { most = place.most; own = place.own; segment = place.segment; ticks = λ _. further })
   | inr ends ↦ elim (cases_lt (p.segment + 1) (length (job_of list.jobs p.job).script)) [
-    | inl more ↦
-        let some : 0 < (segment_in list.jobs p.job (p.segment + 1)).local = local_some list p.job (p.segment + 1) lawful l more in
-        rw (steps.next ends more) (record { most = place.most; own = place.own; segment = λ _. more; ticks = λ _. omega arith })
+    | inl next ↦
+        let some : 0 < (segment_in list.jobs p.job (p.segment + 1)).local = local_some list p.job (p.segment + 1) lawful l next in
+        rw (steps.next ends next) (record { most = place.most; own = place.own; segment = λ _. next; ticks = λ _. omega arith })
     | inr last ↦
         let next = steps.over ends last in
         record {
@@ -66,7 +66,7 @@ pub record Turn (w : Trace) (t x : ℕ) (p : Place) : Type 0 where
   pub runs : runs_in (w.row t) p.job ≡ true
   pub others : (e : ℕ) → task_of w e ≡ x → (e ≡ p.job → ⊥) → runs_in (w.row t) e ≡ false
 
--- The job goes on in its segment.
+-- The job goes on in its segment, and its request's issue tick is the one that it was, or this one.
 further_issued : (w : Trace) (t x : ℕ) (p : Place) → Turn w t x p → p.ticks + 1 < segment_ticks (segment_in w.jobs p.job p.segment)
     → executed w (suc t) p.job ≡ total_ticks (take p.segment (job_of w.jobs p.job).script) + (p.ticks + 1)
     → (segment_in w.jobs p.job p.segment).local ≤ p.ticks + 1
@@ -89,7 +89,8 @@ further_issued w t x p turn further stands past = elim (cases_eq (p.ticks + 1) (
       rw (ne_eqb (p.ticks + 1) (segment_in w.jobs p.job p.segment).local goes_on) (turn.shows.issued turn.listed before ∙ sym (issue_kept w t p.job same))
 ]
 
-further_shows : (w : Trace) (t x : ℕ) (p : Place) → Turn w t x p → p.ticks + 1 < segment_ticks (segment_in w.jobs p.job p.segment)
+-- So its place goes on there.
+pub further_shows : (w : Trace) (t x : ℕ) (p : Place) → Turn w t x p → p.ticks + 1 < segment_ticks (segment_in w.jobs p.job p.segment)
     → ShowsPlace w (suc t) x (record { job = p.job; segment = p.segment; ticks = p.ticks + 1; issued = cond (p.ticks + 1 == (segment_in w.jobs p.job p.segment).local) (suc t) p.issued })
 further_shows w t x p turn further = record {
   before = λ e l same. finished_stays w t (suc t) e (omega arith) (turn.shows.before e l same);
@@ -157,7 +158,7 @@ over_shows w t x p n turn ends last next first none = record {
       omega arith
 
 -- After a row in which its job runs, the stepped place shows the schedule.
-pub stepped_shows : (w : Trace) (t x : ℕ) (p n : Place) → Turn w t x p → StepsTo w.jobs (suc t) x p n → ShowsPlace w (suc t) x n
+pub stepped_shows : (w : Trace) (t x : ℕ) (p n : Place) → Turn w t x p → StepsTo w.jobs (suc t) 1 x p n → ShowsPlace w (suc t) x n
 stepped_shows w t x p n turn steps = elim (cases_lt (p.ticks + 1) (segment_ticks (segment_in w.jobs p.job p.segment))) [
   | inl further ↦ rw (steps.further further) (further_shows w t x p turn further)
   | inr ends ↦ elim (cases_lt (p.segment + 1) (length (job_of w.jobs p.job).script)) [

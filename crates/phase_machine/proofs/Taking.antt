@@ -1,14 +1,14 @@
 -- A machine that takes a row, and one that takes none yet.
-use Rattle.std.proofs.Common.{◌≡◌, ℕ, zero, suc, ◌+◌, ◌<◌, ◌≤◌, true, false, List, length, get_or, take, replicate, refl, sym, ap, subst, ◌∙◌, arith, add-one, inl, inr, Option, Some, None}
+use Rattle.std.proofs.Common.{◌≡◌, ℕ, zero, suc, ◌+◌, ◌<◌, ◌≤◌, true, false, List, length, get_or, take, replicate, refl, sym, ap, subst, ◌∙◌, arith, inl, inr, Option, Some, None}
 use Rattle.std.specs.List.{list_any}
 use Rattle.std.proofs.lemmas.List.{length-replicate}
-use Rattle.std.proofs.lemmas.Bool.{cases_eq, cases_Bool, false_from_ne_true}
+use Rattle.std.proofs.lemmas.Bool.{cases_lt, cases_eq, cases_Bool, false_from_ne_true}
 use Rattle.sporadic_model.specs.Accepted.{TaskNumbers}
 use Rattle.schedule_model.specs.JobDef.{JobsDef, job_of, segment_ticks, total_ticks}
 use Rattle.schedule_model.specs.LawfulJobs.{AreLawfulJobs}
-use Rattle.schedule_model.specs.RowDef.{RowDef, is_job, running_on, runs_in}
+use Rattle.schedule_model.specs.RowDef.{RowDef, is_job, running_on, holder_in, held_before, runs_in}
 use Rattle.schedule_model.specs.Phase.{executed}
-use Rattle.schedule_laws.proofs.Rows.{runs_where}
+use Rattle.schedule_laws.proofs.Rows.{runs_from, runs_where}
 use Rattle.schedule_laws.proofs.Ticks.{executed_none}
 use Rattle.phase_machine.specs.declared.place.Place.{Place}
 use Rattle.phase_machine.specs.MachineDef.{MachineDef, IsMachine, IsPlace, IsNext, IsComing, place_of, coming_of, task_in, segment_in, no_place, under}
@@ -16,9 +16,11 @@ use Rattle.phase_machine.specs.Now.{current_now, active_now}
 use Rattle.phase_machine.specs.Shows.{Shows, ShowsPlace, ArePlacesAtFirst}
 use Rattle.phase_machine.specs.Taking.{CanTake}
 use Rattle.phase_machine.specs.Steps.{MovesTo, ArePlaces, AreCurrent}
-use Rattle.phase_machine.proofs.Lawful.{script_of, script_some, local_some}
+use Rattle.phase_machine.specs.Stretch.{left_at, left_now, IsQuiet}
+use Rattle.phase_machine.proofs.Lawful.{script_of, script_some, local_some, task_listed}
 use Rattle.phase_machine.proofs.Facts.{active_current, current_some}
-use Rattle.phase_machine.proofs.Placing.{Turn, stepped_place, stayed_shows, stepped_shows}
+use Rattle.phase_machine.proofs.Placing.{stepped_place}
+use Rattle.phase_machine.proofs.GoingOn.{GoesOn, left_some, stayed_on, stepped_on}
 
 -- The places of a machine.
 pub places_kept : (m : MachineDef) → IsMachine m → ArePlaces m.list m.places
@@ -39,24 +41,24 @@ row_current m row can = record {
   same : (c d : ℕ) → suc c ≡ suc d → c ≡ d
   same c d e = omega arith
 
--- What became of a machine that took a row.
-pub record Took (m : MachineDef) (row : RowDef) (n : MachineDef) : Type 0 where
+-- What became of a machine that took a row so many times.
+pub record Took (m : MachineDef) (row : RowDef) (more : ℕ) (n : MachineDef) : Type 0 where
   pub list : n.list ≡ m.list
-  pub tick : n.tick ≡ m.tick + 1
+  pub tick : n.tick ≡ m.tick + more
   pub holders : n.holders ≡ row.holders
   pub size : length n.places ≡ length m.places
-  pub moved : (x : ℕ) → x < length m.list.set.tasks → MovesTo m.list.jobs (m.tick + 1) row.running x (get_or m.places x no_place) (get_or n.places x no_place)
+  pub moved : (x : ℕ) → x < length m.list.set.tasks → MovesTo m.list.jobs (m.tick + more) more row.running x (get_or m.places x no_place) (get_or n.places x no_place)
   pub coming_size : length n.coming ≡ length m.coming
-  pub coming : (x : ℕ) → x < length m.list.set.tasks → IsComing m.list.jobs (m.tick + 1) x (get_or n.coming x 0)
+  pub coming : (x : ℕ) → x < length m.list.set.tasks → IsComing m.list.jobs (m.tick + more) x (get_or n.coming x 0)
 
 -- From the parts that the machine's fields were made of.
-pub took_from : (m : MachineDef) (row : RowDef) (old moved kept : List Place) (before come held : List ℕ) (running holders : List (Option ℕ))
+pub took_from : (m : MachineDef) (row : RowDef) (more : ℕ) (old moved kept : List Place) (before come held : List ℕ) (running holders : List (Option ℕ))
     → kept ≡ moved → old ≡ m.places → running ≡ row.running → holders ≡ row.holders → held ≡ come → before ≡ m.coming
     → length moved ≡ length old
-    → ((x : ℕ) → x < length m.list.set.tasks → MovesTo m.list.jobs (m.tick + 1) running x (get_or old x no_place) (get_or moved x no_place))
-    → length come ≡ length before → ((x : ℕ) → x < length m.list.set.tasks → IsComing m.list.jobs (m.tick + 1) x (get_or come x 0))
-    → Took m row (record { list = m.list; tick = m.tick + 1; places = kept; holders = holders; coming = held })
-took_from m row old moved kept before come held running holders a b c d e f size moves coming_size coming = record {
+    → ((x : ℕ) → x < length m.list.set.tasks → MovesTo m.list.jobs (m.tick + more) more running x (get_or old x no_place) (get_or moved x no_place))
+    → length come ≡ length before → ((x : ℕ) → x < length m.list.set.tasks → IsComing m.list.jobs (m.tick + more) x (get_or come x 0))
+    → Took m row more (record { list = m.list; tick = m.tick + more; places = kept; holders = holders; coming = held })
+took_from m row more old moved kept before come held running holders a b c d e f size moves coming_size coming = record {
   list = refl;
   tick = refl;
   holders = d;
@@ -73,13 +75,14 @@ runs_listed m row j can h = at (runs_where row j h) where
   at (k, e) = (can.fits.running k j e, active_place m j (can.active k j e))
 
 -- Its task's place is one.
-taken_place : (m : MachineDef) (row : RowDef) (n : MachineDef) (x : ℕ) → IsMachine m → CanTake m row → Took m row n → x < length m.list.set.tasks → IsPlace m.list.jobs x (get_or n.places x no_place)
+taken_place : (m : MachineDef) (row : RowDef) (more : ℕ) (n : MachineDef) (x : ℕ) → IsMachine m → CanTake m row → Took m row more n → x < length m.list.set.tasks
+    → IsPlace m.list.jobs x (get_or n.places x no_place)
 unfolding runs_in
-taken_place m row n x machine can took l =
+taken_place m row more n x machine can took l =
     let p : Place = place_of m x in
-    let moves : MovesTo m.list.jobs (m.tick + 1) row.running x p (get_or n.places x no_place) = took.moved x l in
+    let moves : MovesTo m.list.jobs (m.tick + more) more row.running x p (get_or n.places x no_place) = took.moved x l in
     elim (cases_Bool (list_any (is_job p.job) row.running)) [
-      | inl runs ↦ stepped_place m.list (m.tick + 1) x p (get_or n.places x no_place) machine.lawful (runs_listed m row p.job can runs).0 (machine.place x l) (moves.runs runs)
+      | inl runs ↦ stepped_place m.list (m.tick + more) more x p (get_or n.places x no_place) machine.lawful (runs_listed m row p.job can runs).0 (machine.place x l) (moves.runs runs)
       | inr waits ↦ rw (moves.stays waits) (machine.place x l)
     ]
 
@@ -92,21 +95,21 @@ rebuilt n P list tick e f h =
     subst (λ t. P (record { list = n.list; tick = t; places = n.places; holders = n.holders; coming = n.coming })) (sym f) one
 
 -- The machine stays one.
-kept_after : (m : MachineDef) (row : RowDef) (n : MachineDef) → IsMachine m → CanTake m row → Took m row n
-    → IsMachine (record { list = m.list; tick = m.tick + 1; places = n.places; holders = n.holders; coming = n.coming })
-kept_after m row n machine can took = record {
+kept_after : (m : MachineDef) (row : RowDef) (more : ℕ) (n : MachineDef) → IsMachine m → CanTake m row → Took m row more n
+    → IsMachine (record { list = m.list; tick = m.tick + more; places = n.places; holders = n.holders; coming = n.coming })
+kept_after m row more n machine can took = record {
   lawful = machine.lawful;
   numbers = machine.numbers;
   places_length = took.size ∙ machine.places_length;
   holders_length = ap (λ (holders : List (Option ℕ)). length holders) took.holders ∙ can.fits.sized.resources;
   coming_length = took.coming_size ∙ machine.coming_length;
-  place = λ x l. taken_place m row n x machine can took l;
+  place = λ x l. taken_place m row more n x machine can took l;
   coming = λ x l. took.coming x l;
   named = λ q j e. can.fits.holders q j (sym (ap (λ holders. get_or holders q None) took.holders) ∙ e);
 }
 
-pub taken_machine : (m : MachineDef) (row : RowDef) (n : MachineDef) → IsMachine m → CanTake m row → Took m row n → IsMachine n
-taken_machine m row n machine can took = rebuilt n IsMachine m.list (m.tick + 1) took.list took.tick (kept_after m row n machine can took)
+pub taken_machine : (m : MachineDef) (row : RowDef) (more : ℕ) (n : MachineDef) → IsMachine m → CanTake m row → Took m row more n → IsMachine n
+taken_machine m row more n machine can took = rebuilt n IsMachine m.list (m.tick + more) took.list took.tick (kept_after m row more n machine can took)
 
 -- Of a task's jobs the one at its place alone runs.
 others_wait : (m : MachineDef) (row : RowDef) (x e : ℕ) → CanTake m row → task_in m.list.jobs e ≡ x → (e ≡ (place_of m x).job → ⊥) → runs_in row e ≡ false
@@ -114,49 +117,84 @@ others_wait m row x e can same other = false_from_ne_true (runs_in row e) (λ h.
   own : runs_in row e ≡ true → e ≡ (place_of m x).job
   own h = sym (runs_listed m row e can h).1 ∙ ap (λ y. (place_of m y).job) same
 
--- A task's place shows the schedule after the row.
-taken_shows_place : (m : MachineDef) (rows : ℕ → RowDef) (n : MachineDef) (x : ℕ) → Shows m rows → CanTake m (rows m.tick) → Took m (rows m.tick) n
-    → x < length m.list.set.tasks → ShowsPlace (under m rows) (suc m.tick) x (get_or n.places x no_place)
-unfolding runs_in
-taken_shows_place m rows n x shows can took l =
-    let p : Place = place_of m x in
-    let moves : MovesTo m.list.jobs (suc m.tick) (rows m.tick).running x p (get_or n.places x no_place) =
-    subst (λ t. MovesTo m.list.jobs t (rows m.tick).running x p (get_or n.places x no_place)) (add-one m.tick) (took.moved x l) in
-    elim (cases_Bool (runs_in (rows m.tick) p.job)) [
-      | inl runs ↦ stepped_shows (under m rows) m.tick x p (get_or n.places x no_place) (turn runs) (moves.runs runs)
-      | inr waits ↦ rw (moves.stays waits) (stayed_shows (under m rows) m.tick x p (shows.machine.place x l) (λ e same. idle waits e same) (shows.places x l))
-    ] where
-      turn : runs_in (rows m.tick) (place_of m x).job ≡ true → Turn (under m rows) m.tick x (place_of m x)
-      turn runs = record {
-        lawful = shows.machine.lawful;
-        listed = (runs_listed m (rows m.tick) (place_of m x).job can runs).0;
-        place = shows.machine.place x l;
-        shows = shows.places x l;
-        runs = runs;
-        others = λ e same other. others_wait m (rows m.tick) x e can same other;
-      }
+-- What is left of the phase of a place's job that runs is at most what the machine takes before something changes.
+pub left_enough : (m : MachineDef) (row : RowDef) (more x : ℕ) → IsMachine m → CanTake m row → IsQuiet m row more → x < length m.list.set.tasks → runs_in row (place_of m x).job ≡ true
+    → more ≤ left_at m.list.jobs (place_of m x)
+unfolding left_now
+left_enough m row more x machine can quiet l runs = elim (cases_lt (left_at m.list.jobs (place_of m x)) more) [
+  | inr most ↦ most
+  | inl less ↦ absurd (quiet (left_at m.list.jobs (place_of m x)) some less (inl ((place_of m x).job, runs, own)))
+] where
+  listed : (place_of m x).job < length m.list.jobs
+  listed = (runs_listed m row (place_of m x).job can runs).0
 
-      idle : runs_in (rows m.tick) (place_of m x).job ≡ false → (e : ℕ) → task_in m.list.jobs e ≡ x → runs_in (rows m.tick) e ≡ false
-      idle waits e same = elim (cases_eq e (place_of m x).job) [
-        | inl own ↦ rw own waits
-        | inr other ↦ others_wait m (rows m.tick) x e can same other
-      ]
+  place : IsPlace m.list.jobs x (place_of m x)
+  place = machine.place x l
 
-shown_after : (m : MachineDef) (rows : ℕ → RowDef) (n : MachineDef) → Shows m rows → CanTake m (rows m.tick) → Took m (rows m.tick) n
-    → Shows (record { list = m.list; tick = suc m.tick; places = n.places; holders = n.holders; coming = n.coming }) rows
-shown_after m rows n shows can took = record {
-  machine = subst (λ t. IsMachine (record { list = m.list; tick = t; places = n.places; holders = n.holders; coming = n.coming })) (add-one m.tick)
-      (kept_after m (rows m.tick) n shows.machine can took);
-  places = λ x l. taken_shows_place m rows n x shows can took l;
-  holders = λ q. ap (λ holders. get_or holders q None) took.holders;
+  some : 0 < left_at m.list.jobs (place_of m x)
+  some = left_some (segment_in m.list.jobs (place_of m x).job (place_of m x).segment) (place_of m x).ticks (place.ticks listed)
+
+  own : left_at m.list.jobs (place_of m (task_in m.list.jobs (place_of m x).job)) ≡ left_at m.list.jobs (place_of m x)
+  own = ap (λ y. left_at m.list.jobs (place_of m y)) (place.own listed)
+
+-- A task's place whose job runs in rows from the machine's tick on.
+pub goes_on : (m : MachineDef) (rows : ℕ → RowDef) (row : RowDef) (more x : ℕ) → Shows m rows → CanTake m row → IsQuiet m row more → ((i : ℕ) → i < more → rows (m.tick + i) ≡ row)
+    → x < length m.list.set.tasks → runs_in row (place_of m x).job ≡ true → GoesOn (under m rows) m.tick x (place_of m x) more
+goes_on m rows row more x shows can quiet same l runs = record {
+  lawful = shows.machine.lawful;
+  listed = (runs_listed m row (place_of m x).job can runs).0;
+  place = shows.machine.place x l;
+  shows = shows.places x l;
+  runs = λ i b. ap (λ r. runs_in r (place_of m x).job) (same i b) ∙ runs;
+  others = λ i e b own other. ap (λ r. runs_in r e) (same i b) ∙ others_wait m row x e can own other;
+  left = left_enough m row more x shows.machine can quiet l runs;
 }
 
--- So it shows each schedule that it showed and that has the row.
-pub taken_shows : (m : MachineDef) (row : RowDef) (n : MachineDef) → CanTake m row → Took m row n → (rows : ℕ → RowDef) → Shows m rows → rows m.tick ≡ row → Shows n rows
-taken_shows m row n can took rows shows e =
-    let there : CanTake m (rows m.tick) = rw e can in
-    let took_there : Took m (rows m.tick) n = rw e took in
-    rebuilt n (λ n. Shows n rows) m.list (suc m.tick) took.list (took.tick ∙ add-one m.tick) (shown_after m rows n shows there took_there)
+idle : (m : MachineDef) (row : RowDef) (x e : ℕ) → CanTake m row → runs_in row (place_of m x).job ≡ false → task_in m.list.jobs e ≡ x → runs_in row e ≡ false
+idle m row x e can waits same = elim (cases_eq e (place_of m x).job) [
+  | inl own ↦ rw own waits
+  | inr other ↦ others_wait m row x e can same other
+]
+
+-- A task's place shows the schedule after the rows.
+taken_shows_place : (m : MachineDef) (rows : ℕ → RowDef) (row : RowDef) (more : ℕ) (n : MachineDef) (x : ℕ) → Shows m rows → CanTake m row → IsQuiet m row more → 1 ≤ more
+    → Took m row more n → ((i : ℕ) → i < more → rows (m.tick + i) ≡ row) → x < length m.list.set.tasks → ShowsPlace (under m rows) (m.tick + more) x (get_or n.places x no_place)
+unfolding runs_in
+taken_shows_place m rows row more n x shows can quiet some took same l =
+    let p : Place = place_of m x in
+    let moves : MovesTo m.list.jobs (m.tick + more) more row.running x p (get_or n.places x no_place) = took.moved x l in
+    elim (cases_Bool (runs_in row p.job)) [
+      | inl runs ↦ stepped_on (under m rows) m.tick x p (get_or n.places x no_place) more some (goes_on m rows row more x shows can quiet same l runs) (moves.runs runs)
+      | inr waits ↦ rw (moves.stays waits) (stayed_on (under m rows) m.tick x p more (shows.machine.place x l)
+          (λ i e b own. ap (λ r. runs_in r e) (same i b) ∙ idle m row x e can waits own) (shows.places x l))
+    ]
+
+-- The holders are those of the row.
+held_after : (m : MachineDef) (rows : ℕ → RowDef) (row : RowDef) (more q : ℕ) → 1 ≤ more → ((i : ℕ) → i < more → rows (m.tick + i) ≡ row) → holder_in row q ≡ held_before (under m rows) (m.tick + more) q
+held_after m rows row zero q some same = absurd (omega (arith, some))
+held_after m rows row (suc k) q some same =
+    let next : suc (m.tick + k) ≡ m.tick + suc k = omega arith in
+    ap (λ r. holder_in r q) (sym (same k (omega arith))) ∙ ap (λ u. held_before (under m rows) u q) next
+
+shown_after : (m : MachineDef) (rows : ℕ → RowDef) (row : RowDef) (more : ℕ) (n : MachineDef) → Shows m rows → CanTake m row → IsQuiet m row more → 1 ≤ more → Took m row more n
+    → ((i : ℕ) → i < more → rows (m.tick + i) ≡ row) → Shows (record { list = m.list; tick = m.tick + more; places = n.places; holders = n.holders; coming = n.coming }) rows
+shown_after m rows row more n shows can quiet some took same = record {
+  machine = kept_after m row more n shows.machine can took;
+  places = λ x l. taken_shows_place m rows row more n x shows can quiet some took same l;
+  holders = λ q. ap (λ holders. get_or holders q None) took.holders ∙ held_after m rows row more q some same;
+}
+
+-- So it shows each schedule that it showed and that has the row as often from its tick on.
+pub taken_shows : (m : MachineDef) (row : RowDef) (more : ℕ) (n : MachineDef) → CanTake m row → IsQuiet m row more → 1 ≤ more → Took m row more n → (rows : ℕ → RowDef) → Shows m rows
+    → ((i : ℕ) → i < more → rows (m.tick + i) ≡ row) → Shows n rows
+taken_shows m row more n can quiet some took rows shows same =
+    rebuilt n (λ n. Shows n rows) m.list (m.tick + more) took.list took.tick (shown_after m rows row more n shows can quiet some took same)
+
+-- The running jobs' phases last as long as the machine takes the row.
+pub phases_last : (m : MachineDef) (row : RowDef) (more c j : ℕ) → IsMachine m → CanTake m row → IsQuiet m row more → get_or row.running c None ≡ Some j
+    → more ≤ left_at m.list.jobs (get_or m.places (task_in m.list.jobs j) no_place)
+phases_last m row more c j machine can quiet e =
+    left_enough m row more (task_in m.list.jobs j) machine can quiet (task_listed m.list j machine.lawful (can.fits.running (suc c) j e)) (runs_from row (suc c) (place_of m (task_in m.list.jobs j)).job (e ∙ ap (λ k. Some k) (sym (active_place m j (can.active (suc c) j e)))))
 
 no_holder : (n q : ℕ) → get_or {A = Option ℕ} (replicate n None) q None ≡ None
 no_holder zero q = refl

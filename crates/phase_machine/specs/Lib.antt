@@ -4,5 +4,7 @@ pub mod Seen
 pub mod Shows
 pub mod Taking
 pub mod Steps
+pub mod Stretch
+pub mod Least
 pub mod Judged
 pub mod MachineView

@@ -1,4 +1,4 @@
--- How the places of tasks move when a row is taken.
+-- How the places of tasks move when a row is taken, so many times on end.
 use Rattle.std.specs.Prelude.{◌≡◌, ℕ, ◌+◌, ◌<◌, ◌≤◌, ◌==◌, true, false, if◌then◌else◌, length, List, Option, None, Some, slice_index_or}
 use Rattle.std.specs.List.{list_any}
 use Rattle.schedule_model.specs.JobDef.{JobDef, JobsDef, job_of, segment_ticks}
@@ -6,23 +6,23 @@ use Rattle.schedule_model.specs.RowDef.{is_job}
 use Rattle.phase_machine.specs.declared.place.Place.{Place}
 use Rattle.phase_machine.specs.MachineDef.{IsNext, IsPlace, segment_in, task_in, no_place}
 
--- The issue tick after one more tick of the place's segment, at tick `after`: that tick where the request begins then.
-abbrev pub issued_after : List JobDef → ℕ → Place → ℕ
-issued_after jobs after p = if p.ticks + 1 == (segment_in jobs p.job p.segment).local then after else p.issued
+-- The issue tick after so many more ticks of the place's segment, at tick `after`: that tick where the request begins then.
+abbrev pub issued_after : List JobDef → ℕ → ℕ → Place → ℕ
+issued_after jobs after more p = if p.ticks + more == (segment_in jobs p.job p.segment).local then after else p.issued
 
--- The place of task x after its job has executed one more tick, at tick `after`: further in the segment, at the next
--- segment, or at the task's next job.
-pub record StepsTo (jobs : List JobDef) (after x : ℕ) (p n : Place) : Type 0 where
-  pub further : p.ticks + 1 < segment_ticks (segment_in jobs p.job p.segment)
-      → n ≡ record { job = p.job; segment = p.segment; ticks = p.ticks + 1; issued = issued_after jobs after p }
-  pub next : segment_ticks (segment_in jobs p.job p.segment) ≤ p.ticks + 1 → p.segment + 1 < length (job_of jobs p.job).script
+-- The place of task x after its job has executed so many more ticks of the segment, at tick `after`: further in the segment,
+-- at the next segment, or at the task's next job.
+pub record StepsTo (jobs : List JobDef) (after more x : ℕ) (p n : Place) : Type 0 where
+  pub further : p.ticks + more < segment_ticks (segment_in jobs p.job p.segment)
+      → n ≡ record { job = p.job; segment = p.segment; ticks = p.ticks + more; issued = issued_after jobs after more p }
+  pub next : segment_ticks (segment_in jobs p.job p.segment) ≤ p.ticks + more → p.segment + 1 < length (job_of jobs p.job).script
       → n ≡ record { job = p.job; segment = p.segment + 1; ticks = 0; issued = p.issued }
-  pub over : segment_ticks (segment_in jobs p.job p.segment) ≤ p.ticks + 1 → length (job_of jobs p.job).script ≤ p.segment + 1
+  pub over : segment_ticks (segment_in jobs p.job p.segment) ≤ p.ticks + more → length (job_of jobs p.job).script ≤ p.segment + 1
       → IsNext jobs x (p.job + 1) n.job × (n.segment ≡ 0) × (n.ticks ≡ 0)
 
--- The place of task x after a row with these running jobs: it steps where its job runs, and else stays.
-pub record MovesTo (jobs : List JobDef) (after : ℕ) (running : List (Option ℕ)) (x : ℕ) (p n : Place) : Type 0 where
-  pub runs : list_any (is_job p.job) running ≡ true → StepsTo jobs after x p n
+-- The place of task x after so many rows with these running jobs: it steps where its job runs, and else stays.
+pub record MovesTo (jobs : List JobDef) (after more : ℕ) (running : List (Option ℕ)) (x : ℕ) (p n : Place) : Type 0 where
+  pub runs : list_any (is_job p.job) running ≡ true → StepsTo jobs after more x p n
   pub stays : list_any (is_job p.job) running ≡ false → n ≡ p
 
 -- Has each task a place in the list?

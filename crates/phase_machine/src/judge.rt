@@ -5,6 +5,7 @@ ghost use Rattle.schedule_model.specs.Keeping.{KeepsRow, KeepsBefore};
 ghost use Rattle.schedule_model.specs.BlockedTicks.{is_blocked};
 ghost use Rattle.schedule_model.specs.Seen.{row_seen};
 ghost use Rattle.schedule_laws.specs.Agreement.{RulesReadUpTo, ChoiceReadsUpTo, TicksReadUpTo};
+ghost use Rattle.stretch_laws.specs.Steady.{StaysLawful};
 ghost use Rattle.phase_machine.specs.MachineDef.{under};
 ghost use Rattle.phase_machine.specs.Shows.{Shows};
 ghost use Rattle.phase_machine.specs.Taking.{IsRowFor};
@@ -49,4 +50,8 @@ pub trait Judge: BlockingProtocol {
 
     /// What a tick is for a job depends on the rows up to it alone.
     ghost ticks_read: { (p : Self) → TicksReadUpTo (Self.interferes p) };
+
+    /// Through a steady stretch, in which no phase of a running job ends and no job is released, a row that keeps the rules at
+    /// its first tick keeps them at each, the same jobs are blocked, and a row that is the chosen one at first stays it.
+    ghost stays_lawful: { (p : Self) → StaysLawful (Self.suits p) (Self.keeps p) (Self.chooses p) (Self.interferes p) };
 }

@@ -10,6 +10,7 @@ mod place;
 mod script;
 mod starting;
 mod stepping;
+mod stretch;
 #[cfg(test)]
 mod tests;
 

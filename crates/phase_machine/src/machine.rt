@@ -2,11 +2,13 @@ ghost use Rattle.std.specs.Prelude.{◌≡◌, ℕ, ◌+◌, ◌<◌, ◌≤◌,
 ghost use Rattle.sporadic_model.specs.declared.limits.TheConstants.{MOST_TICKS};
 ghost use Rattle.schedule_model.specs.RowDef.{RowDef};
 ghost use Rattle.schedule_model.specs.Seen.{row_seen, place_seen};
-ghost use Rattle.phase_machine.specs.MachineDef.{IsMachine, IsWithinLimits, IsPlace, place_of, task_in};
+ghost use Rattle.phase_machine.specs.MachineDef.{IsMachine, IsWithinLimits, IsPlace, place_of, task_in, under};
 ghost use Rattle.phase_machine.specs.Now.{phase_now, current_now, active_now, holder_now, ready_now, waiting_now, issued_now};
 ghost use Rattle.phase_machine.specs.Seen.{phase_seen, NamesResource};
 ghost use Rattle.phase_machine.specs.Shows.{Shows};
 ghost use Rattle.phase_machine.specs.Taking.{CanTake};
+ghost use Rattle.phase_machine.specs.Stretch.{IsQuiet, IsStretch};
+ghost use Rattle.stretch_laws.specs.Steady.{IsSteady, Changes};
 
 use crate::lookup::{current_at, phase_at};
 use crate::phase::Phase;
@@ -14,6 +16,7 @@ use crate::place::Place;
 use crate::script::{list_is_lawful, task_of};
 use crate::starting::{first_coming, first_places, no_holders};
 use crate::stepping::{move_on, step_all};
+use crate::stretch::{least_ahead, least_left};
 use schedule_model::{JobId, JobList, Row};
 use sporadic_model::{ResourceId, TaskId};
 use std::alloc::{AllocError, Global};
@@ -172,8 +175,37 @@ impl<'a> Machine<'a> {
         ensures tick { self.new.tick ≡ self.old.tick + 1 }
         ensures shows { (rows : ℕ → RowDef) → Shows self.old rows → rows self.old.tick ≡ row_seen row.now → Shows self.new rows }
     {
-        let after = self.tick + 1;
-        step_all(self.jobs, after, &row.running, &mut self.places);
+        self.advance_by(row, 1);
+    }
+
+    /// How often the row is to be taken until something changes first: until the phase ends that a running job is in, or a job
+    /// is released. At least 1; 10^9 where it is more often than that, or never.
+    pub fn steady(&self, row: &Row) -> u64
+        requires row { CanTake self.now (row_seen row.now) }
+        ensures value { IsStretch self.now (row_seen row.now) result }
+        ensures steady { (rows : ℕ → RowDef) (n : ℕ) → Shows self.now rows → n ≤ result
+            → ((i : ℕ) → i < n → rows (self.now.tick + i) ≡ row_seen row.now) → IsSteady (under self.now rows) self.now.tick n }
+        ensures changes { (rows : ℕ → RowDef) → Shows self.now rows → result < MOST_TICKS
+            → ((i : ℕ) → i < result → rows (self.now.tick + i) ≡ row_seen row.now) → Changes (under self.now rows) self.now.tick result }
+    {
+        let most = least_ahead(self.jobs, self.tick, &self.coming);
+        least_left(self.jobs, &row.running, &self.places, most)
+    }
+
+    /// Takes the row so many times, at least once and at most as often as `steady` answers: nothing may change before the last
+    /// of them is taken.
+    pub fn advance_by(&mut self, row: &Row, ticks: u64)
+        requires row { CanTake self.old (row_seen row.now) }
+        requires some { 1 ≤ ticks }
+        requires quiet { IsQuiet self.old (row_seen row.now) ticks }
+        requires early { self.old.tick + ticks ≤ MOST_TICKS }
+        ensures list { self.new.list ≡ self.old.list }
+        ensures tick { self.new.tick ≡ self.old.tick + ticks }
+        ensures shows { (rows : ℕ → RowDef) → Shows self.old rows
+            → ((i : ℕ) → i < ticks → rows (self.old.tick + i) ≡ row_seen row.now) → Shows self.new rows }
+    {
+        let after = self.tick + ticks;
+        step_all(self.jobs, after, ticks, &row.running, &mut self.places);
         move_on(self.jobs, after, &mut self.coming);
         self.holders.copy_from_slice(&row.holders);
         self.tick = after;

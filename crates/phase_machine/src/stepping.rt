@@ -9,16 +9,17 @@ use crate::place::Place;
 use crate::script::{list_is_lawful, next_of, segment_at, segments_of, task_of, ticks_of};
 use schedule_model::{JobId, JobList};
 
-/// The place of task `x` after its job has executed one more tick, at tick `after`.
-fn stepped(jobs: &JobList, after: u64, x: u32, place: &Place) -> Place
+/// The place of task `x` after its job has executed so many more ticks of the segment, at tick `after`.
+fn stepped(jobs: &JobList, after: u64, more: u64, x: u32, place: &Place) -> Place
     requires listed { place.now.job < length jobs.now.jobs }
     requires place { IsPlace jobs.now.jobs x place.now }
-    ensures { StepsTo jobs.now.jobs after x place.now result }
+    requires most { more ≤ MOST_TICKS }
+    ensures { StepsTo jobs.now.jobs after more x place.now result }
 {
     list_is_lawful(jobs);
     let segments = segments_of(jobs, place.job);
     let segment = segment_at(jobs, place.job, place.segment);
-    let ticks = place.ticks + 1;
+    let ticks = place.ticks + more;
     if ticks < ticks_of(&segment) {
         let issued = if ticks == segment.local {
             after
@@ -49,34 +50,42 @@ fn stepped(jobs: &JobList, after: u64, x: u32, place: &Place) -> Place
 }
 
 /// Steps the place of the task whose current job this is.
-fn step_one(jobs: &JobList, after: u64, j: JobId, places: &mut [Place])
+fn step_one(jobs: &JobList, after: u64, more: u64, j: JobId, places: &mut [Place])
     requires len { length places.old ≡ length jobs.now.set.tasks }
     requires listed { j.0 < length jobs.now.jobs }
     requires place { IsPlace jobs.now.jobs (task_in jobs.now.jobs j.0) (slice_index_or places.old (task_in jobs.now.jobs j.0) no_place) }
     requires current { (slice_index_or places.old (task_in jobs.now.jobs j.0) no_place).job ≡ j.0 }
+    requires most { more ≤ MOST_TICKS }
     ensures len { length places.new ≡ length places.old }
-    ensures own { StepsTo jobs.now.jobs after (task_in jobs.now.jobs j.0)
+    ensures own { StepsTo jobs.now.jobs after more (task_in jobs.now.jobs j.0)
         (slice_index_or places.old (task_in jobs.now.jobs j.0) no_place) (slice_index_or places.new (task_in jobs.now.jobs j.0) no_place) }
     ensures others { (x : ℕ) → (x ≡ task_in jobs.now.jobs j.0 → ⊥)
         → slice_index_or places.new x no_place ≡ slice_index_or places.old x no_place }
 {
     let x = task_of(jobs, j.0);
-    places[x.0 as usize] = stepped(jobs, after, x.0, &places[x.0 as usize]);
+    places[x.0 as usize] = stepped(jobs, after, more, x.0, &places[x.0 as usize]);
 }
 
-/// Moves the places of the tasks whose jobs run in the columns.
-pub(crate) fn step_all(jobs: &JobList, after: u64, running: &[Option<JobId>], places: &mut [Place])
+/// Moves the places of the tasks whose jobs run in the columns, so many ticks on.
+pub(crate) fn step_all(
+    jobs: &JobList,
+    after: u64,
+    more: u64,
+    running: &[Option<JobId>],
+    places: &mut [Place],
+)
     requires places { ArePlaces jobs.now places.old }
     requires running { AreCurrent jobs.now.jobs places.old (map place_seen running.now) }
+    requires most { more ≤ MOST_TICKS }
     ensures len { length places.new ≡ length places.old }
     ensures moved { (x : ℕ) → x < length jobs.now.set.tasks
-        → MovesTo jobs.now.jobs after (map place_seen running.now) x
+        → MovesTo jobs.now.jobs after more (map place_seen running.now) x
         (slice_index_or places.old x no_place) (slice_index_or places.new x no_place) }
 {
     list_is_lawful(jobs);
     for named in running {
         if let Some(j) = named {
-            step_one(jobs, after, *j, places);
+            step_one(jobs, after, more, *j, places);
         }
     }
 }

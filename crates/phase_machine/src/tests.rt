@@ -285,6 +285,33 @@ fn first_other(alloc: Global, jobs: &JobList, ticks: &[Tick]) -> Result<Option<u
     Ok(None)
 }
 
+/// What is answered at the first tick of a stretch with the row that is then taken, how long the stretch is, and how many of its
+/// ticks are taken.
+type Stretch = (Tick, u64, u64);
+
+/// The first stretch where something else is answered than what the table says, or whose row can't be taken so often.
+fn first_other_stretch(
+    alloc: Global,
+    jobs: &JobList,
+    stretches: &[Stretch],
+) -> Result<Option<usize>, Fail> {
+    let mut machine = Machine::new(alloc, jobs)?;
+    for (i, stretch) in stretches.iter().enumerate() {
+        let ((answers, current, holder, running, holds), length, taken) = *stretch;
+        let row = row_of(alloc, running, holds)?;
+        if !shows(&machine, answers, current, holder) || !can_take(&machine, &row) {
+            return Ok(Some(i));
+        }
+        let steady = machine.steady(&row);
+        let left = 1_000_000_000 - machine.tick();
+        if steady != length || taken == 0 || taken > steady || taken > left {
+            return Ok(Some(i));
+        }
+        machine.advance_by(&row, taken);
+    }
+    Ok(None)
+}
+
 const PAIR: [Task; 2] = [(1, 10, 3, Some(1)), (2, 10, 4, Some(2))];
 
 const PAIR_JOBS: [Work; 2] = [
@@ -420,6 +447,71 @@ const ONE_AT_A_TIME: [Tick; 6] = [
     ),
     (&[ENDED, ENDED, ENDED], [None, None], None, &[None], None),
 ];
+
+const LONG: [Task; 2] = [(1, 100, 30, Some(10)), (1, 100, 20, None)];
+
+const LONG_JOBS: [Work; 2] = [(0, 0, &[(12, Some(8)), (5, None)]), (1, 5, &[(10, None)])];
+
+const ASKS: Answers = (Phase::Asking(0, Q), true, false, true, Some(12));
+
+const KEEPS: Answers = (Phase::Asking(0, Q), true, true, false, Some(12));
+
+/// A stretch ends where a job is released, where local ticks end, where a request ends and where a job ends; one of them is
+/// taken in two parts, and the last lasts for ever.
+const BY_STRETCHES: [Stretch; 7] = [
+    (
+        (&[RUNS, COMES], [Some(0), None], None, &[Some(0)], None),
+        5,
+        5,
+    ),
+    (
+        (&[RUNS, RUNS], [Some(0), Some(1)], None, &[Some(0)], None),
+        7,
+        7,
+    ),
+    (
+        (&[ASKS, RUNS], [Some(0), Some(1)], None, &[Some(0)], Some(0)),
+        8,
+        3,
+    ),
+    (
+        (
+            &[KEEPS, RUNS],
+            [Some(0), Some(1)],
+            Some(0),
+            &[Some(0)],
+            Some(0),
+        ),
+        5,
+        5,
+    ),
+    (
+        (&[RUNS, RUNS], [Some(0), Some(1)], Some(0), &[Some(0)], None),
+        5,
+        5,
+    ),
+    (
+        (&[ENDED, RUNS], [None, Some(1)], None, &[Some(1)], None),
+        10,
+        10,
+    ),
+    (
+        (&[ENDED, ENDED], [None, None], None, &[None], None),
+        1_000_000_000,
+        999_999_965,
+    ),
+];
+
+#[test]
+fn takes_rows_by_stretches(rt: HostRuntime) -> Result<(), Fail> {
+    let set = set_of(rt.alloc(), 1, &LONG)?;
+    let jobs = list_of(rt.alloc(), &set, &LONG_JOBS)?;
+    assert_eq!(rt;
+        first_other_stretch(rt.alloc(), &jobs, &BY_STRETCHES)?,
+        None
+    );
+    Ok(())
+}
 
 #[test]
 fn answers_of_the_rows_that_it_took(rt: HostRuntime) -> Result<(), Fail> {

@@ -5,7 +5,7 @@ mod conforming;
 mod counts;
 mod judging;
 mod measures;
-mod runs;
+pub mod runs;
 
 pub use conforming::{Unlawful, conform, conform_with};
 pub use measures::{Measured, TaskMeasure};

@@ -6,7 +6,7 @@ ghost use Rattle.trace_conform.specs.Runs.{run_of};
 use schedule_model::{RowList, RowRun};
 
 /// How many runs of equal rows are there?
-pub(crate) fn count_of(rows: &RowList) -> usize
+pub fn count_of(rows: &RowList) -> usize
     ensures value { result ≡ length rows.now.runs }
     ensures listed { IsRowList rows.now }
 {
@@ -14,7 +14,7 @@ pub(crate) fn count_of(rows: &RowList) -> usize
 }
 
 /// Run number `i`.
-pub(crate) fn run_at(rows: &RowList, i: usize) -> &RowRun
+pub fn run_at(rows: &RowList, i: usize) -> &RowRun
     requires { i < length rows.now.runs }
     ensures value { run_seen result.now ≡ run_of rows.now.runs i }
     ensures listed { IsRowList rows.now }

@@ -18,6 +18,8 @@ def many(tasks=1, resources=0, processors=1, requests=0):
     return task_set(processors, [resource(f"r{k}") for k in range(resources)], *listed)
 
 
+LONG = task_set(1, [], task("t1", 1, 1000, 999), task("t2", 1, 10**9, 1500))
+
 VERDICTS = [
     analysed("the least bounds under FMLP+", "analyse fmlp+ set", PAIR_CERTIFICATE, PAIR),
     analysed("the same under DPCP", "analyse dpcp set", certificate("dpcp", [5, 5], [[2, 0, 0], [1, 0]]), PAIR),
@@ -30,6 +32,8 @@ VERDICTS = [
     analysed("one unit too few", "analyse fmlp+ set 7", "allowance\n", PAIR, 6),
     analysed("the greatest allowance", "analyse fmlp+ set 1000000000", PAIR_CERTIFICATE, PAIR),
     analysed("no home is needed under MPCP", "analyse mpcp set", certificate("mpcp", [5, 5], [[2, 0, 0], [1, 0]]), pair([resource("q")])),
+    # after k jobs of t1 the bound of t2 is 1500 + 999 k, so it stands still at 1,500 jobs, one or two more in each round
+    analysed("more than a thousand rounds", "analyse fmlp+ set", certificate("fmlp+", [999, 1500000], [[], []]), LONG),
     # each of the first task's four requests waits for one of each of the seven other tasks that share its resources, a tick each
     analysed("a set with as much of all as a set may have", "analyse fmlp+ set", f"not shown {NAMES[0]} 1000000028 1000000000\n", GREATEST, 1),
     analysed("64 tasks without requests", "analyse fmlp+ set", certificate("fmlp+", list(range(1, 65)), 64 * [[]]), many(tasks=64)),

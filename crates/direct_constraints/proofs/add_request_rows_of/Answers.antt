@@ -6,5 +6,5 @@ use Rattle.direct_constraints.specs.Rows.{request_row}
 use Rattle.direct_constraints.proofs.add_request_rows_of.Goals as goal
 
 pub loop-q-preserved : goal.loop-q-preserved
-loop-q-preserved c = next_rows (block_seen c.args.block.now) (block_seen c.loop-q.block) (block_seen c.add_row.new.block) (map column_seen c.args.columns.now) c.args.bounds.now
-    (λ q. request_row c.args.set.now c.args.i.0 c.args.x.0 q ∷ []) c.loop-q.q c.loop-q.invariant c.in_ok-add_row.ensures
+loop-q-preserved c = next_rows (block_seen c.args.block.now) (block_seen c.loop-q.block) (block_seen c.add_request_row.new.block) (map column_seen c.args.columns.now) c.args.bounds.now
+    (λ q. request_row c.args.set.now c.args.i.0 c.args.x.0 q ∷ []) c.loop-q.q c.loop-q.invariant c.in_ok-add_request_row.ensures

@@ -1,17 +1,20 @@
-use Rattle.std.proofs.Common.{◌≡◌, ◌==◌, ◌&&◌, not, false, length, sym, ◌∙◌, arith, refl}
-use Rattle.bounded_sums.proofs.TestLaws.{any_below-from, any_below-none_from}
-use Rattle.fragments.specs.Columns.{is_path, have_one_processor}
+use Rattle.std.proofs.Common.{◌≡◌, ◌==◌, ◌&&◌, not, Bool, false, length, sym, ◌∙◌}
+use Rattle.std.proofs.lemmas.Bool.{and_left}
+use Rattle.bounded_sums.specs.Tests.{any_below}
+use Rattle.sporadic_model.specs.SetDef.{task_at}
+use Rattle.sporadic_model.specs.Users.{is_user}
+use Rattle.fragments.specs.Columns.{have_one_processor, may_run_before}
+use Rattle.fragments.proofs.Paths.{paths_by}
 use Rattle.fragments.proofs.columns.leads_by.Goals as goal
 
-pub returns-then-not-stands_beside : goal.returns-then-not-stands_beside
-returns-then-not-stands_beside c =
+pub returns-else-stands_behind : goal.returns-else-stands_behind
+returns-else-stands_behind c =
     let set = c.args.set.now in
-    let y = c.args.y.0 in
-    let apart : (have_one_processor set y c.args.c.task.0 && (not (y == c.args.c.task.0) && not (y == c.args.i.0))) ≡ false = sym c.stands_beside.ensures ∙ c.if-not-stands_beside.true in
-    sym (any_below-none_from (length set.resources) (λ r. is_path c.args.protocol set c.args.i.0 c.args.c.task.0 c.args.c.resource.0 y r) (λ r l. rw apart refl))
-
-pub returns-then-leads : goal.returns-then-leads
-returns-then-leads c =
-    let set = c.args.set.now in
-    sym (any_below-from (length set.resources) (λ r. is_path c.args.protocol set c.args.i.0 c.args.c.task.0 c.args.c.resource.0 c.args.y.0 r)
-    c.loop-r.r (omega arith) (sym c.leads.ensures ∙ c.if-leads.true))
+    let i = c.args.i.0 in
+    let x = c.args.c.task.0 in
+    let q = c.args.c.resource.0 in
+    let r = c.args.r.0 in
+    let behind : Bool = not (r == q) && (is_user set r i && may_run_before c.args.protocol set (task_at set x).processor q r) in
+    let beside : Bool = any_below (length set.tasks) (λ y. (have_one_processor set y x && (not (y == x) && not (y == i))) && is_user set r y) in
+    let none : behind ≡ false = sym c.stands_behind.ensures ∙ c.if-stands_behind.false in
+    c.if-stands_behind.false ∙ sym (paths_by c.args.protocol set i x q r ∙ and_left behind beside none)

@@ -1,0 +1,396 @@
+#!/usr/bin/env python3
+"""Times the judging of schedules (`trace_conform::conform_with`) beside a plain reading of the same rules in C, and prints the ratios.
+
+    python3 bench/conform.py [SEED]
+
+It wants `rt` and `cc` on the path. Sets of 20 tasks on 4 processors with 6 resources, up to 250 jobs of them and the schedules of these
+jobs over 10,000 to 1,000,000 ticks are made here, by a generator and a simulator of the script's own; each schedule is judged as runs
+of equal rows and, up to 100,000 ticks, with a row for each tick. Both answers must be the same, verdict, measures and all, and lawful.
+Reading the files is left out of both times. The program that judges is built in a temporary directory; building proves it and the
+crates below it, which takes some minutes. It is no test: no gate runs it, and it bounds nothing.
+"""
+import json
+import random
+import shutil
+import sys
+import tempfile
+from dataclasses import dataclass, field
+from pathlib import Path
+
+from commands import run
+
+TOP = Path(__file__).resolve().parent.parent
+PROTOCOLS = ["mpcp", "fmlp+", "dpcp"]
+PROCESSORS = 4
+RESOURCES = 6
+TASKS = 20
+TRIES = 3
+
+RATTLE = r"""//! Judges the schedule of the files beside it, and writes the verdict, the measures and the nanoseconds.
+#![tactic(auto)]
+
+ghost use Rattle.std.specs.Prelude.{◌≡◌, true};
+ghost use Rattle.schedule_model.specs.Fitting.{is_fitting};
+
+use dpcp_rules::Dpcp;
+use fmlp_rules::FmlpPlus;
+use mpcp_rules::Mpcp;
+use schedule_model::{JobList, RowList, Rule};
+use sporadic_model::{Protocol, TaskSet};
+use std::alloc::Global;
+use std::time::Instant;
+use std::{fs, io};
+use taskset_json::home_check;
+use trace_conform::{Measured, Unlawful, conform_with};
+
+fn judge(alloc: Global, name: &str, jobs: &JobList, rows: &RowList) -> Option<Result<Measured, Unlawful>>
+    requires { is_fitting rows.now jobs.now ≡ true }
+{
+    if name == "mpcp" {
+        return Some(conform_with(alloc, &Mpcp, jobs, rows));
+    }
+    if name == "fmlp+" {
+        return Some(conform_with(alloc, &FmlpPlus, jobs, rows));
+    }
+    if home_check(jobs.set(), Protocol::Dpcp).is_err() {
+        return None;
+    }
+    Some(conform_with(alloc, &Dpcp, jobs, rows))
+}
+
+fn rule_word(rule: Rule) -> &'static str {
+    match rule {
+        Rule::Run => "run",
+        Rule::Keep => "keep",
+        Rule::Grant => "grant",
+        Rule::Idle => "idle",
+        Rule::Priority => "priority",
+    }
+}
+
+fn set_of(alloc: Global, text: &[u8]) -> Option<TaskSet> {
+    if text.len() >= 2_147_483_648 {
+        return None;
+    }
+    taskset_json::read(alloc, text).ok()
+}
+
+fn main(rt: HostRuntime) -> io::Result<()> {
+    let name = fs::read_to_string(&rt, "protocol.txt")?;
+    let set = fs::read(&rt, "set.json")?;
+    let jobs = fs::read(&rt, "jobs.csv")?;
+    let rows = fs::read(&rt, "rows.csv")?;
+    let Some(set) = set_of(rt.alloc(), &set) else {
+        println!(rt; "refused set")?;
+        return Ok(());
+    };
+    let Ok(jobs) = trace_csv::read_jobs(rt.alloc(), &set, &jobs) else {
+        println!(rt; "refused jobs")?;
+        return Ok(());
+    };
+    let Ok(rows) = trace_csv::read_rows(rt.alloc(), &jobs, &rows) else {
+        println!(rt; "refused rows")?;
+        return Ok(());
+    };
+    if !rows.fits(&jobs) {
+        println!(rt; "refused rows")?;
+        return Ok(());
+    }
+    let start = Instant::now(&rt)?;
+    let answer = judge(rt.alloc(), name.as_str(), &jobs, &rows);
+    let took = start.elapsed(&rt)?.as_nanos();
+    match answer {
+        Some(Ok(measured)) => {
+            let ticks = rows.ticks();
+            print!(rt; "lawful {ticks}")?;
+            for measure in &measured.tasks {
+                let finished = measure.finished;
+                let response = measure.response.unwrap_or(0);
+                let blocking = measure.blocking;
+                print!(rt; " | {finished} {response} {blocking}")?;
+            }
+        }
+        Some(Err(Unlawful::Broken { tick, rule })) => {
+            let rule = rule_word(rule);
+            print!(rt; "broken {tick} {rule}")?;
+        }
+        Some(Err(Unlawful::Memory)) => print!(rt; "memory")?,
+        None => print!(rt; "refused set")?,
+    }
+    println!(rt; "")?;
+    println!(rt; "{took}")?;
+    Ok(())
+}
+"""
+
+
+@dataclass
+class Task:
+    processor: int
+    period: int
+    cost: int
+    lengths: dict
+
+
+@dataclass
+class Job:
+    task: int
+    release: int
+    segments: list  # (local ticks, resource or None, length)
+    at: int = 0
+    into: int = 0
+    issued: int = 0
+
+    def over(self):
+        return self.at == len(self.segments)
+
+    def asked(self):
+        """The resource that it requests now, or None where it is Local."""
+        local, resource, _ = self.segments[self.at]
+        return resource if self.into >= local else None
+
+    def left(self):
+        """The ticks until its phase ends."""
+        local, _, length = self.segments[self.at]
+        return local - self.into if self.into < local else local + length - self.into
+
+
+@dataclass
+class State:
+    tick: int = 0
+    holders: list = field(default_factory=lambda: [None] * RESOURCES)
+
+
+def make_tasks(draw, ticks):
+    tasks = []
+    for x in range(TASKS):
+        period = ticks // draw.randint(8, 15)
+        cost = max(period * draw.randint(60, 130) // 1000, 8)
+        lengths = {q: draw.randint(1, max(cost // 6, 1)) for q in draw.sample(range(RESOURCES), draw.randint(1, 3))}
+        tasks.append(Task(x % PROCESSORS, period, cost, lengths))
+    return sorted(tasks, key=lambda task: task.period)
+
+
+def make_jobs(draw, tasks, ticks):
+    jobs = []
+    for x, task in enumerate(tasks):
+        for release in range(draw.randrange(task.period), ticks, task.period):
+            left = task.cost - sum(task.lengths.values())
+            segments = []
+            for q, length in task.lengths.items():
+                local = draw.randint(1, max(left // 3, 1))
+                left -= local
+                segments.append((local, q, length))
+            segments.append((max(left, 1), None, 0))
+            jobs.append(Job(x, release, segments))
+    return jobs[:250]
+
+
+def homes():
+    return [q % PROCESSORS for q in range(RESOURCES)]
+
+
+class Simulator:
+    """Chooses rows by the rules, a stretch of equal ones at a time."""
+
+    def __init__(self, protocol, tasks, jobs):
+        self.protocol, self.tasks, self.jobs = protocol, tasks, jobs
+        self.state = State()
+        self.queues = [[job for job in jobs if job.task == x] for x in range(len(tasks))]
+        self.users = [[x for x, task in enumerate(tasks) if q in task.lengths] for q in range(RESOURCES)]
+
+    def active(self):
+        """The active job of each task that has one, from the highest."""
+        firsts = [next((job for job in queue if not job.over()), None) for queue in self.queues]
+        return [job for job in firsts if job is not None and job.release <= self.state.tick]
+
+    def boost(self, q, k):
+        others = [x for x in self.users[q] if self.tasks[x].processor != k]
+        return min(others or self.users[q])
+
+    def grant(self, active):
+        kept = [h if h in active and h.asked() == q else None for q, h in enumerate(self.state.holders)]
+        waiting = [job for job in active if job.asked() is not None and kept[job.asked()] is not job]
+        if self.protocol == "dpcp":
+            return self.grant_at_homes(kept, waiting)
+        holders = list(kept)
+        for q in range(RESOURCES):
+            asking = [job for job in waiting if job.asked() == q]
+            if holders[q] is None and asking:
+                holders[q] = min(asking, key=lambda job: (job.issued if self.protocol == "fmlp+" else 0, job.task))
+        return holders
+
+    def grant_at_homes(self, kept, waiting):
+        holders = list(kept)
+        for k in range(PROCESSORS):
+            asking = [job for job in waiting if homes()[job.asked()] == k]
+            ceiling = min([min(self.users[q]) for q, h in enumerate(kept) if h is not None and homes()[q] == k], default=TASKS)
+            if asking and asking[0].task < ceiling:
+                holders[asking[0].asked()] = asking[0]
+        return holders
+
+    def run_on(self, k, active, holders):
+        if self.protocol == "dpcp":
+            held = [job for job in active if job.asked() is not None and homes()[job.asked()] == k and holders[job.asked()] is job]
+            local = [job for job in active if job.asked() is None and self.tasks[job.task].processor == k]
+            return next(iter(held + local), None)
+        own = [job for job in active if self.tasks[job.task].processor == k]
+        held = [job for job in own if job.asked() is not None and holders[job.asked()] is job]
+        rank = (lambda job: job.issued) if self.protocol == "fmlp+" else (lambda job: self.boost(job.asked(), k))
+        if held:
+            return min(held, key=lambda job: (rank(job), job.task))
+        return next((job for job in own if job.asked() is None), None)
+
+    def step(self, ticks):
+        """The next stretch of equal rows: its ticks, what runs and who holds."""
+        active = self.active()
+        holders = self.grant(active)
+        running = [self.run_on(k, active, holders) for k in range(PROCESSORS)]
+        releases = [job.release for job in self.jobs if job.release > self.state.tick]
+        ends = [job.left() for job in running if job is not None]
+        stretch = min(ends + [release - self.state.tick for release in releases] + [ticks - self.state.tick])
+        self.state = State(self.state.tick + stretch, holders)
+        for job in running:
+            if job is not None:
+                self.advance(job, stretch)
+        return stretch, running, holders
+
+    def advance(self, job, stretch):
+        local, resource, length = job.segments[job.at]
+        job.into += stretch
+        if job.into == local and resource is not None:
+            job.issued = self.state.tick
+        if job.into == local + length:
+            job.at, job.into = job.at + 1, 0
+
+    def schedule(self, ticks):
+        runs = []
+        while self.state.tick < ticks:
+            runs.append(self.step(ticks))
+        return runs
+
+
+def set_text(tasks):
+    resources = [{"name": f"r{q}", "home": home + 1} for q, home in enumerate(homes())]
+    listed = []
+    for x, task in enumerate(tasks):
+        requests = [{"resource": f"r{q}", "count": 1, "length": length} for q, length in task.lengths.items()]
+        listed.append({"name": f"t{x}", "processor": task.processor + 1, "period": task.period, "cost": task.cost, "requests": requests})
+    return json.dumps({"processors": PROCESSORS, "resources": resources, "tasks": listed})
+
+
+def jobs_text(jobs):
+    lines = ["task,release,script"]
+    for job in jobs:
+        script = " ".join(f"{local} r{q}:{length}" if q is not None else f"{local}" for local, q, length in job.segments)
+        lines.append(f"t{job.task},{job.release},{script}")
+    return "\n".join(lines) + "\n"
+
+
+def rows_text(runs):
+    lines = [",".join(["ticks"] + [f"P{k + 1}" for k in range(PROCESSORS)] + [f"r{q}" for q in range(RESOURCES)])]
+    lines += [",".join([str(ticks)] + [str(cell or "") for cell in running + holders]) for ticks, running, holders in runs]
+    return "\n".join(lines) + "\n"
+
+
+def numbers_text(protocol, tasks, jobs, runs):
+    """The same as the numbers that the plain program reads."""
+    words = [PROTOCOLS.index(protocol), PROCESSORS, RESOURCES, len(tasks), len(jobs), len(runs)]
+    words += [home + 1 for home in homes()]
+    for task in tasks:
+        words += [task.processor + 1] + [int(q in task.lengths) for q in range(RESOURCES)]
+    for job in jobs:
+        words += [job.task + 1, job.release, len(job.segments)]
+        for local, q, length in job.segments:
+            words += [local, 0 if q is None else q + 1, length]
+    for ticks, running, holders in runs:
+        words += [ticks] + running + holders
+    return " ".join(map(str, words))
+
+
+def closure(names):
+    """The repository's crates that these stand on, with them, and the lines of crates.txt."""
+    lines = dict(line.split(":", 1) for line in (TOP / "crates.txt").read_text().splitlines() if line and not line.startswith("#"))
+    needed = []
+    while names:
+        name = names.pop()
+        if name in lines and name not in needed:
+            needed.append(name)
+            names += lines[name].split()
+    return [(name, lines[name]) for name in needed]
+
+
+def build(folder):
+    uses = "trace_conform trace_csv taskset_json mpcp_rules fmlp_rules dpcp_rules schedule_model sporadic_model"
+    crates = closure(uses.split())
+    for name, _ in crates:
+        shutil.copytree(TOP / "crates" / name, folder / "crates" / name, ignore=shutil.ignore_patterns("out", "must-fail"))
+    crate = folder / "crates" / "conform_bench"
+    (crate / "src").mkdir(parents=True)
+    (crate / "src" / "main.rt").write_text(RATTLE)
+    lines = [f"{name}:{needs}" for name, needs in crates] + [f"conform_bench: {uses}"]
+    (folder / "crates.txt").write_text("\n".join(lines) + "\n")
+    # the run that builds it is refused its empty files
+    for name in ("protocol.txt", "set.json", "jobs.csv", "rows.csv"):
+        (crate / name).write_text("")
+    run(["rt", "run"], crate)
+    return crate / "out" / "conform_bench"
+
+
+def best(command, folder):
+    """The answer, and the least time of some tries in nanoseconds."""
+    answers = [run(command, folder).splitlines() for _ in range(TRIES)]
+    return answers[0][0], min(int(answer[1]) for answer in answers)
+
+
+def numbered(jobs, runs):
+    """The runs with the jobs' numbers, from 1; 0 for none."""
+    number = {id(job): j + 1 for j, job in enumerate(jobs)}
+    cells = lambda row: [number[id(job)] if job is not None else 0 for job in row]
+    return [(ticks, cells(running), cells(holders)) for ticks, running, holders in runs]
+
+
+def joined(runs):
+    """The runs with equal neighbours made one."""
+    whole = []
+    for ticks, running, holders in runs:
+        if whole and whole[-1][1:] == (running, holders):
+            ticks += whole.pop()[0]
+        whole.append((ticks, running, holders))
+    return whole
+
+
+def measure(folder, ours, plain, protocol, tasks, jobs, runs):
+    (folder / "protocol.txt").write_text(protocol)
+    (folder / "set.json").write_text(set_text(tasks))
+    (folder / "jobs.csv").write_text(jobs_text(jobs))
+    (folder / "rows.csv").write_text(rows_text(runs))
+    (folder / "numbers.txt").write_text(numbers_text(protocol, tasks, jobs, runs))
+    answer, took = best([ours], folder)
+    other, spent = best([plain, "numbers.txt"], folder)
+    if answer != other or not answer.startswith("lawful"):
+        sys.exit(f"{protocol}: {answer[:300]}, and the plain reading says {other[:300]}")
+    ticks = sum(run[0] for run in runs)
+    print(f"{protocol:6} {ticks:8} ticks {len(runs):7} runs {len(jobs):4} jobs: {took / ticks:8.1f} ns a tick, {took / len(runs):10.0f} ns a run;"
+          f" plain C {spent / ticks:8.1f} ns a tick; conform / plain C = {took / spent:.2f}", flush=True)
+
+
+def main():
+    seed = int(sys.argv[1]) if len(sys.argv) > 1 else 1
+    with tempfile.TemporaryDirectory() as name:
+        folder = Path(name)
+        run(["cc", "-O2", TOP / "bench" / "plain_conform.c", "-o", "plain_conform"], folder)
+        ours = build(folder)
+        for ticks in (10_000, 100_000, 1_000_000):
+            for protocol in PROTOCOLS:
+                draw = random.Random(seed)
+                tasks = make_tasks(draw, ticks)
+                jobs = make_jobs(draw, tasks, ticks)
+                runs = joined(numbered(jobs, Simulator(protocol, tasks, jobs).schedule(ticks)))
+                measure(folder, ours, folder / "plain_conform", protocol, tasks, jobs, runs)
+                if ticks <= 100_000:
+                    single = [(1, *run[1:]) for run in runs for _ in range(run[0])]
+                    measure(folder, ours, folder / "plain_conform", protocol, tasks, jobs, single)
+
+
+main()

@@ -1,0 +1,301 @@
+#!/usr/bin/env python3
+"""Bends the inputs of every command at random, for as long as it is told, and shows each run of the program that ends as none may.
+
+    python3 bench/fuzz.py [PROGRAM] [--seconds N] [--seed N] [--only COMMAND] [--limit SECONDS] [--jobs N] [--keep FOLDER]
+
+A find is a run that a signal ends, that takes longer than the limit, that ends with a status which no run over plain files has, that
+writes something to standard error, or whose text isn't of a form of its status; and a certificate that `analyse` writes and `check`
+doesn't call valid, or a schedule that `simulate` writes and `conform` doesn't call lawful. Its inputs are kept in FOLDER (finds/ where none is given),
+and the script ends with status 1. PROGRAM is what `rt ci` or `./block` built, where none is given. A command that the program doesn't
+have is left out with a word. Run number N of a seed always bends the same inputs in the same way.
+
+It needs Python's standard library alone. It is no test: no gate runs it.
+"""
+import argparse
+import concurrent.futures
+import itertools
+import json
+import random
+import re
+import subprocess
+import sys
+import tempfile
+import time
+from pathlib import Path
+
+TOP = Path(__file__).resolve().parent.parent
+EXAMPLES = TOP / "examples"
+PROTOCOLS = ("mpcp", "fmlp+", "dpcp")
+
+NUMBERS = [0, 1, 2, 9, 10, 31, 32, 33, 63, 64, 65, 255, 256, 257, 999, 1000, 1001, 10**5, 10**9 - 1, 10**9, 10**9 + 1, 2**31, 2**32 - 1, 2**32]
+NUMBERS += [2**53, 2**63 - 1, 2**63, 2**64 - 1, 2**64, 10**30]
+PIECES = [b'""', b"null", b"true", b"-1", b"-0", b"1.0", b"1e3", b"1e400", b"01", b"[]", b"{}", b"[[", b"}}", b'{"', b",", b":", b"\n", b"\r", b"\r\n", b'"']
+PIECES += [b"\xef\xbb\xbf", b"\xff", b"\x00", b"\\u0000", b"\\ud800", b" ", b"\t", b"t1", b"control", b"bus", b":1", b"P1", b"ticks", b"task", b"[" * 130, b"1," * 200]
+
+# the texts that each status may come with; of a text that isn't whole there is none, since nothing here spoils standard output
+NAME = rb"[A-Za-z0-9_.-]{1,32}"
+PLACE = rb"(root|(resource|task) [0-9]+|request [0-9]+ [0-9]+)"
+SET_REASON = rb"(absent|toolong|notjson|notask|shape %s|size (processors|tasks|resources|requests)|(name|twicename|processor|period|deadline|cost|local|resource|twicerequest|count|length|home|nohome) %s)" % (PLACE, PLACE)
+CERT_REASON = rb"(absent|toolong|notjson|shape (root|bounds|dual [0-9]+)|version|otherprotocol)"
+LINE_REASON = rb"(absent|toolong( [0-9]+)?|(fields|number|unknownname|script|overbudget|tooclose|toomany|unknownjob) [0-9]+)"
+ANSWERS = {
+    0: {
+        "analyse": rb'\{"bounds":\[[0-9,]+\],"duals":\[.*\],"protocol":"(mpcp|fmlp\+|dpcp)","verdict":"schedulable","version":1\}\n',
+        "report": rb"task {28}cpu .*\n(.*\n)+(load [0-9]+ [0-9]+\n)+",
+        "check": rb"valid\n",
+        "conform": rb"lawful [0-9]+\n(%s [0-9]+ ([0-9]+|-) [0-9]+\n)+" % NAME,
+        "simulate": rb"ticks(,[A-Za-z0-9_.-]+)+\n([0-9]+(,[0-9]*)+\n)+",
+        "audit": rb"kept [0-9]+\n(%s ([0-9]+|-)( [0-9]+){6}\n)+" % NAME,
+        "study": rb"step mpcp fmlp\+ dpcp\n([1-8]( [0-9]+){3}\n){8}stopped [0-9]+\n",
+    },
+    1: rb"(not shown %s [0-9]+ [0-9]+|invalid (size|(bound|dualsize|small) %s|cover %s [0-9]+)|broken [0-9]+ (run|keep|grant|idle|priority))\n" % (NAME, NAME, NAME),
+    2: rb"refused words\n",
+    3: rb"refused (set %s|cert %s|(jobs|rows) %s)\n" % (SET_REASON, CERT_REASON, LINE_REASON),
+    5: rb"wide %s\n" % NAME,
+    6: rb"allowance\n",
+    7: rb"",
+}
+
+
+class Command:
+    """A command with inputs that it accepts: its words, in which a name in braces stands for a file, and what the files hold."""
+
+    def __init__(self, words, files):
+        self.words = words.split()
+        self.files = files
+        self.name = self.words[0]
+
+    def run(self, program, folder, files, words, limit):
+        """The status, what was written, and what was written to standard error; None for a status where the limit passed."""
+        for name, text in files.items():
+            (folder / name).write_bytes(text)
+        try:
+            ran = subprocess.run([program, *words], cwd=folder, stdin=subprocess.DEVNULL, capture_output=True, timeout=limit)
+        except subprocess.TimeoutExpired:
+            return None, b"", b""
+        return ran.returncode, ran.stdout, ran.stderr
+
+
+def example(name):
+    return (EXAMPLES / name).read_bytes()
+
+
+def base_commands(program, folder):
+    """Each command over examples that it accepts. Certificates and schedules come from the program itself, where it makes some."""
+    found = []
+    for protocol in PROTOCOLS:
+        for name in ("pair.json", "plant.json", "shared.json", "three.json", "overloaded.json"):
+            text = example(name)
+            if protocol == "dpcp" and b"home" not in text and b"resources" in text:
+                continue
+            found.append(Command(f"analyse {protocol} set", {"set": text}))
+            found.append(Command(f"analyse {protocol} set 1000", {"set": text}))
+            found.append(Command(f"report {protocol} set", {"set": text}))
+            status, certificate, _ = found[-3].run(program, folder, {"set": text}, found[-3].words, 600)
+            if status == 0:
+                found.append(Command(f"check {protocol} set cert", {"set": text, "cert": certificate}))
+                found.append(Command(f"report {protocol} set cert", {"set": text, "cert": certificate}))
+            if name == "pair.json":
+                found += over_schedules(protocol, text, certificate)
+    return [*found, Command("study 0 1", {})]
+
+
+def over_schedules(protocol, text, certificate):
+    files = {"set": text, "jobs": example("pair-jobs.csv"), "rows": example("pair-rows.csv")}
+    return [
+        Command(f"conform {protocol} set jobs rows", files),
+        Command(f"audit {protocol} set cert jobs rows", {**files, "cert": certificate}),
+        Command(f"simulate {protocol} set jobs 50", {"set": text, "jobs": files["jobs"]}),
+    ]
+
+
+def known_commands(program, folder):
+    """The commands that the program has."""
+    known, lacking = [], set()
+    for command in base_commands(program, folder):
+        status, _, _ = command.run(program, folder, command.files, command.words, 600)
+        if status == 2:
+            lacking.add(" ".join(command.words[:2] + ["cert"] * ("cert" in command.files)))
+        else:
+            known.append(command)
+    for words in sorted(lacking):
+        print(f"left out, since the program has no such command: {words}")
+    return known
+
+
+def other_number(text, rng):
+    """A number of the text becomes another one."""
+    found = list(re.finditer(rb"[0-9]+", text))
+    if not found:
+        return text
+    at = rng.choice(found)
+    near = [str(max(0, int(at[0]) + step)) for step in (-1, 1)] if len(at[0]) < 30 else []
+    number = rng.choice([*near, str(rng.choice(NUMBERS)), str(rng.choice(NUMBERS))])
+    return text[: at.start()] + number.encode() + text[at.end() :]
+
+
+def other_word(text, rng):
+    """A word of the text becomes another word of it."""
+    found = list(re.finditer(rb'"?[A-Za-z_][A-Za-z0-9_.+-]*"?', text))
+    if not found:
+        return text
+    at, by = rng.choice(found), rng.choice(found)
+    return text[: at.start()] + by[0] + text[at.end() :]
+
+
+def other_byte(text, rng):
+    at = rng.randrange(len(text) + 1)
+    return text[:at] + bytes([rng.choice([rng.randrange(256), *b'0123456789",:{}[]\n'])]) + text[at + rng.randrange(2) :]
+
+
+def without_slice(text, rng):
+    start = rng.randrange(len(text) + 1)
+    return text[:start] + text[start + rng.choice([1, 1, 2, 5, 20, 200]) :]
+
+
+def with_slice_again(text, rng):
+    start = rng.randrange(len(text) + 1)
+    part = text[start : start + rng.choice([1, 3, 10, 40, 200])]
+    at = rng.choice([start, rng.randrange(len(text) + 1)])
+    return text[:at] + part * rng.choice([1, 1, 2, 30]) + text[at:]
+
+
+def with_piece(text, rng):
+    at = rng.randrange(len(text) + 1)
+    return text[:at] + rng.choice(PIECES) + text[at:]
+
+
+def with_other_lines(text, rng):
+    """Two lines change places, or one comes again or goes."""
+    lines = text.splitlines(keepends=True)
+    if len(lines) < 2:
+        return text
+    a, b = rng.randrange(len(lines)), rng.randrange(len(lines))
+    way = rng.randrange(3)
+    if way == 0:
+        lines[a], lines[b] = lines[b], lines[a]
+    elif way == 1:
+        lines.insert(a, lines[b])
+    else:
+        del lines[a]
+    return b"".join(lines)
+
+
+def cut(text, rng):
+    return text[: rng.randrange(len(text) + 1)]
+
+
+# what leaves the form as it is, and what may break it
+MILD = [other_number, other_number, other_number, other_word, with_other_lines]
+ROUGH = [other_byte, without_slice, with_slice_again, with_piece, cut]
+
+
+def bent(command, rng):
+    """The command's files and words, with some of them bent."""
+    files, words = dict(command.files), list(command.words)
+    if not files or rng.randrange(40) == 0:
+        at = rng.randrange(len(words))
+        words[at] = rng.choice([*PROTOCOLS, "set", "", "-1", "08", "+1", str(rng.choice(NUMBERS)), words[at] + " ", words[at] * 2])
+    bends = rng.choice([MILD, MILD + ROUGH])
+    for _ in range(rng.choice([1, 1, 1, 2, 3, 8]) if files else 0):
+        name = rng.choice(list(files))
+        bend = rng.choice(bends)
+        files[name] = bend(files[name], rng) if files[name] else files[name]
+    return files, words
+
+
+def complaint(words, files, status, written, error):
+    """What is wrong with how a run ended, or None."""
+    if status is None:
+        return "it had not ended at the limit"
+    if status < 0:
+        return f"signal {-status} ended it"
+    if error:
+        return f"it wrote to standard error: {error[:200]!r}"
+    # a bent word may be a path that leads to no plain file
+    if status == 4 and re.fullmatch(rb"fault read (set|cert|jobs|rows)\n", written) and any(word not in files for word in words[2:]):
+        return None
+    form = ANSWERS.get(status)
+    if isinstance(form, dict):
+        form = form.get(words[0])
+    if form is None:
+        return f"it ended with status {status}"
+    return None if re.fullmatch(form, written) else f"with status {status} it wrote {written[:200]!r}"
+
+
+def disagreement(program, folder, known, words, files, written, limit):
+    """What is wrong with a certificate or a schedule that the program wrote, by its own judgement, or None. It is kept among the files."""
+    name, kind = ("cert", ("check", 2)) if words[0] == "analyse" else ("rows", ("conform", 3))
+    if words[0] not in ("analyse", "simulate") or kind not in known or name in files:
+        return None
+    files[name] = written
+    judging = [kind[0], *words[1 : 3 if name == "cert" else 4], name]
+    status, answer, error = Command(" ".join(judging), files).run(program, folder, {name: written}, judging, limit)
+    is_well = status == 0 and not error and answer.startswith(b"valid\n" if name == "cert" else b"lawful %s\n" % words[-1].encode())
+    return None if is_well else f"{' '.join(judging)} says of what it wrote, with status {status}: {answer[:200]!r}"
+
+
+def one_run(program, commands, seed, number, limit):
+    """A run: the status, and what is wrong with it, its command's words and its files, or None."""
+    rng = random.Random(f"{seed} {number}")
+    known = {(command.name, len(command.files)) for command in commands}
+    kind = rng.choice(sorted(known))
+    command = rng.choice([command for command in commands if (command.name, len(command.files)) == kind])
+    files, words = bent(command, rng)
+    with tempfile.TemporaryDirectory(prefix="fuzz-") as name:
+        status, written, error = command.run(program, Path(name), files, words, limit)
+        why = complaint(words, files, status, written, error)
+        if why is None and status == 0:
+            why = disagreement(program, Path(name), known, words, files, written, limit)
+    return command.name, status, (why, words, files) if why else None
+
+
+def keep(folder, seed, number, why, words, files):
+    at = Path(folder) / f"{seed}-{number}"
+    at.mkdir(parents=True, exist_ok=True)
+    for name, text in files.items():
+        (at / name).write_bytes(text)
+    (at / "find.json").write_text(json.dumps({"words": words, "why": why}, indent=1) + "\n")
+    print(f"FIND {seed}-{number}: {' '.join(words)}: {why}; kept in {at}", flush=True)
+
+
+def arguments():
+    given = argparse.ArgumentParser()
+    given.add_argument("program", nargs="?", default=str(TOP / "crates" / "block_cli" / "out" / "block_cli"))
+    given.add_argument("--seconds", type=float, default=60)
+    given.add_argument("--seed", default="1")
+    given.add_argument("--only", default="")
+    given.add_argument("--limit", type=float, default=60)
+    given.add_argument("--jobs", type=int, default=1)
+    given.add_argument("--keep", default="finds")
+    return given.parse_args()
+
+
+def main():
+    given = arguments()
+    program = str(Path(given.program).resolve())
+    if not Path(program).is_file():
+        sys.exit(f"{program} is missing: ./block builds it, and so does rt ci")
+    with tempfile.TemporaryDirectory(prefix="fuzz-") as name:
+        commands = [command for command in known_commands(program, Path(name)) if given.only in command.name]
+    if not commands:
+        sys.exit("there is no such command")
+    end = time.monotonic() + given.seconds
+    counts, finds, ends = {}, 0, {}
+    numbers = itertools.count()
+    with concurrent.futures.ThreadPoolExecutor(given.jobs) as pool:
+        while time.monotonic() < end:
+            batch = list(itertools.islice(numbers, 25 * given.jobs))
+            for number, (command, status, find) in zip(batch, pool.map(lambda n: one_run(program, commands, given.seed, n, given.limit), batch)):
+                counts[command] = counts.get(command, 0) + 1
+                ends[status] = ends.get(status, 0) + 1
+                if find:
+                    finds += 1
+                    keep(given.keep, given.seed, number, *find)
+    print("runs:", ", ".join(f"{count} of {command}" for command, count in sorted(counts.items())))
+    print("ends:", ", ".join(f"{count} with status {status}" for status, count in sorted(ends.items(), key=str)))
+    print(f"{finds} finds in {given.seconds:.0f} seconds")
+    sys.exit(1 if finds else 0)
+
+
+main()

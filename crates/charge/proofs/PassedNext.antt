@@ -1,0 +1,120 @@
+-- Which jobs have passed their bounds, one tick later: those before, and those that are due now. For the first of all it is enough to
+-- look at the active jobs.
+use Rattle.std.proofs.Common.{◌≡◌, ℕ, ◌+◌, ◌<◌, ◌≤◌, ◌==◌, ◌||◌, Bool, true, false, List, length, refl, sym, ap, ◌∙◌, arith, inl, inr, None}
+use Rattle.std.specs.Prelude.{nat_le, slice_index}
+use Rattle.std.proofs.lemmas.Bool.{cases_lt, cases_Bool, or_cases, or_left, or_right, and_parts, and_from, and_cases, not-true, not-false, not_from_false, leb-true, le-leb, eqb-true, eq-eqb, both_ways}
+use Rattle.bounded_sums.specs.Tests.{found_below}
+use Rattle.sporadic_model.specs.SetDef.{task_at}
+use Rattle.sporadic_model.specs.Accepted.{TaskNumbers}
+use Rattle.schedule_model.specs.JobDef.{job_of}
+use Rattle.schedule_model.specs.LawfulJobs.{AreLawfulJobs}
+use Rattle.schedule_model.specs.RowDef.{RowDef, Trace, jobs_of}
+use Rattle.schedule_model.specs.Phase.{is_finished, phase_of}
+use Rattle.schedule_model.specs.Phase.Phase.{Finished}
+use Rattle.schedule_model.specs.Activity.{task_of, is_active}
+use Rattle.schedule_laws.proofs.Ticks.{finished_true, finished_stays}
+use Rattle.schedule_laws.proofs.ActiveJobs.{Active, active_is, active_from}
+use Rattle.phase_machine.specs.MachineDef.{MachineDef, under}
+use Rattle.phase_machine.specs.Shows.{Shows}
+use Rattle.phase_machine.proofs.Facts.{active_shown}
+use Rattle.charge_model.specs.Windows.{AreBounds, bound_end}
+use Rattle.charge.specs.Passed.{has_passed, first_passed}
+use Rattle.charge.specs.Due.{is_due}
+use Rattle.charge.proofs.Passing.{found_same, nothing_from}
+
+abbrev HaveNumbers : Trace → Type 0
+HaveNumbers w = (x : ℕ) → x < length w.set.tasks → TaskNumbers w.set x
+
+-- A job that has passed its bound.
+record Passed (w : Trace) (bound : ℕ → ℕ) (n j : ℕ) : Type 0 where
+  within : bound_end w bound j ≤ n
+  unfinished : is_finished (phase_of w (bound_end w bound j) j) ≡ false
+
+passed_is : (w : Trace) (bound : ℕ → ℕ) (n j : ℕ) → has_passed w bound n j ≡ true → Passed w bound n j
+unfolding has_passed
+passed_is w bound n j h =
+    let parts : (nat_le (bound_end w bound j) n ≡ true) × (_ ≡ true) = and_parts _ _ h in
+    record { within = leb-true _ _ parts.0; unfinished = not-true _ parts.1 }
+
+passed_from : (w : Trace) (bound : ℕ → ℕ) (n j : ℕ) → Passed w bound n j → has_passed w bound n j ≡ true
+unfolding has_passed
+passed_from w bound n j p = and_from _ _ (le-leb _ _ p.within) (not_from_false _ p.unfinished)
+
+-- One whose bound has come and that hasn't passed it was finished by then.
+pub passed_not : (w : Trace) (bound : ℕ → ℕ) (n j : ℕ) → has_passed w bound n j ≡ false → bound_end w bound j ≤ n
+    → phase_of w (bound_end w bound j) j ≡ Finished
+unfolding has_passed
+passed_not w bound n j h within = elim (and_cases _ _ h) [
+  | inl late ↦ absurd (both_ways _ late (le-leb _ _ within))
+  | inr finished ↦ finished_true _ (not-false _ finished)
+]
+
+-- Before the first row none has.
+pub none_passed : (w : Trace) (bound : ℕ → ℕ) → AreLawfulJobs (jobs_of w) → AreBounds w.set bound → first_passed w bound 0 ≡ None
+none_passed w bound lawful bounds = nothing_from (length w.jobs) (has_passed w bound 0) (λ j l. elim (cases_Bool (has_passed w bound 0 j)) [
+  | inr off ↦ off
+  | inl on ↦
+      let p : Passed w bound 0 j = passed_is w bound 0 j on in
+      absurd (omega (arith, p.within, bounds.from (task_of w j) (lawful.each j l).task))
+])
+
+-- The bound of an earlier job of the task ends no later than the release of a job.
+ends_before : (w : Trace) (bound : ℕ → ℕ) (e j : ℕ) → HaveNumbers w → AreLawfulJobs (jobs_of w) → AreBounds w.set bound → e < j
+    → j < length w.jobs → task_of w e ≡ task_of w j → bound_end w bound e ≤ (job_of w.jobs j).release
+ends_before w bound e j numbers lawful bounds l listed same =
+    let task : task_of w e < length w.set.tasks = (lawful.each e (omega (arith, l, listed))).task in
+    let number : TaskNumbers w.set (task_of w e) = numbers (task_of w e) task in
+    omega (arith, bounds.deadline (task_of w e) task, number.deadline_to, lawful.apart e j l listed same)
+
+-- The first job that has passed its bound at the tick at which it ends is active then.
+first_active : (w : Trace) (bound : ℕ → ℕ) (n j : ℕ) → HaveNumbers w → AreLawfulJobs (jobs_of w) → AreBounds w.set bound
+    → j < length w.jobs → Passed w bound n j → ((i : ℕ) → i < j → has_passed w bound n i ≡ false)
+    → is_active w (bound_end w bound j) j ≡ true
+first_active w bound n j numbers lawful bounds l p first = active_from w (bound_end w bound j) j (record {
+  released = omega arith;
+  unfinished = p.unfinished;
+  next = λ e before same.
+      let ends : bound_end w bound e ≤ (job_of w.jobs j).release = ends_before w bound e j numbers lawful bounds before l same in
+      finished_stays w (bound_end w bound e) (bound_end w bound j) e (omega (arith, ends))
+      (passed_not w bound n e (first e before) (omega (arith, ends, p.within)));
+})
+
+-- One tick later.
+pub passed_next : (m : MachineDef) (rows : ℕ → RowDef) (bounds : List ℕ) (t : ℕ) → Shows m rows → m.tick ≡ t + 1 → AreBounds m.list.set (slice_index bounds)
+    → found_below (length m.list.jobs) (λ j. has_passed (under m rows) (slice_index bounds) t j || is_due m bounds j)
+    ≡ first_passed (under m rows) (slice_index bounds) m.tick
+passed_next m rows bounds t shows tick are =
+    found_same (length m.list.jobs) (λ j. has_passed w bound t j || is_due m bounds j) (has_passed w bound m.tick) more first where
+      w : Trace
+      w = under m rows
+
+      bound : ℕ → ℕ
+      bound = slice_index bounds
+
+      more : (k : ℕ) → k < length m.list.jobs → (has_passed w bound t k || is_due m bounds k) ≡ true → has_passed w bound m.tick k ≡ true
+      more k l h = elim (or_cases _ _ h) [
+        | inl before ↦
+            let p : Passed w bound t k = passed_is w bound t k before in
+            passed_from w bound m.tick k (record { within = omega (arith, p.within, tick); unfinished = p.unfinished })
+        | inr due ↦
+            let parts = and_parts _ _ due in
+            let e : bound_end w bound k ≡ m.tick = eqb-true _ _ parts.0 in
+            let a : Active w m.tick k = active_is w m.tick k (sym (active_shown m rows k shows) ∙ parts.1) in
+            passed_from w bound m.tick k (record {
+              within = omega (arith, e);
+              unfinished = ap (λ u. is_finished (phase_of w u k)) e ∙ a.unfinished;
+            })
+      ]
+
+      first : (k : ℕ) → k < length m.list.jobs → has_passed w bound m.tick k ≡ true
+          → ((i : ℕ) → i < k → has_passed w bound m.tick i ≡ false) → (has_passed w bound t k || is_due m bounds k) ≡ true
+      first k l h earlier =
+          let p : Passed w bound m.tick k = passed_is w bound m.tick k h in
+          elim (cases_lt t (bound_end w bound k)) [
+            | inr past ↦ or_left _ _ (passed_from w bound t k (record { within = past; unfinished = p.unfinished }))
+            | inl now ↦
+                let e : bound_end w bound k ≡ m.tick = omega (arith, now, p.within, tick) in
+                let active : is_active w m.tick k ≡ true =
+                ap (λ u. is_active w u k) (sym e) ∙ first_active w bound m.tick k shows.machine.numbers shows.machine.lawful are l p earlier in
+                or_right _ _ (and_from _ _ (eq-eqb _ _ e) (active_shown m rows k shows ∙ active))
+          ]

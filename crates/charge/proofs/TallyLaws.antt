@@ -1,0 +1,194 @@
+-- Counting a tick: for the active job of each task in turn.
+use Rattle.std.proofs.Common.{◌≡◌, ℕ, zero, suc, ◌+◌, ◌<◌, ◌≤◌, ◌==◌, ◌&&◌, Bool, true, false, length, refl, sym, ap, ◌∙◌, arith, inl, inr, Option, Some, None}
+use Rattle.std.specs.Prelude.{nat_lt, unwrap_or, option_map}
+use Rattle.std.specs.Option.{option_and_then}
+use Rattle.std.proofs.lemmas.Bool.{cases_lt, cases_order, cases_Bool, cases_eq, both_ways, lt-ltb, le-ltb, eq-eqb, eqb-true, ne_eqb, and_left, false_from_ne_true}
+use Rattle.std.specs.BTreeMap.{BTreeMap, get}
+use Rattle.bounded_sums.specs.Sums.{flag}
+use Rattle.bounded_sums.specs.Tests.{count_below}
+use Rattle.bounded_sums.proofs.CountLaws.{count_below-at_most, flag-at_most}
+use Rattle.schedule_model.specs.RowDef.{RowDef, Trace}
+use Rattle.schedule_model.specs.Phase.{Phase, phase_of}
+use Rattle.schedule_model.specs.Activity.{task_of, is_active}
+use Rattle.schedule_laws.proofs.ActiveJobs.{active_listed}
+use Rattle.phase_machine.specs.MachineDef.{MachineDef, task_in, under}
+use Rattle.phase_machine.specs.Now.{current_now}
+use Rattle.phase_machine.specs.Shows.{Shows}
+use Rattle.phase_machine.proofs.Facts.{current_from}
+use Rattle.phase_machine.proofs.Lawful.{task_listed}
+use Rattle.charge_model.specs.Charges.{Charge}
+use Rattle.charge_model.specs.Windows.{bound_end}
+use Rattle.charge.specs.declared.tally.Place.{Place}
+use Rattle.charge.specs.Requests.{ChargedRequest, request_in, charged_request}
+use Rattle.charge.specs.Tally.{IsTally, positive, place_cmp, count_at, is_same_place, is_place, place_of, place_at, ticks_before, ticks_with}
+use Rattle.charge.proofs.Passing.{current_own}
+
+-- How ticks are charged, of active jobs alone.
+abbrev pub Charges : Type 0
+Charges = Trace → ℕ → ℕ → Option Charge
+
+abbrev pub OfActive : Charges → Trace → ℕ → Type 0
+OfActive charges w t = (k : ℕ) (c : Charge) → charges w t k ≡ Some c → is_active w t k ≡ true
+
+-- Counts that agree are the same tally.
+pub tally_agree : (ticks : BTreeMap Place ℕ) (f g : Place → ℕ) → ((p : Place) → f p ≡ g p) → IsTally ticks f → IsTally ticks g
+tally_agree ticks f g same tally p = tally p ∙ ap positive (same p)
+
+-- What the map has is the count.
+pub count_is : (ticks : BTreeMap Place ℕ) (f : Place → ℕ) (p : Place) → IsTally ticks f → count_at ticks p ≡ f p
+count_is ticks f p tally = ap (λ o. unwrap_or o 0) (tally p) ∙ back (f p) where
+  back : (n : ℕ) → unwrap_or (positive n) 0 ≡ n
+  back n = elim (cases_Bool (n == 0)) [
+    | inl none ↦ rw none (sym (eqb-true n 0 none))
+    | inr some ↦ rw some refl
+  ]
+
+-- A job that isn't active is counted nowhere.
+inactive_nowhere : (charges : Charges) (w : Trace) (bound : ℕ → ℕ) (t k : ℕ) → OfActive charges w t → (is_active w t k ≡ true → ⊥)
+    → place_at charges w bound t k ≡ None
+inactive_nowhere charges w bound t k only idle = go (charges w t k) refl where
+  go : (o : Option Charge) → charges w t k ≡ o → place_at charges w bound t k ≡ None
+  go None e = elim (cases_Bool (nat_lt t (bound_end w bound k))) [
+    | inl within ↦ rw (within, e) refl
+    | inr past ↦ rw past refl
+  ]
+  go (Some c) e = absurd (idle (only k c e))
+
+-- A tick of job j is counted for job j.
+other_place : (charges : Charges) (w : Trace) (bound : ℕ → ℕ) (t j : ℕ) (p : Place) → (j ≡ p.blocked → ⊥)
+    → is_place p (place_at charges w bound t j) ≡ false
+other_place charges w bound t j p other = elim (cases_Bool (nat_lt t (bound_end w bound j))) [
+  | inr past ↦ rw past refl
+  | inl within ↦ rw within (go (charged_request charges w t j))
+] where
+  go : (o : Option ChargedRequest) → is_place p (option_map (place_of j) o) ≡ false
+  go None = refl
+  go (Some r) = and_left (j == p.blocked) _ (ne_eqb j p.blocked other)
+
+-- One task more.
+one_task_more : (a x : ℕ) (b : Bool) → flag (nat_lt a (x + 1) && b) ≡ flag (nat_lt a x && b) + flag ((a == x) && b)
+one_task_more a x b = elim (cases_order a x) [
+  | inl same ↦
+      let one : nat_lt a (x + 1) ≡ true = lt-ltb a (x + 1) (omega arith) in
+      let two : nat_lt a x ≡ false = le-ltb a x (omega arith) in
+      let three : (a == x) ≡ true = eq-eqb a x same in
+      rw (one, two, three) (omega arith)
+  | inr other ↦ elim other [
+    | inl less ↦
+        let one : nat_lt a (x + 1) ≡ true = lt-ltb a (x + 1) (omega arith) in
+        let two : nat_lt a x ≡ true = lt-ltb a x less in
+        let three : (a == x) ≡ false = ne_eqb a x (λ e. absurd (omega (arith, e, less))) in
+        rw (one, two, three) (omega arith)
+    | inr greater ↦
+        let one : nat_lt a (x + 1) ≡ false = le-ltb a (x + 1) (omega arith) in
+        let two : nat_lt a x ≡ false = le-ltb a x (omega arith) in
+        let three : (a == x) ≡ false = ne_eqb a x (λ e. absurd (omega (arith, e, greater))) in
+        rw (one, two, three) refl
+  ]
+]
+
+-- A job of task x that isn't its active one isn't active.
+not_current : (m : MachineDef) (rows : ℕ → RowDef) (x k : ℕ) (o : Option ℕ) → Shows m rows → current_now m x ≡ o
+    → (o ≡ Some k → ⊥) → task_in m.list.jobs k ≡ x → is_active (under m rows) m.tick k ≡ true → ⊥
+not_current m rows x k o shows e other own h =
+    other (sym e ∙ ap (current_now m) (sym own) ∙ current_from m rows k shows h)
+
+-- A job of task x is counted where the task's active job is.
+counted_here : (charges : Charges) (m : MachineDef) (rows : ℕ → RowDef) (bound : ℕ → ℕ) (x : ℕ) (p : Place) (o : Option ℕ) → Shows m rows
+    → OfActive charges (under m rows) m.tick → x < length m.list.set.tasks → current_now m x ≡ o
+    → ((task_of (under m rows) p.blocked == x) && is_place p (place_at charges (under m rows) bound m.tick p.blocked))
+    ≡ is_place p (option_and_then (place_at charges (under m rows) bound m.tick) o)
+counted_here charges m rows bound x p o shows only l e = elim (cases_eq (task_of (under m rows) p.blocked) x) [
+  | inl same ↦ let t : (task_of (under m rows) p.blocked == x) ≡ true = eq-eqb _ _ same in rw t (go o e same)
+  | inr other ↦ let t : (task_of (under m rows) p.blocked == x) ≡ false = ne_eqb _ _ other in rw t (sym (none o e other))
+] where
+  nowhere : (o : Option ℕ) → current_now m x ≡ o → (o ≡ Some p.blocked → ⊥) → task_of (under m rows) p.blocked ≡ x
+      → is_place p (place_at charges (under m rows) bound m.tick p.blocked) ≡ false
+  nowhere o f not same = ap (is_place p) (inactive_nowhere charges (under m rows) bound m.tick p.blocked only
+      (not_current m rows x p.blocked o shows f not same))
+
+  go : (o : Option ℕ) → current_now m x ≡ o → task_of (under m rows) p.blocked ≡ x
+      → is_place p (place_at charges (under m rows) bound m.tick p.blocked)
+      ≡ is_place p (option_and_then (place_at charges (under m rows) bound m.tick) o)
+  go None f same = nowhere None f (λ (g : None ≡ Some p.blocked). cc) same
+  go (Some j) f same = elim (cases_eq j p.blocked) [
+    | inl here ↦ ap (λ k. is_place p (place_at charges (under m rows) bound m.tick k)) (sym here)
+    | inr there ↦
+        nowhere (Some j) f (λ (g : Some j ≡ Some p.blocked). there (cc)) same
+        ∙ sym (other_place charges (under m rows) bound m.tick j p there)
+  ]
+
+  none : (o : Option ℕ) → current_now m x ≡ o → (task_of (under m rows) p.blocked ≡ x → ⊥)
+      → is_place p (option_and_then (place_at charges (under m rows) bound m.tick) o) ≡ false
+  none None f other = refl
+  none (Some j) f other = other_place charges (under m rows) bound m.tick j p
+      (λ here. other (ap (task_in m.list.jobs) (sym here) ∙ current_own m x j shows.machine l f))
+
+-- One task more is counted.
+pub count_more : (charges : Charges) (m : MachineDef) (rows : ℕ → RowDef) (bound : ℕ → ℕ) (x : ℕ) (p : Place) → Shows m rows
+    → OfActive charges (under m rows) m.tick → x < length m.list.set.tasks
+    → ticks_with charges (under m rows) bound m.tick x p
+    + flag (is_place p (option_and_then (place_at charges (under m rows) bound m.tick) (current_now m x)))
+    ≡ ticks_with charges (under m rows) bound m.tick (x + 1) p
+unfolding ticks_with
+count_more charges m rows bound x p shows only l =
+    let here : flag ((task_of (under m rows) p.blocked == x) && is_place p (place_at charges (under m rows) bound m.tick p.blocked))
+    ≡ flag (is_place p (option_and_then (place_at charges (under m rows) bound m.tick) (current_now m x))) =
+    ap flag (counted_here charges m rows bound x p (current_now m x) shows only l refl) in
+    omega (
+      arith,
+      here,
+      one_task_more (task_of (under m rows) p.blocked) x (is_place p (place_at charges (under m rows) bound m.tick p.blocked)),
+    )
+
+-- Before the first task none of the tick is counted.
+pub count_first : (charges : Charges) (w : Trace) (bound : ℕ → ℕ) (t : ℕ) (p : Place)
+    → ticks_before charges w bound t p ≡ ticks_with charges w bound t 0 p
+unfolding ticks_with
+count_first charges w bound t p =
+    let none : nat_lt (task_of w p.blocked) 0 ≡ false = le-ltb _ _ (omega arith) in
+    rw none (omega arith)
+
+-- After the last one all of it is.
+pub count_all : (charges : Charges) (m : MachineDef) (rows : ℕ → RowDef) (bound : ℕ → ℕ) (x : ℕ) (p : Place) → Shows m rows
+    → OfActive charges (under m rows) m.tick → length m.list.set.tasks ≤ x
+    → ticks_with charges (under m rows) bound m.tick x p ≡ ticks_before charges (under m rows) bound (m.tick + 1) p
+unfolding ticks_with ticks_before
+count_all charges m rows bound x p shows only l =
+    let one : m.tick + 1 ≡ suc m.tick = omega arith in
+    ap (λ b. count_below m.tick (λ u. is_place p (place_at charges (under m rows) bound u p.blocked)) + flag b)
+    (all (place_at charges (under m rows) bound m.tick p.blocked) refl)
+    ∙ sym (ap (λ n. count_below n (λ u. is_place p (place_at charges (under m rows) bound u p.blocked))) one) where
+      all : (o : Option Place) → place_at charges (under m rows) bound m.tick p.blocked ≡ o
+          → (nat_lt (task_of (under m rows) p.blocked) x && is_place p (place_at charges (under m rows) bound m.tick p.blocked))
+          ≡ is_place p (place_at charges (under m rows) bound m.tick p.blocked)
+      all o e = elim (cases_lt p.blocked (length m.list.jobs)) [
+        | inl listed ↦
+            let t : nat_lt (task_of (under m rows) p.blocked) x ≡ true =
+            lt-ltb _ _ (omega (arith, task_listed m.list p.blocked shows.machine.lawful listed, l)) in
+            rw t refl
+        | inr past ↦
+            let none : place_at charges (under m rows) bound m.tick p.blocked ≡ None =
+            inactive_nowhere charges (under m rows) bound m.tick p.blocked only
+            (λ h. absurd (omega (arith, past, active_listed (under m rows) m.tick p.blocked h))) in
+            rw none (and_false (nat_lt (task_of (under m rows) p.blocked) x))
+      ] where
+        and_false : (b : Bool) → (b && false) ≡ false
+        and_false true = refl
+        and_false false = refl
+
+-- And it is no more than the ticks so far.
+pub count_most : (charges : Charges) (w : Trace) (bound : ℕ → ℕ) (t x : ℕ) (p : Place) → ticks_with charges w bound t x p ≤ t + 1
+unfolding ticks_with ticks_before
+count_most charges w bound t x p =
+    omega (
+      arith,
+      count_below-at_most t (λ u. is_place p (place_at charges w bound u p.blocked)),
+      flag-at_most (nat_lt (task_of w p.blocked) x && is_place p (place_at charges w bound t p.blocked)),
+    )
+
+-- The place of a charge whose job is in this phase.
+pub placed : (charges : Charges) (w : Trace) (bound : ℕ → ℕ) (t j : ℕ) (charge : Charge) {p : Phase}
+    → nat_lt t (bound_end w bound j) ≡ true → charges w t j ≡ Some charge → p ≡ phase_of w t charge.job
+    → option_map (place_of j) (request_in charge p) ≡ place_at charges w bound t j
+placed charges w bound t j charge within is_it phase = rw (within, is_it, phase) refl

@@ -1,0 +1,31 @@
+use Rattle.std.proofs.Common.{◌≡◌, ◌∙◌, ℕ, true, sym, ap, arith, Some}
+use Rattle.std.specs.Prelude.{nat_lt, slice_index}
+use Rattle.std.proofs.lemmas.Bool.{lt-ltb}
+use Rattle.schedule_model.specs.RowDef.{RowDef, row_in}
+use Rattle.schedule_model.specs.Seen.{row_seen}
+use Rattle.phase_machine.specs.MachineDef.{MachineDef, under}
+use Rattle.phase_machine.proofs.Facts.{phase_shown}
+use Rattle.charge_model.specs.Charges.{Charge}
+use Rattle.charge_model.specs.Windows.{bound_end}
+use Rattle.trace_conform.proofs.RunLaws.{row_fits}
+use Rattle.charge.specs.Seen.{charge_seen}
+use Rattle.charge.proofs.TallyLaws.{placed}
+use Rattle.charge.proofs.counting.place_at.Goals as goal
+
+pub charged-requires-clause-fits : goal.charged-requires-clause-fits
+charged-requires-clause-fits g c =
+    rw (ap (λ r. r.row) c.run_at.ensures.value) (row_fits c.args.rows.now c.args.machine.now.list c.args.i c.requires.at.fits c.requires.at.within)
+
+pub returns-in-Some : goal.returns-in-Some
+returns-in-Some g c =
+    let rows : ℕ → RowDef = row_in c.args.rows.now.runs in
+    let m : MachineDef = c.args.machine.now in
+    let here : rows m.tick ≡ row_seen c.run_at.result.now.row = c.requires.at.here ∙ sym (ap (λ r. r.row) c.run_at.ensures.value) in
+    let charge : Charge = record { job = c.in-Some.y.0; class = c.in-Some.class } in
+    let is_it : g.P.ChargedProtocol.charges c.args.protocol.now (under m rows) m.tick c.args.j.0 ≡ Some charge =
+    sym (c.charged.ensures.value rows c.requires.shows here c.requires.keeps) ∙ ap charge_seen c.in-Some.is in
+    let within : nat_lt m.tick (bound_end (under m rows) (slice_index c.args.bounds.now) c.args.j.0) ≡ true =
+    lt-ltb _ _ (omega (arith, c.if-tick-end_of.false, c.tick.ensures.value, c.end_of.ensures)) in
+    c.place_of.ensures
+    ∙ placed (g.P.ChargedProtocol.charges c.args.protocol.now) (under m rows) (slice_index c.args.bounds.now) m.tick c.args.j.0 charge
+    within is_it (phase_shown m rows c.in-Some.y.0 c.requires.shows c.in-Some.ensures.listed)

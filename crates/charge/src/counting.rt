@@ -1,0 +1,140 @@
+ghost use Rattle.std.specs.Prelude.{◌≡◌, ℕ, ◌+◌, ◌<◌, length, slice_index, option_map, OnOk};
+ghost use Rattle.std.specs.Option.{option_and_then};
+ghost use Rattle.sporadic_model.specs.declared.limits.TheConstants.{MOST_TICKS};
+ghost use Rattle.schedule_model.specs.RowDef.{row_in};
+ghost use Rattle.schedule_model.specs.Keeping.{KeepsRow};
+ghost use Rattle.phase_machine.specs.MachineDef.{under};
+ghost use Rattle.phase_machine.specs.Now.{phase_now, current_now};
+ghost use Rattle.phase_machine.specs.Shows.{Shows};
+ghost use Rattle.fragments.specs.declared.columns.Class.{Class as ClassDef};
+ghost use Rattle.charge_model.specs.Charges.{Charge};
+ghost use Rattle.charge_model.specs.Windows.{AreBounds};
+ghost use Rattle.trace_conform.specs.Runs.{IsAtRun};
+ghost use Rattle.charge.specs.Requests.{class_rank, request_in};
+ghost use Rattle.charge.specs.Tally.{IsTally, place_of, place_at, ticks_before};
+
+use crate::due::end_of;
+use crate::protocol::ChargedProtocol;
+use crate::tally::{Place, add_named};
+use fragments::Class;
+use phase_machine::{Machine, Phase};
+use schedule_model::{JobId, RowList};
+use shared_rules::lookup::tasks_of;
+use sporadic_model::TaskId;
+use std::alloc::AllocError;
+use std::collections::BTreeMap;
+use trace_conform::runs::run_at;
+
+/// The number of a class in the order of the table.
+fn class_rank(class: Class) -> u8
+    ensures { result ≡ class_rank class }
+{
+    match class {
+        Class::Direct => 0,
+        Class::Indirect => 1,
+        Class::Preemption => 2,
+    }
+}
+
+/// The place of the request that the blocker is in.
+fn place_of(machine: &Machine, j: JobId, y: JobId, class: Class) -> Option<Place>
+    requires { y.0 < length machine.now.list.jobs }
+    ensures { result ≡ option_map (place_of j.0) (request_in (record { job = y.0; class = class }) (phase_now machine.now y.0)) }
+{
+    match machine.phase(y) {
+        Phase::Asking(n, q) => Some(Place {
+            blocked: j.0,
+            blocker: y.0,
+            request: n,
+            resource: q.0,
+            class: class_rank(class),
+        }),
+        Phase::Local => None,
+        Phase::Finished => None,
+    }
+}
+
+/// The place to which the tick that the machine stands at is counted for the job, in a row that keeps the rules: none where it is not
+/// blocked, or its window has ended.
+fn place_at<P: ChargedProtocol>(
+    protocol: &P,
+    rows: &RowList,
+    i: usize,
+    machine: &Machine,
+    bounds: &[u64],
+    j: JobId,
+) -> Option<Place>
+    requires suits { P.suits protocol.now machine.now.list.set }
+    requires at { IsAtRun rows.now i machine.now }
+    requires shows { Shows machine.now (row_in rows.now.runs) }
+    requires keeps { KeepsRow (P.keeps protocol.now) (under machine.now (row_in rows.now.runs)) machine.now.tick }
+    requires listed { j.0 < length machine.now.list.jobs }
+    requires one_each { length bounds.now ≡ length machine.now.list.set.tasks }
+    requires bounds { AreBounds machine.now.list.set (slice_index bounds.now) }
+    ensures { result ≡ place_at (P.charges protocol.now) (under machine.now (row_in rows.now.runs)) (slice_index bounds.now) machine.now.tick j.0 }
+{
+    if machine.tick() >= end_of(machine, bounds, j) {
+        return None;
+    }
+    match protocol.charged(machine, &run_at(rows, i).row, j) {
+        Some((y, class)) => place_of(machine, j, y, class),
+        None => None,
+    }
+}
+
+/// The same for the task's active job, where it has one.
+fn place_in<P: ChargedProtocol>(
+    protocol: &P,
+    rows: &RowList,
+    i: usize,
+    machine: &Machine,
+    bounds: &[u64],
+    x: TaskId,
+) -> Option<Place>
+    requires suits { P.suits protocol.now machine.now.list.set }
+    requires at { IsAtRun rows.now i machine.now }
+    requires shows { Shows machine.now (row_in rows.now.runs) }
+    requires keeps { KeepsRow (P.keeps protocol.now) (under machine.now (row_in rows.now.runs)) machine.now.tick }
+    requires task { x.0 < length machine.now.list.set.tasks }
+    requires one_each { length bounds.now ≡ length machine.now.list.set.tasks }
+    requires bounds { AreBounds machine.now.list.set (slice_index bounds.now) }
+    ensures { result ≡ option_and_then
+        (place_at (P.charges protocol.now) (under machine.now (row_in rows.now.runs)) (slice_index bounds.now) machine.now.tick)
+        (current_now machine.now x.0) }
+{
+    match machine.current(x) {
+        Some(j) => place_at(protocol, rows, i, machine, bounds, j),
+        None => None,
+    }
+}
+
+/// Counts the tick that the machine stands at, in a row that keeps the rules: one job of each task is active, or none, and no other is
+/// blocked.
+pub(crate) fn charge_tick<P: ChargedProtocol>(
+    protocol: &P,
+    rows: &RowList,
+    i: usize,
+    machine: &Machine,
+    bounds: &[u64],
+    ticks: &mut BTreeMap<Place, u64>,
+) -> Result<(), AllocError>
+    requires suits { P.suits protocol.now machine.now.list.set }
+    requires at { IsAtRun rows.now i machine.now }
+    requires early { machine.now.tick < MOST_TICKS }
+    requires shows { Shows machine.now (row_in rows.now.runs) }
+    requires keeps { KeepsRow (P.keeps protocol.now) (under machine.now (row_in rows.now.runs)) machine.now.tick }
+    requires one_each { length bounds.now ≡ length machine.now.list.set.tasks }
+    requires bounds { AreBounds machine.now.list.set (slice_index bounds.now) }
+    requires counted { IsTally ticks.old
+        (ticks_before (P.charges protocol.now) (under machine.now (row_in rows.now.runs)) (slice_index bounds.now) machine.now.tick) }
+    ensures { OnOk result (IsTally ticks.new
+        (ticks_before (P.charges protocol.now) (under machine.now (row_in rows.now.runs)) (slice_index bounds.now) (machine.now.tick + 1))) }
+{
+    for x in 0..tasks_of(machine) {
+        add_named(
+            ticks,
+            place_in(protocol, rows, i, machine, bounds, TaskId(x)),
+        )?;
+    }
+    Ok(())
+}

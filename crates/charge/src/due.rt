@@ -1,0 +1,65 @@
+ghost use Rattle.std.specs.Prelude.{◌≡◌, ℕ, ◌<◌, ◌||◌, Bool, length, slice_index};
+ghost use Rattle.bounded_sums.specs.Tests.{found_below};
+ghost use Rattle.schedule_model.specs.Seen.{place_seen};
+ghost use Rattle.phase_machine.specs.Now.{current_now};
+ghost use Rattle.charge_model.specs.Windows.{AreBounds};
+ghost use Rattle.charge.specs.Due.{end_now, due_of, is_due, least_of};
+
+use phase_machine::Machine;
+use schedule_model::JobId;
+use shared_rules::lookup::{task_of, tasks_of};
+use sporadic_model::TaskId;
+
+/// By when the job is to be finished: its release plus its task's bound.
+pub(crate) fn end_of(machine: &Machine, bounds: &[u64], j: JobId) -> u64
+    requires listed { j.0 < length machine.now.list.jobs }
+    requires one_each { length bounds.now ≡ length machine.now.list.set.tasks }
+    requires bounds { AreBounds machine.now.list.set (slice_index bounds.now) }
+    ensures { result ≡ end_now machine.now bounds.now j.0 }
+{
+    machine.jobs().job(j).release + bounds[task_of(machine, j).0 as usize]
+}
+
+/// The task's active job, where its bound ends at the tick at which the machine stands.
+fn due_of(machine: &Machine, bounds: &[u64], x: TaskId) -> Option<JobId>
+    requires task { x.0 < length machine.now.list.set.tasks }
+    requires one_each { length bounds.now ≡ length machine.now.list.set.tasks }
+    requires bounds { AreBounds machine.now.list.set (slice_index bounds.now) }
+    ensures { place_seen result ≡ due_of machine.now bounds.now (current_now machine.now x.0) }
+{
+    match machine.current(x) {
+        Some(j) if end_of(machine, bounds, j) == machine.tick() => Some(j),
+        _ => None,
+    }
+}
+
+/// The lower of the two, or the one that is there.
+fn least_of(first: Option<JobId>, second: Option<JobId>) -> Option<JobId>
+    ensures { place_seen result ≡ least_of (place_seen first) (place_seen second) }
+{
+    match (first, second) {
+        (Some(i), Some(j)) => {
+            if i.0 <= j.0 {
+                Some(i)
+            } else {
+                Some(j)
+            }
+        }
+        (Some(i), None) => Some(i),
+        (None, other) => other,
+    }
+}
+
+/// The first of some jobs and of those that are active at the tick at which their bound ends.
+pub(crate) fn first_of_due(machine: &Machine, bounds: &[u64], first: Option<JobId>) -> Option<JobId>
+    requires one_each { length bounds.now ≡ length machine.now.list.set.tasks }
+    requires bounds { AreBounds machine.now.list.set (slice_index bounds.now) }
+    ensures { (passes : ℕ → Bool) → place_seen first ≡ found_below (length machine.now.list.jobs) passes
+        → place_seen result ≡ found_below (length machine.now.list.jobs) (λ j. passes j || is_due machine.now bounds.now j) }
+{
+    let mut least = first;
+    for x in 0..tasks_of(machine) {
+        least = least_of(least, due_of(machine, bounds, TaskId(x)));
+    }
+    least
+}

@@ -1,0 +1,74 @@
+-- The columns of a task are of requests that are made, and rows of others are not there.
+use Rattle.std.proofs.Common.{◌≡◌, ℕ, ◌==◌, ◌&&◌, not, true, false, List, [], ◌∷◌, map, refl, nat_lt, inl, inr}
+use Rattle.std.proofs.lemmas.Bool.{and_parts, and_from, cases_Bool, both_ways, eqb-true}
+use Rattle.std.proofs.lemmas.List.Elements.{All-head, All-tail, All-same, All-weaker}
+use Rattle.sporadic_model.specs.SetDef.{SetDef, is_higher_local}
+use Rattle.sporadic_model.specs.Users.{is_user}
+use Rattle.sporadic_model.specs.declared.ids.Protocol.{Protocol}
+use Rattle.sporadic_model.specs.declared.ids.Protocol.TheVariants as protocol
+use Rattle.fragments.specs.declared.columns.Class.{Class}
+use Rattle.fragments.specs.declared.columns.Class.TheVariants as class
+use Rattle.fragments.specs.declared.columns.Fragment.{Fragment}
+use Rattle.fragments.specs.ColumnDef.{ColumnDef, column_seen, is_direct}
+use Rattle.fragments.specs.Columns.{is_column, may_block, columns_of}
+use Rattle.fragments.specs.Constraints.{ConstraintDef, holds_some}
+use Rattle.fragments.proofs.KnownColumns.{columns_pass, all_mapped}
+use Rattle.direct_constraints.specs.Asked.{IsAskedFor, AreAskedFor}
+use Rattle.direct_constraints.specs.Rows.{request_row, turn_row}
+
+-- What blocks directly is of a resource that the analysed task uses.
+direct_user : (p : Protocol) (set : SetDef) (i x q : ℕ) (k : Class) → may_block p set i x q k ≡ true → is_direct k ≡ true → is_user set q i ≡ true
+direct_user protocol.Mpcp set i x q class.Direct h d = (and_parts (not (is_higher_local set i x)) (is_user set q i) h).1
+direct_user protocol.FmlpPlus set i x q class.Direct h d = (and_parts (not (is_higher_local set i x)) (is_user set q i) h).1
+direct_user protocol.Dpcp set i x q class.Direct h d = h
+direct_user p set i x q class.Indirect h d = absurd cc
+direct_user p set i x q class.Preemption h d = absurd cc
+
+asked_for : (p : Protocol) (set : SetDef) (i : ℕ) (c : ColumnDef) → is_column p set i c ≡ true → IsAskedFor set i c
+asked_for p set i c h =
+    let parts = and_parts (not (c.task == i) && is_user set c.resource c.task) (may_block p set i c.task c.resource c.class) h in
+    ((and_parts (not (c.task == i)) (is_user set c.resource c.task) parts.0).1, direct_user p set i c.task c.resource c.class parts.1)
+
+pub columns_asked : (p : Protocol) (set : SetDef) (i : ℕ) (cs : List Fragment) → map column_seen cs ≡ columns_of p set i → AreAskedFor set i cs
+columns_asked p set i cs same = all_mapped (IsAskedFor set i) column_seen cs
+    (All-same (IsAskedFor set i) (map column_seen cs) (columns_of p set i) same
+    (All-weaker (λ c. is_column p set i c ≡ true) (IsAskedFor set i) (asked_for p set i) (columns_of p set i) (columns_pass p set i)))
+
+-- A row in which each column fails is not there.
+none_held : (set : SetDef) (i : ℕ) (row : ConstraintDef) → ((c : ColumnDef) → IsAskedFor set i c → nat_lt 0 (row.coefficient c) ≡ false)
+    → (cs : List Fragment) → AreAskedFor set i cs → holds_some (map column_seen cs) row ≡ false
+none_held set i row fails [] h = refl
+none_held set i row fails (c ∷ cs) h =
+    let P : Fragment → Type 0 = λ f. IsAskedFor set i (column_seen f) in
+    rw (fails (column_seen c) (All-head P c cs h)) (none_held set i row fails cs (All-tail P c cs h))
+
+request_fails : (set : SetDef) (i x q : ℕ) → is_user set q x ≡ false → (c : ColumnDef) → IsAskedFor set i c → nat_lt 0 ((request_row set i x q).coefficient c) ≡ false
+request_fails set i x q unused c asked = elim (cases_Bool ((c.task == x) && (c.resource == q))) [
+  | inl both ↦
+      let parts = and_parts (c.task == x) (c.resource == q) both in
+      let task : c.task ≡ x = eqb-true c.task x parts.0 in
+      let resource : c.resource ≡ q = eqb-true c.resource q parts.1 in
+      let none : is_user set c.resource c.task ≡ false = rw (task, resource) unused in
+      absurd (both_ways (is_user set c.resource c.task) none asked.0)
+  | inr apart ↦ rw apart refl
+]
+
+turn_fails : (set : SetDef) (i x q : ℕ) → (is_user set q x && is_user set q i) ≡ false → (c : ColumnDef) → IsAskedFor set i c → nat_lt 0 ((turn_row set i x q).coefficient c) ≡ false
+turn_fails set i x q unused c asked = elim (cases_Bool (((c.task == x) && (c.resource == q)) && is_direct c.class)) [
+  | inl all ↦
+      let direct = and_parts ((c.task == x) && (c.resource == q)) (is_direct c.class) all in
+      let parts = and_parts (c.task == x) (c.resource == q) direct.0 in
+      let task : c.task ≡ x = eqb-true c.task x parts.0 in
+      let resource : c.resource ≡ q = eqb-true c.resource q parts.1 in
+      let none : (is_user set c.resource c.task && is_user set c.resource i) ≡ false = rw (task, resource) unused in
+      absurd (both_ways (is_user set c.resource c.task && is_user set c.resource i) none
+      (and_from (is_user set c.resource c.task) (is_user set c.resource i) asked.0 (asked.1 direct.1)))
+  | inr apart ↦ rw apart refl
+]
+
+-- No column is of requests that a task doesn't make, and none waits for a turn that nobody takes.
+pub no_requests : (set : SetDef) (i x q : ℕ) → is_user set q x ≡ false → (cs : List Fragment) → AreAskedFor set i cs → holds_some (map column_seen cs) (request_row set i x q) ≡ false
+no_requests set i x q unused cs asked = none_held set i (request_row set i x q) (request_fails set i x q unused) cs asked
+
+pub no_turns : (set : SetDef) (i x q : ℕ) → (is_user set q x && is_user set q i) ≡ false → (cs : List Fragment) → AreAskedFor set i cs → holds_some (map column_seen cs) (turn_row set i x q) ≡ false
+no_turns set i x q unused cs asked = none_held set i (turn_row set i x q) (turn_fails set i x q unused) cs asked
