@@ -1,3 +1,4 @@
+pub mod WordLaws
 pub mod PlanLaws
 pub mod InputLaws
 pub mod TraceLaws
