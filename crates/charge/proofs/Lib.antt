@@ -7,4 +7,6 @@ mod PassedNext
 mod TallyLaws
 mod Reaching
 mod Places
+mod Pushing
 mod TableLaws
+mod RowsMet

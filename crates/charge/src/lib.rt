@@ -18,7 +18,7 @@ mod table;
 mod tally;
 mod walking;
 
-pub use charging::charge_with;
-pub use laws::{charged_protocols_are_analysed, sound_bounds_are_never_passed};
+pub use charging::{charge, charge_with};
 pub use item::{ChargeItem, ChargeStop, ChargeTable};
+pub use laws::{charged_protocols_are_analysed, sound_bounds_are_never_passed};
 pub use protocol::ChargedProtocol;
