@@ -2,6 +2,7 @@ use schedule_model::{JobList, RowList, Rule};
 use sporadic_model::{Protocol, TaskSet};
 use std::alloc::{AllocError, Global};
 use std::test::Fail;
+use taskset_json::home_check;
 use trace_conform::{Measured, TaskMeasure, Unlawful, conform};
 use worked_files::*;
 
@@ -45,24 +46,21 @@ fn rule_word(rule: Rule) -> &'static str {
     }
 }
 
-/// What is answered of the rows under MPCP or under FMLP+.
+/// What is answered of the rows.
 fn answer(
     alloc: Global,
-    mpcp: bool,
+    protocol: Protocol,
     jobs: &JobList,
     rows: &RowList,
 ) -> Result<Result<Measured, Unlawful>, Fail> {
-    if !rows.fits(jobs) {
-        return Err("the rows don't fit the jobs".into());
+    if home_check(jobs.set(), protocol).is_err() || !rows.fits(jobs) {
+        return Err("the rows can't be judged".into());
     }
-    if mpcp {
-        return Ok(conform(alloc, Protocol::Mpcp, jobs, rows));
-    }
-    Ok(conform(alloc, Protocol::FmlpPlus, jobs, rows))
+    Ok(conform(alloc, protocol, jobs, rows))
 }
 
 /// The same as a text, for the texts of a set, jobs and rows; `broken TICK RULE` where a row breaks a rule.
-fn answer_text(alloc: Global, mpcp: bool, schedule: [&str; 3]) -> Result<String, Fail> {
+fn answer_text(alloc: Global, protocol: Protocol, schedule: [&str; 3]) -> Result<String, Fail> {
     let [set, jobs, rows] = schedule;
     let set = set_of(alloc, set)?;
     let Ok(jobs) = trace_csv::read_jobs(alloc, &set, jobs.as_bytes()) else {
@@ -71,7 +69,7 @@ fn answer_text(alloc: Global, mpcp: bool, schedule: [&str; 3]) -> Result<String,
     let Ok(rows) = trace_csv::read_rows(alloc, &jobs, rows.as_bytes()) else {
         return Err("the rows are refused".into());
     };
-    match answer(alloc, mpcp, &jobs, &rows)? {
+    match answer(alloc, protocol, &jobs, &rows)? {
         Ok(measured) => Ok(measured_text(alloc, rows.ticks(), &measured)?),
         Err(Unlawful::Broken { tick, rule }) => {
             let rule = rule_word(rule);
@@ -186,12 +184,22 @@ const BY_MPCP: [Case; 3] = [
     ),
 ];
 
+const BY_DPCP: [Case; 4] = [
+    ([HOME, HOME_JOBS, HOME_ROWS], "lawful 5 | 1 4 1 | 1 4 0"),
+    ([HOME, HOME_JOBS, HOME_AT_ONCE], "broken 2 grant"),
+    ([APART, APART_JOBS, APART_ROWS], "lawful 6 | 1 3 0 | 1 6 1"),
+    (
+        [APART, APART_TOGETHER_JOBS, APART_ONE_GRANT],
+        "lawful 4 | 1 3 0 | 1 4 1",
+    ),
+];
+
 #[test]
 fn schedules_are_measured_or_their_first_broken_rule_is_named_under_fmlp_plus(
     rt: HostRuntime,
 ) -> Result<(), Fail> {
     for (schedule, wanted) in BY_FMLP_PLUS {
-        let text = answer_text(rt.alloc(), false, schedule)?;
+        let text = answer_text(rt.alloc(), Protocol::FmlpPlus, schedule)?;
         assert_eq!(rt; text.as_str(), wanted, "at {}", schedule[2]);
     }
     Ok(())
@@ -202,7 +210,18 @@ fn schedules_are_measured_or_their_first_broken_rule_is_named_under_mpcp(
     rt: HostRuntime,
 ) -> Result<(), Fail> {
     for (schedule, wanted) in BY_MPCP {
-        let text = answer_text(rt.alloc(), true, schedule)?;
+        let text = answer_text(rt.alloc(), Protocol::Mpcp, schedule)?;
+        assert_eq!(rt; text.as_str(), wanted, "at {}", schedule[2]);
+    }
+    Ok(())
+}
+
+#[test]
+fn schedules_are_measured_or_their_first_broken_rule_is_named_under_dpcp(
+    rt: HostRuntime,
+) -> Result<(), Fail> {
+    for (schedule, wanted) in BY_DPCP {
+        let text = answer_text(rt.alloc(), Protocol::Dpcp, schedule)?;
         assert_eq!(rt; text.as_str(), wanted, "at {}", schedule[2]);
     }
     Ok(())
