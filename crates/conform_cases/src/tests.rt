@@ -95,7 +95,35 @@ const PAIR_CUT: &str = "ticks,P1,P2,q\n1,1,2,\n2,,2,2\n";
 /// The lower task's job has one tick behind it when the schedule ends.
 const FIVE_CUT: &str = "ticks,P1,P2,q\n2,1,,\n1,2,,\n";
 
-const BY_FMLP_PLUS: [Case; 16] = [
+/// One task, whose job takes all of 10^9 ticks, or all but one.
+const WHOLE: &str = r#"{"processors":1,"resources":[],"tasks":[
+{"name":"t1","processor":1,"period":1000000000,"cost":1000000000}]}"#;
+
+const WHOLE_JOBS: &str = "task,release,script\nt1,0,1000000000\n";
+
+const SHORT_JOBS: &str = "task,release,script\nt1,0,999999999\n";
+
+const WHOLE_ROWS: &str = "ticks,P1\n1000000000,1\n";
+
+/// Two tasks on one processor. The higher one's job is released within the request of the lower one's, and waits until it ends.
+const LONG: &str = r#"{"processors":1,"resources":[{"name":"q"}],"tasks":[
+{"name":"t1","processor":1,"period":1000000000,"cost":50},
+{"name":"t2","processor":1,"period":1000000000,"cost":600000000,"requests":[{"resource":"q","count":1,"length":400000000}]}]}"#;
+
+const LONG_JOBS: &str =
+    "task,release,script\nt2,0,100000000 q:400000000 100000000\nt1,300000000,50\n";
+
+const LONG_ROWS: &str = "ticks,P1,q\n100000000,1,\n400000000,1,1\n50,2,\n100000000,1,\n";
+
+/// The resource is kept for a tick after the request has ended.
+const LONG_KEPT: &str = "ticks,P1,q\n100000000,1,\n400000001,1,1\n";
+
+/// The lower job runs on for a tick past the release of the higher one, which is released while neither requests.
+const LATER_JOBS: &str = "task,release,script\nt2,0,600000000\nt1,300000000,50\n";
+
+const LATER_ROWS: &str = "ticks,P1,q\n400000000,1,\n";
+
+const BY_FMLP_PLUS: [Case; 21] = [
     (
         [PAIR, PAIR_JOBS, PAIR_LOWER_FIRST],
         "lawful 5 | 1 5 2 | 1 4 0",
@@ -120,6 +148,17 @@ const BY_FMLP_PLUS: [Case; 16] = [
         [BOOST, BOOST_JOBS, BOOST_ROWS],
         "lawful 4 | 0 - 0 | 1 2 0 | 1 3 1 | 1 3 0 | 0 - 0",
     ),
+    (
+        [WHOLE, WHOLE_JOBS, WHOLE_ROWS],
+        "lawful 1000000000 | 1 1000000000 0",
+    ),
+    ([WHOLE, SHORT_JOBS, WHOLE_ROWS], "broken 999999999 run"),
+    (
+        [LONG, LONG_JOBS, LONG_ROWS],
+        "lawful 600000050 | 1 200000050 200000000 | 1 600000050 0",
+    ),
+    ([LONG, LONG_JOBS, LONG_KEPT], "broken 500000000 grant"),
+    ([LONG, LATER_JOBS, LATER_ROWS], "broken 300000000 priority"),
     ([PAIR, PAIR_JOBS, PAIR_CROSSED], "broken 0 run"),
     ([PAIR, PAIR_JOBS, PAIR_TAKEN_AWAY], "broken 2 keep"),
     ([PAIR, PAIR_JOBS, PAIR_HELD_TOO_LONG], "broken 3 grant"),

@@ -7,8 +7,8 @@ use Rattle.phase_machine.specs.Now.{current_now}
 use Rattle.phase_machine.proofs.Facts.{current_shown}
 use Rattle.trace_conform.specs.Counts.{count_at}
 use Rattle.trace_conform.proofs.Counting.{none_more, one_more, all_counted}
-use Rattle.trace_conform.proofs.counts.count_tick.Goals.{in-Some, in_default}
-use Rattle.trace_conform.proofs.counts.count_tick.Goals as goal
+use Rattle.trace_conform.proofs.counts.count_ticks.Goals.{in-Some, in_default}
+use Rattle.trace_conform.proofs.counts.count_ticks.Goals as goal
 
 pub count_job-requires-clause-room : goal.count_job-requires-clause-room
 count_job-requires-clause-room g c =
@@ -22,18 +22,18 @@ pub loop-x-preserved : goal.loop-x-preserved
 loop-x-preserved g c = elim c.match-current.branch [
   | in-Some w ↦ record {
     size = c.match-current.auto.counts ∙ c.loop-x.invariant.size;
-    below = rw w.counts-is (one_more (g.P.BlockingProtocol.interferes c.args.protocol.now) c.args.machine.now (row_in c.args.rows.now.runs) c.loop-x.x w.in-Some.j.0 c.args.counts.now
+    below = rw w.counts-is (one_more (g.P.BlockingProtocol.interferes c.args.protocol.now) c.args.machine.now (row_in c.args.rows.now.runs) c.args.ticks c.loop-x.x w.in-Some.j.0 c.args.counts.now
         c.loop-x.counts w.count_job.new.counts c.requires.shows (omega (arith, c.loop-x-test.true, c.tasks_of-x-end.ensures)) (sym c.current.ensures.value ∙ ap place_seen w.in-Some.is)
         c.loop-x.invariant.below w.count_job.ensures.own w.count_job.ensures.others);
   }
   | in_default w ↦ record {
     size = c.match-current.auto.counts ∙ c.loop-x.invariant.size;
-    below = rw w.counts-is (none_more (g.P.BlockingProtocol.interferes c.args.protocol.now) c.args.machine.now (row_in c.args.rows.now.runs) c.loop-x.x c.args.counts.now c.loop-x.counts
+    below = rw w.counts-is (none_more (g.P.BlockingProtocol.interferes c.args.protocol.now) c.args.machine.now (row_in c.args.rows.now.runs) c.args.ticks c.loop-x.x c.args.counts.now c.loop-x.counts
         c.requires.shows (sym c.current.ensures.value ∙ ap place_seen w.in_default.is) c.loop-x.invariant.below);
   }
 ]
 
 pub returns : goal.returns
 returns g c =
-    all_counted (g.P.BlockingProtocol.interferes c.args.protocol.now) c.args.machine.now (row_in c.args.rows.now.runs) c.loop-x.x c.args.counts.now c.loop-x.counts c.requires.shows
+    all_counted (g.P.BlockingProtocol.interferes c.args.protocol.now) c.args.machine.now (row_in c.args.rows.now.runs) c.args.ticks c.loop-x.x c.args.counts.now c.loop-x.counts c.requires.shows
     (omega (arith, c.loop-x-test.false, c.tasks_of-x-end.ensures)) c.loop-x.invariant.size c.loop-x.invariant.below
