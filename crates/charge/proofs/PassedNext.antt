@@ -57,6 +57,17 @@ none_passed w bound lawful bounds = nothing_from (length w.jobs) (has_passed w b
       absurd (omega (arith, p.within, bounds.from (task_of w j) (lawful.each j l).task))
 ])
 
+-- Nor has one where each job whose bound has come was finished by then.
+pub none_passed_by : (w : Trace) (bound : ℕ → ℕ) (n : ℕ)
+    → ((j : ℕ) → j < length w.jobs → bound_end w bound j ≤ n → phase_of w (bound_end w bound j) j ≡ Finished) → first_passed w bound n ≡ None
+none_passed_by w bound n finished = nothing_from (length w.jobs) (has_passed w bound n) (λ j l. elim (cases_Bool (has_passed w bound n j)) [
+  | inr off ↦ off
+  | inl on ↦
+      let p : Passed w bound n j = passed_is w bound n j on in
+      let done : is_finished (phase_of w (bound_end w bound j) j) ≡ true = ap is_finished (finished j l p.within) in
+      absurd (both_ways _ p.unfinished done)
+])
+
 -- The bound of an earlier job of the task ends no later than the release of a job.
 ends_before : (w : Trace) (bound : ℕ → ℕ) (e j : ℕ) → HaveNumbers w → AreLawfulJobs (jobs_of w) → AreBounds w.set bound → e < j
     → j < length w.jobs → task_of w e ≡ task_of w j → bound_end w bound e ≤ (job_of w.jobs j).release

@@ -59,8 +59,12 @@ parts_of j r item h =
 same_cmp : (a b : ItemDef) → a.blocked ≡ b.blocked → a.blocker ≡ b.blocker → a.request ≡ b.request
     → class_rank a.class ≡ class_rank b.class → item_cmp a b ≡ Equal
 same_cmp a b e f g h =
-    rw (e, f, g, h) (rw (tied_itself nat_cmp_total b.blocked, tied_itself nat_cmp_total b.blocker, tied_itself nat_cmp_total b.request,
-    tied_itself nat_cmp_total (class_rank b.class)) refl)
+    rw (e, f, g, h) (rw (
+      tied_itself nat_cmp_total b.blocked,
+      tied_itself nat_cmp_total b.blocker,
+      tied_itself nat_cmp_total b.request,
+      tied_itself nat_cmp_total (class_rank b.class),
+    ) refl)
 
 one_place : (charges : Charges) (w : Trace) (t j : ℕ) (a b : ItemDef) → counts charges w t j a ≡ true → counts charges w t j b ≡ true
     → item_cmp a b ≡ Equal
