@@ -119,7 +119,7 @@ check_outcome inputs later protocol name again cert text a w same short set_agai
 
 -- What a call that tells its bytes wrote is one text.
 one_text : (before now : Option (List ℕ)) (s t : List ℕ) → IsSome before → Appends before now s → Appends before now t → s ≡ t
-one_text None now s t some p q = absurd some
+one_text None now s t some p q = cc
 one_text (Some xs) None s t some p q = absurd p
 one_text (Some xs) (Some ys) s t some p q = append_cancel_left xs s t (sym p ∙ q)
 
