@@ -1,6 +1,5 @@
 -- What `analyse` writes is found valid.
 use Rattle.std.proofs.Common.{◌≡◌, ℕ, ◌^◌, ◌<◌, ◌≤◌, ◌++◌, List, length, refl, sym, ◌∙◌, ap, subst, arith, inl, inr, ◌⊎◌, Ok, Some, None}
-use Rattle.std.proofs.lemmas.Bool.{false≢true}
 use Rattle.std.specs.Prelude.{Option, MatchOption, IsSome, slice_index, slice_index_or}
 use Rattle.std.specs.List.{All}
 use Rattle.std.specs.Io.KnownBytes.{Appends}
@@ -120,7 +119,7 @@ check_outcome inputs later protocol name again cert text a w same short set_agai
 
 -- What a call that tells its bytes wrote is one text.
 one_text : (before now : Option (List ℕ)) (s t : List ℕ) → IsSome before → Appends before now s → Appends before now t → s ≡ t
-one_text None now s t some p q = absurd (false≢true some)
+one_text None now s t some p q = cc
 one_text (Some xs) None s t some p q = absurd p
 one_text (Some xs) (Some ys) s t some p q = append_cancel_left xs s t (sym p ∙ q)
 

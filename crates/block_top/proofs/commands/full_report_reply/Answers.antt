@@ -1,0 +1,20 @@
+use Rattle.block_top.specs.Inputs.{set_input}
+use Rattle.block_top.specs.Commands.{full_table_of, with_certificate}
+use Rattle.block_top.specs.Outcome.{IsReplyOf}
+use Rattle.block_top.specs.Replies.{Answered}
+use Rattle.block_top.proofs.ReplyLaws.{replied_got}
+use Rattle.block_top.proofs.commands.full_report_reply.Goals as goal
+
+pub returns-clause-reply : goal.returns-clause-reply
+returns-clause-reply g c =
+    let names = g.S.Shelf.names c.args.shelf.now in
+    let mid = g.S.Shelf.faults c.get_set.new.shelf in
+    let now = g.S.Shelf.faults c.proved_table_reply.new.shelf in
+    let given = g.S.Shelf.given c.proved_table_reply.new.shelf in
+    let keeps = c.get_set.ensures.keeps in
+    let got = c.in_ok-_bytes.ensures.got in
+    let rest : Answered c.proved_table_reply.result (IsReplyOf (record { names = names; before = mid; now = now; given = given })
+    (with_certificate c.args.protocol c.args.certificate.now (full_table_of c.args.protocol c.in_ok-_bytes.set))) = rw keeps.names at c.proved_table_reply.ensures.reply in
+    replied_got names (g.S.Shelf.faults c.args.shelf.now) mid now (g.S.Shelf.given c.get_set.new.shelf) given (set_input c.args.protocol) c.args.set.now
+    (λ bytes tasks. with_certificate c.args.protocol c.args.certificate.now (full_table_of c.args.protocol tasks)) c.in_ok-_bytes._bytes.items c.in_ok-_bytes.set c.proved_table_reply.result
+    keeps.later got.0 (λ works. absurd works) rest
