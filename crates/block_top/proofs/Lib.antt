@@ -4,6 +4,7 @@ pub mod InputLaws
 pub mod TraceLaws
 pub mod ConformLaws
 pub mod SimulationLaws
+pub mod StudyLaws
 pub mod CommandLaws
 pub mod ReplyLaws
 pub mod RunLaws

@@ -22,9 +22,11 @@ use Rattle.trace_conform.specs.ByProtocol.{rules_of, interference_of}
 use Rattle.trace_csv.specs.Written.{rows_text}
 use Rattle.sim_engine.specs.ByProtocol.{choice_of}
 use Rattle.sim_engine.specs.Simulated.{IsSimulated}
+use Rattle.study_gen.specs.Counts.{IsStudy}
+use Rattle.study_gen.specs.declared.counting.StudyCounts.{StudyCounts}
 use Rattle.block_top.specs.Plans.{Answer, Work, Plan, Working, Reading}
-use Rattle.block_top.specs.Words.{Form, Analyse, Check, Report, FullReport, Conform, Simulate}
-use Rattle.block_top.specs.Texts.{not_shown_text, wide_text, allowance_text, lawful_text, broken_text, valid_text, invalid_text}
+use Rattle.block_top.specs.Words.{Form, Analyse, Check, Report, FullReport, Conform, Simulate, Study}
+use Rattle.block_top.specs.Texts.{not_shown_text, wide_text, allowance_text, lawful_text, broken_text, valid_text, invalid_text, study_text}
 use Rattle.block_top.specs.Inputs.{set_input, cert_input, jobs_input, rows_input}
 
 -- What goes out where the rounds of the set end so.
@@ -112,6 +114,14 @@ simulation_of protocol list n = record { answers = IsSimulation protocol list n;
 abbrev pub simulating_jobs : Protocol → List ℕ → ℕ → SetDef → Plan
 simulating_jobs protocol jobs n set = Reading (jobs_input set) jobs (λ bytes list. Working (simulation_of protocol list n))
 
+-- The answer of a study: what it counts.
+abbrev pub IsStudyAnswer : ℕ → ℕ → Answer → Type 0
+IsStudyAnswer seed sets answer = (c : StudyCounts) × IsStudy seed sets c × (answer ≡ record { status = 0; text = study_text c.counts.items c.stopped })
+
+-- Making and counting sets, which always ends.
+abbrev pub study_of : ℕ → ℕ → Work
+study_of seed sets = record { answers = IsStudyAnswer seed sets; ends = Unit {0} }
+
 -- What each form of words does.
 abbrev pub plan_of : Form → Plan
 plan_of (Analyse protocol name allowance) = Reading (set_input protocol) name (λ bytes set. Working (analysis_of protocol set allowance))
@@ -120,3 +130,4 @@ plan_of (FullReport protocol set cert) = Reading (set_input protocol) set (λ by
 plan_of (Report protocol name) = Reading (set_input protocol) name (λ bytes set. Working (table_of set))
 plan_of (Conform protocol set jobs rows) = Reading (set_input protocol) set (λ bytes tasks. judging_jobs protocol jobs rows tasks)
 plan_of (Simulate protocol set jobs ticks) = Reading (set_input protocol) set (λ bytes tasks. simulating_jobs protocol jobs ticks tasks)
+plan_of (Study seed sets) = Working (study_of seed sets)

@@ -1,5 +1,5 @@
 -- The texts of answers. Each line ends with one line end.
-use Rattle.std.specs.Prelude.{ℕ, ◌+◌, List, [], ◌++◌, length, codes, decimal, Option, None, Some}
+use Rattle.std.specs.Prelude.{ℕ, ◌+◌, List, [], ◌++◌, length, codes, decimal, slice_index, slice_index_or, Option, None, Some}
 use Rattle.bounded_sums.specs.Sums.{collect_below}
 use Rattle.sporadic_model.specs.SetDef.{SetDef, task_at}
 use Rattle.schedule_model.specs.Measures.{MeasuresDef}
@@ -51,6 +51,16 @@ rule_text rule.Priority = codes "priority"
 -- A schedule whose row at this tick breaks this rule.
 abbrev pub broken_text : ℕ → Rule → List ℕ
 broken_text tick r = codes "broken " ++ (decimal tick ++ (codes " " ++ (rule_text r ++ codes "\n")))
+
+-- The line of step number i of a study, counted from 0: how many of its sets are schedulable under each protocol.
+abbrev pub step_line : ℕ → List ℕ → List ℕ
+step_line i row = decimal (i + 1) ++ (codes " " ++ (decimal (slice_index row 0) ++ (codes " " ++ (decimal (slice_index row 1)
+    ++ (codes " " ++ (decimal (slice_index row 2) ++ codes "\n"))))))
+
+-- A study: the counts of its eight steps, and how many analyses stopped.
+abbrev pub study_text : List (List ℕ) → ℕ → List ℕ
+study_text rows stopped = codes "step mpcp fmlp+ dpcp\n"
+    ++ (collect_below 8 (λ i. step_line i (slice_index_or rows i [])) ++ (codes "stopped " ++ (decimal stopped ++ codes "\n")))
 
 -- A certificate that is valid.
 abbrev pub valid_text : List ℕ

@@ -1,12 +1,12 @@
 -- The forms of words that the program answers.
-use Rattle.std.specs.Prelude.{◌≡◌, refl, ℕ, List, [], ◌∷◌, map, Option, Some, None, if◌then◌else◌, option_map, String, string_bytes, codes}
+use Rattle.std.specs.Prelude.{◌≡◌, refl, ℕ, ◌-◌, ◌^◌, List, [], ◌∷◌, map, Option, Some, None, if◌then◌else◌, option_map, String, string_bytes, codes}
 use Rattle.std.specs.Global.{Global}
 use Rattle.std.specs.Str.{bytes_eq}
 use Rattle.sporadic_model.specs.declared.ids.Protocol.{Protocol}
 use Rattle.sporadic_model.specs.declared.limits.TheConstants.{MOST_TICKS}
 use Rattle.sporadic_model.specs.declared.ids.Protocol.TheVariants.{Mpcp, FmlpPlus, Dpcp}
 use Rattle.text_pieces.specs.Numbers.{number_between}
-use Rattle.block_top.specs.declared.words.TheConstants.{DEFAULT_ALLOWANCE, GREATEST_ALLOWANCE}
+use Rattle.block_top.specs.declared.words.TheConstants.{DEFAULT_ALLOWANCE, GREATEST_ALLOWANCE, MOST_SETS}
 
 -- What the words ask for: a command, with its protocol, the names of its inputs and its numbers.
 pub data Form : Type 0 where
@@ -22,6 +22,8 @@ pub data Form : Type 0 where
   Conform : Protocol → List ℕ → List ℕ → List ℕ → Form
   -- the protocol, the set, the jobs, the ticks
   Simulate : Protocol → List ℕ → List ℕ → ℕ → Form
+  -- the seed, the number of sets
+  Study : ℕ → ℕ → Form
 
 -- Which protocol does this word name?
 abbrev pub protocol_of : List ℕ → Option Protocol
@@ -30,11 +32,17 @@ protocol_of word = if bytes_eq word (codes "mpcp") then Some Mpcp
     else if bytes_eq word (codes "dpcp") then Some Dpcp
     else None
 
+-- Which form have these words of `study`, whose numbers are as they were read?
+abbrev pub study_form : Option ℕ → Option ℕ → Option Form
+study_form (Some seed) (Some sets) = Some (Study seed sets)
+study_form _ _ = None
+
 -- Which form do these three words have?
 abbrev pub form_of_three : List ℕ → List ℕ → List ℕ → Option Form
-form_of_three command protocol name =
-    if bytes_eq command (codes "analyse") then option_map (λ p. Analyse p name DEFAULT_ALLOWANCE) (protocol_of protocol)
-    else if bytes_eq command (codes "report") then option_map (λ p. Report p name) (protocol_of protocol)
+form_of_three command second last =
+    if bytes_eq command (codes "analyse") then option_map (λ p. Analyse p last DEFAULT_ALLOWANCE) (protocol_of second)
+    else if bytes_eq command (codes "report") then option_map (λ p. Report p last) (protocol_of second)
+    else if bytes_eq command (codes "study") then study_form (number_between 0 (2 ^ 64 - 1) second) (number_between 1 MOST_SETS last)
     else None
 
 -- Which form have these words of `analyse`, whose protocol and allowance are as they were read?
@@ -64,7 +72,7 @@ form_of_five command protocol set jobs last =
 
 -- Which form do the words have, if any?
 abbrev pub form_of : List (List ℕ) → Option Form
-form_of (command ∷ protocol ∷ name ∷ []) = form_of_three command protocol name
+form_of (command ∷ second ∷ last ∷ []) = form_of_three command second last
 form_of (command ∷ protocol ∷ name ∷ last ∷ []) = form_of_four command protocol name last
 form_of (command ∷ protocol ∷ set ∷ jobs ∷ last ∷ []) = form_of_five command protocol set jobs last
 form_of _ = None
@@ -76,6 +84,10 @@ default_allowance = refl
 -- and the most that they may give
 pub greatest_allowance : GREATEST_ALLOWANCE ≡ 1000000000
 greatest_allowance = refl
+
+-- the most sets of a step
+pub most_sets : MOST_SETS ≡ 1000
+most_sets = refl
 
 -- What a contract sees of words: their bytes.
 abbrev pub words_seen : List (String Global) → List (List ℕ)

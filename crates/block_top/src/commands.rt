@@ -2,7 +2,7 @@ ghost use Rattle.std.specs.Prelude.{◌≤◌, is_some, IfOk};
 ghost use Rattle.sporadic_model.specs.declared.limits.TheConstants.{MOST_TICKS};
 ghost use Rattle.sporadic_model.specs.Homes.{HasHomesFor};
 ghost use Rattle.block_top.specs.Words.{Analyse, Check, Report, FullReport, Conform, Simulate, words_seen};
-ghost use Rattle.block_top.specs.FormSeen.{form_seen, HasSomeTicks};
+ghost use Rattle.block_top.specs.FormSeen.{form_seen, HasFittingNumbers};
 ghost use Rattle.block_top.specs.Commands.{check_of, full_table_of, with_certificate, judging_rows, judging_jobs, simulating_jobs, plan_of};
 ghost use Rattle.block_top.specs.Outcome.{IsReplyOf, IsReply};
 ghost use Rattle.block_top.specs.Replies.{reply_seen, Answered, Keeps};
@@ -10,6 +10,7 @@ ghost use Rattle.block_top.specs.Replies.{reply_seen, Answered, Keeps};
 use crate::halt::{Halt, Reply, settled};
 use crate::input::{get_cert, get_jobs, get_rows, get_set};
 use crate::judging::{judgement, proved_table};
+use crate::study::counted;
 use crate::words::{Command, command_of};
 use crate::work::{analysis, conformance, no_form, simulation, table};
 use outside_ports::Shelf;
@@ -236,7 +237,7 @@ fn command_reply<R: Threads + Sync, S: Shelf>(
     shelf: &mut S,
     command: Command<'_>,
 ) -> Result<Reply, Halt>
-    requires { HasSomeTicks (form_seen command) }
+    requires { HasFittingNumbers (form_seen command) }
     ensures reply { Answered result (IsReplyOf
         (record { names = S.names shelf.old; before = S.faults shelf.old; now = S.faults shelf.new; given = S.given shelf.new })
         (plan_of (form_seen command.entry))) }
@@ -272,6 +273,7 @@ fn command_reply<R: Threads + Sync, S: Shelf>(
             jobs,
             ticks,
         } => simulate_reply(alloc, shelf, protocol, set, jobs, ticks),
+        Command::Study { seed, sets } => counted(rt, alloc, seed, sets),
     }
 }
 

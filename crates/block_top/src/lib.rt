@@ -7,6 +7,7 @@ mod input;
 mod judging;
 mod laws;
 mod refusals;
+mod study;
 mod texts;
 mod top;
 mod words;

@@ -141,6 +141,17 @@ fn analyses_under_each_protocol(rt: HostRuntime) -> Result<(), Fail> {
     Ok(())
 }
 
+// Each of the eight sets is schedulable under each protocol.
+#[test]
+fn counts_generated_sets(rt: HostRuntime) -> Result<(), Fail> {
+    let alloc = rt.alloc();
+    let counts =
+        "step mpcp fmlp+ dpcp\n1 1 1 1\n2 1 1 1\n3 1 1 1\n4 1 1 1\n5 1 1 1\n6 1 1 1\n7 1 1 1\n8 1 1 1\nstopped 0\n";
+    let given = ran(&rt, alloc, &["study", "1", "1"], b"")?;
+    assert_eq!(rt; given, answer(alloc, 0, counts)?);
+    Ok(())
+}
+
 #[test]
 fn refuses_words_without_a_form(rt: HostRuntime) -> Result<(), Fail> {
     let alloc = rt.alloc();
@@ -151,6 +162,9 @@ fn refuses_words_without_a_form(rt: HostRuntime) -> Result<(), Fail> {
         ["analyse", "edf", "set"],
         ["check", "fmlp+", "set"],
         ["study", "1", "0"],
+        ["study", "0", "1001"],
+        ["study", "00", "1"],
+        ["study", "18446744073709551616", "1"],
         ["report", "FMLP+", "set"],
     ] {
         assert_eq!(rt; ran(&rt, alloc, &words, SET_A.as_bytes())?, want);

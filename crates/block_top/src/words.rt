@@ -1,9 +1,9 @@
-ghost use Rattle.std.specs.Prelude.{◌≡◌, option_map, IfSome};
+ghost use Rattle.std.specs.Prelude.{◌≡◌, ◌-◌, ◌^◌, option_map, IfSome};
 ghost use Rattle.sporadic_model.specs.declared.limits.TheConstants.{MOST_TICKS};
 ghost use Rattle.text_pieces.specs.Numbers.{number_between};
-ghost use Rattle.block_top.specs.declared.words.TheConstants.{GREATEST_ALLOWANCE};
-ghost use Rattle.block_top.specs.Words.{protocol_of, form_of_three, analyse_form, form_of_four, simulate_form, form_of_five, form_of, words_seen};
-ghost use Rattle.block_top.specs.FormSeen.{form_seen, HasSomeTicks};
+ghost use Rattle.block_top.specs.declared.words.TheConstants.{GREATEST_ALLOWANCE, MOST_SETS};
+ghost use Rattle.block_top.specs.Words.{protocol_of, study_form, form_of_three, analyse_form, form_of_four, simulate_form, form_of_five, form_of, words_seen};
+ghost use Rattle.block_top.specs.FormSeen.{form_seen, HasFittingNumbers};
 
 use sporadic_model::{MOST_TICKS, Protocol};
 use text_pieces::number_between;
@@ -13,6 +13,9 @@ pub const DEFAULT_ALLOWANCE: u64 = 1_000_000;
 
 /// The most units that the words may allow.
 pub const GREATEST_ALLOWANCE: u64 = 1_000_000_000;
+
+/// The most sets that a study may make for each step.
+pub const MOST_SETS: u64 = 1000;
 
 /// What the words ask for.
 #[derive(Clone, Copy, Debug)]
@@ -54,6 +57,11 @@ pub enum Command<'a> {
         jobs: &'a str,
         ticks: u64,
     },
+    /// Make so many sets for each step from the seed, and count which are schedulable.
+    Study {
+        seed: u64,
+        sets: u32,
+    },
 }
 
 /// The protocol that a word names.
@@ -68,20 +76,40 @@ fn protocol_named(word: &str) -> Option<Protocol>
     }
 }
 
+/// What the words of `study` ask for.
+fn study_of<'a>(seed: &str, sets: &str) -> Option<Command<'a>>
+    ensures form { option_map form_seen result ≡ study_form (number_between 0 (2 ^ 64 - 1) seed.now) (number_between 1 MOST_SETS sets.now) }
+    ensures ticks { IfSome result (λ c. HasFittingNumbers (form_seen c)) }
+{
+    match (
+        number_between(seed.as_bytes(), 0, u64::MAX),
+        number_between(sets.as_bytes(), 1, MOST_SETS),
+    ) {
+        (Some(seed), Some(sets)) => Some(Command::Study {
+            seed,
+            sets: sets as u32,
+        }),
+        _ => None,
+    }
+}
+
 /// What three words ask for.
-fn command_of_three<'a>(command: &str, protocol: &str, set: &'a str) -> Option<Command<'a>>
-    ensures form { option_map form_seen result ≡ form_of_three command.now protocol.now set.now }
-    ensures ticks { IfSome result (λ c. HasSomeTicks (form_seen c)) }
+fn command_of_three<'a>(command: &str, second: &str, set: &'a str) -> Option<Command<'a>>
+    ensures form { option_map form_seen result ≡ form_of_three command.now second.now set.now }
+    ensures ticks { IfSome result (λ c. HasFittingNumbers (form_seen c)) }
 {
     if command == "analyse" {
-        return protocol_named(protocol).map(|protocol| Command::Analyse {
+        return protocol_named(second).map(|protocol| Command::Analyse {
             protocol,
             set,
             allowance: DEFAULT_ALLOWANCE,
         });
     }
     if command == "report" {
-        return protocol_named(protocol).map(|protocol| Command::Report { protocol, set });
+        return protocol_named(second).map(|protocol| Command::Report { protocol, set });
+    }
+    if command == "study" {
+        return study_of(second, set);
     }
     None
 }
@@ -89,7 +117,7 @@ fn command_of_three<'a>(command: &str, protocol: &str, set: &'a str) -> Option<C
 /// What an analysis with this allowance asks for.
 fn analyse_within<'a>(protocol: &str, set: &'a str, allowance: &str) -> Option<Command<'a>>
     ensures form { option_map form_seen result ≡ analyse_form (protocol_of protocol.now) set.now (number_between 1 GREATEST_ALLOWANCE allowance.now) }
-    ensures ticks { IfSome result (λ c. HasSomeTicks (form_seen c)) }
+    ensures ticks { IfSome result (λ c. HasFittingNumbers (form_seen c)) }
 {
     match (
         protocol_named(protocol),
@@ -112,7 +140,7 @@ fn command_of_four<'a>(
     last: &'a str,
 ) -> Option<Command<'a>>
     ensures form { option_map form_seen result ≡ form_of_four command.now protocol.now set.now last.now }
-    ensures ticks { IfSome result (λ c. HasSomeTicks (form_seen c)) }
+    ensures ticks { IfSome result (λ c. HasFittingNumbers (form_seen c)) }
 {
     if command == "analyse" {
         return analyse_within(protocol, set, last);
@@ -142,7 +170,7 @@ fn simulation_of<'a>(
     ticks: &str,
 ) -> Option<Command<'a>>
     ensures form { option_map form_seen result ≡ simulate_form protocol set.now jobs.now (number_between 1 MOST_TICKS ticks.now) }
-    ensures ticks { IfSome result (λ c. HasSomeTicks (form_seen c)) }
+    ensures ticks { IfSome result (λ c. HasFittingNumbers (form_seen c)) }
 {
     match (protocol, number_between(ticks.as_bytes(), 1, MOST_TICKS)) {
         (Some(protocol), Some(ticks)) => Some(Command::Simulate {
@@ -164,7 +192,7 @@ fn command_of_five<'a>(
     last: &'a str,
 ) -> Option<Command<'a>>
     ensures form { option_map form_seen result ≡ form_of_five command.now protocol.now set.now jobs.now last.now }
-    ensures ticks { IfSome result (λ c. HasSomeTicks (form_seen c)) }
+    ensures ticks { IfSome result (λ c. HasFittingNumbers (form_seen c)) }
 {
     if command == "conform" {
         return protocol_named(protocol).map(|protocol| Command::Conform {
@@ -183,11 +211,11 @@ fn command_of_five<'a>(
 /// What the words ask for, or none where they have no form. The words are read by exact number and place.
 pub fn command_of(words: &[String]) -> Option<Command<'_>>
     ensures form { option_map form_seen result ≡ form_of (words_seen words.now) }
-    ensures ticks { IfSome result (λ c. HasSomeTicks (form_seen c)) }
+    ensures ticks { IfSome result (λ c. HasFittingNumbers (form_seen c)) }
 {
     match words {
-        [command, protocol, set] => {
-            command_of_three(command.as_str(), protocol.as_str(), set.as_str())
+        [command, second, set] => {
+            command_of_three(command.as_str(), second.as_str(), set.as_str())
         }
         [command, protocol, set, last] => command_of_four(
             command.as_str(),

@@ -2,3 +2,4 @@ pub mod EachLaws
 pub mod OrderLaws
 pub mod SetLaws
 pub mod TallyLaws
+pub mod OneStudy

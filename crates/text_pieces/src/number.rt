@@ -15,31 +15,30 @@ fn is_number(text: &[u8]) -> bool
     !text.is_empty() && are_digits(text) && (text[0] != b'0' || text.len() == 1)
 }
 
-/// The number that digits write, or the greatest `u64` where it is greater.
-fn value_of(digits: &[u8]) -> u64
+/// The number that digits write, or the greatest `u128` where it is greater.
+fn value_of(digits: &[u8]) -> u128
     requires { IsTrue (list_all is_digit digits.now) }
-    ensures { result ≡ min (value_after 0 digits.now) (2 ^ 64 - 1) }
+    ensures { result ≡ min (value_after 0 digits.now) (2 ^ 128 - 1) }
 {
-    let mut value = 0u64;
+    let mut value = 0u128;
     for digit in digits {
         value = value
             .saturating_mul(10)
-            .saturating_add((*digit).saturating_sub(b'0') as u64);
+            .saturating_add((*digit).saturating_sub(b'0') as u128);
     }
     value
 }
 
 /// The number that the text writes, if it is in the range.
 pub fn number_between(text: &[u8], least: u64, most: u64) -> Option<u64>
-    requires { most < 2 ^ 64 - 1 }
     ensures { result ≡ number_between least most text.now }
 {
     if !is_number(text) {
         return None;
     }
     let value = value_of(text);
-    if value < least || value > most {
+    if value < least as u128 || value > most as u128 {
         return None;
     }
-    Some(value)
+    Some(value as u64)
 }

@@ -11,7 +11,7 @@ loop-digit-preserved c =
     let here : i < length ds = omega arith in
     record {
       small = omega (arith, c.saturating_add-value.ensures);
-      left = one_more (2 ^ 64 - 1) c.loop-digit.value c.saturating_add-value.result ds i here
+      left = one_more (2 ^ 128 - 1) c.loop-digit.value c.saturating_add-value.result ds i here
           (omega (arith, c.saturating_add-value.ensures, c.saturating_mul.ensures, c.saturating_sub.ensures)) ∙ c.loop-digit.invariant.left;
     }
 
@@ -21,5 +21,5 @@ returns c =
     let ds = c.args.digits.now in
     let there : length ds ≤ i = omega arith in
     let small = c.loop-digit.invariant.small in
-    let value : min c.loop-digit.value (2 ^ 64 - 1) ≡ c.loop-digit.value = omega arith in
-    sym value ∙ ap (λ xs. min (value_after c.loop-digit.value xs) (2 ^ 64 - 1)) (sym (drop_all i ds there)) ∙ c.loop-digit.invariant.left
+    let value : min c.loop-digit.value (2 ^ 128 - 1) ≡ c.loop-digit.value = omega arith in
+    sym value ∙ ap (λ xs. min (value_after c.loop-digit.value xs) (2 ^ 128 - 1)) (sym (drop_all i ds there)) ∙ c.loop-digit.invariant.left

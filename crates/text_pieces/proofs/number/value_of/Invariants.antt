@@ -4,6 +4,6 @@ use Rattle.text_pieces.proofs.number.value_of.Given as goal
 
 abbrev pub invariant-loop-digit : goal.invariant-loop-digit
 invariant-loop-digit l = record {
-  small : l.value ≤ 2 ^ 64 - 1;
-  left : min (value_after l.value (drop l.digit-index l.digits)) (2 ^ 64 - 1) ≡ min (value_after 0 l.digits) (2 ^ 64 - 1);
+  small : l.value ≤ 2 ^ 128 - 1;
+  left : min (value_after l.value (drop l.digit-index l.digits)) (2 ^ 128 - 1) ≡ min (value_after 0 l.digits) (2 ^ 128 - 1);
 }
