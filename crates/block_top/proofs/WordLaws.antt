@@ -1,5 +1,5 @@
 -- Words that are fewer than three or more than five have no form.
-use Rattle.std.proofs.Common.{◌≡◌, ℕ, ◌<◌, ◌≤◌, List, [], ◌∷◌, length, refl, arith, None}
+use Rattle.std.proofs.Common.{◌≡◌, ℕ, ◌<◌, List, [], ◌∷◌, length, refl, arith, None}
 use Rattle.block_top.specs.Words.{form_of}
 
 pub fewer_words : (words : List (List ℕ)) → length words < 3 → None ≡ form_of words
