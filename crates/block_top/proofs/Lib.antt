@@ -13,3 +13,4 @@ pub mod JudgementLaws
 pub mod CertInputLaws
 pub mod SoundLaws
 pub mod CheckedLaws
+pub mod SetTextLaws

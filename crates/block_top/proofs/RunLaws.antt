@@ -1,5 +1,5 @@
 -- What is true of a call, from what was replied and what was written.
-use Rattle.std.proofs.Common.{◌≡◌, ℕ, ◌-◌, ◌<◌, ◌≤◌, ◌↔◌, List, length, refl, sym, ◌∙◌, ap, subst, arith, inl, inr, ◌⊎◌, Some, None}
+use Rattle.std.proofs.Common.{◌≡◌, ◌≢◌, ℕ, ◌-◌, ◌<◌, ◌≤◌, ◌↔◌, List, length, refl, sym, ◌∙◌, ap, subst, arith, inl, inr, ◌⊎◌, Some, None}
 use Rattle.std.specs.Prelude.{Option, MatchOption, codes}
 use Rattle.outside_ports.specs.Counts.{Rose}
 use Rattle.outside_ports.specs.Names.{Inputs}
@@ -25,6 +25,7 @@ use Rattle.block_top.proofs.PlanLaws.{told_implied, outcome_implied, rest_of, on
 use Rattle.block_top.proofs.InputLaws.{set_reads_once}
 use Rattle.block_top.proofs.CommandLaws.{lawful, wide_ending, only_wide, only_short}
 use Rattle.block_top.proofs.SoundLaws.{sound_outcome}
+use Rattle.block_top.proofs.SetTextLaws.{reads_text}
 
 -- What follows from a reply to words of this form, or of none.
 pub record Replied (shelf : Shown) (o : Option Form) (a : Answer) : Type 0 where
@@ -107,7 +108,7 @@ ended call protocol set analyses a out =
     let plan = of_form analyses.inputs call.words (Analyse protocol analyses.name analyses.allowance) a analyses.form_is out in
     let read = analyses.read in
     let analysis : IsAnalysis protocol set analyses.allowance a =
-    rest_of analyses.inputs (set_input protocol) analyses.name (λ bytes x. Working (analysis_of protocol x analyses.allowance)) read.bytes set a (set_reads_once protocol) ((read.named, read.short), read.reads) plan in
+    rest_of analyses.inputs (set_input protocol) analyses.name (λ bytes x. Working (analysis_of protocol x analyses.allowance)) read.bytes set a (set_reads_once protocol) ((read.named, read.short), reads_text protocol read.bytes set read.text) plan in
     record { ending = analysis.0; ends = analysis.1; is = analysis.2 }
 
 writes : (call : Call) (protocol : Protocol) (set : SetDef) (allowance : ℕ) (bounds : List ℕ) (duals : List DualDef) (a : Answer) → EndsIn (rounds_of (written protocol set)) allowance (Schedulable bounds duals)
@@ -131,15 +132,15 @@ none_of call protocol set n (Wide i) a ends is gives one = let s : a.status ≡ 
 none_of call protocol set n Allowance a ends is gives one = let s : a.status ≡ 6 = ap (λ x. x.status) is in absurd (omega (arith, gives.0))
 
 exactly_of : (call : Call) (protocol : Protocol) (set : SetDef) (n : ℕ) (e : Ending) (a : Answer) → EndsIn (rounds_of (written protocol set)) n e → a ≡ ending_answer protocol set e → Gives call a
-    → ((i : ℕ) → EndsIn (rounds_of (written protocol set)) n (Wide i) → ⊥) → (EndsIn (rounds_of (written protocol set)) n Allowance → ⊥) → WritesSchedulable call protocol set ↔ ((s : List ℕ) × AreFitting (written protocol set) s)
+    → call.status ≢ 5 → call.status ≢ 6 → WritesSchedulable call protocol set ↔ ((s : List ℕ) × AreFitting (written protocol set) s)
 exactly_of call protocol set n (Schedulable bounds duals) a ends is gives no_wide no_allowance =
     (λ w. (w.0.bounds, w.3.fitting), λ fits. writes call protocol set n bounds duals a ends is gives)
 exactly_of call protocol set n (NotShown i value) a ends is gives no_wide no_allowance =
     (λ w. (w.0.bounds, w.3.fitting), λ fits. absurd (not_shown_none (written protocol set) n i value (written_above protocol set) ends fits.0 fits.1))
-exactly_of call protocol set n (Wide i) a ends is gives no_wide no_allowance = absurd (no_wide i ends)
-exactly_of call protocol set n Allowance a ends is gives no_wide no_allowance = absurd (no_allowance ends)
+exactly_of call protocol set n (Wide i) a ends is gives no_wide no_allowance = absurd (no_wide (gives.0 ∙ ap (λ x. x.status) is))
+exactly_of call protocol set n Allowance a ends is gives no_wide no_allowance = absurd (no_allowance (gives.0 ∙ ap (λ x. x.status) is))
 
-headline_of : (call : Call) (protocol : Protocol) (set : SetDef) (n : ℕ) (a : Answer) → Ended protocol set n a → Gives call a → IsHeadline call protocol set n
+headline_of : (call : Call) (protocol : Protocol) (set : SetDef) (n : ℕ) (a : Answer) → Ended protocol set n a → Gives call a → IsHeadline call protocol set
 headline_of call protocol set n a e gives = record {
   exactly = λ shelf sink ran no_wide no_allowance. exactly_of call protocol set n e.ending a e.ends e.is gives no_wide no_allowance;
   least = least_of call protocol set n e.ending a e.ends e.is gives;
@@ -153,9 +154,9 @@ never_five protocol set n a e nothing five =
     rounds_never_wide (written protocol set) n wide.0 (no_columns protocol set nothing) (subst (λ (x : Ending). EndsIn (rounds_of (written protocol set)) n x) wide.1 e.ends)
 
 -- What is so of a call whose status is that of a fault or of want of memory, for which there is a cause.
-other_headline : (call : Call) (protocol : Protocol) (set : SetDef) (n : ℕ) → ((call.status ≡ 4) ⊎ RanOut call) → (Rose call.shelf_before call.shelf_now ⊎ (Rose call.sink_before call.sink_now ⊎ RanOut call))
-    → IsHeadline call protocol set n
-other_headline call protocol set n status cause = record {
+other_headline : (call : Call) (protocol : Protocol) (set : SetDef) → ((call.status ≡ 4) ⊎ RanOut call) → (Rose call.shelf_before call.shelf_now ⊎ (Rose call.sink_before call.sink_now ⊎ RanOut call))
+    → IsHeadline call protocol set
+other_headline call protocol set status cause = record {
   exactly = λ no_shelf no_sink no_want no_wide no_allowance. elim cause [
     | inl shelf ↦ absurd (no_shelf shelf)
     | inr other ↦ elim other [ inl sink ↦ absurd (no_sink sink) | inr ran ↦ absurd (no_want ran) ]
@@ -194,7 +195,7 @@ gave_run call replies r gives =
       ];
       headline = λ protocol set analyses. elim (r.outcome analyses.inputs analyses.told) [
         | inl mine ↦ headline_of call protocol set analyses.allowance a (ended call protocol set analyses a mine) gives
-        | inr fault ↦ other_headline call protocol set analyses.allowance (inl (is ∙ fault.1)) (inl fault.0)
+        | inr fault ↦ other_headline call protocol set (inl (is ∙ fault.1)) (inl fault.0)
       ];
       sound = λ protocol set c checks zero. elim (r.outcome checks.inputs checks.told) [
         | inl mine ↦ sound_outcome call protocol set c checks a (of_form checks.inputs call.words (Check protocol checks.name checks.cert) a checks.form_is mine) (sym is ∙ zero)
@@ -221,7 +222,7 @@ cut_run call replies r fails =
       never_wide = λ protocol set analyses nothing e. absurd (omega (arith, four, e));
       allowance = λ e. absurd (omega (arith, four, e));
       complete = λ inputs form premise. absurd (premise.sink fails.rose);
-      headline = λ protocol set analyses. other_headline call protocol set analyses.allowance (inl four) (inr (inl fails.rose));
+      headline = λ protocol set analyses. other_headline call protocol set (inl four) (inr (inl fails.rose));
       sound = λ protocol set c checks zero. absurd (omega (arith, four, zero));
     }
 
@@ -240,7 +241,7 @@ run_ran_out call ran =
       never_wide = λ protocol set analyses nothing e. absurd (omega (arith, seven, e));
       allowance = λ e. absurd (omega (arith, seven, e));
       complete = λ inputs form premise. inr ran;
-      headline = λ protocol set analyses. other_headline call protocol set analyses.allowance (inr ran) (inr (inr ran));
+      headline = λ protocol set analyses. other_headline call protocol set (inr ran) (inr (inr ran));
       sound = λ protocol set c checks zero. absurd (omega (arith, seven, zero));
     }
 

@@ -19,6 +19,7 @@ use Rattle.block_top.specs.Headline.{Call, Checks}
 use Rattle.block_top.proofs.PlanLaws.{rest_of}
 use Rattle.block_top.proofs.InputLaws.{set_reads_once}
 use Rattle.block_top.proofs.CertInputLaws.{cert_reads_once}
+use Rattle.block_top.proofs.SetTextLaws.{reads_text}
 
 -- A set that is read is accepted.
 pub accepted_of : (protocol : Protocol) (bytes : List ℕ) (set : SetDef) → ReadsSet protocol bytes (Ok set) → IsAccepted set
@@ -42,8 +43,8 @@ sound_outcome call p set c checks a out zero values are =
     let read = checks.read in
     let later : IsOutcomeOf (told checks.inputs) (with_certificate p checks.cert (check_of p set)) a =
     rest_of checks.inputs (set_input p) checks.name (λ bytes tasks. with_certificate p checks.cert (check_of p tasks)) read.bytes set a
-    (set_reads_once p) ((read.named, read.short), read.reads) out in
+    (set_reads_once p) ((read.named, read.short), reads_text p read.bytes set read.text) out in
     let judged : IsJudgement p set c checked_answer a =
     rest_of checks.inputs (cert_input p) checks.cert (λ bytes d. Working (check_of p set d)) checks.bytes c a
     (cert_reads_once p) ((checks.named, checks.short), checks.reads) later in
-    sound_if_valid p set c values (accepted_of p read.bytes set read.reads) (valid_at_zero p set c a judged zero) are
+    sound_if_valid p set c values read.text.accepted (valid_at_zero p set c a judged zero) are

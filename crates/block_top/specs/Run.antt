@@ -109,6 +109,6 @@ pub record IsRun (call : Call) : Type 0 where
   pub never_wide : (protocol : Protocol) (set : SetDef) → Analyses call protocol set → RequestsNothing set → call.status ≢ 5
   pub allowance : call.status ≡ 6 → (form : Form) × (form_of call.words ≡ Some form) × AnalysisEnds (shown_by (shelf_of call)) form IsAllowanceEnding
   pub complete : IsComplete call
-  pub headline : (protocol : Protocol) (set : SetDef) (analyses : Analyses call protocol set) → IsHeadline call protocol set analyses.allowance
+  pub headline : (protocol : Protocol) (set : SetDef) → Analyses call protocol set → IsHeadline call protocol set
   -- And what `check` accepts is sound.
   pub sound : (protocol : Protocol) (set : SetDef) (c : CertificateDef) → Checks call protocol set c → IsSoundCheck call protocol set c

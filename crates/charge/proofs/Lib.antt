@@ -7,4 +7,7 @@ mod PassedNext
 mod TallyLaws
 mod Reaching
 mod Places
+mod Pushing
 mod TableLaws
+mod RowsMet
+mod TableSums

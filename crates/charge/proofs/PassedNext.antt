@@ -1,10 +1,9 @@
 -- Which jobs have passed their bounds, one tick later: those before, and those that are due now. For the first of all it is enough to
 -- look at the active jobs.
-use Rattle.std.proofs.Common.{◌≡◌, ℕ, ◌+◌, ◌<◌, ◌≤◌, ◌==◌, ◌||◌, Bool, true, false, List, length, refl, sym, ap, ◌∙◌, arith, inl, inr, None}
+use Rattle.std.proofs.Common.{◌≡◌, ℕ, ◌+◌, ◌<◌, ◌≤◌, ◌||◌, true, false, List, length, sym, ap, ◌∙◌, arith, inl, inr, None}
 use Rattle.std.specs.Prelude.{nat_le, slice_index}
 use Rattle.std.proofs.lemmas.Bool.{cases_lt, cases_Bool, or_cases, or_left, or_right, and_parts, and_from, and_cases, not-true, not-false, not_from_false, leb-true, le-leb, eqb-true, eq-eqb, both_ways}
 use Rattle.bounded_sums.specs.Tests.{found_below}
-use Rattle.sporadic_model.specs.SetDef.{task_at}
 use Rattle.sporadic_model.specs.Accepted.{TaskNumbers}
 use Rattle.schedule_model.specs.JobDef.{job_of}
 use Rattle.schedule_model.specs.LawfulJobs.{AreLawfulJobs}
@@ -56,6 +55,17 @@ none_passed w bound lawful bounds = nothing_from (length w.jobs) (has_passed w b
   | inl on ↦
       let p : Passed w bound 0 j = passed_is w bound 0 j on in
       absurd (omega (arith, p.within, bounds.from (task_of w j) (lawful.each j l).task))
+])
+
+-- Nor has one where each job whose bound has come was finished by then.
+pub none_passed_by : (w : Trace) (bound : ℕ → ℕ) (n : ℕ)
+    → ((j : ℕ) → j < length w.jobs → bound_end w bound j ≤ n → phase_of w (bound_end w bound j) j ≡ Finished) → first_passed w bound n ≡ None
+none_passed_by w bound n finished = nothing_from (length w.jobs) (has_passed w bound n) (λ j l. elim (cases_Bool (has_passed w bound n j)) [
+  | inr off ↦ off
+  | inl on ↦
+      let p : Passed w bound n j = passed_is w bound n j on in
+      let done : is_finished (phase_of w (bound_end w bound j) j) ≡ true = ap is_finished (finished j l p.within) in
+      absurd (both_ways _ p.unfinished done)
 ])
 
 -- The bound of an earlier job of the task ends no later than the release of a job.

@@ -1,6 +1,5 @@
 -- The order of places: it is total, tells all places apart, and gives that of the table.
-use Rattle.std.proofs.Common.{◌≡◌, ℕ, ◌==◌, ◌&&◌, true, List, [], ◌∷◌, map, refl, sym, ap, ◌∙◌, subst}
-use Rattle.std.specs.Prelude.{Bool}
+use Rattle.std.proofs.Common.{◌≡◌, ℕ, true, List, [], ◌∷◌, map, refl, sym, ap, ◌∙◌}
 use Rattle.std.specs.List.{AllByRecursion}
 use Rattle.std.specs.List.Sorted.{IsStrictlySortedBy}
 use Rattle.std.specs.Map.{keys_of}
@@ -10,7 +9,7 @@ use Rattle.std.specs.declared.cmp.Ordering.{Ordering}
 use Rattle.std.specs.declared.cmp.Ordering.TheVariants.{Less, Equal, Greater}
 use Rattle.std.proofs.lemmas.Bool.{eq-eqb}
 use Rattle.std.proofs.lemmas.Cmp.{nat_cmp_total, on_total, then_total, tied_itself}
-use Rattle.std.proofs.lemmas.Map.Lookups.{CmpEqualImpliesEq, exact_unsigned, exact_pairs}
+use Rattle.std.proofs.lemmas.Map.Lookups.{CmpEqualImpliesEq, exact_unsigned}
 use Rattle.schedule_model.specs.RowDef.{Trace}
 use Rattle.schedule_model.specs.Phase.{phase_of}
 use Rattle.schedule_model.specs.Phase.Phase.{Asking}
@@ -28,9 +27,6 @@ places_total =
     (then_total (on_total (λ p. p.request) nat_cmp_total)
     (then_total (on_total (λ p. p.resource) nat_cmp_total) (on_total (λ p. p.class) nat_cmp_total))))
 
-two_cmp : (ℕ × ℕ) → (ℕ × ℕ) → Ordering
-two_cmp x y = ordering_then (nat_cmp x.0 y.0) (nat_cmp x.1 y.1)
-
 exact_places : CmpEqualImpliesEq place_cmp
 exact_places a b h =
     let one : (nat_cmp a.blocked b.blocked ≡ Equal) × (_ ≡ Equal) = both _ _ h in
@@ -46,7 +42,12 @@ exact_places a b h =
 
       joined : (a b : Place) → a.blocked ≡ b.blocked → a.blocker ≡ b.blocker → a.request ≡ b.request → a.resource ≡ b.resource
           → a.class ≡ b.class → a ≡ b
-      joined a b e f g h i = cc
+      joined a b e f g h i =
+          ap (λ x. made x a.blocker a.request a.resource a.class) e ∙ ap (λ x. made b.blocked x a.request a.resource a.class) f
+          ∙ ap (λ x. made b.blocked b.blocker x a.resource a.class) g ∙ ap (λ x. made b.blocked b.blocker b.request x a.class) h
+          ∙ ap (λ x. made b.blocked b.blocker b.request b.resource x) i where
+            made : ℕ → ℕ → ℕ → ℕ → ℕ → Place
+            made x y m q c = record { blocked = x; blocker = y; request = m; resource = q; class = c }
 
 pub same_by_order : (a b : Place) → eq_by_cmp place_cmp a b ≡ true → a ≡ b
 same_by_order a b h = exact_places a b (equal (place_cmp a b) h) where
@@ -57,8 +58,13 @@ same_by_order a b h = exact_places a b (equal (place_cmp a b) h) where
 
 pub same_itself : (p : Place) → is_same_place p p ≡ true
 same_itself p =
-    rw (eq-eqb p.blocked p.blocked refl, eq-eqb p.blocker p.blocker refl, eq-eqb p.request p.request refl,
-    eq-eqb p.resource p.resource refl, eq-eqb p.class p.class refl) refl
+    rw (
+      eq-eqb p.blocked p.blocked refl,
+      eq-eqb p.blocker p.blocker refl,
+      eq-eqb p.request p.request refl,
+      eq-eqb p.resource p.resource refl,
+      eq-eqb p.class p.class refl,
+    ) refl
 
 -- The number of a class is that of its class.
 pub class_back : (c : Class) → class_rank (class_ranked (class_rank c)) ≡ class_rank c

@@ -1,10 +1,11 @@
 -- How far a schedule is judged and charged, from tick to tick.
-use Rattle.std.proofs.Common.{◌≡◌, ℕ, suc, ◌+◌, ◌<◌, ◌≤◌, Bool, List, [], length, refl, ap, sym, ◌∙◌, subst, arith, inl, inr, Option, None}
+use Rattle.std.proofs.Common.{◌≡◌, ℕ, suc, ◌+◌, Bool, List, [], refl, ap, sym, ◌∙◌, subst, arith, inl, inr, Option, Some, None}
 use Rattle.std.specs.Prelude.{slice_index}
 use Rattle.std.proofs.lemmas.Bool.{cases_lt}
-use Rattle.std.specs.BTreeMap.{BTreeMap}
 use Rattle.schedule_model.specs.JobDef.{JobsDef}
-use Rattle.schedule_model.specs.RowDef.{RowDef, Trace}
+use Rattle.schedule_model.specs.LawfulJobs.{AreLawfulJobs}
+use Rattle.schedule_model.specs.declared.job.JobId.{JobId}
+use Rattle.schedule_model.specs.RowDef.{RowDef, Trace, jobs_of}
 use Rattle.schedule_model.specs.Keeping.{KeepsRow, KeepsBefore, Breaks, IsFirstUnlawful}
 use Rattle.schedule_model.specs.Seen.{place_seen}
 use Rattle.schedule_model.specs.Chosen.{IsSized}
@@ -16,9 +17,7 @@ use Rattle.phase_machine.proofs.Facts.{can_take}
 use Rattle.schedule_model.specs.declared.rule.Rule.{Rule}
 use Rattle.phase_machine.specs.MachineDef.{MachineDef, under}
 use Rattle.phase_machine.specs.Shows.{Shows}
-use Rattle.charge_model.specs.Charges.{Charge}
 use Rattle.charge_model.specs.Windows.{AreBounds}
-use Rattle.charge.specs.declared.tally.Place.{Place}
 use Rattle.charge.specs.declared.tally.Ledger.{Ledger}
 use Rattle.charge.specs.Passed.{first_passed}
 use Rattle.charge.specs.Tally.{IsTally, ticks_before}
@@ -85,3 +84,27 @@ row_taken interferes rows m row here fits shows sound =
     let can : CanBeTaken (under m rows) m.tick =
     sound_taken interferes (under m rows) m.tick (subst (λ (r : RowDef). IsSized m.list.set r) (sym here) fits.sized) sound in
     subst (λ (r : RowDef). CanTake m r) here (can_take m rows shows can)
+
+-- What a schedule was judged and charged to.
+pub record Walked (keeps : Rule → Trace → ℕ → Type 0) (charges : Charges) (w : Trace) (bound : ℕ → ℕ) (n : ℕ) (ledger : Ledger) : Type 0 where
+  pub lawful : AreLawfulJobs (jobs_of w)
+  pub keeps_all : KeepsBefore keeps w n
+  pub counted : IsTally ledger.ticks (ticks_before charges w bound n)
+  pub passed : place_seen ledger.passed ≡ first_passed w bound n
+
+pub walked_all : (keeps : Rule → Trace → ℕ → Type 0) (charges : Charges) (rows : ℕ → RowDef) (bounds : List ℕ) (m : MachineDef)
+    (ledger : Ledger) (jobs : JobsDef) (n : ℕ) → m.list ≡ jobs → m.tick ≡ n → IsReached keeps charges rows bounds m ledger
+    → Walked keeps charges (over jobs rows) (slice_index bounds) n ledger
+walked_all keeps charges rows bounds m ledger jobs n list tick reached =
+    subst (λ (l : JobsDef). Walked keeps charges (over l rows) (slice_index bounds) n ledger) list
+    (subst (λ (t : ℕ). Walked keeps charges (over m.list rows) (slice_index bounds) t ledger) tick (record {
+      lawful = reached.shows.machine.lawful;
+      keeps_all = reached.keeps_before;
+      counted = reached.counted;
+      passed = reached.passed;
+    }))
+
+-- A job that isn't there is none.
+pub none_noted : (o : Option JobId) → ((j : JobId) → o ≡ Some j → ⊥) → place_seen o ≡ None
+none_noted None h = refl
+none_noted (Some j) h = absurd (h j refl)

@@ -71,7 +71,8 @@ fn place_at<P: ChargedProtocol>(
     requires listed { j.0 < length machine.now.list.jobs }
     requires one_each { length bounds.now ≡ length machine.now.list.set.tasks }
     requires bounds { AreBounds machine.now.list.set (slice_index bounds.now) }
-    ensures { result ≡ place_at (P.charges protocol.now) (under machine.now (row_in rows.now.runs)) (slice_index bounds.now) machine.now.tick j.0 }
+    ensures { result ≡ place_at (P.charges protocol.now) (under machine.now (row_in rows.now.runs)) (slice_index bounds.now)
+        machine.now.tick j.0 }
 {
     if machine.tick() >= end_of(machine, bounds, j) {
         return None;
@@ -127,8 +128,8 @@ pub(crate) fn charge_tick<P: ChargedProtocol>(
     requires bounds { AreBounds machine.now.list.set (slice_index bounds.now) }
     requires counted { IsTally ticks.old
         (ticks_before (P.charges protocol.now) (under machine.now (row_in rows.now.runs)) (slice_index bounds.now) machine.now.tick) }
-    ensures { OnOk result (IsTally ticks.new
-        (ticks_before (P.charges protocol.now) (under machine.now (row_in rows.now.runs)) (slice_index bounds.now) (machine.now.tick + 1))) }
+    ensures { OnOk result (IsTally ticks.new (ticks_before (P.charges protocol.now) (under machine.now (row_in rows.now.runs))
+        (slice_index bounds.now) (machine.now.tick + 1))) }
 {
     for x in 0..tasks_of(machine) {
         add_named(

@@ -7,7 +7,8 @@ ghost use Rattle.charge_laws.proofs.SharedCharging.{shared_charge_blocked};
 ghost use Rattle.charge_laws.proofs.DpcpCharging.{dpcp_charge_blocked};
 ghost use Rattle.row_laws.proofs.ChargedTicks.{mpcp_is_charged, fmlp_is_charged, dpcp_is_charged};
 ghost use Rattle.row_laws.proofs.Joined.{mpcp_point, fmlp_point, dpcp_point};
-ghost use Rattle.row_laws.proofs.InterferingCosts.{interfering_least, interfering_most, mpcp_interferes_within, fmlp_interferes_within, dpcp_interferes_within};
+ghost use Rattle.row_laws.proofs.InterferingCosts.{interfering_least, interfering_most};
+ghost use Rattle.row_laws.proofs.InterferingCosts.{mpcp_interferes_within, fmlp_interferes_within, dpcp_interferes_within};
 
 use crate::distributed::charged_distributed;
 use crate::protocol::ChargedProtocol;

@@ -1,4 +1,5 @@
-ghost use Rattle.std.specs.Prelude.{◌≡◌, ℕ, ◌*◌, ◌<◌, ◌≤◌, ◌↔◌, true, false, List, length, map, slice_index, Option, Some, None, IfOk, IfSome};
+ghost use Rattle.std.specs.Prelude.{◌≡◌, ℕ, ◌*◌, ◌<◌, ◌≤◌, ◌↔◌, true, false, List, length, map, slice_index};
+ghost use Rattle.std.specs.Prelude.{Option, Some, None, IfOk, IfSome};
 ghost use Rattle.bounded_sums.specs.Tests.{count_below};
 ghost use Rattle.program_form.specs.Program.{ProgramDef};
 ghost use Rattle.program_form.specs.Points.{IsScaledPoint};

@@ -1,7 +1,74 @@
-use Rattle.std.proofs.Common.{◌≡◌}
-use Rattle.charge.proofs.Places.{table_sorted}
+use Rattle.std.proofs.Common.{◌∙◌, ℕ, refl, sym, subst, arith, List}
+use Rattle.std.specs.Prelude.{slice_index}
+use Rattle.sporadic_model.specs.Accepted.{IsAccepted}
+use Rattle.schedule_model.specs.JobDef.{JobDef, job_of}
+use Rattle.schedule_model.specs.LawfulJobs.{IsLawfulJob}
+use Rattle.schedule_model.specs.RowDef.{Trace, row_in, trace_in, ticks_of}
+use Rattle.schedule_model.specs.Activity.{task_of}
+use Rattle.schedule_laws.proofs.KindsOfTicks.{Blocked, blocked_is}
+use Rattle.charge_model.specs.ChargedTicks.{IsCharged}
+use Rattle.charge.specs.Table.{ItemDef, IsChargeTable}
+use Rattle.charge.proofs.TallyLaws.{OfActive}
+use Rattle.charge.proofs.Reaching.{Walked, reached_first, walked_all, none_noted}
 use Rattle.charge.proofs.TableLaws.{table_is}
+use Rattle.charge.proofs.RowsMet.{alone, alone_lawful, alone_ended, rows_met}
 use Rattle.charge.proofs.charging.charge_with.Goals as goal
 
 pub walk_all-requires-clause-reached : goal.walk_all-requires-clause-reached
-walk_all-requires-clause-reached g c = ?
+walk_all-requires-clause-reached g c =
+    reached_first (g.P.BlockingProtocol.keeps c.args.protocol.now) (g.P.ChargedProtocol.charges c.args.protocol.now) (row_in c.args.rows.now.runs)
+    c.args.bounds.now c.in-Ok.machine _ (c.in-Ok.ensures.shows (row_in c.args.rows.now.runs)) c.in-Ok.ensures.tick
+    (rw c.in-Ok.ensures.list c.requires.bounds) c.new-2.ensures.empty refl
+
+pub returns-in-Ok-items_of-clause-charged : goal.returns-in-Ok-items_of-clause-charged
+returns-in-Ok-items_of-clause-charged g c =
+    let w : Trace = trace_in c.args.jobs.now c.args.rows.now.runs in
+    let n : ℕ = ticks_of c.args.rows.now.runs in
+    let a : Walked (g.P.BlockingProtocol.keeps c.args.protocol.now) (g.P.ChargedProtocol.charges c.args.protocol.now) w
+    (slice_index c.args.bounds.now) n c.walk_all.new.ledger =
+    walked_all (g.P.BlockingProtocol.keeps c.args.protocol.now) (g.P.ChargedProtocol.charges c.args.protocol.now) (row_in c.args.rows.now.runs)
+    c.args.bounds.now c.walk_all.new.machine c.walk_all.new.ledger c.args.jobs.now n (c.walk_all.ensures.list ∙ c.in-Ok.ensures.list)
+    c.in_ok-walk_all.ensures.walked.0 c.in_ok-walk_all.ensures.walked.1 in
+    let only : (t : ℕ) → OfActive (g.P.ChargedProtocol.charges c.args.protocol.now) w t =
+    λ t k charge e. let b : Blocked (g.P.BlockingProtocol.interferes c.args.protocol.now) w t k =
+    blocked_is (g.P.BlockingProtocol.interferes c.args.protocol.now) w t k
+    (g.met.P.ChargedProtocol.charges_only c.args.protocol.now w t k charge e) in b.active in
+    let table : IsChargeTable (g.P.ChargedProtocol.charges c.args.protocol.now) (g.P.BlockingProtocol.interferes c.args.protocol.now) w
+    (slice_index c.args.bounds.now) n _ =
+    table_is (g.P.ChargedProtocol.charges c.args.protocol.now) (g.P.BlockingProtocol.interferes c.args.protocol.now) w
+    (slice_index c.args.bounds.now) n c.walk_all.new.ledger.ticks a.counted c.items_of.ensures.ordered only
+    (λ t j l blocked. let k : IsCharged (g.P.ChargedProtocol.charges c.args.protocol.now)
+    (g.P.ChargedProtocol.columns_of c.args.protocol.now w.set (task_of w j)) w t j =
+    g.met.P.ChargedProtocol.charges_blocked c.args.protocol.now w n t j c.requires.suits a.lawful a.keeps_all l blocked in
+    (k.charge, k.is_it, k.executes)) in (
+      a.keeps_all,
+      sym a.passed ∙ none_noted c.walk_all.new.ledger.passed c.in_default.not-Some,
+      subst (λ (items : List ItemDef). IsChargeTable (g.P.ChargedProtocol.charges c.args.protocol.now)
+          (g.P.BlockingProtocol.interferes c.args.protocol.now) w (slice_index c.args.bounds.now) n items) (sym c.in-Ok-items_of.ensures.items) table,
+    )
+
+pub returns-in-Ok-items_of-clause-rows : goal.returns-in-Ok-items_of-clause-rows
+returns-in-Ok-items_of-clause-rows g c = λ j l.
+    let w : Trace = trace_in c.args.jobs.now c.args.rows.now.runs in
+    let n : ℕ = ticks_of c.args.rows.now.runs in
+    let a : Walked (g.P.BlockingProtocol.keeps c.args.protocol.now) (g.P.ChargedProtocol.charges c.args.protocol.now) w
+    (slice_index c.args.bounds.now) n c.walk_all.new.ledger =
+    walked_all (g.P.BlockingProtocol.keeps c.args.protocol.now) (g.P.ChargedProtocol.charges c.args.protocol.now) (row_in c.args.rows.now.runs)
+    c.args.bounds.now c.walk_all.new.machine c.walk_all.new.ledger c.args.jobs.now n (c.walk_all.ensures.list ∙ c.in-Ok.ensures.list)
+    c.in_ok-walk_all.ensures.walked.0 c.in_ok-walk_all.ensures.walked.1 in
+    let only : (t : ℕ) → OfActive (g.P.ChargedProtocol.charges c.args.protocol.now) w t =
+    λ t k charge e. let b : Blocked (g.P.BlockingProtocol.interferes c.args.protocol.now) w t k =
+    blocked_is (g.P.BlockingProtocol.interferes c.args.protocol.now) w t k
+    (g.met.P.ChargedProtocol.charges_only c.args.protocol.now w t k charge e) in b.active in
+    let accepted : IsAccepted w.set = subst IsAccepted c.set.ensures c.tasks-tasks.ensures.accepted in
+    let job : JobDef = job_of c.args.jobs.now.jobs j in
+    let lawful : IsLawfulJob w.set job = a.lawful.each j l in
+    let first = g.met.P.ChargedProtocol.meets_rows c.args.protocol.now (alone w.set job) c.args.bounds.now 0 0 c.requires.suits
+    accepted (alone_lawful w.set job lawful) (λ t b. absurd (omega (arith, b))) (omega arith)
+    (alone_ended w.set job (slice_index c.args.bounds.now) (c.requires.bounds.from job.task lawful.task)) in
+    rows_met (g.P.ChargedProtocol.charges c.args.protocol.now) w (slice_index c.args.bounds.now) n j
+    (g.P.ChargedProtocol.program_of c.args.protocol.now w.set (task_of w j) c.args.bounds.now)
+    (g.P.ChargedProtocol.columns_of c.args.protocol.now w.set (task_of w j)) first.positive only
+    (sym a.passed ∙ none_noted c.walk_all.new.ledger.passed c.in_default.not-Some)
+    (g.met.P.ChargedProtocol.meets_rows c.args.protocol.now w c.args.bounds.now n j c.requires.suits accepted a.lawful
+    a.keeps_all l)
