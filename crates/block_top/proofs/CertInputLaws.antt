@@ -1,5 +1,5 @@
 -- The bytes of a certificate are read in one way.
-use Rattle.std.proofs.Common.{◌≡◌, ℕ, List, refl, sym, ◌∙◌, ap, inl, inr, ◌⊎◌, Ok, Err, Some, None, true}
+use Rattle.std.proofs.Common.{◌≡◌, ℕ, List, refl, sym, ◌∙◌, ap, inl, inr, ◌⊎◌, Ok, Err, Some, None}
 use Rattle.std.specs.Prelude.{Option, Result}
 use Rattle.serde_json.specs.Data.{Data}
 use Rattle.program_form.specs.Certificate.{CertificateDef, certificate_seen}

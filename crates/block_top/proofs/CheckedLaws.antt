@@ -1,7 +1,6 @@
 -- What `analyse` writes is found valid.
-use Rattle.std.proofs.Common.{◌≡◌, ℕ, ◌^◌, ◌<◌, ◌≤◌, ◌++◌, List, length, refl, sym, ◌∙◌, ap, subst, arith, inl, inr, ◌⊎◌, Ok, Some, None}
+use Rattle.std.proofs.Common.{◌≡◌, ℕ, ◌<◌, ◌≤◌, List, length, refl, sym, ◌∙◌, ap, subst, arith, inl, inr, Ok, Some, None}
 use Rattle.std.specs.Prelude.{Option, MatchOption, IsSome, slice_index, slice_index_or}
-use Rattle.std.specs.List.{All}
 use Rattle.std.specs.Io.KnownBytes.{Appends}
 use Rattle.std.proofs.lemmas.List.{append_cancel_left, get_or_default}
 use Rattle.outside_ports.specs.Names.{Inputs, bytes_of}
@@ -23,11 +22,11 @@ use Rattle.cert_json.specs.Value.{certificate_data}
 use Rattle.cert_json.proofs.ReadBack.{is_value, formed, written as written_back}
 use Rattle.block_top.specs.Plans.{Answer, IsRead, IsOutcomeOf}
 use Rattle.block_top.specs.Words.{Form, Analyse, Check, form_of}
-use Rattle.block_top.specs.Inputs.{ReadsCert, set_input, cert_input}
-use Rattle.block_top.specs.Commands.{ending_answer, IsAnalysis, checked_answer, plan_of}
+use Rattle.block_top.specs.Inputs.{ReadsCert, set_input}
+use Rattle.block_top.specs.Commands.{ending_answer, checked_answer, plan_of}
 use Rattle.block_top.specs.Outcome.{told, refused_words, IsOutcome}
 use Rattle.block_top.specs.Headline.{Call}
-use Rattle.block_top.specs.Run.{shelf_of, Gives, Replies, IsRun}
+use Rattle.block_top.specs.Run.{shelf_of, IsRun}
 use Rattle.block_top.specs.Checked.{ChecksWhatWasWritten, FindsValid}
 use Rattle.block_top.proofs.PlanLaws.{stopped_status}
 use Rattle.block_top.proofs.RunLaws.{replied, of_form}

@@ -1,5 +1,5 @@
 -- Laws of judging a certificate: there is one answer, with status 0 or 1.
-use Rattle.std.proofs.Common.{◌≡◌, ℕ, List, ◌≤◌, refl, sym, ◌∙◌, ap, arith, inl, inr, ◌⊎◌}
+use Rattle.std.proofs.Common.{◌≡◌, ℕ, List, ◌≤◌, sym, ◌∙◌, ap, arith, inl, inr, ◌⊎◌}
 use Rattle.std.specs.Prelude.{slice_index}
 use Rattle.program_form.specs.Certificate.{CertificateDef}
 use Rattle.program_sources.specs.Valid.{value_at}

@@ -19,7 +19,7 @@ use Rattle.block_top.specs.Words.{Form, Analyse, Check, form_of}
 use Rattle.block_top.specs.Inputs.{set_input}
 use Rattle.block_top.specs.Commands.{ending_answer, IsAnalysis, analysis_of, plan_of}
 use Rattle.block_top.specs.Outcome.{Shown, shown_by, told, refused_words, IsOutcome, IsReplyOf, IsReply}
-use Rattle.block_top.specs.Headline.{Call, RanOut, WritesSchedulable, Analyses, IsHeadline, Checks, IsSoundCheck}
+use Rattle.block_top.specs.Headline.{Call, RanOut, WritesSchedulable, Analyses, IsHeadline}
 use Rattle.block_top.specs.Run.{shelf_of, Gives, FailsToWrite, Replies, GivesOutcome, IsRun, AnalysisEnds, IsWideEnding, IsAllowanceEnding}
 use Rattle.block_top.proofs.PlanLaws.{told_implied, outcome_implied, rest_of, one_of_plan, plan_plain, plan_well, plan_longer, fault_status}
 use Rattle.block_top.proofs.InputLaws.{set_reads_once}

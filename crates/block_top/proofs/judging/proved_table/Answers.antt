@@ -11,6 +11,8 @@ returns-in_ok-full_table-in-Ok c =
     let values : List ℕ = c.in-Ok.valid.values.items in
     let text : c.in_ok-full_table-in-Ok.field-0.items ≡ full_text c.args.set.now cert.bounds (slice_index values) =
     rw (c.deref.ensures.value) at c.in_ok-full_table-in-Ok.ensures in
-    inl (c.in-Ok.ensures.judges.0,
+    inl (
+      c.in-Ok.ensures.judges.0,
       listed_table c.args.protocol c.args.set.now cert values (record { status = 0; text = c.in_ok-full_table-in-Ok.field-0.items })
-      c.in-Ok.ensures.judges.1 (ap (λ (t : List ℕ). record { status = 0; text = t }) text))
+          c.in-Ok.ensures.judges.1 (ap (λ (t : List ℕ). record { status = 0; text = t }) text),
+    )
