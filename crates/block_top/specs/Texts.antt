@@ -52,10 +52,13 @@ rule_text rule.Priority = codes "priority"
 abbrev pub broken_text : ℕ → Rule → List ℕ
 broken_text tick r = codes "broken " ++ (decimal tick ++ (codes " " ++ (rule_text r ++ codes "\n")))
 
+-- How many sets are schedulable under each protocol.
+abbrev pub counts_text : List ℕ → List ℕ
+counts_text row = decimal (slice_index row 0) ++ (codes " " ++ (decimal (slice_index row 1) ++ (codes " " ++ decimal (slice_index row 2))))
+
 -- The line of step number i of a study, counted from 0: how many of its sets are schedulable under each protocol.
 abbrev pub step_line : ℕ → List ℕ → List ℕ
-step_line i row = decimal (i + 1) ++ (codes " " ++ (decimal (slice_index row 0) ++ (codes " " ++ (decimal (slice_index row 1)
-    ++ (codes " " ++ (decimal (slice_index row 2) ++ codes "\n"))))))
+step_line i row = decimal (i + 1) ++ (codes " " ++ (counts_text row ++ codes "\n"))
 
 -- A study: the counts of its eight steps, and how many analyses stopped.
 abbrev pub study_text : List (List ℕ) → ℕ → List ℕ

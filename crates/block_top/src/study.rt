@@ -2,7 +2,7 @@
 
 ghost use Rattle.std.specs.Prelude.{◌≡◌, ◌<◌, ◌≤◌, ◌++◌, ◌+◌, [], length, slice_index_or, IfOk, OnOk};
 ghost use Rattle.bounded_sums.specs.Sums.{collect_below};
-ghost use Rattle.block_top.specs.Texts.{step_line, study_text};
+ghost use Rattle.block_top.specs.Texts.{counts_text, step_line, study_text};
 ghost use Rattle.block_top.specs.Commands.{IsStudyAnswer};
 ghost use Rattle.block_top.specs.Replies.{Answered};
 
@@ -12,6 +12,17 @@ use std::thread::Threads;
 use study_gen::{StudyCounts, study};
 use text_pieces::push_number;
 
+/// Adds the counts of a step, one for each protocol.
+fn push_counts(text: &mut Vec<u8>, row: &[u64; 3]) -> Result<(), AllocError>
+    ensures { OnOk result (text.new.items ≡ text.old.items ++ counts_text row.now) }
+{
+    push_number(text, row[0])?;
+    text.extend_from_slice(b" ")?;
+    push_number(text, row[1])?;
+    text.extend_from_slice(b" ")?;
+    push_number(text, row[2])
+}
+
 /// Adds the line of step number `i`, counted from 0.
 fn push_step(text: &mut Vec<u8>, i: u64, row: &[u64; 3]) -> Result<(), AllocError>
     requires { i < 8 }
@@ -19,11 +30,7 @@ fn push_step(text: &mut Vec<u8>, i: u64, row: &[u64; 3]) -> Result<(), AllocErro
 {
     push_number(text, i + 1)?;
     text.extend_from_slice(b" ")?;
-    push_number(text, row[0])?;
-    text.extend_from_slice(b" ")?;
-    push_number(text, row[1])?;
-    text.extend_from_slice(b" ")?;
-    push_number(text, row[2])?;
+    push_counts(text, row)?;
     text.extend_from_slice(b"\n")
 }
 

@@ -1,0 +1,20 @@
+use Rattle.std.proofs.Common.{ℕ, sym, ap, subst, inr}
+use Rattle.block_top.specs.Words.{Form, Study}
+use Rattle.block_top.specs.Commands.{IsStudyAnswer, plan_of}
+use Rattle.block_top.specs.FormSeen.{form_seen}
+use Rattle.block_top.specs.Outcome.{Shown, IsReplyOf}
+use Rattle.block_top.specs.Replies.{Answered}
+use Rattle.block_top.proofs.ReplyLaws.{answered_also}
+use Rattle.block_top.proofs.commands.command_reply.Goals as goal
+
+pub returns-in-Study-clause-reply : goal.returns-in-Study-clause-reply
+returns-in-Study-clause-reply g c =
+    let shelf : Shown = record {
+      names = g.S.Shelf.names c.args.shelf.now;
+      before = g.S.Shelf.faults c.args.shelf.now;
+      now = g.S.Shelf.faults c.args.shelf.now;
+      given = g.S.Shelf.given c.args.shelf.now;
+    } in
+    subst (λ (f : Form). Answered c.counted.result (IsReplyOf shelf (plan_of f))) (sym (ap form_seen c.in-Study.is))
+    (answered_also (IsStudyAnswer c.in-Study.seed c.in-Study.sets) (IsReplyOf shelf (plan_of (Study c.in-Study.seed c.in-Study.sets))) (λ a is. inr is)
+    c.counted.result c.counted.ensures)

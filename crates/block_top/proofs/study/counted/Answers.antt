@@ -1,0 +1,7 @@
+use Rattle.std.proofs.Common.{ℕ, List, ap}
+use Rattle.block_top.specs.Plans.{Answer}
+use Rattle.block_top.proofs.study.counted.Goals as goal
+
+pub returns : goal.returns
+returns g c =
+    (c.in_ok-counts.counts, c.in_ok-counts.ensures, ap (λ (t : List ℕ). record { status = 0; text = t }) c.in_ok-study_lines.ensures)
