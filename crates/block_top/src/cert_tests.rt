@@ -159,7 +159,7 @@ fn what_is_analysed_is_checked(rt: HostRuntime) -> Result<(), Fail> {
     );
     assert_eq!(rt; statuses, (Status(0), Status(0)));
     assert_eq!(rt; sink.written(), SET_A_CERTIFICATE.as_bytes());
-    assert_eq!(rt; out.written(), b"valid\n");
+    assert_eq!(rt; out.written(), b"valid\n".as_slice());
     Ok(())
 }
 
@@ -171,7 +171,7 @@ fn a_set_is_analysed_and_checked(rt: HostRuntime) -> Result<(), Fail> {
         return Ok(());
     };
     match analyse_and_check(&rt, alloc, &set, Protocol::FmlpPlus, 8) {
-        Some(Ok(valid)) => assert_eq!(rt; valid.values.as_slice(), [2, 1]),
+        Some(Ok(valid)) => assert_eq!(rt; valid.values.as_slice(), [2, 1].as_slice()),
         _ => assert!(rt; false, "the certificate is valid"),
     }
     Ok(())
