@@ -1,0 +1,6 @@
+pub mod OneItem
+pub mod TableSums
+pub mod Together
+pub mod AddUp
+pub mod Adding
+pub mod Answered
