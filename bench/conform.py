@@ -4,7 +4,7 @@
     python3 bench/conform.py [SEED]
 
 It wants `rt` and `cc` on the path. Sets of 20 tasks on 4 processors with 6 resources, up to 250 jobs of them and the schedules of these
-jobs over 10,000 to 1,000,000 ticks are made here, by a generator and a simulator of the script's own; each schedule is judged as runs
+jobs over 10,000 to 100,000,000 ticks are made here, by a generator and a simulator of the script's own; each schedule is judged as runs
 of equal rows and, up to 100,000 ticks, with a row for each tick. Both answers must be the same, verdict, measures and all, and lawful.
 Reading the files is left out of both times. The program that judges is built in a temporary directory; building proves it and the
 crates below it, which takes some minutes. It is no test: no gate runs it, and it bounds nothing.
@@ -381,7 +381,7 @@ def main():
         folder = Path(name)
         run(["cc", "-O2", TOP / "bench" / "plain_conform.c", "-o", "plain_conform"], folder)
         ours = build(folder)
-        for ticks in (10_000, 100_000, 1_000_000):
+        for ticks in (10_000, 100_000, 1_000_000, 100_000_000):
             for protocol in PROTOCOLS:
                 draw = random.Random(seed)
                 tasks = make_tasks(draw, ticks)

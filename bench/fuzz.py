@@ -4,7 +4,8 @@
     python3 bench/fuzz.py [PROGRAM] [--seconds N] [--seed N] [--only COMMAND] [--limit SECONDS] [--jobs N] [--keep FOLDER]
 
 A find is a run that a signal ends, that takes longer than the limit, that ends with a status which no run over plain files has, that
-writes something to standard error, or whose text isn't of a form of its status. Its inputs are kept in FOLDER (finds/ where none is given),
+writes something to standard error, or whose text isn't of a form of its status; and a certificate that `analyse` writes and `check`
+doesn't call valid, or a schedule that `simulate` writes and `conform` doesn't call lawful. Its inputs are kept in FOLDER (finds/ where none is given),
 and the script ends with status 1. PROGRAM is what `rt ci` or `./block` built, where none is given. A command that the program doesn't
 have is left out with a word. Run number N of a seed always bends the same inputs in the same way.
 
@@ -222,15 +223,30 @@ def complaint(words, files, status, written, error):
     return None if re.fullmatch(form, written) else f"with status {status} it wrote {written[:200]!r}"
 
 
+def disagreement(program, folder, known, words, files, written, limit):
+    """What is wrong with a certificate or a schedule that the program wrote, by its own judgement, or None. It is kept among the files."""
+    name, kind = ("cert", ("check", 2)) if words[0] == "analyse" else ("rows", ("conform", 3))
+    if words[0] not in ("analyse", "simulate") or kind not in known or name in files:
+        return None
+    files[name] = written
+    judging = [kind[0], *words[1 : 3 if name == "cert" else 4], name]
+    status, answer, error = Command(" ".join(judging), files).run(program, folder, {name: written}, judging, limit)
+    is_well = status == 0 and not error and answer.startswith(b"valid\n" if name == "cert" else b"lawful %s\n" % words[-1].encode())
+    return None if is_well else f"{' '.join(judging)} says of what it wrote, with status {status}: {answer[:200]!r}"
+
+
 def one_run(program, commands, seed, number, limit):
     """A run: the status, and what is wrong with it, its command's words and its files, or None."""
     rng = random.Random(f"{seed} {number}")
-    kind = rng.choice(sorted({(command.name, len(command.files)) for command in commands}))
+    known = {(command.name, len(command.files)) for command in commands}
+    kind = rng.choice(sorted(known))
     command = rng.choice([command for command in commands if (command.name, len(command.files)) == kind])
     files, words = bent(command, rng)
     with tempfile.TemporaryDirectory(prefix="fuzz-") as name:
         status, written, error = command.run(program, Path(name), files, words, limit)
-    why = complaint(words, files, status, written, error)
+        why = complaint(words, files, status, written, error)
+        if why is None and status == 0:
+            why = disagreement(program, Path(name), known, words, files, written, limit)
     return command.name, status, (why, words, files) if why else None
 
 

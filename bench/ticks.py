@@ -1,11 +1,13 @@
 #!/usr/bin/env python3
-"""Times `simulate` and `conform` on the plant of `examples/` over a million ticks, beside a plain simulator in C.
+"""Times `simulate` and `conform` on the plant of `examples/` over a million ticks and over a hundred million, beside a plain simulator
+in C that goes tick by tick.
 
     python3 bench/ticks.py
 
 It wants `rt` and `cc` on the path, and builds the program where it is out of date. Under each protocol both make the schedule of the
-same 251 jobs, which must be the same text, and `conform` must find it lawful. Times are those of whole runs, the reading of the files
-and the start of the process with them. It is no test: no gate runs it, and it bounds nothing.
+same 251 jobs, which must be the same text, and `conform` must find it lawful. For a hundred million ticks each time of the set and of
+the jobs is a hundred times as long. Times are those of whole runs, the reading of the files and the start of the process with them. It
+is no test: no gate runs it, and it bounds nothing.
 """
 import csv
 import json
@@ -25,12 +27,35 @@ TICKS = 1_000_000
 TRIES = 3
 
 
-def numbers(protocol):
-    """The set and the jobs as the numbers that the plain program reads."""
+def stretch(folder, factor):
+    """Writes the set and the jobs with each time so many times as long."""
     plant = json.loads(SET.read_text())
+    for task in plant["tasks"]:
+        for name in ("period", "cost"):
+            task[name] *= factor
+        for request in task["requests"]:
+            request["length"] *= factor
+    (folder / "set.json").write_text(json.dumps(plant))
+    with open(JOBS, newline="") as file:
+        jobs = list(csv.DictReader(file))
+    lines = ["task,release,script"]
+    for job in jobs:
+        words = [stretched(word, factor) for word in job["script"].split()]
+        lines.append(f"{job['task']},{int(job['release']) * factor},{' '.join(words)}")
+    (folder / "jobs.csv").write_text("\n".join(lines) + "\n")
+
+
+def stretched(word, factor):
+    name, colon, length = word.rpartition(":")
+    return f"{name}{colon}{int(length) * factor}"
+
+
+def numbers(folder, protocol):
+    """The set and the jobs as the numbers that the plain program reads."""
+    plant = json.loads((folder / "set.json").read_text())
     resources = [resource["name"] for resource in plant["resources"]]
     names = [task["name"] for task in plant["tasks"]]
-    with open(JOBS, newline="") as file:
+    with open(folder / "jobs.csv", newline="") as file:
         jobs = list(csv.DictReader(file))
     words = [PROTOCOLS.index(protocol), plant["processors"], len(resources), len(names), len(jobs)]
     words += [resource["home"] for resource in plant["resources"]]
@@ -66,20 +91,19 @@ def timed(command, folder):
     return text, least
 
 
-def measure(folder, protocol):
+def measure(folder, protocol, ticks):
     block = [TOP / "crates" / "block_cli" / "out" / "block_cli"]
-    (folder / "numbers.txt").write_text(numbers(protocol))
-    rows, simulating = timed(block + ["simulate", protocol, SET, JOBS, str(TICKS)], folder)
+    (folder / "numbers.txt").write_text(numbers(folder, protocol))
+    rows, simulating = timed(block + ["simulate", protocol, "set.json", "jobs.csv", str(ticks)], folder)
     (folder / "rows.csv").write_text(rows)
-    plain, spent = timed(["./plain_simulate", "numbers.txt", str(TICKS)], folder)
+    plain, spent = timed(["./plain_simulate", "numbers.txt", str(ticks)], folder)
     if rows.split("\n", 1)[1] != plain:
         sys.exit(f"{protocol}: the plain program makes other rows")
-    verdict, judging = timed(block + ["conform", protocol, SET, JOBS, "rows.csv"], folder)
-    if not verdict.startswith(f"lawful {TICKS}\n"):
+    verdict, judging = timed(block + ["conform", protocol, "set.json", "jobs.csv", "rows.csv"], folder)
+    if not verdict.startswith(f"lawful {ticks}\n"):
         sys.exit(f"{protocol}: {verdict}")
-    print(f"{protocol:6} {rows.count(chr(10)) - 1:5} runs: simulate {TICKS / simulating / 1e6:6.2f} million ticks a second,"
-          f" plain C {TICKS / spent / 1e6:6.2f}, simulate / plain C = {simulating / spent:.2f} in time;"
-          f" conform {TICKS / judging / 1e6:6.2f} million ticks a second", flush=True)
+    print(f"{protocol:6} {ticks:9} ticks {rows.count(chr(10)) - 1:5} runs: simulate {simulating * 1000:7.1f} ms, plain C {spent * 1000:8.1f} ms,"
+          f" simulate / plain C = {simulating / spent:.4f}; conform {judging * 1000:7.1f} ms, conform / plain C = {judging / spent:.4f}", flush=True)
 
 
 def main():
@@ -89,8 +113,10 @@ def main():
         # Builds the program; no words are refused with status 2.
         if subprocess.run([TOP / "block"], capture_output=True).returncode != 2:
             sys.exit("the program was not built")
-        for protocol in PROTOCOLS:
-            measure(folder, protocol)
+        for factor in (1, 100):
+            stretch(folder, factor)
+            for protocol in PROTOCOLS:
+                measure(folder, protocol, TICKS * factor)
 
 
 main()

@@ -34,26 +34,42 @@ def built_program():
     return BUILT
 
 
-def shown_commands(document):
-    """The commands that a document shows, with the answers that it gives: lines that begin with `$ ./block`, and what follows them."""
-    text = (TOP / document).read_text()
-    for block in re.findall(r"^```\n(.*?)^```$", text, re.M | re.S):
+def blocks_of(text):
+    """The blocks between fences that name no language."""
+    inside, block = None, []
+    for line in text.splitlines(keepends=True):
+        if line.startswith("```"):
+            if inside == "":
+                yield "".join(block)
+            inside, block = (line[3:].strip() if inside is None else None), []
+        elif inside is not None:
+            block.append(line)
+
+
+def shown_commands(document, folder):
+    """The commands that a document shows, with the answers that it gives: lines that begin with `$ ./block`, and what follows them.
+
+    They run one after the other in a folder that has the examples; one may save its answer to a file that a later one reads.
+    """
+    for block in blocks_of((TOP / document).read_text()):
         for shown in re.split(r"^\$ ", block, flags=re.M)[1:]:
             line, _, answer = shown.partition("\n")
-            if not line.startswith("./block ") or "|" in line or ">" in line:
+            if not line.startswith("./block "):
                 continue
+            words, _, saves = line.removeprefix("./block ").partition(" >")
             # the status isn't shown: it follows from the answer
             status = 1 if answer.startswith(("not shown ", "broken ", "invalid ")) else 0
-            yield Case(f"as shown: {line}", line.removeprefix("./block "), answer, status, at=TOP)
+            yield Case(f"as shown: {line}", words, None if saves else answer, status, at=folder, saves=saves.strip())
 
 
-def table():
-    """Every case, with the name of the file in which it stands."""
+def table(folder):
+    """Every case, with the name of the file in which it stands. Commands of documents run in the folder."""
     for path in sorted(HERE.glob("cases/*.py")):
         for case in importlib.import_module(f"cases.{path.stem}").CASES:
             yield path.stem, case
+    (folder / "examples").symlink_to(TOP / "examples")
     for document in ("README.md", "docs/GUIDE.md"):
-        for case in shown_commands(document):
+        for case in shown_commands(document, folder):
             yield document, case
 
 
@@ -64,7 +80,9 @@ def clipped(text):
 
 def differences(case, program):
     out, err, status = setting.run(case, program)
-    wanted = setting.as_bytes(case.says)
+    if case.saves:
+        (case.at / case.saves).write_bytes(out)
+    wanted = out if case.saves else setting.as_bytes(case.says)
     found = []
     if out != wanted:
         found.append(f"    it wrote {clipped(out)}\n    and not  {clipped(wanted)}")
@@ -115,7 +133,7 @@ def main():
         # a copy, which another user can run too, and which a build beside this test doesn't change
         os.chmod(folder, 0o755)
         copy = shutil.copy(program, f"{folder}/block_cli")
-        cases = list(table())
+        cases = list(table(Path(folder)))
         passed, failed = run_table(copy, cases, given.only)
         more_passed, more_failed = compare_schemas(cases)
     passed, failed = passed + more_passed, failed + more_failed

@@ -40,6 +40,8 @@ class Case:
     as_nobody: bool = False
     """Whether another user runs it where root runs the test, since root reads every file."""
     at: object = None
+    saves: str = ""
+    """The file there to which the answer is saved, which may then be any."""
 
     def word_list(self):
         words = self.words.split() if isinstance(self.words, str) else self.words
@@ -144,10 +146,12 @@ def lacking(case):
 
 
 def can_be_nobody():
-    try:
-        return subprocess.run(["true"], user=NOBODY, group=NOBODY, extra_groups=[]).returncode == 0
-    except (OSError, subprocess.SubprocessError):
-        return False
+    with tempfile.TemporaryDirectory(prefix="block-") as folder:
+        os.chmod(folder, 0o755)
+        try:
+            return subprocess.run(["test", "-r", folder], user=NOBODY, group=NOBODY, extra_groups=[]).returncode == 0
+        except (OSError, subprocess.SubprocessError):
+            return False
 
 
 def run(case, program):

@@ -8,8 +8,8 @@ use Rattle.response_fixpoint.specs.Written.{written}
 use Rattle.response_fixpoint.proofs.RunLaws.{one_ending}
 use Rattle.report.specs.Table.{table_text}
 use Rattle.block_top.specs.Plans.{Answer, Plan, Working, Reading, Known, IsOutcomeOf}
-use Rattle.block_top.specs.Words.{Form, Analyse, Report, Conform, Simulate}
-use Rattle.block_top.specs.Commands.{ending_answer, IsAnalysis, analysis_of, IsTable, table_of, conformance_of, plan_of}
+use Rattle.block_top.specs.Words.{Form, Analyse, Check, Report, FullReport, Conform, Simulate}
+use Rattle.block_top.specs.Commands.{ending_answer, IsAnalysis, analysis_of, IsTable, table_of, checked_answer, reported_answer, conformance_of, plan_of}
 use Rattle.block_top.specs.Inputs.{set_input}
 use Rattle.block_top.specs.Run.{AnalysisEnds, IsWideEnding, IsAllowanceEnding}
 use Rattle.block_top.proofs.PlanLaws.{IsPlain, IsLawfulWork, IsLawful, plain_at, plain_same, stopped_status}
@@ -18,6 +18,8 @@ use Rattle.schedule_model.specs.Fitting.{RowsDef}
 use Rattle.block_top.proofs.InputLaws.{set_reads_once}
 use Rattle.block_top.proofs.TraceLaws.{jobs_read_once, rows_read_once}
 use Rattle.block_top.proofs.ConformLaws.{conformance_lawful}
+use Rattle.block_top.proofs.JudgementLaws.{judgement_lawful, judgement_quiet}
+use Rattle.block_top.proofs.CertInputLaws.{cert_reads_once}
 use Rattle.block_top.proofs.SimulationLaws.{simulation_lawful, simulation_quiet}
 
 one_analysis : (protocol : Protocol) (set : SetDef) (allowance : ℕ) (a b : Answer) → IsAnalysis protocol set allowance a → IsAnalysis protocol set allowance b → a ≡ b
@@ -58,6 +60,10 @@ table_lawful set = record {
 -- Every command is lawful.
 pub lawful : (form : Form) → IsLawful (plan_of form)
 lawful (Analyse protocol name allowance) = (set_reads_once protocol, λ bytes set. analysis_lawful protocol set allowance)
+lawful (Check protocol set cert) =
+    (set_reads_once protocol, λ bytes tasks. (cert_reads_once protocol, λ bytes c. judgement_lawful protocol tasks c checked_answer refl))
+lawful (FullReport protocol set cert) =
+    (set_reads_once protocol, λ bytes tasks. (cert_reads_once protocol, λ bytes c. judgement_lawful protocol tasks c (reported_answer protocol tasks c) refl))
 lawful (Report protocol name) = (set_reads_once protocol, λ bytes set. table_lawful set)
 lawful (Conform protocol set jobs rows) =
     (set_reads_once protocol, λ bytes tasks. (jobs_read_once tasks, λ bytes list. (rows_read_once list, λ bytes schedule. conformance_lawful protocol list schedule)))
@@ -99,6 +105,12 @@ not_quiet k p a n quiet out is most = absurd (omega (arith, quiet_outcome k p a 
 report_quiet : (p : Protocol) (name : List ℕ) → IsQuiet (plan_of (Report p name))
 report_quiet p name = λ bytes set. table_quiet set
 
+check_quiet : (p : Protocol) (set cert : List ℕ) → IsQuiet (plan_of (Check p set cert))
+check_quiet p set cert = λ bytes tasks b c a is. judgement_quiet p tasks c checked_answer a refl is
+
+full_report_quiet : (p : Protocol) (set cert : List ℕ) → IsQuiet (plan_of (FullReport p set cert))
+full_report_quiet p set cert = λ bytes tasks b c a is. judgement_quiet p tasks c (reported_answer p tasks c) a refl is
+
 conform_quiet : (p : Protocol) (set jobs rows : List ℕ) → IsQuiet (plan_of (Conform p set jobs rows))
 conform_quiet p set jobs rows = λ bytes tasks b list c schedule. conformance_quiet p list schedule
 
@@ -119,6 +131,9 @@ only_wide k (Analyse protocol name allowance) a (inr (bytes, set, read, last, (e
   ends = ends;
   is = wide_ending protocol set e a is five;
 }
+only_wide k (Check protocol set cert) a out five = absurd (not_quiet k (plan_of (Check protocol set cert)) a 5 (check_quiet protocol set cert) out five (omega arith))
+only_wide k (FullReport protocol set cert) a out five =
+    absurd (not_quiet k (plan_of (FullReport protocol set cert)) a 5 (full_report_quiet protocol set cert) out five (omega arith))
 only_wide k (Report protocol name) a out five = absurd (not_quiet k (plan_of (Report protocol name)) a 5 (report_quiet protocol name) out five (omega arith))
 only_wide k (Conform protocol set jobs rows) a out five =
     absurd (not_quiet k (plan_of (Conform protocol set jobs rows)) a 5 (conform_quiet protocol set jobs rows) out five (omega arith))
@@ -139,6 +154,9 @@ only_short k (Analyse protocol name allowance) a (inr (bytes, set, read, last, (
   ends = ends;
   is = short_ending protocol set e a is six;
 }
+only_short k (Check protocol set cert) a out six = absurd (not_quiet k (plan_of (Check protocol set cert)) a 6 (check_quiet protocol set cert) out six (omega arith))
+only_short k (FullReport protocol set cert) a out six =
+    absurd (not_quiet k (plan_of (FullReport protocol set cert)) a 6 (full_report_quiet protocol set cert) out six (omega arith))
 only_short k (Report protocol name) a out six = absurd (not_quiet k (plan_of (Report protocol name)) a 6 (report_quiet protocol name) out six (omega arith))
 only_short k (Conform protocol set jobs rows) a out six =
     absurd (not_quiet k (plan_of (Conform protocol set jobs rows)) a 6 (conform_quiet protocol set jobs rows) out six (omega arith))

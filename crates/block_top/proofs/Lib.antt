@@ -1,3 +1,4 @@
+pub mod WordLaws
 pub mod PlanLaws
 pub mod InputLaws
 pub mod TraceLaws
@@ -8,3 +9,7 @@ pub mod ReplyLaws
 pub mod RunLaws
 pub mod TwiceLaws
 pub mod Lines
+pub mod JudgementLaws
+pub mod CertInputLaws
+pub mod SoundLaws
+pub mod CheckedLaws

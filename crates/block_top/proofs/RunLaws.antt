@@ -15,15 +15,16 @@ use Rattle.response_fixpoint.proofs.WrittenLaws.{no_columns, written_above}
 use Rattle.response_fixpoint.proofs.RunLaws.{rounds_never_wide}
 use Rattle.program_sources.specs.Fitting.{AreFitting}
 use Rattle.block_top.specs.Plans.{Answer, Working, refused, IsWorking, IsOutcomeOf}
-use Rattle.block_top.specs.Words.{Form, Analyse, form_of}
+use Rattle.block_top.specs.Words.{Form, Analyse, Check, form_of}
 use Rattle.block_top.specs.Inputs.{set_input}
 use Rattle.block_top.specs.Commands.{ending_answer, IsAnalysis, analysis_of, plan_of}
 use Rattle.block_top.specs.Outcome.{Shown, shown_by, told, refused_words, IsOutcome, IsReplyOf, IsReply}
-use Rattle.block_top.specs.Headline.{Call, RanOut, WritesSchedulable, Analyses, IsHeadline}
+use Rattle.block_top.specs.Headline.{Call, RanOut, WritesSchedulable, Analyses, IsHeadline, Checks, IsSoundCheck}
 use Rattle.block_top.specs.Run.{shelf_of, Gives, FailsToWrite, Replies, GivesOutcome, IsRun, AnalysisEnds, IsWideEnding, IsAllowanceEnding}
 use Rattle.block_top.proofs.PlanLaws.{told_implied, outcome_implied, rest_of, one_of_plan, plan_plain, plan_well, plan_longer, fault_status}
 use Rattle.block_top.proofs.InputLaws.{set_reads_once}
 use Rattle.block_top.proofs.CommandLaws.{lawful, wide_ending, only_wide, only_short}
+use Rattle.block_top.proofs.SoundLaws.{sound_outcome}
 
 -- What follows from a reply to words of this form, or of none.
 pub record Replied (shelf : Shown) (o : Option Form) (a : Answer) : Type 0 where
@@ -43,7 +44,7 @@ not_none form o some none = let both : Some form ≡ None = sym some ∙ none in
 same_form : (form other : Form) → Some form ≡ Some other → form ≡ other
 same_form form other e = cc
 
-replied : (shelf : Shown) (o : Option Form) (a : Answer) → MatchOption o (a ≡ refused_words) (λ form. IsReplyOf shelf (plan_of form) a) → Replied shelf o a
+pub replied : (shelf : Shown) (o : Option Form) (a : Answer) → MatchOption o (a ≡ refused_words) (λ form. IsReplyOf shelf (plan_of form) a) → Replied shelf o a
 replied shelf None a is =
     let two : a.status ≡ 2 = ap (λ x. x.status) is in
     record {
@@ -92,7 +93,7 @@ one_of_form inputs (Some form) a b p q = one_of_plan inputs (plan_of form) (lawf
 pub one_outcome : (inputs : Inputs) (words : List (List ℕ)) (a b : Answer) → IsOutcome inputs words a → IsOutcome inputs words b → a ≡ b
 one_outcome inputs words a b p q = one_of_form inputs (form_of words) a b p q
 
-of_form : (inputs : Inputs) (words : List (List ℕ)) (form : Form) (a : Answer) → form_of words ≡ Some form → IsOutcome inputs words a → IsOutcomeOf (told inputs) (plan_of form) a
+pub of_form : (inputs : Inputs) (words : List (List ℕ)) (form : Form) (a : Answer) → form_of words ≡ Some form → IsOutcome inputs words a → IsOutcomeOf (told inputs) (plan_of form) a
 of_form inputs words form a is out = subst (λ (o : Option Form). MatchOption o (a ≡ refused_words) (λ f. IsOutcomeOf (told inputs) (plan_of f) a)) is out
 
 -- What a call that analyses a set answers, where it gives its outcome.
@@ -195,6 +196,10 @@ gave_run call replies r gives =
         | inl mine ↦ headline_of call protocol set analyses.allowance a (ended call protocol set analyses a mine) gives
         | inr fault ↦ other_headline call protocol set analyses.allowance (inl (is ∙ fault.1)) (inl fault.0)
       ];
+      sound = λ protocol set c checks zero. elim (r.outcome checks.inputs checks.told) [
+        | inl mine ↦ sound_outcome call protocol set c checks a (of_form checks.inputs call.words (Check protocol checks.name checks.cert) a checks.form_is mine) (sym is ∙ zero)
+        | inr fault ↦ absurd (omega (arith, is, fault.1, zero))
+      ];
     } where
       well : (inputs : Inputs) (form : Form) → form_of call.words ≡ Some form → IsOutcome inputs call.words replies.reply → (replies.reply.status ≡ 0) ⊎ (replies.reply.status ≡ 1)
           → ((call.status ≡ 0) ⊎ (call.status ≡ 1)) × GivesOutcome call inputs
@@ -217,6 +222,7 @@ cut_run call replies r fails =
       allowance = λ e. absurd (omega (arith, four, e));
       complete = λ inputs form premise. absurd (premise.sink fails.rose);
       headline = λ protocol set analyses. other_headline call protocol set analyses.allowance (inl four) (inr (inl fails.rose));
+      sound = λ protocol set c checks zero. absurd (omega (arith, four, zero));
     }
 
 -- A call that had no memory.
@@ -235,6 +241,7 @@ run_ran_out call ran =
       allowance = λ e. absurd (omega (arith, seven, e));
       complete = λ inputs form premise. inr ran;
       headline = λ protocol set analyses. other_headline call protocol set analyses.allowance (inr ran) (inr (inr ran));
+      sound = λ protocol set c checks zero. absurd (omega (arith, seven, zero));
     }
 
 -- What the sink promised for a reply that is this long.

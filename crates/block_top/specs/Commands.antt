@@ -1,11 +1,17 @@
 -- The commands: what each form of words does.
 use Rattle.std.specs.Prelude.{◌≡◌, ℕ, ◌⊎◌, Bool, List}
+use Rattle.program_form.specs.Certificate.{CertificateDef}
+use Rattle.program_sources.specs.Valid.{IsValid, value_at}
 use Rattle.sporadic_model.specs.SetDef.{SetDef, task_at}
 use Rattle.sporadic_model.specs.declared.ids.Protocol.{Protocol}
 use Rattle.response_fixpoint.specs.Rounds.{Ending, Schedulable, NotShown, Wide, Allowance, EndsIn}
 use Rattle.response_fixpoint.specs.Runs.{rounds_of}
 use Rattle.response_fixpoint.specs.Written.{written}
+use Rattle.cert_json.specs.Text.{certificate_text}
+use Rattle.dual_check.specs.Failures.{IsFailure}
+use Rattle.dual_check.specs.declared.answer.Invalid.{Invalid}
 use Rattle.report.specs.Table.{table_text}
+use Rattle.report.specs.FullTable.{full_text}
 use Rattle.schedule_model.specs.JobDef.{JobsDef}
 use Rattle.schedule_model.specs.RowDef.{RunDef, Trace, trace_in, ticks_of}
 use Rattle.schedule_model.specs.Fitting.{RowsDef}
@@ -17,9 +23,9 @@ use Rattle.trace_csv.specs.Written.{rows_text}
 use Rattle.sim_engine.specs.ByProtocol.{choice_of}
 use Rattle.sim_engine.specs.Simulated.{IsSimulated}
 use Rattle.block_top.specs.Plans.{Answer, Work, Plan, Working, Reading}
-use Rattle.block_top.specs.Words.{Form, Analyse, Report, Conform, Simulate}
-use Rattle.block_top.specs.Texts.{certificate_text, not_shown_text, wide_text, allowance_text, lawful_text, broken_text}
-use Rattle.block_top.specs.Inputs.{set_input, jobs_input, rows_input}
+use Rattle.block_top.specs.Words.{Form, Analyse, Check, Report, FullReport, Conform, Simulate}
+use Rattle.block_top.specs.Texts.{not_shown_text, wide_text, allowance_text, lawful_text, broken_text, valid_text, invalid_text}
+use Rattle.block_top.specs.Inputs.{set_input, cert_input, jobs_input, rows_input}
 
 -- What goes out where the rounds of the set end so.
 abbrev pub ending_answer : Protocol → SetDef → Ending → Answer
@@ -47,6 +53,29 @@ IsTable set answer = answer ≡ record { status = 0; text = table_text set }
 
 abbrev pub table_of : SetDef → Work
 table_of set = record { answers = IsTable set; ends = Unit {0} }
+
+-- The answer on a certificate: this one where it is valid, else its first failure.
+abbrev pub IsJudgement : Protocol → SetDef → CertificateDef → Answer → Answer → Type 0
+IsJudgement protocol set c valid answer =
+    (IsValid (written protocol set) c × (answer ≡ valid))
+    ⊎ ((e : Invalid) × (IsFailure e (written protocol set) c) × (answer ≡ record { status = 1; text = invalid_text set e }))
+
+-- Judging a certificate, and the table of a set with what a certificate proves. There always is an answer.
+abbrev pub checked_answer : Answer
+checked_answer = record { status = 0; text = valid_text }
+
+abbrev pub reported_answer : Protocol → SetDef → CertificateDef → Answer
+reported_answer protocol set c = record { status = 0; text = full_text set c.bounds (value_at (written protocol set) c) }
+
+abbrev pub check_of : Protocol → SetDef → CertificateDef → Work
+check_of protocol set c = record { answers = IsJudgement protocol set c checked_answer; ends = Unit {0} }
+
+abbrev pub full_table_of : Protocol → SetDef → CertificateDef → Work
+full_table_of protocol set c = record { answers = IsJudgement protocol set c (reported_answer protocol set c); ends = Unit {0} }
+
+-- Reading a certificate for the protocol, and working on it.
+abbrev pub with_certificate : Protocol → List ℕ → (CertificateDef → Work) → Plan
+with_certificate protocol name work = Reading (cert_input protocol) name (λ bytes c. Working (work c))
 
 -- The answer on n rows, where these are the rules and the ticks of interference: each row keeps the rules, and here are
 -- the measures of all tasks; or here is the first row that breaks one, with the first rule that it breaks.
@@ -86,6 +115,8 @@ simulating_jobs protocol jobs n set = Reading (jobs_input set) jobs (λ bytes li
 -- What each form of words does.
 abbrev pub plan_of : Form → Plan
 plan_of (Analyse protocol name allowance) = Reading (set_input protocol) name (λ bytes set. Working (analysis_of protocol set allowance))
+plan_of (Check protocol set cert) = Reading (set_input protocol) set (λ bytes tasks. with_certificate protocol cert (check_of protocol tasks))
+plan_of (FullReport protocol set cert) = Reading (set_input protocol) set (λ bytes tasks. with_certificate protocol cert (full_table_of protocol tasks))
 plan_of (Report protocol name) = Reading (set_input protocol) name (λ bytes set. Working (table_of set))
 plan_of (Conform protocol set jobs rows) = Reading (set_input protocol) set (λ bytes tasks. judging_jobs protocol jobs rows tasks)
 plan_of (Simulate protocol set jobs ticks) = Reading (set_input protocol) set (λ bytes tasks. simulating_jobs protocol jobs ticks tasks)

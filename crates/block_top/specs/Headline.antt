@@ -12,9 +12,11 @@ use Rattle.response_fixpoint.specs.Runs.{rounds_of}
 use Rattle.response_fixpoint.specs.Written.{written}
 use Rattle.program_sources.specs.Fitting.{AreFitting, AreLeastFitting}
 use Rattle.program_sources.specs.Valid.{AreOptimalDuals}
-use Rattle.block_top.specs.Words.{Analyse, form_of}
-use Rattle.block_top.specs.Texts.{certificate_text}
-use Rattle.block_top.specs.Inputs.{ReadsSet}
+use Rattle.soundness_laws.specs.Analyses.{AreValues}
+use Rattle.dual_check.specs.Soundness.{SoundUnder}
+use Rattle.block_top.specs.Words.{Analyse, Check, form_of}
+use Rattle.cert_json.specs.Text.{certificate_text}
+use Rattle.block_top.specs.Inputs.{ReadsSet, ReadsCert}
 
 -- A call: its words; the shelf's inputs where they are told, its count of faults before and after, and the number of bytes
 -- it has given since the last start; what is written where it is told, and the sink's count of faults, before and
@@ -74,3 +76,21 @@ pub record IsHeadline (call : Call) (protocol : Protocol) (set : SetDef) (allowa
       → WritesSchedulable call protocol set ↔ ((s : List ℕ) × AreFitting (written protocol set) s)
   pub least : call.status ≡ 0 → WritesSchedulable call protocol set
   pub none : call.status ≡ 1 → (s : List ℕ) → AreFitting (written protocol set) s → ⊥
+
+-- The call checks a certificate of the set: its words are those of `check`, and the bytes of the names are the two.
+pub record Checks (call : Call) (protocol : Protocol) (set : SetDef) (c : CertificateDef) : Type 0 where
+  pub inputs : Inputs
+  pub name : List ℕ
+  pub cert : List ℕ
+  pub form_is : form_of call.words ≡ Some (Check protocol name cert)
+  pub told : call.names ≡ Some inputs
+  pub read : HasRead inputs protocol name set
+  pub bytes : List ℕ
+  pub named : bytes_of inputs cert ≡ Some bytes
+  pub short : length bytes ≤ GREATEST_INPUT_BYTES
+  pub reads : ReadsCert protocol bytes (Ok c)
+
+-- The headline's second half: what the call accepts, with status 0, is sound. In every schedule that keeps the protocol's rules,
+-- of whatever lawful jobs of the set, each job ends within its bound, and is blocked at no more ticks than its dual's value.
+abbrev pub IsSoundCheck : Call → Protocol → SetDef → CertificateDef → Type 0
+IsSoundCheck call protocol set c = call.status ≡ 0 → (values : List ℕ) → AreValues (written protocol set) c values → SoundUnder protocol set c.bounds values

@@ -11,3 +11,4 @@ pub mod Reached
 pub mod Headline
 pub mod Run
 pub mod Twice
+pub mod Checked

@@ -8,6 +8,10 @@ use Rattle.sporadic_model.specs.declared.refusal.ModelRefusal.{ModelRefusal}
 use Rattle.sporadic_model.specs.declared.refusal.ModelRefusal.TheVariants as model
 use Rattle.taskset_json.specs.declared.refusal.SetRefusal.{SetRefusal}
 use Rattle.taskset_json.specs.declared.refusal.SetRefusal.TheVariants as refusal
+use Rattle.cert_json.specs.declared.refusal.CertPlace.{CertPlace}
+use Rattle.cert_json.specs.declared.refusal.CertPlace.TheVariants as cert_place
+use Rattle.cert_json.specs.declared.refusal.CertRefusal.{CertRefusal}
+use Rattle.cert_json.specs.declared.refusal.CertRefusal.TheVariants as cert
 use Rattle.trace_csv.specs.declared.refusal.JobsRefusal.{JobsRefusal}
 use Rattle.trace_csv.specs.declared.refusal.JobsRefusal.TheVariants as jobs
 use Rattle.trace_csv.specs.declared.refusal.RowsRefusal.{RowsRefusal}
@@ -67,6 +71,19 @@ reason_text (refusal.Shape at) = codes "shape " ++ place_text at
 reason_text (refusal.Model r) = model_word r ++ model_place r
 reason_text (refusal.NoHome q) = codes "nohome " ++ place_text (place.Resource q.0)
 reason_text refusal.Memory = []
+
+-- The reason why a certificate's input is refused.
+abbrev pub cert_place_text : CertPlace → List ℕ
+cert_place_text cert_place.Root = codes "root"
+cert_place_text cert_place.Bounds = codes "bounds"
+cert_place_text (cert_place.Dual k) = codes "dual " ++ decimal (k + 1)
+
+abbrev pub cert_reason_text : CertRefusal → List ℕ
+cert_reason_text cert.NotJson = codes "notjson"
+cert_reason_text (cert.Shape at) = codes "shape " ++ cert_place_text at
+cert_reason_text cert.Version = codes "version"
+cert_reason_text cert.OtherProtocol = codes "otherprotocol"
+cert_reason_text cert.Memory = []
 
 -- A reason, and the number of the line that is refused: data lines are counted from 1, and the header is line 0.
 abbrev pub line_text : List ℕ → ℕ → List ℕ

@@ -5,7 +5,8 @@ use Rattle.std.specs.declared.alloc.AllocError.{AllocError}
 use Rattle.outside_ports.specs.Counts.{Rose}
 use Rattle.outside_ports.specs.Names.{Inputs}
 use Rattle.outside_ports.specs.declared.whole.TheConstants.{GREATEST_INPUT_BYTES}
-use Rattle.program_form.specs.Certificate.{dual_seen}
+use Rattle.program_form.specs.Certificate.{CertificateDef, dual_seen, certificate_seen}
+use Rattle.program_form.specs.declared.certificate.Certificate.{Certificate}
 use Rattle.sporadic_model.specs.SetDef.{SetDef}
 use Rattle.sporadic_model.specs.declared.ids.Protocol.{Protocol}
 use Rattle.response_fixpoint.specs.Rounds.{Schedulable, NotShown, Wide, Allowance}
@@ -76,6 +77,15 @@ IsUngot shelf input name answer = IsFailed shelf input.word answer ⊎ IsStopped
 abbrev pub IsGot : Shown → (input : Input) → List ℕ → Result (Vec ℕ Global × input.Value) Halt → Type 0
 IsGot shelf input name (Ok got) = IsRead (shown_by shelf) input name got.0.items got.1 × (length got.0.items ≡ shelf.given)
 IsGot shelf input name (Err h) = HaltsWith h (IsUngot shelf input name)
+
+-- What contracts see of a certificate that is taken, or got with its bytes.
+abbrev pub cert_taken : Result Certificate Halt → Result CertificateDef Halt
+cert_taken (Ok c) = Ok (certificate_seen c)
+cert_taken (Err h) = Err h
+
+abbrev pub cert_got : Result (Vec ℕ Global × Certificate) Halt → Result (Vec ℕ Global × CertificateDef) Halt
+cert_got (Ok got) = Ok (got.0, certificate_seen got.1)
+cert_got (Err h) = Err h
 
 -- What reading says of a set for a protocol. Only want of memory says nothing.
 abbrev pub ReadsSetFor : Protocol → List ℕ → Result SetDef SetRefusal → Type 0

@@ -5,6 +5,7 @@ use Rattle.outside_ports.specs.Counts.{Rose}
 use Rattle.outside_ports.specs.Names.{Inputs}
 use Rattle.outside_ports.specs.Prefix.{AppendsPart}
 use Rattle.outside_ports.specs.declared.whole.TheConstants.{GREATEST_INPUT_BYTES}
+use Rattle.program_form.specs.Certificate.{CertificateDef}
 use Rattle.sporadic_model.specs.SetDef.{SetDef}
 use Rattle.sporadic_model.specs.declared.ids.Protocol.{Protocol}
 use Rattle.response_fixpoint.specs.Rounds.{Ending, Wide, Allowance, EndsIn}
@@ -15,7 +16,7 @@ use Rattle.block_top.specs.Words.{Form, Analyse, form_of}
 use Rattle.block_top.specs.Inputs.{set_input}
 use Rattle.block_top.specs.Commands.{plan_of}
 use Rattle.block_top.specs.Outcome.{Shown, shown_by, told, refused_words, IsOutcome, IsReply}
-use Rattle.block_top.specs.Headline.{Call, RanOut, Analyses, IsHeadline}
+use Rattle.block_top.specs.Headline.{Call, RanOut, Analyses, IsHeadline, Checks, IsSoundCheck}
 
 -- What the shelf shows of the call.
 abbrev pub shelf_of : Call → Shown
@@ -109,3 +110,5 @@ pub record IsRun (call : Call) : Type 0 where
   pub allowance : call.status ≡ 6 → (form : Form) × (form_of call.words ≡ Some form) × AnalysisEnds (shown_by (shelf_of call)) form IsAllowanceEnding
   pub complete : IsComplete call
   pub headline : (protocol : Protocol) (set : SetDef) (analyses : Analyses call protocol set) → IsHeadline call protocol set analyses.allowance
+  -- And what `check` accepts is sound.
+  pub sound : (protocol : Protocol) (set : SetDef) (c : CertificateDef) → Checks call protocol set c → IsSoundCheck call protocol set c

@@ -1,53 +1,12 @@
 -- The texts of answers. Each line ends with one line end.
-use Rattle.std.specs.Prelude.{ℕ, List, [], ◌∷◌, ◌++◌, length, codes, decimal, Option, None, Some}
+use Rattle.std.specs.Prelude.{ℕ, ◌+◌, List, [], ◌++◌, length, codes, decimal, Option, None, Some}
 use Rattle.bounded_sums.specs.Sums.{collect_below}
-use Rattle.program_form.specs.Certificate.{DualDef, CertificateDef}
 use Rattle.sporadic_model.specs.SetDef.{SetDef, task_at}
 use Rattle.schedule_model.specs.Measures.{MeasuresDef}
 use Rattle.schedule_model.specs.declared.rule.Rule.{Rule}
 use Rattle.schedule_model.specs.declared.rule.Rule.TheVariants as rule
-use Rattle.sporadic_model.specs.declared.ids.Protocol.{Protocol}
-use Rattle.sporadic_model.specs.declared.ids.Protocol.TheVariants as protocol
-
--- Numbers with a comma between each two.
-abbrev pub after_commas : List ℕ → List ℕ
-after_commas [] = []
-after_commas (n ∷ ns) = codes "," ++ (decimal n ++ after_commas ns)
-
-abbrev pub with_commas : List ℕ → List ℕ
-with_commas [] = []
-with_commas (n ∷ ns) = decimal n ++ after_commas ns
-
--- A dual solution as JSON.
-abbrev pub dual_text : DualDef → List ℕ
-dual_text dual = codes "{\"den\":" ++ (decimal dual.den ++ (codes ",\"num\":[" ++ (with_commas dual.num ++ codes "]}")))
-
-abbrev pub duals_after_commas : List DualDef → List ℕ
-duals_after_commas [] = []
-duals_after_commas (dual ∷ duals) = codes "," ++ (dual_text dual ++ duals_after_commas duals)
-
-abbrev pub duals_text : List DualDef → List ℕ
-duals_text [] = []
-duals_text (dual ∷ duals) = dual_text dual ++ duals_after_commas duals
-
--- The members of a certificate: one compact JSON object, and a line end.
-abbrev pub bounds_member : List ℕ → List ℕ
-bounds_member bounds = codes "{\"bounds\":[" ++ (with_commas bounds ++ codes "],")
-
-abbrev pub duals_member : List DualDef → List ℕ
-duals_member duals = codes "\"duals\":[" ++ (duals_text duals ++ codes "],")
-
--- The word of a protocol.
-abbrev pub protocol_word : Protocol → List ℕ
-protocol_word protocol.Mpcp = codes "mpcp"
-protocol_word protocol.FmlpPlus = codes "fmlp+"
-protocol_word protocol.Dpcp = codes "dpcp"
-
-abbrev pub last_members : Protocol → List ℕ
-last_members protocol = codes "\"protocol\":\"" ++ (protocol_word protocol ++ codes "\",\"verdict\":\"schedulable\",\"version\":1}\n")
-
-abbrev pub certificate_text : Protocol → CertificateDef → List ℕ
-certificate_text protocol certificate = bounds_member certificate.bounds ++ (duals_member certificate.duals ++ last_members protocol)
+use Rattle.dual_check.specs.declared.answer.Invalid.{Invalid}
+use Rattle.dual_check.specs.declared.answer.Invalid.TheVariants as invalid
 
 -- A set that isn't shown: the task, the value that passes its deadline, and the deadline.
 abbrev pub not_shown_text : List ℕ → ℕ → ℕ → List ℕ
@@ -92,3 +51,21 @@ rule_text rule.Priority = codes "priority"
 -- A schedule whose row at this tick breaks this rule.
 abbrev pub broken_text : ℕ → Rule → List ℕ
 broken_text tick r = codes "broken " ++ (decimal tick ++ (codes " " ++ (rule_text r ++ codes "\n")))
+
+-- A certificate that is valid.
+abbrev pub valid_text : List ℕ
+valid_text = codes "valid\n"
+
+-- What stands behind the word of a test that a task fails: the task's name.
+abbrev pub failing_task : SetDef → ℕ → List ℕ
+failing_task set i = codes " " ++ ((task_at set i).name ++ codes "\n")
+
+-- A certificate that isn't valid: the first test that fails, and the task that fails it. Columns print counted from 1.
+abbrev pub invalid_text : SetDef → Invalid → List ℕ
+invalid_text set invalid.Size = codes "invalid size\n"
+invalid_text set (invalid.Bound i) = codes "invalid bound" ++ failing_task set i.0
+invalid_text set (invalid.DualSize i) = codes "invalid dualsize" ++ failing_task set i.0
+invalid_text set (invalid.Cover i k) =
+    codes "invalid cover " ++ ((task_at set i.0).name ++ (codes " " ++ (decimal (k + 1) ++ codes "\n")))
+invalid_text set (invalid.Small i) = codes "invalid small" ++ failing_task set i.0
+invalid_text set invalid.Memory = []

@@ -12,8 +12,12 @@ use Rattle.block_top.specs.declared.words.TheConstants.{DEFAULT_ALLOWANCE, GREAT
 pub data Form : Type 0 where
   -- the protocol, the set, the allowance
   Analyse : Protocol → List ℕ → ℕ → Form
+  -- the protocol, the set, the certificate
+  Check : Protocol → List ℕ → List ℕ → Form
   -- the protocol, the set
   Report : Protocol → List ℕ → Form
+  -- the protocol, the set, the certificate
+  FullReport : Protocol → List ℕ → List ℕ → Form
   -- the protocol, the set, the jobs, the rows
   Conform : Protocol → List ℕ → List ℕ → List ℕ → Form
   -- the protocol, the set, the jobs, the ticks
@@ -40,8 +44,10 @@ analyse_form _ name _ = None
 
 -- Which form do these four words have?
 abbrev pub form_of_four : List ℕ → List ℕ → List ℕ → List ℕ → Option Form
-form_of_four command protocol name number = if bytes_eq command (codes "analyse")
-    then analyse_form (protocol_of protocol) name (number_between 1 GREATEST_ALLOWANCE number)
+form_of_four command protocol name last =
+    if bytes_eq command (codes "analyse") then analyse_form (protocol_of protocol) name (number_between 1 GREATEST_ALLOWANCE last)
+    else if bytes_eq command (codes "check") then option_map (λ p. Check p name last) (protocol_of protocol)
+    else if bytes_eq command (codes "report") then option_map (λ p. FullReport p name last) (protocol_of protocol)
     else None
 
 -- Which form have these words of `simulate`, whose protocol and ticks are as they were read?
@@ -59,7 +65,7 @@ form_of_five command protocol set jobs last =
 -- Which form do the words have, if any?
 abbrev pub form_of : List (List ℕ) → Option Form
 form_of (command ∷ protocol ∷ name ∷ []) = form_of_three command protocol name
-form_of (command ∷ protocol ∷ name ∷ number ∷ []) = form_of_four command protocol name number
+form_of (command ∷ protocol ∷ name ∷ last ∷ []) = form_of_four command protocol name last
 form_of (command ∷ protocol ∷ set ∷ jobs ∷ last ∷ []) = form_of_five command protocol set jobs last
 form_of _ = None
 

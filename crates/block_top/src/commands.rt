@@ -1,14 +1,15 @@
 ghost use Rattle.std.specs.Prelude.{◌≤◌, is_some, IfOk};
 ghost use Rattle.sporadic_model.specs.declared.limits.TheConstants.{MOST_TICKS};
 ghost use Rattle.sporadic_model.specs.Homes.{HasHomesFor};
-ghost use Rattle.block_top.specs.Words.{Analyse, Report, Conform, Simulate, words_seen};
+ghost use Rattle.block_top.specs.Words.{Analyse, Check, Report, FullReport, Conform, Simulate, words_seen};
 ghost use Rattle.block_top.specs.FormSeen.{form_seen, HasSomeTicks};
-ghost use Rattle.block_top.specs.Commands.{judging_rows, judging_jobs, simulating_jobs, plan_of};
+ghost use Rattle.block_top.specs.Commands.{check_of, full_table_of, with_certificate, judging_rows, judging_jobs, simulating_jobs, plan_of};
 ghost use Rattle.block_top.specs.Outcome.{IsReplyOf, IsReply};
 ghost use Rattle.block_top.specs.Replies.{reply_seen, Answered, Keeps};
 
 use crate::halt::{Halt, Reply, settled};
-use crate::input::{get_jobs, get_rows, get_set};
+use crate::input::{get_cert, get_jobs, get_rows, get_set};
+use crate::judging::{judgement, proved_table};
 use crate::words::{Command, command_of};
 use crate::work::{analysis, conformance, no_form, simulation, table};
 use outside_ports::Shelf;
@@ -34,6 +35,80 @@ fn analyse_reply<R: Threads + Sync, S: Shelf>(
 {
     let (_bytes, set) = get_set(alloc, shelf, protocol, name)?;
     analysis(rt, alloc, &set, protocol, allowance)
+}
+
+/// Reads the certificate of `check`, once its set is read, and does its work.
+fn judgement_reply<S: Shelf>(
+    alloc: Global,
+    shelf: &mut S,
+    protocol: Protocol,
+    set: &TaskSet,
+    certificate: &str,
+) -> Result<Reply, Halt>
+    requires { HasHomesFor protocol set.now }
+    ensures reply { Answered result (IsReplyOf
+        (record { names = S.names shelf.old; before = S.faults shelf.old; now = S.faults shelf.new; given = S.given shelf.new })
+        (with_certificate protocol certificate.now (check_of protocol set.now))) }
+    ensures keeps { Keeps (S.names shelf.old) (S.names shelf.new) (is_some (S.rest shelf.old)) (is_some (S.rest shelf.new))
+        (S.faults shelf.old) (S.faults shelf.new) (S.steady shelf.old) (S.steady shelf.new) }
+{
+    let (_bytes, certificate) = get_cert(alloc, shelf, protocol, certificate)?;
+    judgement(alloc, protocol, set, &certificate)
+}
+
+/// Reads the inputs of `check`, and does its work.
+fn check_reply<S: Shelf>(
+    alloc: Global,
+    shelf: &mut S,
+    protocol: Protocol,
+    set: &str,
+    certificate: &str,
+) -> Result<Reply, Halt>
+    ensures reply { Answered result (IsReplyOf
+        (record { names = S.names shelf.old; before = S.faults shelf.old; now = S.faults shelf.new; given = S.given shelf.new })
+        (plan_of (Check protocol set.now certificate.now))) }
+    ensures keeps { Keeps (S.names shelf.old) (S.names shelf.new) (is_some (S.rest shelf.old)) (is_some (S.rest shelf.new))
+        (S.faults shelf.old) (S.faults shelf.new) (S.steady shelf.old) (S.steady shelf.new) }
+{
+    let (_bytes, set) = get_set(alloc, shelf, protocol, set)?;
+    judgement_reply(alloc, shelf, protocol, &set, certificate)
+}
+
+/// Reads the certificate of `report`, once its set is read, and does its work.
+fn proved_table_reply<S: Shelf>(
+    alloc: Global,
+    shelf: &mut S,
+    protocol: Protocol,
+    set: &TaskSet,
+    certificate: &str,
+) -> Result<Reply, Halt>
+    requires { HasHomesFor protocol set.now }
+    ensures reply { Answered result (IsReplyOf
+        (record { names = S.names shelf.old; before = S.faults shelf.old; now = S.faults shelf.new; given = S.given shelf.new })
+        (with_certificate protocol certificate.now (full_table_of protocol set.now))) }
+    ensures keeps { Keeps (S.names shelf.old) (S.names shelf.new) (is_some (S.rest shelf.old)) (is_some (S.rest shelf.new))
+        (S.faults shelf.old) (S.faults shelf.new) (S.steady shelf.old) (S.steady shelf.new) }
+{
+    let (_bytes, certificate) = get_cert(alloc, shelf, protocol, certificate)?;
+    proved_table(alloc, protocol, set, &certificate)
+}
+
+/// Reads the inputs of `report` with a certificate, and does its work.
+fn full_report_reply<S: Shelf>(
+    alloc: Global,
+    shelf: &mut S,
+    protocol: Protocol,
+    set: &str,
+    certificate: &str,
+) -> Result<Reply, Halt>
+    ensures reply { Answered result (IsReplyOf
+        (record { names = S.names shelf.old; before = S.faults shelf.old; now = S.faults shelf.new; given = S.given shelf.new })
+        (plan_of (FullReport protocol set.now certificate.now))) }
+    ensures keeps { Keeps (S.names shelf.old) (S.names shelf.new) (is_some (S.rest shelf.old)) (is_some (S.rest shelf.new))
+        (S.faults shelf.old) (S.faults shelf.new) (S.steady shelf.old) (S.steady shelf.new) }
+{
+    let (_bytes, set) = get_set(alloc, shelf, protocol, set)?;
+    proved_table_reply(alloc, shelf, protocol, &set, certificate)
 }
 
 /// Reads the inputs of `report`, and does its work.
@@ -174,7 +249,17 @@ fn command_reply<R: Threads + Sync, S: Shelf>(
             set,
             allowance,
         } => analyse_reply(rt, alloc, shelf, protocol, set, allowance),
+        Command::Check {
+            protocol,
+            set,
+            certificate,
+        } => check_reply(alloc, shelf, protocol, set, certificate),
         Command::Report { protocol, set } => report_reply(alloc, shelf, protocol, set),
+        Command::FullReport {
+            protocol,
+            set,
+            certificate,
+        } => full_report_reply(alloc, shelf, protocol, set, certificate),
         Command::Conform {
             protocol,
             set,

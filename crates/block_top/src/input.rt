@@ -1,14 +1,18 @@
 ghost use Rattle.std.specs.Prelude.{◌≡◌, ◌≤◌, length, is_some, codes, IfOk};
 ghost use Rattle.outside_ports.specs.declared.whole.TheConstants.{GREATEST_INPUT_BYTES};
+ghost use Rattle.program_form.specs.Certificate.{certificate_seen};
 ghost use Rattle.sporadic_model.specs.Homes.{HasHomesFor};
+ghost use Rattle.dual_check.specs.Answers.{HasDenominators};
 ghost use Rattle.block_top.specs.Plans.{refused};
-ghost use Rattle.block_top.specs.Refusals.{reason_text, jobs_reason_text, rows_reason_text};
-ghost use Rattle.block_top.specs.Inputs.{set_input, jobs_input, rows_input};
-ghost use Rattle.block_top.specs.Replies.{HaltsWith, IsLoaded, IsTaken, IsGot, ReadsSetFor, Keeps};
+ghost use Rattle.block_top.specs.Refusals.{reason_text, cert_reason_text, jobs_reason_text, rows_reason_text};
+ghost use Rattle.block_top.specs.Inputs.{set_input, cert_input, jobs_input, rows_input};
+ghost use Rattle.block_top.specs.Replies.{HaltsWith, IsLoaded, IsTaken, IsGot, cert_taken, cert_got, ReadsSetFor, Keeps};
 
 use crate::halt::{Halt, fault, refusal};
-use crate::refusals::{jobs_reason, reason, rows_reason};
+use crate::refusals::{cert_reason, jobs_reason, reason, rows_reason};
+use cert_json::CertRefusal;
 use outside_ports::{LoadFault, Shelf, load};
+use program_form::Certificate;
 use schedule_model::{JobList, RowList};
 use sporadic_model::{Protocol, TaskSet};
 use std::alloc::{AllocError, Global};
@@ -88,6 +92,48 @@ pub fn get_set<S: Shelf>(
     let bytes = load_input(alloc, shelf, "set", name)?;
     let set = take_set(alloc, &bytes, protocol)?;
     Ok((bytes, set))
+}
+
+/// The reply that a certificate is refused.
+fn cert_refusal(alloc: Global, cause: CertRefusal) -> Halt
+    ensures { HaltsWith result (λ answer. answer ≡ refused (codes "cert") (cert_reason_text cause)) }
+{
+    match cert_reason(alloc, cause) {
+        Ok(reason) => refusal(alloc, "cert", reason.as_str()),
+        Err(AllocError) => Halt::Memory,
+    }
+}
+
+/// The certificate for the protocol that the bytes are, or the reply that refuses them.
+fn take_cert(alloc: Global, bytes: &[u8], protocol: Protocol) -> Result<Certificate, Halt>
+    requires { length bytes.now ≤ GREATEST_INPUT_BYTES }
+    ensures taken { IsTaken (cert_input protocol) bytes.now (cert_taken result) }
+    ensures denominators { IfOk result (λ c. HasDenominators (certificate_seen c)) }
+{
+    match cert_json::read(alloc, bytes, protocol) {
+        Ok(certificate) => Ok(certificate),
+        Err(CertRefusal::Memory) => Err(Halt::Memory),
+        Err(cause) => Err(cert_refusal(alloc, cause)),
+    }
+}
+
+/// Loads and reads the certificate of this name, which is for this protocol.
+pub fn get_cert<S: Shelf>(
+    alloc: Global,
+    shelf: &mut S,
+    protocol: Protocol,
+    name: &str,
+) -> Result<(Vec<u8>, Certificate), Halt>
+    ensures got { IsGot
+        (record { names = S.names shelf.old; before = S.faults shelf.old; now = S.faults shelf.new; given = S.given shelf.new })
+        (cert_input protocol) name.now (cert_got result) }
+    ensures denominators { IfOk result (λ got. HasDenominators (certificate_seen got.1)) }
+    ensures keeps { Keeps (S.names shelf.old) (S.names shelf.new) (is_some (S.rest shelf.old)) (is_some (S.rest shelf.new))
+        (S.faults shelf.old) (S.faults shelf.new) (S.steady shelf.old) (S.steady shelf.new) }
+{
+    let bytes = load_input(alloc, shelf, "cert", name)?;
+    let certificate = take_cert(alloc, &bytes, protocol)?;
+    Ok((bytes, certificate))
 }
 
 /// The reply that jobs are refused.

@@ -4,6 +4,7 @@
 mod commands;
 mod halt;
 mod input;
+mod judging;
 mod laws;
 mod refusals;
 mod texts;
@@ -11,9 +12,11 @@ mod top;
 mod words;
 mod work;
 
-pub use laws::two_runs;
+pub use laws::{analyse_and_check, analysed_then_checked, two_runs};
 pub use top::{Status, run};
 pub use words::DEFAULT_ALLOWANCE;
 
+#[cfg(test)]
+mod cert_tests;
 #[cfg(test)]
 mod tests;

@@ -1,6 +1,7 @@
 ghost use Rattle.std.specs.Prelude.{◌≡◌, ◌++◌, string_bytes, IfOk};
-ghost use Rattle.block_top.specs.Refusals.{place_text, size_text, model_word, model_place, reason_text, line_text, jobs_reason_text, rows_reason_text};
+ghost use Rattle.block_top.specs.Refusals.{place_text, size_text, model_word, model_place, reason_text, cert_place_text, cert_reason_text, line_text, jobs_reason_text, rows_reason_text};
 
+use cert_json::{CertPlace, CertRefusal};
 use sporadic_model::{ModelRefusal, Place, SizeOf};
 use std::alloc::{AllocError, Global};
 use taskset_json::SetRefusal;
@@ -111,6 +112,36 @@ pub fn reason(alloc: Global, refusal: SetRefusal) -> Result<String, AllocError>
             joined(alloc, "nohome ", place.as_str())
         }
         SetRefusal::Memory => Ok(String::new(alloc)),
+    }
+}
+
+/// The text of a place in a certificate.
+fn cert_place_words(alloc: Global, place: CertPlace) -> Result<String, AllocError>
+    ensures { IfOk result (λ text. string_bytes text ≡ cert_place_text place) }
+{
+    match place {
+        CertPlace::Root => String::from_str(alloc, "root"),
+        CertPlace::Bounds => String::from_str(alloc, "bounds"),
+        CertPlace::Dual(k) => {
+            let number = u64::from(k) + 1;
+            format!(in alloc; "dual {number}")
+        }
+    }
+}
+
+/// The reason why a certificate's input is refused.
+pub fn cert_reason(alloc: Global, refusal: CertRefusal) -> Result<String, AllocError>
+    ensures { IfOk result (λ text. string_bytes text ≡ cert_reason_text refusal) }
+{
+    match refusal {
+        CertRefusal::NotJson => String::from_str(alloc, "notjson"),
+        CertRefusal::Shape(place) => {
+            let place = cert_place_words(alloc, place)?;
+            joined(alloc, "shape ", place.as_str())
+        }
+        CertRefusal::Version => String::from_str(alloc, "version"),
+        CertRefusal::OtherProtocol => String::from_str(alloc, "otherprotocol"),
+        CertRefusal::Memory => Ok(String::new(alloc)),
     }
 }
 

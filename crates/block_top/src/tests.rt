@@ -10,11 +10,11 @@ const ONE_TASK: &str =
 const ONE_TASK_CERTIFICATE: &str =
     "{\"bounds\":[1],\"duals\":[{\"den\":1,\"num\":[]}],\"protocol\":\"fmlp+\",\"verdict\":\"schedulable\",\"version\":1}\n";
 
-const SET_A: &str =
+pub(crate) const SET_A: &str =
     r#"{"processors":2,"resources":[{"name":"q","home":2}],"tasks":[{"name":"t1","processor":1,"period":10,"cost":3,"requests":[{"resource":"q","count":1,"length":1}]},{"name":"t2","processor":2,"period":10,"cost":4,"requests":[{"resource":"q","count":1,"length":2}]}]}
 "#;
 
-const SET_A_CERTIFICATE: &str =
+pub(crate) const SET_A_CERTIFICATE: &str =
     "{\"bounds\":[5,5],\"duals\":[{\"den\":1,\"num\":[2,0,0,0]},{\"den\":1,\"num\":[1,0,0,0]}],\"protocol\":\"fmlp+\",\"verdict\":\"schedulable\",\"version\":1}\n";
 
 const TABLE_A: &str = "\
@@ -27,9 +27,9 @@ load 2 400000
 
 /// What a run gave: its status, and the bytes that the sink took.
 #[derive(Debug, PartialEq, Drop)]
-struct Given {
-    status: u8,
-    written: Vec<u8>,
+pub(crate) struct Given {
+    pub status: u8,
+    pub written: Vec<u8>,
 }
 
 /// What the shelf and the sink of a run do.
@@ -85,7 +85,7 @@ fn ran<R: Threads + Sync>(
     ran_over(rt, alloc, words, &outside)
 }
 
-fn answer(alloc: Global, status: u8, text: &str) -> Result<Given, AllocError> {
+pub(crate) fn answer(alloc: Global, status: u8, text: &str) -> Result<Given, AllocError> {
     Ok(Given {
         status,
         written: Vec::from_slice(alloc, text.as_bytes())?,
@@ -159,7 +159,7 @@ fn refuses_words_without_a_form(rt: HostRuntime) -> Result<(), Fail> {
         ["analyse", "fmlp+", "set", "0"],
         ["analyse", "fmlp+", "set", "1000000001"],
         ["analyse", "fmlp+", "set", "08"],
-        ["report", "fmlp+", "set", "cert"],
+        ["check", "edf", "set", "cert"],
     ] {
         assert_eq!(rt; ran(&rt, alloc, &words, SET_A.as_bytes())?, want);
     }

@@ -1,127 +1,15 @@
 ghost use Rattle.std.specs.Prelude.{◌≡◌, ◌<◌, ◌++◌, IfOk, OnOk, map, length, slice_index_or};
 ghost use Rattle.sporadic_model.specs.SetDef.{task_at};
 ghost use Rattle.trace_conform.specs.Measured.{measure_seen, no_measure};
-ghost use Rattle.program_form.specs.Certificate.{dual_seen, certificate_seen};
-ghost use Rattle.block_top.specs.Texts.{after_commas, with_commas, dual_text, duals_after_commas, duals_text, bounds_member, duals_member, protocol_word, last_members, certificate_text, not_shown_text, wide_text, response_text, measures_text, measures_line, measures_lines, lawful_text, rule_text, broken_text};
+ghost use Rattle.block_top.specs.Reached.{FailsTask};
+ghost use Rattle.block_top.specs.Texts.{not_shown_text, wide_text, response_text, measures_text, measures_line, measures_lines, lawful_text, rule_text, broken_text, failing_task, invalid_text};
 
-use program_form::{Certificate, Dual};
+use dual_check::Invalid;
 use schedule_model::Rule;
-use sporadic_model::{Protocol, TaskId, TaskSet};
+use sporadic_model::{TaskId, TaskSet};
 use std::alloc::{AllocError, Global};
 use text_pieces::push_number;
 use trace_conform::TaskMeasure;
-
-/// Adds each number with a comma before it.
-fn push_after_commas(text: &mut Vec<u8>, numbers: &[u64]) -> Result<(), AllocError>
-    ensures { OnOk result (text.new.items ≡ text.old.items ++ after_commas numbers.now) }
-{
-    for n in numbers {
-        text.extend_from_slice(b",")?;
-        push_number(text, *n)?;
-    }
-    Ok(())
-}
-
-/// Adds the numbers with a comma between each two.
-fn push_numbers(text: &mut Vec<u8>, numbers: &[u64]) -> Result<(), AllocError>
-    ensures { OnOk result (text.new.items ≡ text.old.items ++ with_commas numbers.now) }
-{
-    match numbers {
-        [] => Ok(()),
-        [first, rest @ ..] => {
-            push_number(text, *first)?;
-            push_after_commas(text, rest)
-        }
-    }
-}
-
-/// Adds a dual solution as JSON.
-fn push_dual(text: &mut Vec<u8>, dual: &Dual) -> Result<(), AllocError>
-    ensures { OnOk result (text.new.items ≡ text.old.items ++ dual_text (dual_seen dual.now)) }
-{
-    text.extend_from_slice(b"{\"den\":")?;
-    push_number(text, dual.den)?;
-    text.extend_from_slice(b",\"num\":[")?;
-    push_numbers(text, &dual.num)?;
-    text.extend_from_slice(b"]}")
-}
-
-/// Adds each dual with a comma before it.
-fn push_duals_after_commas(text: &mut Vec<u8>, duals: &[Dual]) -> Result<(), AllocError>
-    ensures { OnOk result (text.new.items ≡ text.old.items ++ duals_after_commas (map dual_seen duals.now)) }
-{
-    for dual in duals {
-        text.extend_from_slice(b",")?;
-        push_dual(text, dual)?;
-    }
-    Ok(())
-}
-
-/// Adds the duals with a comma between each two.
-fn push_duals(text: &mut Vec<u8>, duals: &[Dual]) -> Result<(), AllocError>
-    ensures { OnOk result (text.new.items ≡ text.old.items ++ duals_text (map dual_seen duals.now)) }
-{
-    match duals {
-        [] => Ok(()),
-        [first, rest @ ..] => {
-            push_dual(text, first)?;
-            push_duals_after_commas(text, rest)
-        }
-    }
-}
-
-/// Adds the member with the bounds.
-fn push_bounds_member(text: &mut Vec<u8>, bounds: &[u64]) -> Result<(), AllocError>
-    ensures { OnOk result (text.new.items ≡ text.old.items ++ bounds_member bounds.now) }
-{
-    text.extend_from_slice(b"{\"bounds\":[")?;
-    push_numbers(text, bounds)?;
-    text.extend_from_slice(b"],")
-}
-
-/// Adds the member with the duals.
-fn push_duals_member(text: &mut Vec<u8>, duals: &[Dual]) -> Result<(), AllocError>
-    ensures { OnOk result (text.new.items ≡ text.old.items ++ duals_member (map dual_seen duals.now)) }
-{
-    text.extend_from_slice(b"\"duals\":[")?;
-    push_duals(text, duals)?;
-    text.extend_from_slice(b"],")
-}
-
-/// Adds the word of a protocol.
-fn push_protocol(text: &mut Vec<u8>, protocol: Protocol) -> Result<(), AllocError>
-    ensures { OnOk result (text.new.items ≡ text.old.items ++ protocol_word protocol) }
-{
-    match protocol {
-        Protocol::Mpcp => text.extend_from_slice(b"mpcp"),
-        Protocol::FmlpPlus => text.extend_from_slice(b"fmlp+"),
-        Protocol::Dpcp => text.extend_from_slice(b"dpcp"),
-    }
-}
-
-/// Adds the members that are the same in each certificate for the protocol.
-fn push_last_members(text: &mut Vec<u8>, protocol: Protocol) -> Result<(), AllocError>
-    ensures { OnOk result (text.new.items ≡ text.old.items ++ last_members protocol) }
-{
-    text.extend_from_slice(b"\"protocol\":\"")?;
-    push_protocol(text, protocol)?;
-    text.extend_from_slice(b"\",\"verdict\":\"schedulable\",\"version\":1}\n")
-}
-
-/// The text of a certificate for the protocol.
-pub fn certificate_line(
-    alloc: Global,
-    protocol: Protocol,
-    certificate: &Certificate,
-) -> Result<Vec<u8>, AllocError>
-    ensures { IfOk result (λ text. text.items ≡ certificate_text protocol (certificate_seen certificate.now)) }
-{
-    let mut text = Vec::new(alloc);
-    push_bounds_member(&mut text, &certificate.bounds)?;
-    push_duals_member(&mut text, &certificate.duals)?;
-    push_last_members(&mut text, protocol)?;
-    Ok(text)
-}
 
 /// The text for a task whose value passes its deadline.
 pub fn not_shown_line(
@@ -237,4 +125,50 @@ pub fn broken_line(alloc: Global, tick: u64, rule: Rule) -> Result<Vec<u8>, Allo
     let word = rule_word(rule);
     let text = format!(in alloc; "broken {tick} {word}\n")?;
     Ok(text.into_bytes())
+}
+
+/// The text for a certificate of which this task fails the test of this word.
+fn failing_line(
+    alloc: Global,
+    word: &str,
+    set: &TaskSet,
+    task: TaskId,
+) -> Result<Vec<u8>, AllocError>
+    requires { task.0 < length set.now.tasks }
+    ensures { IfOk result (λ text. text.items ≡ word.now ++ failing_task set.now task.0) }
+{
+    let name = set.task_name(task);
+    let text = format!(in alloc; "{word} {name}\n")?;
+    Ok(text.into_bytes())
+}
+
+/// The text for a certificate of which this task's dual leaves this column. Columns print counted from 1.
+fn uncovered_line(
+    alloc: Global,
+    set: &TaskSet,
+    task: TaskId,
+    column: u32,
+) -> Result<Vec<u8>, AllocError>
+    requires { task.0 < length set.now.tasks }
+    ensures { IfOk result (λ text. text.items ≡ invalid_text set.now (Invalid.Cover task column)) }
+{
+    let name = set.task_name(task);
+    let number = u64::from(column) + 1;
+    let text = format!(in alloc; "invalid cover {name} {number}\n")?;
+    Ok(text.into_bytes())
+}
+
+/// The text for a certificate that isn't valid.
+pub fn invalid_line(alloc: Global, set: &TaskSet, failure: Invalid) -> Result<Vec<u8>, AllocError>
+    requires { FailsTask set.now failure }
+    ensures { IfOk result (λ text. text.items ≡ invalid_text set.now failure) }
+{
+    match failure {
+        Invalid::Size => Vec::from_slice(alloc, b"invalid size\n"),
+        Invalid::Bound(task) => failing_line(alloc, "invalid bound", set, task),
+        Invalid::DualSize(task) => failing_line(alloc, "invalid dualsize", set, task),
+        Invalid::Cover(task, column) => uncovered_line(alloc, set, task, column),
+        Invalid::Small(task) => failing_line(alloc, "invalid small", set, task),
+        Invalid::Memory => Ok(Vec::new(alloc)),
+    }
 }

@@ -1,7 +1,8 @@
 ghost use Rattle.std.specs.Prelude.{◌≡◌, option_map, IfSome};
 ghost use Rattle.sporadic_model.specs.declared.limits.TheConstants.{MOST_TICKS};
 ghost use Rattle.text_pieces.specs.Numbers.{number_between};
-ghost use Rattle.block_top.specs.Words.{protocol_of, form_of_three, form_of_four, simulate_form, form_of_five, form_of, words_seen};
+ghost use Rattle.block_top.specs.declared.words.TheConstants.{GREATEST_ALLOWANCE};
+ghost use Rattle.block_top.specs.Words.{protocol_of, form_of_three, analyse_form, form_of_four, simulate_form, form_of_five, form_of, words_seen};
 ghost use Rattle.block_top.specs.FormSeen.{form_seen, HasSomeTicks};
 
 use sporadic_model::{MOST_TICKS, Protocol};
@@ -22,10 +23,22 @@ pub enum Command<'a> {
         set: &'a str,
         allowance: u64,
     },
+    /// Judge the certificate of this name for the set of this name.
+    Check {
+        protocol: Protocol,
+        set: &'a str,
+        certificate: &'a str,
+    },
     /// Write the table of the set of this name.
     Report {
         protocol: Protocol,
         set: &'a str,
+    },
+    /// Write the table with what the certificate of this name proves.
+    FullReport {
+        protocol: Protocol,
+        set: &'a str,
+        certificate: &'a str,
     },
     /// Judge the rows of this name, which are of the jobs of this name, which are of the set of this name.
     Conform {
@@ -73,19 +86,11 @@ fn command_of_three<'a>(command: &str, protocol: &str, set: &'a str) -> Option<C
     None
 }
 
-/// What four words ask for.
-fn command_of_four<'a>(
-    command: &str,
-    protocol: &str,
-    set: &'a str,
-    allowance: &str,
-) -> Option<Command<'a>>
-    ensures form { option_map form_seen result ≡ form_of_four command.now protocol.now set.now allowance.now }
+/// What an analysis with this allowance asks for.
+fn analyse_within<'a>(protocol: &str, set: &'a str, allowance: &str) -> Option<Command<'a>>
+    ensures form { option_map form_seen result ≡ analyse_form (protocol_of protocol.now) set.now (number_between 1 GREATEST_ALLOWANCE allowance.now) }
     ensures ticks { IfSome result (λ c. HasSomeTicks (form_seen c)) }
 {
-    if command != "analyse" {
-        return None;
-    }
     match (
         protocol_named(protocol),
         number_between(allowance.as_bytes(), 1, GREATEST_ALLOWANCE),
@@ -97,6 +102,36 @@ fn command_of_four<'a>(
         }),
         _ => None,
     }
+}
+
+/// What four words ask for.
+fn command_of_four<'a>(
+    command: &str,
+    protocol: &str,
+    set: &'a str,
+    last: &'a str,
+) -> Option<Command<'a>>
+    ensures form { option_map form_seen result ≡ form_of_four command.now protocol.now set.now last.now }
+    ensures ticks { IfSome result (λ c. HasSomeTicks (form_seen c)) }
+{
+    if command == "analyse" {
+        return analyse_within(protocol, set, last);
+    }
+    if command == "check" {
+        return protocol_named(protocol).map(|protocol| Command::Check {
+            protocol,
+            set,
+            certificate: last,
+        });
+    }
+    if command == "report" {
+        return protocol_named(protocol).map(|protocol| Command::FullReport {
+            protocol,
+            set,
+            certificate: last,
+        });
+    }
+    None
 }
 
 /// What the words of `simulate` ask for, whose protocol is as it was read.
@@ -154,11 +189,11 @@ pub fn command_of(words: &[String]) -> Option<Command<'_>>
         [command, protocol, set] => {
             command_of_three(command.as_str(), protocol.as_str(), set.as_str())
         }
-        [command, protocol, set, number] => command_of_four(
+        [command, protocol, set, last] => command_of_four(
             command.as_str(),
             protocol.as_str(),
             set.as_str(),
-            number.as_str(),
+            last.as_str(),
         ),
         [command, protocol, set, jobs, last] => command_of_five(
             command.as_str(),

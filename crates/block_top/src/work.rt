@@ -15,7 +15,7 @@ ghost use Rattle.block_top.specs.Replies.{reply_seen, Answered, RepliesTo};
 ghost use Rattle.block_top.specs.Reached.{NamesTask};
 
 use crate::halt::{Halt, Reply};
-use crate::texts::{broken_line, certificate_line, lawful_lines, not_shown_line, wide_line};
+use crate::texts::{broken_line, lawful_lines, not_shown_line, wide_line};
 use program_form::Certificate;
 use report::set_table;
 use response_fixpoint::{Stop, Verdict, analyse};
@@ -40,7 +40,7 @@ fn certificate_reply(
     let _tasks = set.tasks();
     Ok(Reply {
         status: 0,
-        text: certificate_line(alloc, protocol, certificate)?,
+        text: cert_json::write(alloc, protocol, certificate)?,
     })
 }
 

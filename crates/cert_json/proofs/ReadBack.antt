@@ -177,7 +177,7 @@ are_duals : (ds : List DualDef) → All IsSmallDual ds → list_all is_dual (val
 are_duals [] h = refl
 are_duals (d ∷ ds) h = ap₂ (λ a b. a && b) (dual_formed d (All-head IsSmallDual d ds h)) (are_duals ds (All-tail IsSmallDual d ds h))
 
-formed : (p : Protocol) (c : CertificateDef) → IsWritable c → has_certificate_form p (certificate_data p c) ≡ true
+pub formed : (p : Protocol) (c : CertificateDef) → IsWritable c → has_certificate_form p (certificate_data p c) ≡ true
 formed protocol.Mpcp c h = ap₂ (λ a b. a && (b && true)) (are_whole c.bounds) (are_duals c.duals h.duals)
 formed protocol.FmlpPlus c h = ap₂ (λ a b. a && (b && true)) (are_whole c.bounds) (are_duals c.duals h.duals)
 formed protocol.Dpcp c h = ap₂ (λ a b. a && (b && true)) (are_whole c.bounds) (are_duals c.duals h.duals)
@@ -193,7 +193,7 @@ duals-written : (ds : List DualDef) → map dual_written (values_of (items_of (m
 duals-written [] = refl
 duals-written (d ∷ ds) = ap₂ (λ e l. e ∷ l) (dual-written d) (duals-written ds)
 
-written : (p : Protocol) (c : CertificateDef) → certificate_written (certificate_data p c) ≡ c
+pub written : (p : Protocol) (c : CertificateDef) → certificate_written (certificate_data p c) ≡ c
 written p c = ap₂ (λ bounds duals. record { bounds = bounds; duals = duals }) (numbers-written c.bounds) (duals-written c.duals)
 
 -- ---- so it is read again

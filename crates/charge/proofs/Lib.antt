@@ -10,3 +10,4 @@ mod Places
 mod Pushing
 mod TableLaws
 mod RowsMet
+mod TableSums

@@ -1,13 +1,12 @@
 -- The first of the jobs that pass a test, while the test grows.
 use Rattle.std.proofs.Common.{◌≡◌, ℕ, ◌+◌, ◌<◌, ◌≤◌, ◌==◌, ◌&&◌, ◌||◌, Bool, true, false, length, refl, sym, ap, ◌∙◌, arith, inl, inr, cond, Option, Some, None, ltb}
 use Rattle.std.specs.Prelude.{nat_lt, nat_le, List}
-use Rattle.std.specs.Option.{option_map_or}
-use Rattle.std.proofs.lemmas.Bool.{cases_lt, cases_order, cases_Bool, cases_eq, both_ways, lt-ltb, le-ltb, le-leb, lt-leb, eq-eqb, ne_eqb, eqb-true, or_cases, or_parts, or_from, or_left, or_right, and_right, false_from_ne_true}
+use Rattle.std.proofs.lemmas.Bool.{cases_lt, cases_order, cases_Bool, cases_eq, both_ways, lt-ltb, le-ltb, le-leb, lt-leb, eq-eqb, ne_eqb, or_from, or_left, or_right, and_right, false_from_ne_true}
 use Rattle.bounded_sums.specs.Tests.{first_below, found_below}
-use Rattle.bounded_sums.proofs.TestLaws.{first_below-at_most, first_below-before, first_below-is, found_below-is, found_below-none, found_below-agree}
+use Rattle.bounded_sums.proofs.TestLaws.{first_below-before, first_below-is, found_below-is, found_below-none, found_below-agree}
 use Rattle.schedule_model.specs.RowDef.{is_job}
-use Rattle.phase_machine.specs.MachineDef.{MachineDef, IsMachine, IsPlace, place_of, task_in}
-use Rattle.phase_machine.specs.Now.{current_in, current_now, active_now}
+use Rattle.phase_machine.specs.MachineDef.{MachineDef, IsMachine, place_of, task_in}
+use Rattle.phase_machine.specs.Now.{current_now, active_now}
 use Rattle.phase_machine.proofs.Facts.{current_some}
 use Rattle.phase_machine.proofs.Lawful.{task_listed}
 use Rattle.schedule_model.specs.JobDef.{job_of}

@@ -1,6 +1,5 @@
 -- The order of places: it is total, tells all places apart, and gives that of the table.
-use Rattle.std.proofs.Common.{◌≡◌, ℕ, ◌==◌, ◌&&◌, true, List, [], ◌∷◌, map, refl, sym, ap, ◌∙◌, subst}
-use Rattle.std.specs.Prelude.{Bool}
+use Rattle.std.proofs.Common.{◌≡◌, ℕ, true, List, [], ◌∷◌, map, refl, sym, ap, ◌∙◌}
 use Rattle.std.specs.List.{AllByRecursion}
 use Rattle.std.specs.List.Sorted.{IsStrictlySortedBy}
 use Rattle.std.specs.Map.{keys_of}
@@ -59,8 +58,13 @@ same_by_order a b h = exact_places a b (equal (place_cmp a b) h) where
 
 pub same_itself : (p : Place) → is_same_place p p ≡ true
 same_itself p =
-    rw (eq-eqb p.blocked p.blocked refl, eq-eqb p.blocker p.blocker refl, eq-eqb p.request p.request refl,
-    eq-eqb p.resource p.resource refl, eq-eqb p.class p.class refl) refl
+    rw (
+      eq-eqb p.blocked p.blocked refl,
+      eq-eqb p.blocker p.blocker refl,
+      eq-eqb p.request p.request refl,
+      eq-eqb p.resource p.resource refl,
+      eq-eqb p.class p.class refl,
+    ) refl
 
 -- The number of a class is that of its class.
 pub class_back : (c : Class) → class_rank (class_ranked (class_rank c)) ≡ class_rank c

@@ -1,5 +1,5 @@
 -- Items that are pushed one after the other.
-use Rattle.std.proofs.Common.{◌≡◌, List, [], ◌∷◌, ◌++◌, map, refl, ap, ◌∙◌}
+use Rattle.std.proofs.Common.{◌≡◌, List, [], ◌∷◌, ◌++◌, map, ap}
 
 pub pushed : {X Y Z : Type 0} (f : X → Y) (g : Z → Y) (xs : List X) (x : X) (z : Z) (zs : List Z) → f x ≡ g z
     → map f (xs ++ x ∷ []) ++ map g zs ≡ map f xs ++ map g (z ∷ zs)

@@ -1,8 +1,7 @@
 -- How far a schedule is judged and charged, from tick to tick.
-use Rattle.std.proofs.Common.{◌≡◌, ℕ, suc, ◌+◌, ◌<◌, ◌≤◌, Bool, List, [], length, refl, ap, sym, ◌∙◌, subst, arith, inl, inr, Option, Some, None}
+use Rattle.std.proofs.Common.{◌≡◌, ℕ, suc, ◌+◌, Bool, List, [], refl, ap, sym, ◌∙◌, subst, arith, inl, inr, Option, Some, None}
 use Rattle.std.specs.Prelude.{slice_index}
 use Rattle.std.proofs.lemmas.Bool.{cases_lt}
-use Rattle.std.specs.BTreeMap.{BTreeMap}
 use Rattle.schedule_model.specs.JobDef.{JobsDef}
 use Rattle.schedule_model.specs.LawfulJobs.{AreLawfulJobs}
 use Rattle.schedule_model.specs.declared.job.JobId.{JobId}
@@ -18,9 +17,7 @@ use Rattle.phase_machine.proofs.Facts.{can_take}
 use Rattle.schedule_model.specs.declared.rule.Rule.{Rule}
 use Rattle.phase_machine.specs.MachineDef.{MachineDef, under}
 use Rattle.phase_machine.specs.Shows.{Shows}
-use Rattle.charge_model.specs.Charges.{Charge}
 use Rattle.charge_model.specs.Windows.{AreBounds}
-use Rattle.charge.specs.declared.tally.Place.{Place}
 use Rattle.charge.specs.declared.tally.Ledger.{Ledger}
 use Rattle.charge.specs.Passed.{first_passed}
 use Rattle.charge.specs.Tally.{IsTally, ticks_before}

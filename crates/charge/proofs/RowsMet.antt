@@ -1,25 +1,22 @@
 -- The fractions of each job meet its rows, also those of a job that is released past the rows: these are all 0.
-use Rattle.std.proofs.Common.{◌≡◌, ℕ, zero, suc, ◌+◌, ◌*◌, ◌/◌, ◌<◌, ◌≤◌, true, false, List, [], ◌∷◌, length, get_or, refl, sym, ap, ◌∙◌, subst, arith, inl, inr, Option, Some, None}
-use Rattle.std.specs.Prelude.{slice_index}
+use Rattle.std.proofs.Common.{◌≡◌, ℕ, zero, suc, ◌+◌, ◌*◌, ◌<◌, ◌≤◌, false, List, [], ◌∷◌, length, get_or, refl, subst, arith, inl, inr, Option, Some, None}
 use Rattle.std.proofs.Math.Nat.{zero-div}
 use Rattle.std.proofs.lemmas.Bool.{cases_lt}
 use Rattle.bounded_sums.specs.Sums.{sum_below}
-use Rattle.bounded_sums.specs.Tests.{found_below}
 use Rattle.bounded_sums.proofs.SumLaws.{sum_below-zero}
 use Rattle.bounded_sums.proofs.CountLaws.{count_below-none}
 use Rattle.bounded_sums.proofs.TestLaws.{found_below-none}
-use Rattle.program_form.specs.Program.{ProgramDef, columns, height, entry, limit}
+use Rattle.program_form.specs.Program.{ProgramDef, columns, entry}
 use Rattle.program_form.specs.Points.{IsScaledPoint}
 use Rattle.sporadic_model.specs.SetDef.{SetDef}
 use Rattle.sporadic_model.specs.Users.{length_of}
 use Rattle.schedule_model.specs.JobDef.{JobDef, job_of}
 use Rattle.schedule_model.specs.LawfulJobs.{IsLawfulJob, AreLawfulJobs}
 use Rattle.schedule_model.specs.RowDef.{Trace, idle_row, jobs_of}
-use Rattle.schedule_model.specs.Activity.{task_of, is_active}
 use Rattle.schedule_laws.proofs.ActiveJobs.{Active, active_is}
 use Rattle.fragments.specs.ColumnDef.{ColumnDef}
 use Rattle.charge_model.specs.Charges.{Charge}
-use Rattle.charge_model.specs.Windows.{AreBounds, window_end, EndedBy}
+use Rattle.charge_model.specs.Windows.{window_end, EndedBy}
 use Rattle.charge_model.specs.Fractions.{charged_column, is_in, ticks_in, product_of_lengths, fraction_of, fractions_of, no_column}
 use Rattle.charge.specs.Passed.{has_passed, first_passed}
 use Rattle.charge.proofs.PassedNext.{passed_not}

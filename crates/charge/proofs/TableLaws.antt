@@ -1,6 +1,6 @@
 -- The items of the places are the table of the schedule.
-use Rattle.std.proofs.Common.{◌≡◌, ℕ, zero, suc, ◌+◌, ◌<◌, ◌≤◌, ◌==◌, ◌&&◌, Bool, true, false, List, length, map, refl, sym, ap, ◌∙◌, subst, arith, inl, inr, min, Option, Some, None}
-use Rattle.std.specs.Prelude.{nat_lt, option_map, slice_index_or}
+use Rattle.std.proofs.Common.{◌≡◌, ℕ, zero, suc, ◌+◌, ◌<◌, ◌==◌, ◌&&◌, Bool, true, false, List, length, map, refl, sym, ap, ◌∙◌, arith, inl, inr, min, Option, Some, None}
+use Rattle.std.specs.Prelude.{nat_lt, option_map}
 use Rattle.std.specs.List.{All, Contains}
 use Rattle.std.specs.BTreeMap.{BTreeMap, get, IsOrdered}
 use Rattle.std.proofs.lemmas.Bool.{cases_lt, cases_Bool, and_parts, lt-ltb, le-ltb, eq-eqb, eqb-true, ne_eqb}
@@ -19,7 +19,7 @@ use Rattle.charge_model.specs.Charges.{Charge, Executes}
 use Rattle.charge_model.specs.Windows.{bound_end, window_end}
 use Rattle.charge.specs.declared.tally.Place.{Place}
 use Rattle.charge.specs.Requests.{ChargedRequest, request_in, charged_request, class_rank}
-use Rattle.charge.specs.Table.{ItemDef, is_of, charged_ticks, item_cmp, IsChargeTable}
+use Rattle.charge.specs.Table.{ItemDef, is_of, charged_ticks, IsChargeTable}
 use Rattle.charge.specs.Tally.{IsTally, positive, place_cmp, is_same_place, is_place, place_of, place_at, class_ranked, item_of, ticks_before}
 use Rattle.charge.proofs.TallyLaws.{Charges, OfActive}
 use Rattle.charge.proofs.Places.{places_total, same_by_order, same_itself, class_back, Known, table_sorted}
@@ -201,8 +201,12 @@ tick_there charges w bound n ticks t j tally l charge is_it executes =
 
       here : is_of (item_of (p, count)) (charged_request charges w t j) ≡ true
       here = rw asked (rw (class_back charge.class) (
-        rw (eq-eqb charge.job charge.job refl, eq-eqb executes.number executes.number refl, eq-eqb executes.resource executes.resource refl,
-        eq-eqb (class_rank charge.class) (class_rank charge.class) refl) refl))
+          rw (
+            eq-eqb charge.job charge.job refl,
+            eq-eqb executes.number executes.number refl,
+            eq-eqb executes.resource executes.resource refl,
+            eq-eqb (class_rank charge.class) (class_rank charge.class) refl,
+          ) refl))
 
 -- So the items of a tally of all rows are the table.
 pub table_is : (charges : Charges) (interferes : Trace → ℕ → ℕ → Bool) (w : Trace) (bound : ℕ → ℕ) (n : ℕ) (ticks : BTreeMap Place ℕ)

@@ -1,9 +1,9 @@
 -- Counting a tick: for the active job of each task in turn.
-use Rattle.std.proofs.Common.{◌≡◌, ℕ, zero, suc, ◌+◌, ◌<◌, ◌≤◌, ◌==◌, ◌&&◌, Bool, true, false, length, refl, sym, ap, ◌∙◌, arith, inl, inr, Option, Some, None}
+use Rattle.std.proofs.Common.{◌≡◌, ℕ, suc, ◌+◌, ◌<◌, ◌≤◌, ◌==◌, ◌&&◌, Bool, true, false, length, refl, sym, ap, ◌∙◌, arith, inl, inr, Option, Some, None}
 use Rattle.std.specs.Prelude.{nat_lt, unwrap_or, option_map}
 use Rattle.std.specs.Option.{option_and_then}
-use Rattle.std.proofs.lemmas.Bool.{cases_lt, cases_order, cases_Bool, cases_eq, both_ways, lt-ltb, le-ltb, eq-eqb, eqb-true, ne_eqb, and_left, false_from_ne_true}
-use Rattle.std.specs.BTreeMap.{BTreeMap, get}
+use Rattle.std.proofs.lemmas.Bool.{cases_lt, cases_order, cases_Bool, cases_eq, lt-ltb, le-ltb, eq-eqb, eqb-true, ne_eqb, and_left}
+use Rattle.std.specs.BTreeMap.{BTreeMap}
 use Rattle.bounded_sums.specs.Sums.{flag}
 use Rattle.bounded_sums.specs.Tests.{count_below}
 use Rattle.bounded_sums.proofs.CountLaws.{count_below-at_most, flag-at_most}
@@ -20,7 +20,7 @@ use Rattle.charge_model.specs.Charges.{Charge}
 use Rattle.charge_model.specs.Windows.{bound_end}
 use Rattle.charge.specs.declared.tally.Place.{Place}
 use Rattle.charge.specs.Requests.{ChargedRequest, request_in, charged_request}
-use Rattle.charge.specs.Tally.{IsTally, positive, place_cmp, count_at, is_same_place, is_place, place_of, place_at, ticks_before, ticks_with}
+use Rattle.charge.specs.Tally.{IsTally, positive, count_at, is_place, place_of, place_at, ticks_before, ticks_with}
 use Rattle.charge.proofs.Passing.{current_own}
 
 -- How ticks are charged, of active jobs alone.

@@ -1,9 +1,14 @@
 -- What the answer on the charges of a schedule says.
-use Rattle.std.specs.Prelude.{◌≡◌, ℕ, Bool, map, Option, None, Some, Result, Ok, Err}
+use Rattle.std.specs.Prelude.{◌≡◌, ℕ, ◌<◌, Bool, List, length, map, slice_index, Option, None, Some, Result, Ok, Err}
+use Rattle.program_form.specs.Program.{ProgramDef}
+use Rattle.program_form.specs.Points.{IsScaledPoint}
 use Rattle.schedule_model.specs.RowDef.{Trace}
+use Rattle.schedule_model.specs.Activity.{task_of}
 use Rattle.schedule_model.specs.Keeping.{KeepsBefore, IsFirstUnlawful}
 use Rattle.schedule_model.specs.declared.rule.Rule.{Rule}
+use Rattle.fragments.specs.ColumnDef.{ColumnDef}
 use Rattle.charge_model.specs.Charges.{Charge}
+use Rattle.charge_model.specs.Fractions.{product_of_lengths, fractions_of}
 use Rattle.charge.specs.declared.item.ChargeTable.{ChargeTable}
 use Rattle.charge.specs.declared.item.ChargeStop.{ChargeStop}
 use Rattle.charge.specs.declared.item.ChargeStop.TheVariants as stop
@@ -20,3 +25,10 @@ Charged keeps interferes charges w bound n (Ok table) =
 Charged keeps interferes charges w bound n (Err (stop.Unlawful t r)) = IsFirstUnlawful keeps w n t r
 Charged keeps interferes charges w bound n (Err (stop.BoundPassed j)) = KeepsBefore keeps w n × (first_passed w bound n ≡ Some j.0)
 Charged keeps interferes charges w bound n (Err stop.Memory) = Unit {0}
+
+-- Do the fractions of each job's window, in a schedule of n rows, meet every row of its task's program at the bounds?
+abbrev pub MeetRows : (ℕ → List ℕ → ProgramDef) → (ℕ → List ColumnDef) → (Trace → ℕ → ℕ → Option Charge) → Trace → List ℕ → ℕ → Type 0
+MeetRows program columns charges w bounds n =
+    (j : ℕ) → j < length w.jobs
+    → IsScaledPoint (program (task_of w j) bounds) (product_of_lengths w.set (columns (task_of w j)))
+    (fractions_of charges w (slice_index bounds) n j (columns (task_of w j)))

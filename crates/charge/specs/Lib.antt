@@ -4,6 +4,7 @@ pub mod Requests
 pub mod Table
 pub mod Passed
 pub mod Charging
+pub mod ByProtocol
 pub mod Tally
 pub mod Due
 pub mod Reached

@@ -1,19 +1,25 @@
-ghost use Rattle.std.specs.Prelude.{◌≡◌, ℕ, ◌<◌, length, true, slice_index, OnOk};
-ghost use Rattle.program_form.specs.Points.{IsScaledPoint};
+ghost use Rattle.std.specs.Prelude.{◌≡◌, length, true, slice_index, OnOk};
+ghost use Rattle.sporadic_model.specs.Homes.{HasHomesFor};
 ghost use Rattle.schedule_model.specs.RowDef.{trace_in, ticks_of};
-ghost use Rattle.schedule_model.specs.Activity.{task_of};
 ghost use Rattle.schedule_model.specs.Fitting.{is_fitting};
 ghost use Rattle.charge_model.specs.Windows.{AreBounds};
-ghost use Rattle.charge_model.specs.Fractions.{product_of_lengths, fractions_of};
-ghost use Rattle.charge.specs.Charging.{Charged};
+ghost use Rattle.fragments.specs.Columns.{columns_of};
+ghost use Rattle.program_laws.specs.Programs.{program_of};
+ghost use Rattle.trace_conform.specs.ByProtocol.{rules_of, interference_of};
+ghost use Rattle.charge.specs.ByProtocol.{charges_of};
+ghost use Rattle.charge.specs.Charging.{Charged, MeetRows};
 
 use crate::item::{ChargeStop, ChargeTable};
 use crate::protocol::ChargedProtocol;
 use crate::table::items_of;
 use crate::tally::Ledger;
 use crate::walking::walk_all;
+use dpcp_rules::Dpcp;
+use fmlp_rules::FmlpPlus;
+use mpcp_rules::Mpcp;
 use phase_machine::Machine;
 use schedule_model::{JobList, RowList};
+use sporadic_model::Protocol;
 use std::alloc::Global;
 use std::collections::BTreeMap;
 
@@ -32,11 +38,8 @@ pub fn charge_with<P: ChargedProtocol>(
     requires bounds { AreBounds jobs.now.set (slice_index bounds.now) }
     ensures charged { Charged (P.keeps protocol.now) (P.interferes protocol.now) (P.charges protocol.now)
         (trace_in jobs.now rows.now.runs) (slice_index bounds.now) (ticks_of rows.now.runs) result }
-    ensures rows { OnOk result ((j : ℕ) → j < length jobs.now.jobs
-        → IsScaledPoint (P.program_of protocol.now jobs.now.set (task_of (trace_in jobs.now rows.now.runs) j) bounds.now)
-        (product_of_lengths jobs.now.set (P.columns_of protocol.now jobs.now.set (task_of (trace_in jobs.now rows.now.runs) j)))
-        (fractions_of (P.charges protocol.now) (trace_in jobs.now rows.now.runs) (slice_index bounds.now) (ticks_of rows.now.runs) j
-        (P.columns_of protocol.now jobs.now.set (task_of (trace_in jobs.now rows.now.runs) j)))) }
+    ensures rows { OnOk result (MeetRows (P.program_of protocol.now jobs.now.set) (P.columns_of protocol.now jobs.now.set)
+        (P.charges protocol.now) (trace_in jobs.now rows.now.runs) bounds.now (ticks_of rows.now.runs)) }
 {
     let _tasks = jobs.set().tasks();
     let mut machine = match Machine::new(alloc, jobs) {
@@ -54,5 +57,29 @@ pub fn charge_with<P: ChargedProtocol>(
     match items_of(alloc, &ledger.ticks) {
         Ok(charges) => Ok(ChargeTable { charges }),
         Err(_) => Err(ChargeStop::Memory),
+    }
+}
+
+/// The same by the protocol's name. Under DPCP each resource has a home.
+pub fn charge(
+    alloc: Global,
+    protocol: Protocol,
+    jobs: &JobList,
+    rows: &RowList,
+    bounds: &[u64],
+) -> Result<ChargeTable, ChargeStop>
+    requires homes { HasHomesFor protocol jobs.now.set }
+    requires fits { is_fitting rows.now jobs.now ≡ true }
+    requires one_each { length bounds.now ≡ length jobs.now.set.tasks }
+    requires bounds { AreBounds jobs.now.set (slice_index bounds.now) }
+    ensures charged { Charged (rules_of protocol) (interference_of protocol) (charges_of protocol)
+        (trace_in jobs.now rows.now.runs) (slice_index bounds.now) (ticks_of rows.now.runs) result }
+    ensures rows { OnOk result (MeetRows (program_of protocol jobs.now.set) (columns_of protocol jobs.now.set)
+        (charges_of protocol) (trace_in jobs.now rows.now.runs) bounds.now (ticks_of rows.now.runs)) }
+{
+    match protocol {
+        Protocol::Mpcp => charge_with(alloc, &Mpcp, jobs, rows, bounds),
+        Protocol::FmlpPlus => charge_with(alloc, &FmlpPlus, jobs, rows, bounds),
+        Protocol::Dpcp => charge_with(alloc, &Dpcp, jobs, rows, bounds),
     }
 }

@@ -1,14 +1,18 @@
 //! What follows from the laws of charged protocols alone. Each function is a law: it does nothing.
 
-ghost use Rattle.std.specs.Prelude.{◌≡◌, ℕ, ◌≤◌, ◌<◌, List, length, slice_index};
+ghost use Rattle.std.specs.Prelude.{◌≡◌, ℕ, ◌≤◌, ◌<◌, Bool, List, length, slice_index, sum_by};
+ghost use Rattle.bounded_sums.specs.Sums.{sum_below, only_if};
+ghost use Rattle.bounded_sums.specs.Tests.{count_below};
 ghost use Rattle.sporadic_model.specs.SetDef.{SetDef};
 ghost use Rattle.sporadic_model.specs.Accepted.{IsAccepted};
 ghost use Rattle.schedule_model.specs.RowDef.{Trace};
 ghost use Rattle.schedule_model.specs.Phase.{phase_of};
 ghost use Rattle.schedule_model.specs.Phase.Phase.{Finished};
-ghost use Rattle.charge_model.specs.Windows.{bound_end};
+ghost use Rattle.schedule_model.specs.BlockedTicks.{is_blocked};
+ghost use Rattle.charge_model.specs.Windows.{bound_end, window_end};
 ghost use Rattle.soundness_laws.specs.Sound.{IsLawfulSchedule, Sound};
 ghost use Rattle.soundness_laws.specs.Analyses.{Analyses};
+ghost use Rattle.charge.specs.Table.{ItemDef, IsChargeTable};
 
 use crate::protocol::ChargedProtocol;
 use schedule_model::BlockingProtocol;
@@ -26,4 +30,12 @@ pub fn sound_bounds_are_never_passed<P: BlockingProtocol>()
     ensures { (p : P) (set : SetDef) (bounds values : List ℕ) (w : Trace) (n j : ℕ)
         → Sound (P.keeps p) (P.interferes p) set bounds values → IsLawfulSchedule (P.keeps p) set w n → j < length w.jobs
         → bound_end w (slice_index bounds) j ≤ n → phase_of w (bound_end w (slice_index bounds) j) j ≡ Finished }
+{}
+
+/// The ticks of a table's items add up, for whichever blocked jobs, to the blocked ticks within these jobs' windows.
+pub fn charges_add_up<P: ChargedProtocol>()
+    ensures { (p : P) (w : Trace) (bound : ℕ → ℕ) (n : ℕ) (items : List ItemDef) (those : ℕ → Bool)
+        → IsChargeTable (P.charges p) (P.interferes p) w bound n items
+        → sum_by (λ item. only_if (those item.blocked) item.ticks) items
+        ≡ sum_below (length w.jobs) (λ j. only_if (those j) (count_below (window_end w bound n j) (λ t. is_blocked (P.interferes p) w t j))) }
 {}

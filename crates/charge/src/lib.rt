@@ -5,6 +5,7 @@
 //! from these alone it follows that the bounds of a valid certificate are sound.
 #![tactic(auto)]
 
+mod bounds;
 mod charging;
 mod counting;
 mod distributed;
@@ -18,7 +19,10 @@ mod table;
 mod tally;
 mod walking;
 
-pub use charging::charge_with;
-pub use laws::{charged_protocols_are_analysed, sound_bounds_are_never_passed};
+pub use bounds::are_bounds;
+pub use charging::{charge, charge_with};
 pub use item::{ChargeItem, ChargeStop, ChargeTable};
+pub use laws::{
+    charged_protocols_are_analysed, charges_add_up, sound_bounds_are_never_passed,
+};
 pub use protocol::ChargedProtocol;

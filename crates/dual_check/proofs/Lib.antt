@@ -1,4 +1,5 @@
 pub mod PassLaws
 pub mod CappedSums
 pub mod WorthLaws
+pub mod FailureLaws
 pub mod Verdicts

@@ -11,7 +11,7 @@ ghost use Rattle.dual_check.specs.Answers.{source_for, HasDenominators, IsWorth,
 use crate::answer::Invalid;
 use crate::sums::{holds_column, value_to};
 use program_form::{Certificate, Dual, Program};
-use program_sources::ProgramSource;
+use charge::ChargedProtocol;
 use sporadic_model::{TaskId, TaskSet};
 use std::alloc::{AllocError, Global};
 
@@ -50,7 +50,7 @@ fn weigh(program: &Program, dual: &Dual, bound: u64) -> DualWorth
 
 /// What each dual is worth for its task's program at the certificate's bounds, or the first that has not one numerator for
 /// each row.
-pub(crate) fn weigh_duals<P: ProgramSource>(
+pub(crate) fn weigh_duals<P: ChargedProtocol>(
     alloc: Global,
     set: &TaskSet,
     protocol: &P,

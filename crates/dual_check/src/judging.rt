@@ -6,15 +6,19 @@ ghost use Rattle.program_sources.specs.Recurrence.{response_with};
 ghost use Rattle.sporadic_model.specs.SetDef.{task_at};
 ghost use Rattle.program_sources.specs.Valid.{IsValid};
 ghost use Rattle.soundness_laws.specs.Analyses.{source_of};
+ghost use Rattle.soundness_laws.specs.Sound.{Sound};
 ghost use Rattle.dual_check.specs.Failures.{Finds};
 ghost use Rattle.dual_check.specs.Answers.{source_for, HasDenominators, worth_at, IsCovering, counted, AreWorths, Judges, Sums};
 ghost use Rattle.dual_check.specs.Soundness.{SoundUnder};
 
 use crate::answer::{Invalid, Valid};
 use crate::duals::{DualWorth, first_uncovered_of, weigh_duals};
+use crate::laws::what_passes_is_sound;
+use charge::{ChargedProtocol, charged_protocols_are_analysed};
+use dpcp_rules::Dpcp;
+use fmlp_rules::FmlpPlus;
+use mpcp_rules::Mpcp;
 use program_form::Certificate;
-use program_sources::ProgramSource;
-use protocol_programs::Written;
 use sporadic_model::{Protocol, TaskId, TaskSet};
 use std::alloc::Global;
 
@@ -54,7 +58,7 @@ fn value_of(worth: DualWorth) -> u64
 }
 
 /// The response time of task `i` with this blocking, in ticks.
-fn response<P: ProgramSource>(
+fn response<P: ChargedProtocol>(
     set: &TaskSet,
     protocol: &P,
     i: TaskId,
@@ -74,7 +78,7 @@ fn response<P: ProgramSource>(
 
 /// The values of the duals, or the first task for which its dual's is too great. A task's interference is formed only once
 /// the bounds of the higher tasks are enough, and so at least their costs.
-fn add_up<P: ProgramSource>(
+fn add_up<P: ChargedProtocol>(
     alloc: Global,
     set: &TaskSet,
     protocol: &P,
@@ -103,11 +107,8 @@ fn add_up<P: ProgramSource>(
     Ok(values)
 }
 
-/// Judges a certificate for the programs of a source, which suits the set. Each dual's denominator is at least 1.
-///
-/// `Ok` has the values of the duals, in ticks. `Invalid` names the first test that fails, each being tried over all tasks before
-/// the next, and comes as `Memory` for want of memory alone.
-pub fn check_with<P: ProgramSource>(
+/// Tries the tests one after another.
+fn judged<P: ChargedProtocol>(
     alloc: Global,
     protocol: &P,
     set: &TaskSet,
@@ -115,11 +116,7 @@ pub fn check_with<P: ProgramSource>(
 ) -> Result<Valid, Invalid>
     requires suits { P.suits protocol.now set.now }
     requires denominators { HasDenominators (certificate_seen certificate.now) }
-
-    // Valid with the duals' values, or the first failure.
     ensures judges { Judges result (source_for (P.program_of protocol.now) (P.interfering protocol.now) set.now) (certificate_seen certificate.now) }
-
-    // Only want of memory keeps a valid one from being Ok.
     ensures accepts { IsValid (source_for (P.program_of protocol.now) (P.interfering protocol.now) set.now) (certificate_seen certificate.now) → IfErr result (λ e. e ≡ Invalid.Memory) }
 {
     let count = set.tasks() as usize;
@@ -142,6 +139,34 @@ pub fn check_with<P: ProgramSource>(
     }
 }
 
+/// Judges a certificate for the programs of a protocol, which the set suits. Each dual's denominator is at least 1.
+///
+/// `Ok` has the values of the duals, in ticks. `Invalid` names the first test that fails, each being tried over all tasks before
+/// the next, and comes as `Memory` for want of memory alone.
+pub fn check_with<P: ChargedProtocol>(
+    alloc: Global,
+    protocol: &P,
+    set: &TaskSet,
+    certificate: &Certificate,
+) -> Result<Valid, Invalid>
+    requires suits { P.suits protocol.now set.now }
+    requires denominators { HasDenominators (certificate_seen certificate.now) }
+
+    // Valid with the duals' values, or the first failure.
+    ensures judges { Judges result (source_for (P.program_of protocol.now) (P.interfering protocol.now) set.now) (certificate_seen certificate.now) }
+
+    // Only want of memory keeps a valid one from being Ok.
+    ensures accepts { IsValid (source_for (P.program_of protocol.now) (P.interfering protocol.now) set.now) (certificate_seen certificate.now) → IfErr result (λ e. e ≡ Invalid.Memory) }
+
+    // What is Ok holds in every schedule that keeps the protocol's rules, of whatever lawful jobs.
+    ensures sound { IfOk result (λ v. Sound (P.keeps protocol.now) (P.interferes protocol.now) set.now certificate.now.bounds.items v.values.items) }
+{
+    let _accepted = set.tasks();
+    charged_protocols_are_analysed::<P>();
+    what_passes_is_sound::<P>();
+    judged(alloc, protocol, set, certificate)
+}
+
 /// Judges a certificate for the programs that are written down for the protocol. Under DPCP each resource has a home, and each
 /// dual's denominator is at least 1.
 pub fn check(
@@ -158,6 +183,9 @@ pub fn check(
     // What is Ok holds in every schedule that keeps the protocol's rules, of whatever lawful jobs.
     ensures sound { IfOk result (λ v. SoundUnder protocol set.now certificate.now.bounds.items v.values.items) }
 {
-    let _tasks = set.tasks();
-    check_with(alloc, &Written(protocol), set, certificate)
+    match protocol {
+        Protocol::Mpcp => check_with(alloc, &Mpcp, set, certificate),
+        Protocol::FmlpPlus => check_with(alloc, &FmlpPlus, set, certificate),
+        Protocol::Dpcp => check_with(alloc, &Dpcp, set, certificate),
+    }
 }

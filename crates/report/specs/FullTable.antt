@@ -17,8 +17,8 @@ abbrev pub full_line : TaskDef → ℕ → ℕ → List ℕ
 full_line t bound value = task_columns t ++ (proved_columns t bound value ++ codes "\n")
 
 -- The lines of all tasks, and the whole table.
-abbrev pub full_lines : SetDef → List ℕ → List ℕ → List ℕ
-full_lines set bounds values = collect_below (length set.tasks) (λ x. full_line (task_at set x) (slice_index bounds x) (slice_index values x))
+abbrev pub full_lines : SetDef → List ℕ → (ℕ → ℕ) → List ℕ
+full_lines set bounds value = collect_below (length set.tasks) (λ x. full_line (task_at set x) (slice_index bounds x) (value x))
 
-abbrev pub full_text : SetDef → List ℕ → List ℕ → List ℕ
-full_text set bounds values = full_header ++ (full_lines set bounds values ++ load_lines set)
+abbrev pub full_text : SetDef → List ℕ → (ℕ → ℕ) → List ℕ
+full_text set bounds value = full_header ++ (full_lines set bounds value ++ load_lines set)

@@ -62,7 +62,7 @@ fn push_full_tasks(
     requires bound_each { length bounds.now ≡ length set.now.tasks }
     requires value_each { length values.now ≡ length set.now.tasks }
     requires within { (x : ℕ) → x < length set.now.tasks → slice_index bounds.now x ≤ (task_at set.now x).deadline }
-    ensures { OnOk result (text.new.items ≡ text.old.items ++ full_lines set.now bounds.now values.now) }
+    ensures { OnOk result (text.new.items ≡ text.old.items ++ full_lines set.now bounds.now (slice_index values.now)) }
 {
     for x in 0..set.tasks() {
         let place = x as usize;
@@ -83,7 +83,7 @@ pub fn full_table(
     requires bound_each { vec_len certificate.now.bounds ≡ length set.now.tasks }
     requires value_each { length values.now ≡ length set.now.tasks }
     requires within { (x : ℕ) → x < length set.now.tasks → slice_index certificate.now.bounds.items x ≤ (task_at set.now x).deadline }
-    ensures { IfOk result (λ text. text.items ≡ full_text set.now certificate.now.bounds.items values.now) }
+    ensures { IfOk result (λ text. text.items ≡ full_text set.now certificate.now.bounds.items (slice_index values.now)) }
 {
     let mut text = Vec::new(alloc);
     push_full_header(&mut text)?;

@@ -1,23 +1,16 @@
 -- What the answers of the analysis mean, from how the rounds end.
-use Rattle.std.proofs.Common.{◌≡◌, ◌≢◌, ℕ, suc, ◌+◌, ◌-◌, ◌*◌, ◌/◌, unsigned_abs, ◌<◌, ◌≤◌, ◌↔◌, List, length, map, refl, sym, subst, arith, Ok, Err, IfOk}
+use Rattle.std.proofs.Common.{◌≡◌, ◌≢◌, ℕ, suc, ◌+◌, ◌-◌, ◌*◌, ◌<◌, ◌≤◌, ◌↔◌, List, length, map, refl, sym, ◌∙◌, ap, subst, arith, Ok, Err, IfOk}
 use Rattle.std.specs.Prelude.{Result, IsErrOf, slice_index}
 use Rattle.program_form.specs.Certificate.{DualDef, dual_seen}
-use Rattle.program_form.specs.Program.{ProgramDef, IsProgram}
 use Rattle.program_sources.specs.Bounds.{AreWithinDeadlines, AreFromCostsAbove, IsInRange}
-use Rattle.program_sources.specs.Recurrence.{SourceDef, response_with}
+use Rattle.program_sources.specs.Recurrence.{SourceDef}
 use Rattle.program_sources.specs.Fitting.{AreFitting, NeverFalls, ComesUpAbove, tasks_of, deadline_of}
 use Rattle.sporadic_model.specs.SetDef.{SetDef}
-use Rattle.program_form.specs.Points.{IsGreatestReached}
-use Rattle.program_form.proofs.Duality.{optimum_reached}
-use Rattle.exchange_runs.specs.Feasible.{IsOptimumValue}
-use Rattle.exchange_runs.specs.Outcomes.{EndsWithin, IsWideWithin, NeedsMoreThan}
-use Rattle.simplex.specs.Solves.{Solves}
-use Rattle.simplex.specs.declared.Solved.{Solved}
 use Rattle.simplex.specs.declared.SolveStop.{SolveStop}
 use Rattle.simplex.specs.declared.SolveStop.TheVariants as solve_stop
 use Rattle.response_fixpoint.specs.Rounds.{RunEnd, Valued, TooWide, OutOfUnits, Ending, Schedulable, NotShown, Wide, Allowance, Found, with_task, Passes, Reaches, ComesTo, EndsIn}
 use Rattle.response_fixpoint.specs.Runs.{TaskRuns, rounds_of, HasNoColumns, slack_of}
-use Rattle.response_fixpoint.specs.Answers.{Answers, IsAnswerOf, IsRight, IsSchedulable, GivesRun, TakesRun, Halts, GivesRound, found_of, answer_at, stop_at}
+use Rattle.response_fixpoint.specs.Answers.{Answers, IsAnswerOf, IsRight, IsSchedulable, GivesRun, TakesRun, Halts, GivesRound, IsSettled, found_of, answer_at, stop_at}
 use Rattle.response_fixpoint.specs.declared.verdict.Verdict.{Verdict}
 use Rattle.response_fixpoint.specs.declared.verdict.Verdict.TheVariants as verdict
 use Rattle.response_fixpoint.specs.declared.verdict.Stop.{Stop}
@@ -76,52 +69,16 @@ within_of set r h = record { one_each = h.one_each; to_deadline = h.to_deadline 
 pub from_costs_of : (set : SetDef) (r : List ℕ) (i : ℕ) → IsInRange set r → i < length set.tasks → AreFromCostsAbove set r i
 from_costs_of set r i h here = λ k above. h.from_cost k (omega (arith, here, above))
 
--- A program that is solved makes a solved task.
-pub solved_task : (f : SourceDef) (r : List ℕ) (i left : ℕ) (p : ProgramDef) (s : Solved) (blocking value : ℕ) → p ≡ f.program i r → IsProgram p
-    → EndsWithin p left s.exchanges s.value s.primal.items (dual_seen s.dual) → IsOptimumValue p s.value
-    → blocking ≡ unsigned_abs s.value.num / unsigned_abs s.value.den → value ≡ response_with f r i blocking
-    → TaskRuns f r i left (Valued (s.exchanges + 1) value (dual_seen s.dual))
-solved_task f r i left p s blocking value same is ends best whole response =
-    let part : ℕ = unsigned_abs s.value.num / unsigned_abs s.value.den in
-    let greatest : IsGreatestReached p part = optimum_reached p (unsigned_abs s.value.num) (unsigned_abs s.value.den) best.optimum in
-    record {
-      is_program = subst IsProgram same is;
-      ends = record {
-        exchanges = s.exchanges;
-        optimum = s.value;
-        best = s.primal.items;
-        ends = subst (λ (x : ProgramDef). EndsWithin x left s.exchanges s.value s.primal.items (dual_seen s.dual)) same ends;
-        units = refl;
-        response = record {
-          blocking = blocking;
-          greatest = subst (λ (b : ℕ). IsGreatestReached (f.program i r) b) (sym whole) (subst (λ (x : ProgramDef). IsGreatestReached x part) same greatest);
-          response = response;
-        };
-      };
-    }
-
--- And one that is not, a task that stops.
-pub stopped_task : (f : SourceDef) (r : List ℕ) (i left : ℕ) (p : ProgramDef) (e : SolveStop) → p ≡ f.program i r → IsProgram p
-    → Solves (Err e) p left → GivesRun (Err e) f r i left
-stopped_task f r i left p solve_stop.Wide same is run = record {
-  is_program = subst IsProgram same is;
-  ends = subst (λ (x : ProgramDef). IsWideWithin x left) same run;
-}
-stopped_task f r i left p solve_stop.Units same is run = record {
-  is_program = subst IsProgram same is;
-  ends = subst (λ (x : ProgramDef). NeedsMoreThan x left) same run;
-}
-stopped_task f r i left p solve_stop.Memory same is run = tt
-
 -- One more task passes.
 pub passes_more : (f : SourceDef) (r : List ℕ) (left i : ℕ) (before : Found) (run : TaskRun) → Passes (rounds_of f) r left i before
-    → TaskRuns f r i (left - before.used) (Valued run.used run.value (dual_seen run.dual)) → run.value ≤ deadline_of f i
-    → Passes (rounds_of f) r left (i + 1) (with_task before run.used run.value (dual_seen run.dual))
+    → TaskRuns f r i (left - before.used) (Valued run.solution.used run.value (dual_seen run.solution.dual)) → run.value ≤ deadline_of f i
+    → Passes (rounds_of f) r left (i + 1) (with_task before run.solution.used run.value (dual_seen run.solution.dual))
 passes_more f r left i before run passed runs within =
-    let next : Passes (rounds_of f) r left (suc i) (with_task before run.used run.value (dual_seen run.dual)) =
-    (before, run.used, run.value, dual_seen run.dual, passed, runs, within, refl) in
+    let after : Found = with_task before run.solution.used run.value (dual_seen run.solution.dual) in
+    let next : Passes (rounds_of f) r left (suc i) after =
+    (before, run.solution.used, run.value, dual_seen run.solution.dual, passed, runs, within, refl) in
     let count : suc i ≡ i + 1 = omega arith in
-    subst (λ (k : ℕ). Passes (rounds_of f) r left k (with_task before run.used run.value (dual_seen run.dual))) count next
+    subst (λ (k : ℕ). Passes (rounds_of f) r left k after) count next
 
 -- A solved run takes units that are there, and at least one.
 pub run_units : (f : SourceDef) (r : List ℕ) (i left used value : ℕ) (dual : DualDef) → TaskRuns f r i left (Valued used value dual) → (1 ≤ used) × (used ≤ left)
@@ -137,17 +94,17 @@ run_halts f r left i found solve_stop.Memory here passed run = tt
 -- It ends at a value that passes the deadline.
 pub value_halts : (f : SourceDef) (r : List ℕ) (left i deadline : ℕ) (before now : Round) (run : TaskRun) (e : RoundStop) → i < tasks_of f → deadline ≡ deadline_of f i
     → Passes (rounds_of f) r left i (found_of before)
-    → TaskRuns f r i (left - before.used) (Valued run.used run.value (dual_seen run.dual))
+    → TaskRuns f r i (left - before.used) (Valued run.solution.used run.value (dual_seen run.solution.dual))
     → TakesRun (Err e) before now run i deadline → GivesRound (Err e) f r left
 value_halts f r left i deadline before now run (round_stop.NotShown task bound) here is passed runs (same, value, past) =
-    let halts : Halts f r left i (Valued run.used bound (dual_seen run.dual)) = record {
+    let halts : Halts f r left i (Valued run.solution.used bound (dual_seen run.solution.dual)) = record {
       found = found_of before;
       below = here;
       passed = passed;
-      run = subst (λ (v : ℕ). TaskRuns f r i (left - before.used) (Valued run.used v (dual_seen run.dual))) (sym value) runs;
+      run = subst (λ (v : ℕ). TaskRuns f r i (left - before.used) (Valued run.solution.used v (dual_seen run.solution.dual))) (sym value) runs;
     } in
     let late : deadline_of f i < bound = omega (arith, is, value, past) in
-    subst (λ (k : ℕ). (deadline_of f k < bound) × (used : ℕ) × (dual : DualDef) × Halts f r left k (Valued used bound dual)) (sym same) (late, run.used, dual_seen run.dual, halts)
+    subst (λ (k : ℕ). (deadline_of f k < bound) × (used : ℕ) × (dual : DualDef) × Halts f r left k (Valued used bound dual)) (sym same) (late, run.solution.used, dual_seen run.solution.dual, halts)
 value_halts f r left i deadline before now run (round_stop.Wide task) here is passed runs given = absurd given
 value_halts f r left i deadline before now run round_stop.Allowance here is passed runs given = absurd given
 value_halts f r left i deadline before now run round_stop.Memory here is passed runs given = tt
@@ -166,6 +123,18 @@ ended_answers f allowance k spent r (round_stop.Wide task) reached h =
 ended_answers f allowance k spent r round_stop.Allowance reached (i, h) =
     (r, i, allowance - spent - h.found.used, h.found, h.below, comes_there f allowance k spent r i OutOfUnits reached h, h.run)
 ended_answers f allowance k spent r round_stop.Memory reached given = tt
+
+-- What is answered of a round that gives the vector that it began with, from how the rounds end.
+pub settled_answers : (f : SourceDef) (allowance : ℕ) (r : Result Verdict Stop) (bounds : List ℕ) (duals : List DualDef)
+    → EndsIn (rounds_of f) allowance (Schedulable bounds duals) → IsSettled r bounds duals → Answers r f allowance
+settled_answers f allowance (Ok (verdict.Schedulable certificate)) bounds duals ends (same, all) =
+    let here : Schedulable bounds duals ≡ Schedulable certificate.bounds.items (map dual_seen certificate.duals.items) =
+    ap (λ x. Schedulable x duals) (sym same) ∙ ap (λ x. Schedulable certificate.bounds.items x) (sym all) in
+    subst (λ (e : Ending). EndsIn (rounds_of f) allowance e) here ends
+settled_answers f allowance (Ok (verdict.NotShown task bound)) bounds duals ends given = absurd given
+settled_answers f allowance (Err (stop.Wide task)) bounds duals ends given = absurd given
+settled_answers f allowance (Err stop.Allowance) bounds duals ends given = absurd given
+settled_answers f allowance (Err stop.Memory) bounds duals ends given = tt
 
 -- A round that gives the vector that it began with ends them too.
 pub settled_ends : (f : SourceDef) (allowance k spent : ℕ) (r : List ℕ) (found : Found) → Reaches (rounds_of f) allowance k spent r

@@ -7,4 +7,5 @@ pub mod EmptyRuns
 pub mod WrittenLaws
 pub mod RunLaws
 pub mod EndLaws
+pub mod SolutionLaws
 pub mod AnswerLaws

@@ -1,5 +1,5 @@
 -- What the answers of an analysis mean.
-use Rattle.std.specs.Prelude.{◌≡◌, ℕ, ◌<◌, ◌≤◌, ◌-◌, ◌^◌, List, map, Result, Ok, Err}
+use Rattle.std.specs.Prelude.{◌≡◌, ℕ, ◌<◌, ◌≤◌, ◌-◌, ◌^◌, List, [], ◌∷◌, ◌++◌, map, Result, Ok, Err}
 use Rattle.std.specs.List.{All}
 use Rattle.program_form.specs.Certificate.{DualDef, CertificateDef, dual_seen, certificate_seen}
 use Rattle.program_sources.specs.Recurrence.{SourceDef}
@@ -7,6 +7,7 @@ use Rattle.program_sources.specs.Fitting.{AreFitting, AreLeastFitting, tasks_of,
 use Rattle.program_sources.specs.Valid.{AreOptimalDuals, IsValid, dual_at}
 use Rattle.response_fixpoint.specs.Rounds.{RunEnd, Valued, TooWide, OutOfUnits, Ending, Schedulable, NotShown, Wide, Allowance, Found, with_task, Passes, EndsIn}
 use Rattle.response_fixpoint.specs.Runs.{TaskRuns, rounds_of}
+use Rattle.response_fixpoint.specs.Solutions.{IsEarlier, AreEarlier}
 use Rattle.simplex.specs.declared.SolveStop.{SolveStop}
 use Rattle.simplex.specs.declared.SolveStop.TheVariants as solve_stop
 use Rattle.response_fixpoint.specs.declared.verdict.Verdict.{Verdict}
@@ -57,20 +58,22 @@ abbrev pub IsSchedulable : Verdict → Type 0
 IsSchedulable (verdict.Schedulable certificate) = Unit {0}
 IsSchedulable (verdict.NotShown task bound) = ⊥
 
--- Is this how the run of task i ends where so many units are left? Want of memory says nothing.
+-- Is this how the run of task i ends where so many units are left, and which solution it has? Want of memory says nothing.
 abbrev pub GivesRun : Result TaskRun SolveStop → SourceDef → List ℕ → ℕ → ℕ → Type 0
-GivesRun (Ok run) f r i left = TaskRuns f r i left (Valued run.used run.value (dual_seen run.dual))
+GivesRun (Ok run) f r i left = (TaskRuns f r i left (Valued run.solution.used run.value (dual_seen run.solution.dual))) × IsEarlier f i run.solution
 GivesRun (Err solve_stop.Wide) f r i left = TaskRuns f r i left TooWide
 GivesRun (Err solve_stop.Units) f r i left = TaskRuns f r i left OutOfUnits
 GivesRun (Err solve_stop.Memory) f r i left = Unit {0}
 
 -- What a round has found so far.
 abbrev pub found_of : Round → Found
-found_of round = record { used = round.used; values = round.values.items; duals = map dual_seen round.duals.items }
+found_of round = record { used = round.used; values = round.values.items; duals = map (λ s. dual_seen s.dual) round.solutions.items }
 
 -- What comes of a solved task in a round: it passes where its value is at most its deadline.
 abbrev pub TakesRun : Result (Unit {0}) RoundStop → Round → Round → TaskRun → ℕ → ℕ → Type 0
-TakesRun (Ok done) before now run i deadline = (run.value ≤ deadline) × (found_of now ≡ with_task (found_of before) run.used run.value (dual_seen run.dual))
+TakesRun (Ok done) before now run i deadline = (run.value ≤ deadline)
+    × (found_of now ≡ with_task (found_of before) run.solution.used run.value (dual_seen run.solution.dual))
+    × (now.solutions.items ≡ before.solutions.items ++ run.solution ∷ [])
 TakesRun (Err (round_stop.NotShown task bound)) before now run i deadline = (task.0 ≡ i) × (bound ≡ run.value) × (deadline < run.value)
 TakesRun (Err (round_stop.Wide task)) before now run i deadline = ⊥
 TakesRun (Err round_stop.Allowance) before now run i deadline = ⊥
@@ -86,10 +89,19 @@ pub record Halts (f : SourceDef) (r : List ℕ) (left i : ℕ) (e : RunEnd) : Ty
 -- What such a round gives: what it has found of all tasks, or the task at which the rounds end.
 abbrev pub GivesRound : Result Round RoundStop → SourceDef → List ℕ → ℕ → Type 0
 GivesRound (Ok round) f r left = (Passes (rounds_of f) r left (tasks_of f) (found_of round)) × (round.used ≤ left) × (tasks_of f ≤ round.used)
+    × AreEarlier f round.solutions.items
 GivesRound (Err (round_stop.NotShown task bound)) f r left = (deadline_of f task.0 < bound) × (used : ℕ) × (dual : DualDef) × Halts f r left task.0 (Valued used bound dual)
 GivesRound (Err (round_stop.Wide task)) f r left = Halts f r left task.0 TooWide
 GivesRound (Err round_stop.Allowance) f r left = (i : ℕ) × Halts f r left i OutOfUnits
 GivesRound (Err round_stop.Memory) f r left = Unit {0}
+
+-- Are these bounds, with these duals, the certificate that is answered? But for want of memory there is no other answer.
+abbrev pub IsSettled : Result Verdict Stop → List ℕ → List DualDef → Type 0
+IsSettled (Ok (verdict.Schedulable certificate)) bounds duals = (certificate.bounds.items ≡ bounds) × (map dual_seen certificate.duals.items ≡ duals)
+IsSettled (Ok (verdict.NotShown task bound)) bounds duals = ⊥
+IsSettled (Err (stop.Wide task)) bounds duals = ⊥
+IsSettled (Err stop.Allowance) bounds duals = ⊥
+IsSettled (Err stop.Memory) bounds duals = Unit {0}
 
 -- What the analysis answers where a round ends so.
 abbrev pub answer_at : RoundStop → Result Verdict Stop

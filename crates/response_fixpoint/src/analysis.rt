@@ -1,16 +1,20 @@
 ghost use Rattle.std.specs.Prelude.{◌≡◌, ℕ, ◌+◌, ◌*◌, ◌≤◌, ◌↔◌, List, length, map, IfOk, IsErrOf};
+ghost use Rattle.program_form.specs.Certificate.{dual_seen};
 ghost use Rattle.sporadic_model.specs.Homes.{HasHomesFor};
 ghost use Rattle.program_sources.specs.Bounds.{IsInRange};
 ghost use Rattle.program_sources.specs.Fitting.{AreFitting};
 ghost use Rattle.response_fixpoint.specs.Rounds.{Ending, EndsIn};
 ghost use Rattle.response_fixpoint.specs.Runs.{rounds_of, slack_of, HasNoColumns};
 ghost use Rattle.response_fixpoint.specs.Written.{written, RequestsNothing};
-ghost use Rattle.response_fixpoint.specs.Answers.{Answers, IsAnswerOf, IsRight, IsSchedulable, answer_at};
+ghost use Rattle.response_fixpoint.specs.Solutions.{AreEarlier};
+ghost use Rattle.response_fixpoint.specs.Answers.{Answers, GivesRound, IsAnswerOf, IsRight, IsSchedulable, IsSettled, answer_at};
 
+use crate::ahead::solve_ahead;
 use crate::laws::no_requests_no_columns;
 use crate::rounds::{Round, RoundStop, take_round};
+use crate::task_run::Solution;
 use crate::verdict::{Stop, Verdict};
-use program_form::Certificate;
+use program_form::{Certificate, Dual};
 use program_sources::{ProgramSource, recurrence_is_monotone};
 use protocol_programs::Written;
 use sporadic_model::{Protocol, TaskId, TaskSet};
@@ -41,8 +45,51 @@ fn ended(stop: RoundStop) -> Result<Verdict, Stop>
     }
 }
 
+/// The duals of solutions.
+fn duals_of(alloc: Global, solutions: Vec<Solution>) -> Result<Vec<Dual>, AllocError>
+    ensures { IfOk result (λ v. map dual_seen v.items ≡ map (λ s. dual_seen s.dual) solutions.items) }
+{
+    let mut duals = Vec::new(alloc);
+    for solution in solutions {
+        duals.push(solution.dual)?;
+    }
+    Ok(duals)
+}
+
+/// What the analysis answers where a round gives the vector that it began with.
+fn settled(alloc: Global, bounds: Vec<u64>, solutions: Vec<Solution>) -> Result<Verdict, Stop>
+    ensures { IsSettled result bounds.items (map (λ s. dual_seen s.dual) solutions.items) }
+{
+    match duals_of(alloc, solutions) {
+        Ok(duals) => Ok(Verdict::Schedulable(Certificate { bounds, duals })),
+        Err(AllocError) => Err(Stop::Memory),
+    }
+}
+
+/// One round, with its programs solved ahead of it where that is worth its threads.
+fn next_round<R: Threads + Sync, P: ProgramSource + Sync>(
+    rt: &R,
+    alloc: Global,
+    set: &TaskSet,
+    protocol: &P,
+    bounds: &[u64],
+    left: u64,
+    earlier: &[Solution],
+) -> Result<Round, RoundStop>
+    requires suits { P.suits protocol.now set.now }
+    requires range { IsInRange set.now bounds.now }
+    requires earlier { AreEarlier (record { set = set.now; program = P.program_of protocol.now set.now; interfering = P.interfering protocol.now set.now }) earlier.now }
+    ensures { GivesRound result (record { set = set.now; program = P.program_of protocol.now set.now; interfering = P.interfering protocol.now set.now }) bounds.now left }
+{
+    match solve_ahead(rt, alloc, set, protocol, bounds, left, earlier) {
+        Ok(ahead) => take_round(alloc, set, protocol, bounds, left, earlier, ahead),
+        Err(AllocError) => Err(RoundStop::Memory),
+    }
+}
+
 /// Takes rounds from the costs on, until one ends or gives the vector that it began with.
-fn take_rounds<P: ProgramSource>(
+fn take_rounds<R: Threads + Sync, P: ProgramSource + Sync>(
+    rt: &R,
     alloc: Global,
     set: &TaskSet,
     protocol: &P,
@@ -56,22 +103,24 @@ fn take_rounds<P: ProgramSource>(
         Err(AllocError) => return Err(Stop::Memory),
     };
     let _tasks = set.tasks();
+    let mut earlier = Vec::new(alloc);
     let mut spent = 0;
     loop {
-        let next = match take_round(alloc, set, protocol, &bounds, allowance - spent) {
+        let left = allowance - spent;
+        let next = match next_round(rt, alloc, set, protocol, &bounds, left, &earlier) {
             Ok(next) => next,
             Err(stop) => return ended(stop),
         };
         let Round {
             used,
             values,
-            duals,
+            solutions,
         } = next;
         if values == bounds {
-            let bounds = values;
-            return Ok(Verdict::Schedulable(Certificate { bounds, duals }));
+            return settled(alloc, values, solutions);
         }
         bounds = values;
+        earlier = solutions;
         spent += used;
     }
 }
@@ -80,11 +129,12 @@ fn take_rounds<P: ProgramSource>(
 /// none.
 ///
 /// Bounds are in ticks. `allowance` is the number of units that all programs together may take: each takes one, and one more for
-/// each exchange of its run. `Stop::Wide` and `Stop::Allowance` come exactly where the rounds end so; `Stop::Memory` comes for
+/// each exchange of its run. A round solves its programs side by side, but one whose limits are those of the round before, whose
+/// solution is taken over with its units; the answer is that of one thread that solves each program in turn. `Stop::Wide` and `Stop::Allowance` come exactly where the rounds end so; `Stop::Memory` comes for
 /// want of memory alone. This is the fixed-point iteration of response-time analysis (Joseph and Pandya 1986; Audsley et al.
 /// 1993), taken over the bounds of all tasks at once.
 pub fn analyse_with<R: Threads + Sync, P: ProgramSource + Sync>(
-    _rt: &R,
+    rt: &R,
     alloc: Global,
     set: &TaskSet,
     protocol: &P,
@@ -111,7 +161,7 @@ pub fn analyse_with<R: Threads + Sync, P: ProgramSource + Sync>(
 {
     let _tasks = set.tasks();
     recurrence_is_monotone::<P>();
-    take_rounds(alloc, set, protocol, allowance)
+    take_rounds(rt, alloc, set, protocol, allowance)
 }
 
 /// The same over the programs that are written down for the protocol. Under DPCP each resource has a home.

@@ -5,6 +5,7 @@
 //! any round.
 #![tactic(auto)]
 
+mod ahead;
 mod analysis;
 mod laws;
 mod rounds;
@@ -15,5 +16,7 @@ pub use analysis::{analyse, analyse_with};
 pub use laws::{a_least_fitting_vector_exists, no_requests_no_columns, the_rounds_have_one_ending};
 pub use verdict::{Stop, Verdict};
 
+#[cfg(test)]
+mod meeting;
 #[cfg(test)]
 mod tests;

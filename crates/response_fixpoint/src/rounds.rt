@@ -1,20 +1,20 @@
 ghost use Rattle.std.specs.Prelude.{◌≡◌, ◌<◌, ◌^◌, ◌+◌};
 ghost use Rattle.program_sources.specs.Bounds.{IsInRange};
+ghost use Rattle.response_fixpoint.specs.Solutions.{AreEarlier, AreAhead};
 ghost use Rattle.response_fixpoint.specs.Answers.{GivesRound, TakesRun, stop_at};
 
-use crate::task_run::{TaskRun, run_task};
-use program_form::Dual;
+use crate::task_run::{Solution, TaskRun, run_task};
 use program_sources::ProgramSource;
 use simplex::SolveStop;
 use sporadic_model::{TaskId, TaskSet};
 use std::alloc::Global;
 
-/// What a round has found: its units, and for each task that passed the next bound in ticks, and the dual of its program.
+/// What a round has found: its units, and for each task that passed the next bound in ticks, and the solution of its program.
 #[derive(Debug, Drop)]
 pub struct Round {
     pub used: u64,
     pub values: Vec<u64>,
-    pub duals: Vec<Dual>,
+    pub solutions: Vec<Solution>,
 }
 
 /// Why a round gives no next vector.
@@ -42,18 +42,19 @@ fn stopped(stop: SolveStop, task: TaskId) -> RoundStop
 
 /// Takes the run of a task into the round, where its value is within the deadline.
 fn take_run(round: &mut Round, run: TaskRun, task: TaskId, deadline: u64) -> Result<(), RoundStop>
-    requires { round.old.used + run.used < 2 ^ 64 }
+    requires { round.old.used + run.solution.used < 2 ^ 64 }
     ensures { TakesRun result round.old round.new run task.0 deadline }
 {
-    let TaskRun { used, value, dual } = run;
+    let TaskRun { solution, value } = run;
     if value > deadline {
         return Err(RoundStop::NotShown { task, bound: value });
     }
+    let used = solution.used;
     match round.values.push(value) {
         Ok(()) => {}
         Err(_) => return Err(RoundStop::Memory),
     }
-    match round.duals.push(dual) {
+    match round.solutions.push(solution) {
         Ok(()) => {}
         Err(_) => return Err(RoundStop::Memory),
     }
@@ -61,26 +62,37 @@ fn take_run(round: &mut Round, run: TaskRun, task: TaskId, deadline: u64) -> Res
     Ok(())
 }
 
-/// One round: the recurrence at `bounds`, task by task, each program solved with the units that the tasks before it have left.
+/// One round: the recurrence at `bounds`, task by task, each program with the units that the tasks before it have left.
+///
+/// `earlier` are the solutions of the round before. `ahead` is what the programs have given ahead of the round, from the first
+/// task on, with the units that are left at its start; programs that aren't among them are solved in their place.
 pub fn take_round<P: ProgramSource>(
     alloc: Global,
     set: &TaskSet,
     protocol: &P,
     bounds: &[u64],
     left: u64,
+    earlier: &[Solution],
+    ahead: Vec<Result<Solution, SolveStop>>,
 ) -> Result<Round, RoundStop>
     requires suits { P.suits protocol.now set.now }
     requires range { IsInRange set.now bounds.now }
+    requires earlier { AreEarlier (record { set = set.now; program = P.program_of protocol.now set.now; interfering = P.interfering protocol.now set.now }) earlier.now }
+    requires ahead { AreAhead (record { set = set.now; program = P.program_of protocol.now set.now; interfering = P.interfering protocol.now set.now }) bounds.now 0 left ahead.items }
     ensures { GivesRound result (record { set = set.now; program = P.program_of protocol.now set.now; interfering = P.interfering protocol.now set.now }) bounds.now left }
 {
     let mut round = Round {
         used: 0,
         values: Vec::new(alloc),
-        duals: Vec::new(alloc),
+        solutions: Vec::new(alloc),
     };
+    let mut outcomes = ahead.into_iter();
     for i in 0..set.tasks() {
         let task = TaskId(i);
-        let run = match run_task(alloc, set, protocol, task, bounds, left - round.used) {
+        let before = earlier.get(i as usize);
+        let outcome = outcomes.next();
+        let here = left - round.used;
+        let run = match run_task(alloc, set, protocol, task, bounds, here, before, outcome) {
             Ok(run) => run,
             Err(stop) => return Err(stopped(stop, task)),
         };

@@ -1,10 +1,13 @@
 ghost use Rattle.std.specs.Prelude.{◌<◌, length, IsTrue};
 ghost use Rattle.sporadic_model.specs.Homes.{EachHasHome, HasHomesFor};
 
-use crate::{Stop, Verdict, analyse};
+use crate::meeting::{Meeting, Side};
+use crate::{Stop, Verdict, analyse, analyse_with};
 use program_form::Dual;
+use protocol_programs::Written;
 use sporadic_model::{Parts, Protocol, RequestPart, ResourceId, ResourcePart, TaskPart, TaskSet};
 use std::alloc::{AllocError, Global};
+use std::sync::atomic::{AtomicBool, Ordering};
 use std::test::Fail;
 use std::thread::Threads;
 
@@ -38,6 +41,17 @@ const BESIDE: Set = (
     ],
 );
 
+// The same with a longer third task, of which two jobs come to count for the second one.
+const LONGER: Set = (
+    2,
+    &[None],
+    &[
+        (1, 10, 2, &[]),
+        (1, 20, 4, &[(0, 2)]),
+        (2, 20, 10, &[(0, 3)]),
+    ],
+);
+
 // Two tasks without requests, and without room for the lower one.
 const SHORT: Set = (1, &[], &[(1, 2, 1, &[]), (1, 2, 2, &[])]);
 
@@ -52,31 +66,82 @@ const THREE: Set = (
     ],
 );
 
-// The first task's optimum is reached at one point alone, which holds 1 - 1/2^28 - 1/3^17 - 1/5^12.
+// The tasks of `WIDE`. The first task's optimum is reached at one point alone, which holds 1 - 1/2^28 - 1/3^17 - 1/5^12.
+const WIDE_FIRST: Task = (1, 1_000_000_000, 10, &[(0, 1), (1, 1), (2, 1), (3, 1)]);
+
+const WIDE_SECOND: Task = (
+    2,
+    1_000_000_000,
+    300_000_001,
+    &[(0, 268_435_456), (1, 300_000_000)],
+);
+
+const WIDE_THIRD: Task = (
+    3,
+    1_000_000_000,
+    300_000_001,
+    &[(0, 129_140_163), (2, 300_000_000)],
+);
+
+const WIDE_FOURTH: Task = (
+    4,
+    1_000_000_000,
+    300_000_001,
+    &[(0, 244_140_625), (3, 300_000_000)],
+);
+
+const WIDE_FIFTH: Task = (5, 1_000_000_000, 2000, &[(0, 1000)]);
+
 const WIDE: Set = (
     5,
     &[None, None, None, None],
+    &[WIDE_FIRST, WIDE_SECOND, WIDE_THIRD, WIDE_FOURTH, WIDE_FIFTH],
+);
+
+// Two tasks of a processor of their own, without room for the lower one.
+const HIGH: Task = (6, 2, 1, &[]);
+
+const LOW: Task = (6, 2, 2, &[]);
+
+// These two before the tasks of `WIDE`, these two behind them, and the higher one alone before them.
+const LATE_THEN_WIDE: Set = (
+    6,
+    &[None, None, None, None],
     &[
-        (1, 1_000_000_000, 10, &[(0, 1), (1, 1), (2, 1), (3, 1)]),
-        (
-            2,
-            1_000_000_000,
-            300_000_001,
-            &[(0, 268_435_456), (1, 300_000_000)],
-        ),
-        (
-            3,
-            1_000_000_000,
-            300_000_001,
-            &[(0, 129_140_163), (2, 300_000_000)],
-        ),
-        (
-            4,
-            1_000_000_000,
-            300_000_001,
-            &[(0, 244_140_625), (3, 300_000_000)],
-        ),
-        (5, 1_000_000_000, 2000, &[(0, 1000)]),
+        HIGH,
+        LOW,
+        WIDE_FIRST,
+        WIDE_SECOND,
+        WIDE_THIRD,
+        WIDE_FOURTH,
+        WIDE_FIFTH,
+    ],
+);
+
+const WIDE_THEN_LATE: Set = (
+    6,
+    &[None, None, None, None],
+    &[
+        WIDE_FIRST,
+        WIDE_SECOND,
+        WIDE_THIRD,
+        WIDE_FOURTH,
+        WIDE_FIFTH,
+        HIGH,
+        LOW,
+    ],
+);
+
+const HIGH_THEN_WIDE: Set = (
+    6,
+    &[None, None, None, None],
+    &[
+        HIGH,
+        WIDE_FIRST,
+        WIDE_SECOND,
+        WIDE_THIRD,
+        WIDE_FOURTH,
+        WIDE_FIFTH,
     ],
 );
 
@@ -276,8 +341,75 @@ fn the_whole_part_of_an_optimum_blocks(rt: HostRuntime) -> Result<(), Fail> {
     Ok(())
 }
 
+// The vectors 2 4 10, 4 9 12 and 4 11 12. In the second round the limits of the first task's program alone stay, in the third
+// those of all; each program takes two units in each round.
 #[test]
-fn a_wide_run_names_its_task(rt: HostRuntime) -> Result<(), Fail> {
-    assert!(rt; gives(&rt, rt.alloc(), WIDE, Protocol::Mpcp, MOST, Wanted::Wide(0))?);
+fn a_program_that_is_taken_over_counts_its_units(rt: HostRuntime) -> Result<(), Fail> {
+    let duals: &[(u64, &[u64])] = &[(1, &[2, 0, 0]), (1, &[0, 0, 3, 0]), (1, &[0, 0, 2, 0])];
+    let best = Wanted::Best(&[4, 11, 12], duals);
+    assert!(rt; gives(&rt, rt.alloc(), LONGER, Protocol::FmlpPlus, 18, best)?);
+    assert!(rt;
+        gives(
+            &rt,
+            rt.alloc(),
+            LONGER,
+            Protocol::FmlpPlus,
+            17,
+            Wanted::Allowance
+        )?
+    );
+    Ok(())
+}
+
+// The programs of a round are solved side by side; what is answered is the first stop in the order of the tasks.
+#[test]
+fn the_first_stop_of_a_round_is_answered(rt: HostRuntime) -> Result<(), Fail> {
+    let alloc = rt.alloc();
+    let late = Wanted::NotShown(1, 3);
+    assert!(rt; gives(&rt, alloc, WIDE, Protocol::Mpcp, MOST, Wanted::Wide(0))?);
+    assert!(rt; gives(&rt, alloc, LATE_THEN_WIDE, Protocol::Mpcp, MOST, late)?);
+    assert!(rt;
+        gives(
+            &rt,
+            alloc,
+            WIDE_THEN_LATE,
+            Protocol::Mpcp,
+            MOST,
+            Wanted::Wide(0)
+        )?
+    );
+    assert!(rt;
+        gives(
+            &rt,
+            alloc,
+            HIGH_THEN_WIDE,
+            Protocol::Mpcp,
+            1,
+            Wanted::Allowance
+        )?
+    );
+    Ok(())
+}
+
+#[test]
+fn two_tasks_are_at_work_at_the_same_time(rt: HostRuntime) -> Result<(), Fail> {
+    let (first_came, first_saw) = (AtomicBool::new(false), AtomicBool::new(false));
+    let (second_came, second_saw) = (AtomicBool::new(false), AtomicBool::new(false));
+    let set = set_of(rt.alloc(), PAIR)?;
+    let meeting = Meeting {
+        first: Side {
+            came: &first_came,
+            saw: &first_saw,
+        },
+        second: Side {
+            came: &second_came,
+            saw: &second_saw,
+        },
+        written: Written(Protocol::FmlpPlus),
+    };
+    let verdict = analyse_with(&rt, rt.alloc(), &set, &meeting, MOST);
+    let best = Wanted::Best(&[5, 5], &[(1, &[2, 0, 0, 0]), (1, &[1, 0, 0, 0])]);
+    assert!(rt; is_wanted(&verdict, &best));
+    assert!(rt; first_saw.load(Ordering::SeqCst) && second_saw.load(Ordering::SeqCst));
     Ok(())
 }

@@ -1,5 +1,5 @@
--- A schedule whose rows are chosen, from tick to tick.
-use Rattle.std.proofs.Common.{◌≡◌, ℕ, ◌+◌, ◌<◌, Bool, refl, sym, subst, arith, inl, inr, ltb, cond}
+-- A schedule whose rows are chosen, from stretch to stretch.
+use Rattle.std.proofs.Common.{◌≡◌, ℕ, ◌+◌, ◌-◌, ◌<◌, Bool, refl, sym, subst, arith, inl, inr, ltb, cond}
 use Rattle.std.proofs.lemmas.Bool.{cases_lt, lt-ltb, le-ltb}
 use Rattle.schedule_model.specs.JobDef.{JobsDef}
 use Rattle.schedule_model.specs.RowDef.{RowDef, Trace}
@@ -63,15 +63,15 @@ picked_taken chooses keeps interferes m row p rows far =
     let sized : IsSized m.list.set (more m.tick) = subst (λ (r : RowDef). IsSized m.list.set r) (sym here) p.sized in
     subst (λ (r : RowDef). CanTake m r) here (can_take m more again.shows (sound_taken interferes (under m more) m.tick sized sound))
 
--- And after it one row more is chosen.
-pub chosen_next : (chooses : Trace → ℕ → Type 0) (m n : MachineDef) (rows : ℕ → RowDef) → n.list ≡ m.list → n.tick ≡ m.tick + 1 → AreChosenSoFar chooses rows m → chooses (under m rows) m.tick
-    → Shows n rows → AreChosenSoFar chooses rows n
-chosen_next chooses m n rows list tick far here shows = record {
+-- And after it more rows are chosen.
+pub chosen_on : (chooses : Trace → ℕ → Type 0) (m n : MachineDef) (rows : ℕ → RowDef) (more : ℕ) → n.list ≡ m.list → n.tick ≡ m.tick + more → AreChosenSoFar chooses rows m
+    → ((i : ℕ) → i < more → chooses (under m rows) (m.tick + i)) → Shows n rows → AreChosenSoFar chooses rows n
+chosen_on chooses m n rows more list tick far each shows = record {
   shows = shows;
   chosen = λ t l. subst (λ (list : JobsDef). chooses (over list rows) t) (sym list) (at t (omega (arith, l, tick)));
 } where
-  at : (t : ℕ) → t < m.tick + 1 → chooses (over m.list rows) t
+  at : (t : ℕ) → t < m.tick + more → chooses (over m.list rows) t
   at t l = elim (cases_lt t m.tick) [
     | inl early ↦ far.chosen t early
-    | inr late ↦ let e : t ≡ m.tick = omega arith in subst (λ (u : ℕ). chooses (over m.list rows) u) (sym e) here
+    | inr late ↦ let e : m.tick + (t - m.tick) ≡ t = omega (arith, late) in subst (λ (u : ℕ). chooses (over m.list rows) u) e (each (t - m.tick) (omega (arith, l, late)))
   ]

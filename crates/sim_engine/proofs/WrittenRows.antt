@@ -1,4 +1,4 @@
--- A schedule that is being written, from row to row.
+-- A schedule that is being written, from stretch to stretch.
 use Rattle.std.proofs.Common.{◌≡◌, ℕ, ◌+◌, ◌<◌, ◌≤◌, Bool, true, false, List, [], ◌∷◌, ◌++◌, length, refl, sym, ap, subst, ◌∙◌, arith, inl, inr, None, leb, ltb}
 use Rattle.std.specs.List.{list_all}
 use Rattle.std.specs.Int.{is_in_range}
@@ -13,8 +13,8 @@ use Rattle.schedule_laws.proofs.TakenRows.{fits_jobs_passes}
 use Rattle.phase_machine.specs.MachineDef.{MachineDef}
 use Rattle.phase_machine.specs.Taking.{IsRowFor}
 use Rattle.sim_engine.specs.Simulated.{IsSimulated}
-use Rattle.sim_engine.specs.Choosing.{AreChosenSoFar}
-use Rattle.sim_engine.specs.Writing.{rows_with, all_runs, AddsRow, IsUnderWay}
+use Rattle.sim_engine.specs.Choosing.{AreChosenSoFar, StandsFor}
+use Rattle.sim_engine.specs.Writing.{rows_with, all_runs, AddsRows, IsUnderWay}
 use Rattle.sim_engine.proofs.ChosenRows.{over, chosen_again}
 use Rattle.sim_engine.proofs.Runs.{ticks_with, longer_before, added_before, added_here, joined_longer, joined_more, lasting_more}
 
@@ -43,79 +43,85 @@ run_free chooses m rows last u most =
     let free : first_refusal (rows_with m.list rows.runs) last ≡ None = none_due m.list rows.runs last number named (le-ltb MOST_TICKS (ticks_of rows.runs + last.ticks) within) in
     subst (λ (r : RowsDef). first_refusal r last ≡ None) (sym u.made) free
 
--- The first run, of one row.
-pub first_run : (chooses : Trace → ℕ → Type 0) (m n : MachineDef) (list : JobsDef) (rows : RowsDef) (row copy : RowDef) → m.tick ≡ 0 → n.list ≡ list → n.tick ≡ m.tick + 1
-    → IsRowFor list row → rows ≡ rows_with list [] → copy ≡ row
-    → ((rows : ℕ → RowDef) → AreChosenSoFar chooses rows m → rows m.tick ≡ row → AreChosenSoFar chooses rows n)
+-- The first run.
+pub first_run : (chooses : Trace → ℕ → Type 0) (m n : MachineDef) (list : JobsDef) (rows : RowsDef) (row copy : RowDef) (more : ℕ) → 1 ≤ more → m.tick ≡ 0 → n.list ≡ list
+    → n.tick ≡ m.tick + more → IsRowFor list row → rows ≡ rows_with list [] → copy ≡ row
+    → ((rows : ℕ → RowDef) → AreChosenSoFar chooses rows m → StandsFor rows m.tick more row → AreChosenSoFar chooses rows n)
     → ((rows : ℕ → RowDef) → AreChosenSoFar chooses rows m)
-    → IsUnderWay chooses n rows (record { ticks = 1; row = copy })
-first_run chooses m n list rows row copy start same tick fits made copied next far =
-    let all : ℕ → RowDef = row_in (record { ticks = 1; row = row } ∷ []) in
+    → IsUnderWay chooses n rows (record { ticks = more; row = copy })
+first_run chooses m n list rows row copy more some start same tick fits made copied next far =
+    let all : ℕ → RowDef = row_in ([] ++ record { ticks = more; row = row } ∷ []) in
     rw (made, copied) (record {
-      chosen = next all (far all) (ap all start);
+      chosen = next all (far all) (λ i l. added_here list [] (record { ticks = more; row = row }) (m.tick + i) (omega arith) (omega (arith, start, l)));
       tick = omega (arith, start, tick);
       made = ap (λ (l : JobsDef). rows_with l []) (sym same);
       fits = refl;
       last_fits = subst (λ (l : JobsDef). IsRowFor l row) (sym same) fits;
-      lasts = omega arith;
+      lasts = some;
       lasting = tt;
       joined = tt;
     })
 
 -- The same row again.
-go_on : (chooses : Trace → ℕ → Type 0) (m n : MachineDef) (rows : RowsDef) (last : RunDef) (row : RowDef) → ChoiceReadsUpTo chooses → IsUnderWay chooses m rows last → n.list ≡ m.list → n.tick ≡ m.tick + 1
-    → ((rows : ℕ → RowDef) → AreChosenSoFar chooses rows m → rows m.tick ≡ row → AreChosenSoFar chooses rows n)
-    → last.row ≡ row → IsUnderWay chooses n rows (record { ticks = last.ticks + 1; row = last.row })
-go_on chooses m n rows last row reads u list tick next same = record {
+go_on : (chooses : Trace → ℕ → Type 0) (m n : MachineDef) (rows : RowsDef) (last : RunDef) (row : RowDef) (more : ℕ) → ChoiceReadsUpTo chooses → IsUnderWay chooses m rows last
+    → n.list ≡ m.list → n.tick ≡ m.tick + more
+    → ((rows : ℕ → RowDef) → AreChosenSoFar chooses rows m → StandsFor rows m.tick more row → AreChosenSoFar chooses rows n)
+    → last.row ≡ row → IsUnderWay chooses n rows (record { ticks = last.ticks + more; row = last.row })
+go_on chooses m n rows last row more reads u list tick next same = record {
   chosen = next later (chosen_again chooses (row_in (all_runs rows last)) later m reads before u.chosen) here;
   tick = omega (arith, u.tick, tick);
   made = subst (λ (l : JobsDef). rows ≡ rows_with l rows.runs) (sym list) u.made;
   fits = subst (λ (l : JobsDef). is_fitting rows l ≡ true) (sym list) u.fits;
   last_fits = subst (λ (l : JobsDef). IsRowFor l last.row) (sym list) u.last_fits;
-  lasts = omega arith;
+  lasts = omega (arith, u.lasts);
   lasting = u.lasting;
-  joined = joined_longer rows.runs last.row last.ticks (last.ticks + 1) u.joined;
+  joined = joined_longer rows.runs last.row last.ticks (last.ticks + more) u.joined;
 } where
   later : ℕ → RowDef
-  later = row_in (all_runs rows (record { ticks = last.ticks + 1; row = last.row }))
+  later = row_in (all_runs rows (record { ticks = last.ticks + more; row = last.row }))
 
-  before : (t : ℕ) → t < m.tick → row_in (all_runs rows last) t ≡ row_in (all_runs rows (record { ticks = last.ticks + 1; row = last.row })) t
-  before t l = longer_before m.list rows.runs last.row last.ticks (last.ticks + 1) t (omega arith) (omega (arith, l, u.tick))
+  before : (t : ℕ) → t < m.tick → row_in (all_runs rows last) t ≡ row_in (all_runs rows (record { ticks = last.ticks + more; row = last.row })) t
+  before t l = longer_before m.list rows.runs last.row last.ticks (last.ticks + more) t (omega arith) (omega (arith, l, u.tick))
 
-  here : row_in (all_runs rows (record { ticks = last.ticks + 1; row = last.row })) m.tick ≡ row
-  here = added_here m.list rows.runs (record { ticks = last.ticks + 1; row = last.row }) m.tick (omega (arith, u.tick)) (omega (arith, u.tick)) ∙ same
+  here : StandsFor (row_in (all_runs rows (record { ticks = last.ticks + more; row = last.row }))) m.tick more row
+  here i l =
+      added_here m.list rows.runs (record { ticks = last.ticks + more; row = last.row }) (m.tick + i) (omega (arith, u.tick)) (omega (arith, u.tick, l)) ∙ same
 
 -- Another row.
-begin_anew : (chooses : Trace → ℕ → Type 0) (m n : MachineDef) (rows : RowsDef) (last : RunDef) (row : RowDef) → ChoiceReadsUpTo chooses → IsUnderWay chooses m rows last → n.list ≡ m.list → n.tick ≡ m.tick + 1
-    → ((rows : ℕ → RowDef) → AreChosenSoFar chooses rows m → rows m.tick ≡ row → AreChosenSoFar chooses rows n) → IsRowFor m.list row
-    → (last.row ≡ row → ⊥) → IsUnderWay chooses n (with_run rows last) (record { ticks = 1; row = row })
-begin_anew chooses m n rows last row reads u list tick next fits other = record {
+begin_anew : (chooses : Trace → ℕ → Type 0) (m n : MachineDef) (rows : RowsDef) (last : RunDef) (row : RowDef) (more : ℕ) → 1 ≤ more → ChoiceReadsUpTo chooses
+    → IsUnderWay chooses m rows last → n.list ≡ m.list → n.tick ≡ m.tick + more
+    → ((rows : ℕ → RowDef) → AreChosenSoFar chooses rows m → StandsFor rows m.tick more row → AreChosenSoFar chooses rows n) → IsRowFor m.list row
+    → (last.row ≡ row → ⊥) → IsUnderWay chooses n (with_run rows last) (record { ticks = more; row = row })
+begin_anew chooses m n rows last row more some reads u list tick next fits other = record {
   chosen = next later (chosen_again chooses (row_in (all_runs rows last)) later m reads before u.chosen) here;
   tick = omega (arith, u.tick, tick, ticks_with rows.runs last);
   made = subst (λ (l : JobsDef). with_run rows last ≡ rows_with l (all_runs rows last)) (sym list) (ap (λ (r : RowsDef). with_run r last) u.made);
   fits = subst (λ (l : JobsDef). is_fitting (with_run rows last) l ≡ true) (sym list) (fits_more m.list rows last u.fits u.last_fits);
   last_fits = subst (λ (l : JobsDef). IsRowFor l row) (sym list) fits;
-  lasts = omega arith;
+  lasts = some;
   lasting = lasting_more rows.runs last u.lasting u.lasts;
-  joined = joined_more rows.runs last (record { ticks = 1; row = row }) u.joined other;
+  joined = joined_more rows.runs last (record { ticks = more; row = row }) u.joined other;
 } where
   later : ℕ → RowDef
-  later = row_in (all_runs rows last ++ record { ticks = 1; row = row } ∷ [])
+  later = row_in (all_runs rows last ++ record { ticks = more; row = row } ∷ [])
 
-  before : (t : ℕ) → t < m.tick → row_in (all_runs rows last) t ≡ row_in (all_runs rows last ++ record { ticks = 1; row = row } ∷ []) t
-  before t l = added_before m.list (all_runs rows last) (record { ticks = 1; row = row }) t (omega (arith, l, u.tick, ticks_with rows.runs last))
+  before : (t : ℕ) → t < m.tick → row_in (all_runs rows last) t ≡ row_in (all_runs rows last ++ record { ticks = more; row = row } ∷ []) t
+  before t l = added_before m.list (all_runs rows last) (record { ticks = more; row = row }) t (omega (arith, l, u.tick, ticks_with rows.runs last))
 
-  here : row_in (all_runs rows last ++ record { ticks = 1; row = row } ∷ []) m.tick ≡ row
-  here = added_here m.list (all_runs rows last) (record { ticks = 1; row = row }) m.tick (omega (arith, u.tick, ticks_with rows.runs last)) (omega (arith, u.tick, ticks_with rows.runs last))
+  here : StandsFor (row_in (all_runs rows last ++ record { ticks = more; row = row } ∷ [])) m.tick more row
+  here i l =
+      added_here m.list (all_runs rows last) (record { ticks = more; row = row }) (m.tick + i) (omega (arith, u.tick, ticks_with rows.runs last))
+      (omega (arith, u.tick, ticks_with rows.runs last, l))
 
--- One row more, chosen and written.
-pub one_more : (chooses : Trace → ℕ → Type 0) (m n : MachineDef) (rows after : RowsDef) (last next : RunDef) (row : RowDef) → ChoiceReadsUpTo chooses → IsUnderWay chooses m rows last
-    → n.list ≡ m.list → n.tick ≡ m.tick + 1 → ((rows : ℕ → RowDef) → AreChosenSoFar chooses rows m → rows m.tick ≡ row → AreChosenSoFar chooses rows n) → IsRowFor m.list row
-    → AddsRow rows last row after next → IsUnderWay chooses n after next
-one_more chooses m n rows after last next row reads u list tick taken fits (inl same) =
-    rw (same.kept, same.longer) (go_on chooses m n rows last row reads u list tick taken same.same)
-one_more chooses m n rows after last next row reads u list tick taken fits (inr other) =
-    rw (other.ended, other.begun) (begin_anew chooses m n rows last row reads u list tick taken fits other.other)
+-- A stretch more, chosen and written.
+pub stretch_more : (chooses : Trace → ℕ → Type 0) (m n : MachineDef) (rows after : RowsDef) (last next : RunDef) (row : RowDef) (more : ℕ) → 1 ≤ more → ChoiceReadsUpTo chooses
+    → IsUnderWay chooses m rows last → n.list ≡ m.list → n.tick ≡ m.tick + more
+    → ((rows : ℕ → RowDef) → AreChosenSoFar chooses rows m → StandsFor rows m.tick more row → AreChosenSoFar chooses rows n) → IsRowFor m.list row
+    → AddsRows rows last row more after next → IsUnderWay chooses n after next
+stretch_more chooses m n rows after last next row more some reads u list tick taken fits (inl same) =
+    rw (same.kept, same.longer) (go_on chooses m n rows last row more reads u list tick taken same.same)
+stretch_more chooses m n rows after last next row more some reads u list tick taken fits (inr other) =
+    rw (other.ended, other.begun) (begin_anew chooses m n rows last row more some reads u list tick taken fits other.other)
 
 -- What stands at the end, where the last run has ended too.
 pub simulated : (chooses : Trace → ℕ → Type 0) (m : MachineDef) (list : JobsDef) (n : ℕ) (rows after : RowsDef) (last : RunDef) → IsUnderWay chooses m rows last → m.list ≡ list → m.tick ≡ n

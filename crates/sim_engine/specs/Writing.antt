@@ -17,20 +17,20 @@ rows_with list runs = record { processors = list.set.processors; resources = len
 abbrev pub all_runs : RowsDef → RunDef → List RunDef
 all_runs rows last = rows.runs ++ last ∷ []
 
--- The row is that of the run, which goes on.
-pub record GoesOn (rows : RowsDef) (last : RunDef) (row : RowDef) (after : RowsDef) (next : RunDef) : Type 0 where
+-- The row is that of the run, which goes on for so many ticks.
+pub record GoesOn (rows : RowsDef) (last : RunDef) (row : RowDef) (more : ℕ) (after : RowsDef) (next : RunDef) : Type 0 where
   pub same : last.row ≡ row
   pub kept : after ≡ rows
-  pub longer : next ≡ record { ticks = last.ticks + 1; row = last.row }
+  pub longer : next ≡ record { ticks = last.ticks + more; row = last.row }
 
--- The row is another, so that the run ends and one of this row begins.
-pub record BeginsAnew (rows : RowsDef) (last : RunDef) (row : RowDef) (after : RowsDef) (next : RunDef) : Type 0 where
+-- The row is another, so that the run ends and one of this row begins, for so many ticks.
+pub record BeginsAnew (rows : RowsDef) (last : RunDef) (row : RowDef) (more : ℕ) (after : RowsDef) (next : RunDef) : Type 0 where
   pub other : last.row ≢ row
   pub ended : after ≡ with_run rows last
-  pub begun : next ≡ record { ticks = 1; row = row }
+  pub begun : next ≡ record { ticks = more; row = row }
 
-abbrev pub AddsRow : RowsDef → RunDef → RowDef → RowsDef → RunDef → Type 0
-AddsRow rows last row after next = GoesOn rows last row after next ⊎ BeginsAnew rows last row after next
+abbrev pub AddsRows : RowsDef → RunDef → RowDef → ℕ → RowsDef → RunDef → Type 0
+AddsRows rows last row more after next = GoesOn rows last row more after next ⊎ BeginsAnew rows last row more after next
 
 -- Is a schedule being written: have the runs so far the rows that the machine has taken, each the chosen one, and fits
 -- each run the machine's jobs, last a tick or more and have another row than the one before it?

@@ -6,7 +6,7 @@ ghost use Rattle.schedule_model.specs.Keeping.{KeepsBefore, IsFirstUnlawful};
 ghost use Rattle.schedule_model.specs.declared.rule.Rule.{Rule};
 ghost use Rattle.sim_engine.specs.Simulated.{IsSimulated};
 
-use crate::choosing::{next_row, take_tick};
+use crate::choosing::{next_rows, take_stretch};
 use crate::places::{copy_of, idle_row};
 use crate::writing::push_run;
 use phase_machine::{Judge, Machine};
@@ -33,20 +33,21 @@ pub fn simulate_with<P: Judge>(
 {
     let mut machine = Machine::new(alloc, jobs)?;
     let mut row = idle_row(alloc, jobs)?;
-    next_row(protocol, &mut machine, &mut row);
+    let first = next_rows(protocol, &mut machine, &mut row, ticks);
     let mut rows = RowList::new(alloc, jobs);
     let mut last = RowRun {
-        ticks: 1,
+        ticks: first,
         row: copy_of(alloc, &row)?,
     };
-    for _ in 1..ticks {
-        take_tick(
+    while machine.tick() < ticks {
+        take_stretch(
             alloc,
             protocol,
             &mut machine,
             &mut row,
             &mut rows,
             &mut last,
+            ticks,
         )?;
     }
     push_run(&mut rows, last)?;

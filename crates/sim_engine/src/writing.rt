@@ -1,8 +1,8 @@
-ghost use Rattle.std.specs.Prelude.{◌≡◌, ◌<◌, IsTrue, None, OnOk};
+ghost use Rattle.std.specs.Prelude.{◌≡◌, ◌+◌, ◌≤◌, IsTrue, None, OnOk};
 ghost use Rattle.sporadic_model.specs.declared.limits.TheConstants.{MOST_TICKS};
 ghost use Rattle.schedule_model.specs.Fitting.{is_sized, first_refusal, with_run};
 ghost use Rattle.schedule_model.specs.Seen.{row_seen, run_seen};
-ghost use Rattle.sim_engine.specs.Writing.{AddsRow};
+ghost use Rattle.sim_engine.specs.Writing.{AddsRows};
 
 use crate::places::{copy_of, is_same_row};
 use schedule_model::{Row, RowList, RowRefusal, RowRun};
@@ -22,25 +22,26 @@ pub(crate) fn push_run(rows: &mut RowList, run: RowRun) -> Result<(), AllocError
     }
 }
 
-/// Writes the row after a run that still goes on: the run goes on where it has this row; else it ends, and a run of this
-/// row begins.
-pub(crate) fn add_row(
+/// Writes the row so many times after a run that still goes on: the run goes on where it has this row; else it ends, and a run
+/// of this row begins.
+pub(crate) fn add_rows(
     alloc: Global,
     rows: &mut RowList,
     last: &mut RowRun,
     row: &Row,
+    ticks: u64,
 ) -> Result<(), AllocError>
     requires sized { IsTrue (is_sized rows.old.processors rows.old.resources (run_seen last.old).row) }
     requires free { first_refusal rows.old (run_seen last.old) ≡ None }
-    requires room { last.old.ticks < MOST_TICKS }
-    ensures { OnOk result (AddsRow rows.old (run_seen last.old) (row_seen row.now) rows.new (run_seen last.new)) }
+    requires room { last.old.ticks + ticks ≤ MOST_TICKS }
+    ensures { OnOk result (AddsRows rows.old (run_seen last.old) (row_seen row.now) ticks rows.new (run_seen last.new)) }
 {
     if is_same_row(&last.row, row) {
-        last.ticks += 1;
+        last.ticks += ticks;
         return Ok(());
     }
     let next = RowRun {
-        ticks: 1,
+        ticks,
         row: copy_of(alloc, row)?,
     };
     push_run(rows, mem::replace(last, next))

@@ -35,6 +35,13 @@ ticks_after (run ∷ runs) (suc i) l =
 pub ticks_next : (runs : List RunDef) (i : ℕ) → i < length runs → ticks_before runs (i + 1) ≡ ticks_before runs i + (run_of runs i).ticks
 ticks_next runs i l = let e : i + 1 ≡ suc i = omega arith in ap (ticks_before runs) e ∙ ticks_after runs i l
 
+-- So it stands at each tick between its first and the next run's.
+pub run_stands : (runs : List RunDef) (i tick left k : ℕ) → i < length runs → ticks_before runs i ≤ tick → tick + left ≡ ticks_before runs (i + 1) → k < left
+    → row_in runs (tick + k) ≡ (run_of runs i).row
+run_stands runs i tick left k l from to h =
+    let at : tick + k ≡ ticks_before runs i + (tick - ticks_before runs i + k) = omega (arith, from) in
+    ap (row_in runs) at ∙ run_here runs i (tick - ticks_before runs i + k) l (omega (arith, from, to, h, ticks_next runs i l))
+
 -- They are within those of the list.
 pub ticks_within : (runs : List RunDef) (i : ℕ) → ticks_before runs i ≤ ticks_of runs
 ticks_within [] zero = omega arith

@@ -1,6 +1,6 @@
 -- What is counted of each job while its schedule is judged.
 use Rattle.std.specs.Prelude.{◌≡◌, ℕ, ◌+◌, ◌<◌, Bool, true, false, List, length, slice_index_or}
-use Rattle.bounded_sums.specs.Sums.{flag}
+use Rattle.bounded_sums.specs.Sums.{only_if}
 use Rattle.schedule_model.specs.RowDef.{Trace}
 use Rattle.schedule_model.specs.Activity.{is_active}
 use Rattle.schedule_model.specs.BlockedTicks.{is_blocked}
@@ -15,19 +15,20 @@ no_count = record { blocked = 0; end = 0 }
 abbrev pub count_at : List JobCount → ℕ → JobCount
 count_at counts j = slice_index_or counts j no_count
 
--- The count of a job after tick t, at which it is active, and blocked or not.
-abbrev pub counted_once : Bool → ℕ → JobCount → JobCount
-counted_once blocked t c = record { blocked = c.blocked + flag blocked; end = t + 1 }
+-- The count of a job after n ticks from tick t on, at each of which it is active, and blocked at all of them or at none.
+abbrev pub counted_on : Bool → ℕ → ℕ → JobCount → JobCount
+counted_on blocked t n c = record { blocked = c.blocked + only_if blocked n; end = t + n }
 
--- Is tick t counted for job j, from this count to that: once if the job is active, and not if it isn't?
-pub record CountsOnce (interferes : Trace → ℕ → ℕ → Bool) (w : Trace) (t j : ℕ) (before after : JobCount) : Type 0 where
-  pub active : is_active w t j ≡ true → after ≡ counted_once (is_blocked interferes w t j) t before
+-- Are n ticks from tick t on counted for job j as the first of them is, from this count to that: if the job is active there, and
+-- not if it isn't?
+pub record CountsTicks (interferes : Trace → ℕ → ℕ → Bool) (w : Trace) (t n j : ℕ) (before after : JobCount) : Type 0 where
+  pub active : is_active w t j ≡ true → after ≡ counted_on (is_blocked interferes w t j) t n before
   pub other : is_active w t j ≡ false → after ≡ before
 
--- Is tick t counted for each job?
-pub record AddsTick (interferes : Trace → ℕ → ℕ → Bool) (w : Trace) (t : ℕ) (before after : List JobCount) : Type 0 where
+-- Are they counted so for each job?
+pub record AddsTicks (interferes : Trace → ℕ → ℕ → Bool) (w : Trace) (t n : ℕ) (before after : List JobCount) : Type 0 where
   pub size : length after ≡ length before
-  pub each : (j : ℕ) → CountsOnce interferes w t j (count_at before j) (count_at after j)
+  pub each : (j : ℕ) → CountsTicks interferes w t n j (count_at before j) (count_at after j)
 
 -- Do the counts say of n rows at how many ticks each job was blocked, and when it finished, if it did?
 pub record AreCounts (interferes : Trace → ℕ → ℕ → Bool) (w : Trace) (n : ℕ) (counts : List JobCount) : Type 0 where

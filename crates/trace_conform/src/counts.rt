@@ -1,4 +1,4 @@
-ghost use Rattle.std.specs.Prelude.{◌≡◌, ℕ, ◌<◌, length, IfOk};
+ghost use Rattle.std.specs.Prelude.{◌≡◌, ℕ, ◌+◌, ◌<◌, ◌≤◌, length, IfOk};
 ghost use Rattle.sporadic_model.specs.declared.limits.TheConstants.{MOST_TICKS};
 ghost use Rattle.schedule_model.specs.RowDef.{row_in};
 ghost use Rattle.schedule_model.specs.BlockedTicks.{is_blocked};
@@ -6,7 +6,7 @@ ghost use Rattle.schedule_model.specs.Keeping.{KeepsRow};
 ghost use Rattle.phase_machine.specs.MachineDef.{under};
 ghost use Rattle.phase_machine.specs.Shows.{Shows};
 ghost use Rattle.trace_conform.specs.Runs.{IsAtRun};
-ghost use Rattle.trace_conform.specs.Counts.{count_at, no_count, counted_once, AddsTick};
+ghost use Rattle.trace_conform.specs.Counts.{count_at, no_count, counted_on, AddsTicks};
 
 use crate::runs::run_at;
 use phase_machine::{Judge, Machine};
@@ -35,12 +35,14 @@ pub(crate) fn no_counts(alloc: Global, jobs: u32) -> Result<Vec<JobCount>, Alloc
     Ok(counts)
 }
 
-/// The count of an active job after the tick that the machine stands at, in a row that keeps the rules.
+/// The count of an active job after so many ticks from the one on that the machine stands at, in a row that keeps the rules; it
+/// is blocked at each of them or at none.
 fn counted<P: Judge>(
     protocol: &P,
     rows: &RowList,
     i: usize,
     machine: &Machine,
+    ticks: u64,
     j: JobId,
     count: JobCount,
 ) -> JobCount
@@ -49,14 +51,14 @@ fn counted<P: Judge>(
     requires shows { Shows machine.now (row_in rows.now.runs) }
     requires keeps { KeepsRow (P.keeps protocol.now) (under machine.now (row_in rows.now.runs)) machine.now.tick }
     requires listed { j.0 < length machine.now.list.jobs }
-    requires room { count.blocked < MOST_TICKS }
-    ensures { result ≡ counted_once
-        (is_blocked (P.interferes protocol.now) (under machine.now (row_in rows.now.runs)) machine.now.tick j.0) machine.now.tick count }
+    requires room { count.blocked + ticks ≤ MOST_TICKS }
+    ensures { result ≡ counted_on
+        (is_blocked (P.interferes protocol.now) (under machine.now (row_in rows.now.runs)) machine.now.tick j.0) machine.now.tick ticks count }
 {
-    let end = machine.tick() + 1;
+    let end = machine.tick() + ticks;
     if protocol.blocked(machine, &run_at(rows, i).row, j) {
         return JobCount {
-            blocked: count.blocked + 1,
+            blocked: count.blocked + ticks,
             end,
         };
     }
@@ -66,12 +68,13 @@ fn counted<P: Judge>(
     }
 }
 
-/// Counts the tick for the active job.
+/// Counts the ticks for the active job.
 fn count_job<P: Judge>(
     protocol: &P,
     rows: &RowList,
     i: usize,
     machine: &Machine,
+    ticks: u64,
     j: JobId,
     counts: &mut [JobCount],
 )
@@ -81,13 +84,14 @@ fn count_job<P: Judge>(
     requires keeps { KeepsRow (P.keeps protocol.now) (under machine.now (row_in rows.now.runs)) machine.now.tick }
     requires listed { j.0 < length machine.now.list.jobs }
     requires size { length counts.old ≡ length machine.now.list.jobs }
-    requires room { (count_at counts.old j.0).blocked < MOST_TICKS }
+    requires room { (count_at counts.old j.0).blocked + ticks ≤ MOST_TICKS }
     ensures size { length counts.new ≡ length counts.old }
-    ensures own { count_at counts.new j.0 ≡ counted_once
-        (is_blocked (P.interferes protocol.now) (under machine.now (row_in rows.now.runs)) machine.now.tick j.0) machine.now.tick (count_at counts.old j.0) }
+    ensures own { count_at counts.new j.0 ≡ counted_on
+        (is_blocked (P.interferes protocol.now) (under machine.now (row_in rows.now.runs)) machine.now.tick j.0) machine.now.tick ticks
+        (count_at counts.old j.0) }
     ensures others { (k : ℕ) → (k ≡ j.0 → ⊥) → count_at counts.new k ≡ count_at counts.old k }
 {
-    counts[j.0 as usize] = counted(protocol, rows, i, machine, j, counts[j.0 as usize]);
+    counts[j.0 as usize] = counted(protocol, rows, i, machine, ticks, j, counts[j.0 as usize]);
 }
 
 /// How many tasks are there?
@@ -97,12 +101,14 @@ pub(crate) fn tasks_of(machine: &Machine) -> u32
     machine.jobs().set().tasks()
 }
 
-/// Counts the tick that the machine stands at, in a row that keeps the rules: one job of each task is active, or none.
-pub(crate) fn count_tick<P: Judge>(
+/// Counts so many ticks as the one that the machine stands at, in a row that keeps the rules: one job of each task is active, or
+/// none.
+pub(crate) fn count_ticks<P: Judge>(
     protocol: &P,
     rows: &RowList,
     i: usize,
     machine: &Machine,
+    ticks: u64,
     counts: &mut [JobCount],
 )
     requires suits { P.suits protocol.now machine.now.list.set }
@@ -110,12 +116,12 @@ pub(crate) fn count_tick<P: Judge>(
     requires shows { Shows machine.now (row_in rows.now.runs) }
     requires keeps { KeepsRow (P.keeps protocol.now) (under machine.now (row_in rows.now.runs)) machine.now.tick }
     requires size { length counts.old ≡ length machine.now.list.jobs }
-    requires room { (j : ℕ) → j < length machine.now.list.jobs → (count_at counts.old j).blocked < MOST_TICKS }
-    ensures { AddsTick (P.interferes protocol.now) (under machine.now (row_in rows.now.runs)) machine.now.tick counts.old counts.new }
+    requires room { (j : ℕ) → j < length machine.now.list.jobs → (count_at counts.old j).blocked + ticks ≤ MOST_TICKS }
+    ensures { AddsTicks (P.interferes protocol.now) (under machine.now (row_in rows.now.runs)) machine.now.tick ticks counts.old counts.new }
 {
     for x in 0..tasks_of(machine) {
         if let Some(j) = machine.current(TaskId(x)) {
-            count_job(protocol, rows, i, machine, j, counts);
+            count_job(protocol, rows, i, machine, ticks, j, counts);
         }
     }
 }

@@ -1,11 +1,11 @@
-ghost use Rattle.std.specs.Prelude.{◌≡◌, ◌+◌, ◌<◌, length, true};
+ghost use Rattle.std.specs.Prelude.{◌≡◌, ◌+◌, ◌<◌, ◌≤◌, length, true};
 ghost use Rattle.sporadic_model.specs.declared.limits.TheConstants.{MOST_TICKS};
 ghost use Rattle.schedule_model.specs.RowDef.{row_in, ticks_of};
 ghost use Rattle.schedule_model.specs.Fitting.{is_fitting};
-ghost use Rattle.trace_conform.specs.Runs.{IsAtRun, ticks_before};
-ghost use Rattle.trace_conform.specs.Reached.{IsReached, GoesOn};
+ghost use Rattle.trace_conform.specs.Runs.{IsAtRun, StandsFor, ticks_before};
+ghost use Rattle.trace_conform.specs.Reached.{IsReached, GoesOn, GoesSome};
 
-use crate::counts::{JobCount, count_tick};
+use crate::counts::{JobCount, count_ticks};
 use crate::runs::{count_of, run_at};
 use phase_machine::{Judge, Machine};
 use schedule_model::{RowList, Rule};
@@ -17,21 +17,25 @@ pub struct Breach {
     pub rule: Rule,
 }
 
-/// Judges, counts and takes the row of one tick of run number `i`.
-fn judge_tick<P: Judge>(
+/// Judges the row of run number `i`, of which so many ticks are left, and counts and takes the ticks of the steady stretch that it
+/// begins, as far as they are of the run. How many these were.
+fn judge_stretch<P: Judge>(
     protocol: &P,
     rows: &RowList,
     i: usize,
+    left: u64,
     machine: &mut Machine,
     counts: &mut [JobCount],
-) -> Result<(), Breach>
+) -> Result<u64, Breach>
     requires suits { P.suits protocol.now machine.old.list.set }
     requires at { IsAtRun rows.now i machine.old }
-    requires early { machine.old.tick < MOST_TICKS }
+    requires stands { StandsFor rows.now.runs i machine.old.tick left }
+    requires some { 1 ≤ left }
+    requires early { machine.old.tick + left ≤ MOST_TICKS }
     requires reached { IsReached (P.keeps protocol.now) (P.interferes protocol.now) (row_in rows.now.runs) machine.old counts.old }
     ensures list { machine.new.list ≡ machine.old.list }
     ensures size { length counts.new ≡ length counts.old }
-    ensures judged { GoesOn (P.keeps protocol.now) (P.interferes protocol.now) (row_in rows.now.runs) (machine.old.tick + 1)
+    ensures judged { GoesSome (P.keeps protocol.now) (P.interferes protocol.now) (row_in rows.now.runs) left
         machine.old machine.new counts.new result }
 {
     let row = &run_at(rows, i).row;
@@ -40,12 +44,13 @@ fn judge_tick<P: Judge>(
         Ok(()) => {}
         Err(rule) => return Err(Breach { tick, rule }),
     }
-    count_tick(protocol, rows, i, machine, counts);
-    machine.advance(row);
-    Ok(())
+    let ticks = machine.steady(row).min(left);
+    count_ticks(protocol, rows, i, machine, ticks, counts);
+    machine.advance_by(row, ticks);
+    Ok(ticks)
 }
 
-/// Judges, counts and takes each row of run number `i`.
+/// Judges, counts and takes each row of run number `i`, one steady stretch after the other.
 fn judge_run<P: Judge>(
     protocol: &P,
     rows: &RowList,
@@ -63,8 +68,9 @@ fn judge_run<P: Judge>(
     ensures judged { GoesOn (P.keeps protocol.now) (P.interferes protocol.now) (row_in rows.now.runs) (ticks_before rows.now.runs (i + 1))
         machine.old machine.new counts.new result }
 {
-    for _ in 0..run_at(rows, i).ticks {
-        judge_tick(protocol, rows, i, machine, counts)?;
+    let mut left = run_at(rows, i).ticks;
+    while left > 0 {
+        left -= judge_stretch(protocol, rows, i, left, machine, counts)?;
     }
     Ok(())
 }

@@ -1,15 +1,13 @@
-use Rattle.std.proofs.Common.{◌≡◌, ◌∙◌, ℕ, ◌<◌, refl, sym, subst, arith, List, map, None}
+use Rattle.std.proofs.Common.{◌∙◌, ℕ, refl, sym, subst, arith, List}
 use Rattle.std.specs.Prelude.{slice_index}
 use Rattle.sporadic_model.specs.Accepted.{IsAccepted}
 use Rattle.schedule_model.specs.JobDef.{JobDef, job_of}
 use Rattle.schedule_model.specs.LawfulJobs.{IsLawfulJob}
 use Rattle.schedule_model.specs.RowDef.{Trace, row_in, trace_in, ticks_of}
 use Rattle.schedule_model.specs.Activity.{task_of}
-use Rattle.schedule_model.specs.Seen.{place_seen}
 use Rattle.schedule_laws.proofs.KindsOfTicks.{Blocked, blocked_is}
 use Rattle.charge_model.specs.ChargedTicks.{IsCharged}
-use Rattle.charge.specs.Passed.{first_passed}
-use Rattle.charge.specs.Table.{ItemDef, item_seen, IsChargeTable}
+use Rattle.charge.specs.Table.{ItemDef, IsChargeTable}
 use Rattle.charge.proofs.TallyLaws.{OfActive}
 use Rattle.charge.proofs.Reaching.{Walked, reached_first, walked_all, none_noted}
 use Rattle.charge.proofs.TableLaws.{table_is}
@@ -33,8 +31,8 @@ returns-in-Ok-items_of-clause-charged g c =
     c.in_ok-walk_all.ensures.walked.0 c.in_ok-walk_all.ensures.walked.1 in
     let only : (t : ℕ) → OfActive (g.P.ChargedProtocol.charges c.args.protocol.now) w t =
     λ t k charge e. let b : Blocked (g.P.BlockingProtocol.interferes c.args.protocol.now) w t k =
-        blocked_is (g.P.BlockingProtocol.interferes c.args.protocol.now) w t k
-        (g.met.P.ChargedProtocol.charges_only c.args.protocol.now w t k charge e) in b.active in
+    blocked_is (g.P.BlockingProtocol.interferes c.args.protocol.now) w t k
+    (g.met.P.ChargedProtocol.charges_only c.args.protocol.now w t k charge e) in b.active in
     let table : IsChargeTable (g.P.ChargedProtocol.charges c.args.protocol.now) (g.P.BlockingProtocol.interferes c.args.protocol.now) w
     (slice_index c.args.bounds.now) n _ =
     table_is (g.P.ChargedProtocol.charges c.args.protocol.now) (g.P.BlockingProtocol.interferes c.args.protocol.now) w
@@ -46,7 +44,7 @@ returns-in-Ok-items_of-clause-charged g c =
       a.keeps_all,
       sym a.passed ∙ none_noted c.walk_all.new.ledger.passed c.in_default.not-Some,
       subst (λ (items : List ItemDef). IsChargeTable (g.P.ChargedProtocol.charges c.args.protocol.now)
-      (g.P.BlockingProtocol.interferes c.args.protocol.now) w (slice_index c.args.bounds.now) n items) (sym c.in-Ok-items_of.ensures.items) table,
+          (g.P.BlockingProtocol.interferes c.args.protocol.now) w (slice_index c.args.bounds.now) n items) (sym c.in-Ok-items_of.ensures.items) table,
     )
 
 pub returns-in-Ok-items_of-clause-rows : goal.returns-in-Ok-items_of-clause-rows
@@ -60,8 +58,8 @@ returns-in-Ok-items_of-clause-rows g c = λ j l.
     c.in_ok-walk_all.ensures.walked.0 c.in_ok-walk_all.ensures.walked.1 in
     let only : (t : ℕ) → OfActive (g.P.ChargedProtocol.charges c.args.protocol.now) w t =
     λ t k charge e. let b : Blocked (g.P.BlockingProtocol.interferes c.args.protocol.now) w t k =
-        blocked_is (g.P.BlockingProtocol.interferes c.args.protocol.now) w t k
-        (g.met.P.ChargedProtocol.charges_only c.args.protocol.now w t k charge e) in b.active in
+    blocked_is (g.P.BlockingProtocol.interferes c.args.protocol.now) w t k
+    (g.met.P.ChargedProtocol.charges_only c.args.protocol.now w t k charge e) in b.active in
     let accepted : IsAccepted w.set = subst IsAccepted c.set.ensures c.tasks-tasks.ensures.accepted in
     let job : JobDef = job_of c.args.jobs.now.jobs j in
     let lawful : IsLawfulJob w.set job = a.lawful.each j l in

@@ -1,11 +1,9 @@
-use Rattle.std.proofs.Common.{◌≡◌, ◌∙◌, ℕ, ◌+◌, sym, ap, arith}
+use Rattle.std.proofs.Common.{◌∙◌, ◌+◌, ap, arith}
 use Rattle.std.specs.Prelude.{slice_index}
-use Rattle.std.specs.Option.{option_and_then}
 use Rattle.bounded_sums.specs.Sums.{flag}
 use Rattle.schedule_model.specs.RowDef.{Trace, row_in}
 use Rattle.schedule_laws.proofs.KindsOfTicks.{Blocked, blocked_is}
 use Rattle.phase_machine.specs.MachineDef.{under}
-use Rattle.charge.specs.declared.tally.Place.{Place}
 use Rattle.charge.specs.Tally.{is_place, ticks_before, ticks_with}
 use Rattle.charge.proofs.TallyLaws.{OfActive, tally_agree, count_is, count_first, count_more, count_all, count_most}
 use Rattle.charge.proofs.counting.charge_tick.Goals as goal
@@ -34,8 +32,8 @@ loop-x-preserved g c =
     let w : Trace = under c.args.machine.now (row_in c.args.rows.now.runs) in
     let only : OfActive (g.P.ChargedProtocol.charges c.args.protocol.now) w c.args.machine.now.tick =
     λ k charge e. let b : Blocked (g.P.BlockingProtocol.interferes c.args.protocol.now) w c.args.machine.now.tick k =
-        blocked_is (g.P.BlockingProtocol.interferes c.args.protocol.now) w c.args.machine.now.tick k
-        (g.met.P.ChargedProtocol.charges_only c.args.protocol.now w c.args.machine.now.tick k charge e) in b.active in
+    blocked_is (g.P.BlockingProtocol.interferes c.args.protocol.now) w c.args.machine.now.tick k
+    (g.met.P.ChargedProtocol.charges_only c.args.protocol.now w c.args.machine.now.tick k charge e) in b.active in
     tally_agree c.add_named.new.ticks _ _
     (λ p. ap (λ o. ticks_with (g.P.ChargedProtocol.charges c.args.protocol.now) w (slice_index c.args.bounds.now) c.args.machine.now.tick c.loop-x.x p
     + flag (is_place p o)) c.place_in.ensures
@@ -48,8 +46,8 @@ returns g c =
     let w : Trace = under c.args.machine.now (row_in c.args.rows.now.runs) in
     let only : OfActive (g.P.ChargedProtocol.charges c.args.protocol.now) w c.args.machine.now.tick =
     λ k charge e. let b : Blocked (g.P.BlockingProtocol.interferes c.args.protocol.now) w c.args.machine.now.tick k =
-        blocked_is (g.P.BlockingProtocol.interferes c.args.protocol.now) w c.args.machine.now.tick k
-        (g.met.P.ChargedProtocol.charges_only c.args.protocol.now w c.args.machine.now.tick k charge e) in b.active in
+    blocked_is (g.P.BlockingProtocol.interferes c.args.protocol.now) w c.args.machine.now.tick k
+    (g.met.P.ChargedProtocol.charges_only c.args.protocol.now w c.args.machine.now.tick k charge e) in b.active in
     tally_agree c.loop-x.ticks _ _
     (λ p. count_all (g.P.ChargedProtocol.charges c.args.protocol.now) c.args.machine.now (row_in c.args.rows.now.runs) (slice_index c.args.bounds.now)
     c.loop-x.x p c.requires.shows only (omega (arith, c.loop-x-test.false, c.tasks_of-x-end.ensures.value))) c.loop-x.invariant

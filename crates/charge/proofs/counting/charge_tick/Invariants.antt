@@ -1,4 +1,3 @@
-use Rattle.std.proofs.Common.{◌≡◌}
 use Rattle.std.specs.Prelude.{slice_index}
 use Rattle.schedule_model.specs.RowDef.{row_in}
 use Rattle.phase_machine.specs.MachineDef.{under}

@@ -1,4 +1,4 @@
-use Rattle.std.proofs.Common.{◌≡◌, ◌∙◌, ap, arith, length}
+use Rattle.std.proofs.Common.{◌∙◌, ap, arith}
 use Rattle.schedule_model.specs.Seen.{place_seen}
 use Rattle.charge.specs.Due.{least_of}
 use Rattle.charge.proofs.Passing.{least_next, all_due, none_due}

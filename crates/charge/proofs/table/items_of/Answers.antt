@@ -1,6 +1,6 @@
-use Rattle.std.proofs.Common.{◌≡◌, ◌∷◌, ◌++◌, ◌∙◌, List, map, ap, sym}
+use Rattle.std.proofs.Common.{◌≡◌, ◌∷◌, ◌++◌, ◌∙◌, map, ap, sym}
 use Rattle.std.specs.Map.Iter.{deref_pair}
-use Rattle.std.proofs.lemmas.Map.Iter.{rest_more, rest_all}
+use Rattle.std.proofs.lemmas.Map.Iter.{rest_more}
 use Rattle.charge.specs.Table.{item_seen}
 use Rattle.charge.specs.Tally.{item_of}
 use Rattle.charge.proofs.Pushing.{pushed}

@@ -1,4 +1,4 @@
-use Rattle.std.proofs.Common.{◌≡◌, length}
+use Rattle.std.proofs.Common.{◌≡◌}
 use Rattle.schedule_model.specs.RowDef.{row_in}
 use Rattle.trace_conform.specs.Runs.{ticks_before as start_of}
 use Rattle.charge.specs.Reached.{IsReached}

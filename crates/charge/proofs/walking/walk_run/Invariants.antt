@@ -1,4 +1,4 @@
-use Rattle.std.proofs.Common.{◌≡◌, ◌+◌, length}
+use Rattle.std.proofs.Common.{◌≡◌, ◌+◌}
 use Rattle.schedule_model.specs.RowDef.{row_in}
 use Rattle.charge.specs.Reached.{IsReached}
 use Rattle.charge.proofs.walking.walk_run.Given as goal

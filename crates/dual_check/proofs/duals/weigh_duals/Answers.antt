@@ -21,7 +21,7 @@ weigh-requires-clause-denominator g c =
 
 pub loop-i-preserved : goal.loop-i-preserved
 loop-i-preserved g c =
-    let f : SourceDef = source_for (g.P.ProgramSource.program_of c.args.protocol.now) (g.P.ProgramSource.interfering c.args.protocol.now) c.args.set.now in
+    let f : SourceDef = source_for (g.P.ChargedProtocol.program_of c.args.protocol.now) (g.P.ChargedProtocol.interfering c.args.protocol.now) c.args.set.now in
     let cert : CertificateDef = certificate_seen c.args.certificate.now in
     let i : ℕ = c.loop-i.i in
     let here : i < length c.args.certificate.now.duals.items = omega (arith, c.requires.dual_each) in

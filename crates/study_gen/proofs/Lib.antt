@@ -1,0 +1,4 @@
+pub mod EachLaws
+pub mod OrderLaws
+pub mod SetLaws
+pub mod TallyLaws

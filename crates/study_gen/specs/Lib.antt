@@ -1,0 +1,4 @@
+pub mod Generator
+pub mod Sets
+pub mod Counts
+pub mod Tallies

@@ -1,0 +1,35 @@
+ghost use Rattle.std.specs.Prelude.{◌≡◌, ◌<◌, ◌≤◌, ◌^◌};
+ghost use Rattle.study_gen.specs.Generator.{next_state, drawn, picked};
+
+const FACTOR: u64 = 6_364_136_223_846_793_005;
+
+const STEP: u64 = 1_442_695_040_888_963_407;
+
+/// A generator of numbers.
+#[derive(Clone, Copy, Debug)]
+pub struct Generator {
+    pub state: u64,
+}
+
+impl Generator {
+    /// Draws the next number.
+    fn draw(&mut self) -> u64
+        ensures value { result ≡ drawn self.old.state }
+        ensures state { self.new.state ≡ next_state self.old.state }
+    {
+        self.state = self.state.wrapping_mul(FACTOR).wrapping_add(STEP);
+        self.state >> 33
+    }
+
+    /// Picks a number from `least` to `most`.
+    pub fn pick(&mut self, least: u64, most: u64) -> u64
+        requires order { least ≤ most }
+        requires most { most < 2 ^ 63 }
+        ensures value { result ≡ picked self.old.state least most }
+        ensures state { self.new.state ≡ next_state self.old.state }
+        ensures from { least ≤ result }
+        ensures to { result ≤ most }
+    {
+        least + self.draw() % (most - least + 1)
+    }
+}

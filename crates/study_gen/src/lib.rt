@@ -1,0 +1,14 @@
+//! Task sets that are made from a number, and a study over them: how many are schedulable under each protocol.
+//!
+//! The same number gives the same sets and the same counts on every machine.
+#![tactic(auto)]
+
+mod counting;
+mod generator;
+mod parts;
+
+pub use counting::{StudyCounts, study};
+pub use parts::make_set;
+
+#[cfg(test)]
+mod tests;

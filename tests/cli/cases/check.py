@@ -1,0 +1,57 @@
+"""The commands `check` and `report` with a certificate."""
+from setting import Case
+from sets import FIVE, PAIR, PAIR_CERTIFICATE, SIX, SIX_CERTIFICATE, certificate, pair, resource
+
+FULL_TABLE = (
+    "task                            cpu     period   deadline       cost      local      bound   blocking      slack\n"
+    "t1                                1         10         10          3          3          5          2          5\n"
+    "t2                                2         10         10          4          4          5          1          5\n"
+    "load 1 300000\nload 2 400000\n"
+)
+
+
+def checked(shows, says, cert, set=PAIR, protocol="fmlp+", command="check"):
+    status = 3 if says.startswith("refused ") else 1 if says.startswith("invalid ") else 0
+    return Case(shows, f"{command} {protocol} set cert", says + "\n" if not says.endswith("\n") else says, status, {"set": set, "cert": cert})
+
+
+def changed(old, new):
+    return PAIR_CERTIFICATE.replace(old, new, 1)
+
+
+CASES = [
+    checked("the certificate of the analysis", "valid", PAIR_CERTIFICATE),
+    checked("the same under DPCP", "valid", certificate("dpcp", [5, 5], [[2, 0, 0], [1, 0]]), protocol="dpcp"),
+    checked("a dual over the denominator 3", "valid", SIX_CERTIFICATE, SIX, "mpcp"),
+    checked("a set of three tasks", "valid", certificate("fmlp+", [4, 11, 7], [[2, 0, 0], [3, 0, 0, 0], [2, 0, 0, 0]]), FIVE),
+    checked("greater bounds with other duals", "valid", certificate("fmlp+", [6, 5], [[0, 0, 2, 0], [0, 0, 1, 0]])),
+    checked("members in another order, with spaces", "valid",
+            '{ "version": 1, "verdict": "schedulable", "protocol": "fmlp+", "duals": '
+            '[{"num": [2, 0, 0, 0], "den": 1}, {"num": [1, 0, 0, 0], "den": 1}], "bounds": [5, 5] }'),
+    checked("a greater bound in whose window two jobs of the other run", "invalid small t1", certificate("fmlp+", [6, 5], [[2, 0, 0, 0], [0, 0, 1, 0]])),
+    checked("a bound one below the least", "invalid small t2", certificate("fmlp+", [5, 4], [[2, 0, 0, 0], [1, 0, 0, 0]])),
+    checked("a column that isn't covered", "invalid cover t1 1", certificate("fmlp+", [5, 5], [[1, 0, 0, 0], [1, 0, 0, 0]])),
+    checked("a numerator too few", "invalid dualsize t1", certificate("fmlp+", [5, 5], [[2, 0, 0], [1, 0, 0, 0]])),
+    checked("a bound above its deadline", "invalid bound t1", certificate("fmlp+", [11, 5], [[2, 0, 0, 0], [1, 0, 0, 0]])),
+    checked("one bound", "invalid size", certificate("fmlp+", [5], [[2, 0, 0, 0], [1, 0, 0, 0]])),
+    checked("the last task's bound before the first task's dual", "invalid bound t2", certificate("fmlp+", [5, 11], [[2, 0, 0], [1, 0, 0, 0]])),
+    checked("a later task's column before an earlier task's bound", "invalid cover t2 1", certificate("fmlp+", [4, 5], [[2, 0, 0, 0], [0, 0, 0, 0]])),
+    checked("bounds of 0", "invalid small t1", certificate("fmlp+", [0, 0], [[2, 0, 0, 0], [1, 0, 0, 0]])),
+    checked("the greatest bounds that can be written", "invalid bound t1", certificate("fmlp+", [2**64 - 1, 2**64 - 1], [[2, 0, 0, 0], [1, 0, 0, 0]])),
+    checked("the greatest numbers of a dual", "invalid small t1", certificate("fmlp+", [5, 5], [(2**63 - 1, [2**63 - 1] * 4), [1, 0, 0, 0]])),
+    checked("a certificate of another set", "invalid size", PAIR_CERTIFICATE, FIVE),
+    checked("a certificate for another protocol", "refused cert otherprotocol", PAIR_CERTIFICATE, protocol="mpcp"),
+    checked("another version", "refused cert version", changed('"version":1', '"version":9')),
+    checked("a version that is no whole number", "refused cert shape root", changed('"version":1', '"version":1.0')),
+    checked("another verdict", "refused cert shape root", changed("schedulable", "shown")),
+    checked("a member that isn't listed", "refused cert shape root", changed('"version"', '"set":1,"version"')),
+    checked("a bound that is no whole number", "refused cert shape bounds", changed("[5,5]", "[5,-5]")),
+    checked("a denominator of 0", "refused cert shape dual 2", changed('{"den":1,"num":[1', '{"den":0,"num":[1')),
+    checked("a numerator of 2^63", "refused cert shape dual 1", changed("[2,0", "[9223372036854775808,0")),
+    checked("a certificate cut short", "refused cert notjson", PAIR_CERTIFICATE[:40]),
+    checked("the set is read first", "refused set nohome resource 1", "{", pair([resource("q")]), "dpcp"),
+    Case("a certificate that isn't there", "check fmlp+ set cert", "refused cert absent\n", 3, {"set": PAIR}),
+    checked("the table with bounds, blocking and slack", FULL_TABLE, PAIR_CERTIFICATE, command="report"),
+    checked("no table of a certificate that isn't valid", "invalid small t2", certificate("fmlp+", [5, 4], [[2, 0, 0, 0], [1, 0, 0, 0]]), command="report"),
+    checked("nor of one that is refused", "refused cert otherprotocol", PAIR_CERTIFICATE, protocol="mpcp", command="report"),
+]
