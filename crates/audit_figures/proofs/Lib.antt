@@ -3,4 +3,5 @@ pub mod TableSums
 pub mod Together
 pub mod AddUp
 pub mod Adding
-pub mod Answered
+pub mod NeverPassed
+pub mod Lawful

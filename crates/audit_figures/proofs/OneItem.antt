@@ -55,10 +55,14 @@ request_parts r item h =
 
 -- Two items of one request of one job stand at the same place of the order.
 tied : (r : ChargedRequest) (a b : ItemDef) → a.blocked ≡ b.blocked → SameRequest r a → SameRequest r b → item_cmp a b ≡ Equal
-tied r a b same of_a of_b = rw (itself same, itself (sym of_a.blocker ∙ of_b.blocker), itself (sym of_a.request ∙ of_b.request),
-    itself (sym of_a.class ∙ of_b.class)) refl where
-      itself : {x y : ℕ} → x ≡ y → nat_cmp x y ≡ Equal
-      itself {x} {y} e = ap (λ k. nat_cmp k y) e ∙ tied_itself nat_cmp_total y
+tied r a b same of_a of_b = rw (
+  itself same,
+  itself (sym of_a.blocker ∙ of_b.blocker),
+  itself (sym of_a.request ∙ of_b.request),
+  itself (sym of_a.class ∙ of_b.class),
+) refl where
+  itself : {x y : ℕ} → x ≡ y → nat_cmp x y ≡ Equal
+  itself {x} {y} e = ap (λ k. nat_cmp k y) e ∙ tied_itself nat_cmp_total y
 
 -- So no two items of a sorted table are.
 never_two : (r : ChargedRequest) (items : List ItemDef) (i k : ℕ) → IsStrictlySortedBy item_cmp items → i < k → k < length items

@@ -25,7 +25,7 @@ use Rattle.trace_conform.specs.Measured.{measure_seen, no_measure}
 use Rattle.charge.specs.declared.item.ChargeItem.{ChargeItem}
 use Rattle.charge.specs.Table.{item_seen, IsChargeTable}
 use Rattle.audit_figures.specs.declared.sums.ClassSums.{ClassSums}
-use Rattle.audit_figures.specs.declared.auditing.TaskFigures.{TaskFigures}
+use Rattle.audit_figures.specs.declared.beside.TaskFigures.{TaskFigures}
 use Rattle.audit_figures.specs.Sums.{counted, item_ticks, item_sums, sums_at}
 use Rattle.audit_figures.specs.Beside.{figures_from}
 use Rattle.audit_figures.specs.Figures.{is_of_class, class_ticks, class_sum, figures_of, no_figures, AreFigures, ChargesBlocked}
@@ -72,7 +72,7 @@ pub figures_are : (charges : Trace → ℕ → ℕ → Option Charge) (interfere
     → length figures ≡ length w.set.tasks
     → ((x : ℕ) → x < length w.set.tasks → get_or figures x no_figures
     ≡ figures_from (get_or measured.tasks.items x no_measure) (slice_index bounds x) (slice_index values x) (sums_at sums x))
-    → AreFigures charges interferes w bounds values n figures
+    → AreFigures charges interferes w (slice_index bounds) (slice_index values) n figures
 unfolding item_sums figures_of
 figures_are charges interferes w n bounds values measured items sums figures jobs rows only measures table summed size put = record {
   size = size;
@@ -95,7 +95,7 @@ pub answer_is : (r : Result (Vec TaskFigures Global) AllocError) (list : JobsDef
     → IfOk r (λ v. (charges : Trace → ℕ → ℕ → Option Charge) (interferes : Trace → ℕ → ℕ → Bool) (w : Trace) (n : ℕ) → jobs_of w ≡ list
     → n ≤ MOST_TICKS → ChargesBlocked charges interferes w → AreMeasures interferes w n measured
     → IsChargeTable charges interferes w (slice_index bounds) n (map item_seen items)
-    → AreFigures charges interferes w bounds values n v.items)
+    → AreFigures charges interferes w (slice_index bounds) (slice_index values) n v.items)
 answer_is (Err e) list measured bounds values items sums jobs one_each summed size put = tt
 answer_is (Ok v) list measured bounds values items sums jobs one_each summed size put = λ charges interferes w n same rows only measures table.
     figures_are charges interferes w n bounds values measured items sums v.items

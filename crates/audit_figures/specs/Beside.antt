@@ -2,7 +2,7 @@
 use Rattle.std.specs.Prelude.{ℕ}
 use Rattle.trace_conform.specs.declared.measures.TaskMeasure.{TaskMeasure}
 use Rattle.audit_figures.specs.declared.sums.ClassSums.{ClassSums}
-use Rattle.audit_figures.specs.declared.auditing.TaskFigures.{TaskFigures}
+use Rattle.audit_figures.specs.declared.beside.TaskFigures.{TaskFigures}
 
 abbrev pub figures_from : TaskMeasure → ℕ → ℕ → ClassSums → TaskFigures
 figures_from measure bound value sums = record {

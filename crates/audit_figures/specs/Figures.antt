@@ -1,5 +1,5 @@
 -- The figures of a task: what a schedule did to it, beside what was proved of it, and the ticks at which its jobs were charged.
-use Rattle.std.specs.Prelude.{◌≡◌, ℕ, ◌<◌, ◌==◌, Bool, true, false, List, length, slice_index, slice_index_or, Option, None, Some}
+use Rattle.std.specs.Prelude.{◌≡◌, ℕ, ◌<◌, ◌==◌, Bool, true, false, List, length, slice_index_or, Option, None, Some}
 use Rattle.std.specs.Option.{option_map_or}
 use Rattle.bounded_sums.specs.Sums.{sum_below, only_if}
 use Rattle.bounded_sums.specs.Tests.{count_below}
@@ -12,7 +12,7 @@ use Rattle.fragments.specs.declared.columns.Class.TheVariants.{Direct, Indirect,
 use Rattle.charge_model.specs.Charges.{Charge}
 use Rattle.charge_model.specs.Windows.{window_end}
 use Rattle.charge_model.specs.Fractions.{is_same_class}
-use Rattle.audit_figures.specs.declared.auditing.TaskFigures.{TaskFigures}
+use Rattle.audit_figures.specs.declared.beside.TaskFigures.{TaskFigures}
 
 -- Is it a charge of this class?
 abbrev pub is_of_class : Class → Option Charge → Bool
@@ -32,16 +32,16 @@ blocked_sum interferes w bound n x =
     sum_below (length w.jobs)
     (λ j. only_if (task_of w j == x) (count_below (window_end w bound n j) (λ t. is_blocked interferes w t j)))
 
--- The figures of task x over n rows, beside these bounds and values.
-unfoldable pub figures_of : (Trace → ℕ → ℕ → Option Charge) → (Trace → ℕ → ℕ → Bool) → Trace → List ℕ → List ℕ → ℕ → ℕ → TaskFigures
-figures_of charges interferes w bounds values n x = record {
+-- The figures of task x over n rows, where tasks have these bounds and values.
+unfoldable pub figures_of : (Trace → ℕ → ℕ → Option Charge) → (Trace → ℕ → ℕ → Bool) → Trace → (ℕ → ℕ) → (ℕ → ℕ) → ℕ → ℕ → TaskFigures
+figures_of charges interferes w bound value n x = record {
   response = (measures_of interferes w n x).response;
-  bound = slice_index bounds x;
+  bound = bound x;
   blocking = (measures_of interferes w n x).blocking;
-  value = slice_index values x;
-  direct = class_sum charges w (slice_index bounds) n Direct x;
-  indirect = class_sum charges w (slice_index bounds) n Indirect x;
-  preemption = class_sum charges w (slice_index bounds) n Preemption x;
+  value = value x;
+  direct = class_sum charges w bound n Direct x;
+  indirect = class_sum charges w bound n Indirect x;
+  preemption = class_sum charges w bound n Preemption x;
 }
 
 -- What a look-up past the end gives.
@@ -49,10 +49,10 @@ abbrev pub no_figures : TaskFigures
 no_figures = record { response = None; bound = 0; blocking = 0; value = 0; direct = 0; indirect = 0; preemption = 0 }
 
 -- Are these the figures of each task?
-pub record AreFigures (charges : Trace → ℕ → ℕ → Option Charge) (interferes : Trace → ℕ → ℕ → Bool) (w : Trace) (bounds values : List ℕ)
+pub record AreFigures (charges : Trace → ℕ → ℕ → Option Charge) (interferes : Trace → ℕ → ℕ → Bool) (w : Trace) (bound value : ℕ → ℕ)
     (n : ℕ) (figures : List TaskFigures) : Type 0 where
   pub size : length figures ≡ length w.set.tasks
-  pub each : (x : ℕ) → x < length w.set.tasks → slice_index_or figures x no_figures ≡ figures_of charges interferes w bounds values n x
+  pub each : (x : ℕ) → x < length w.set.tasks → slice_index_or figures x no_figures ≡ figures_of charges interferes w bound value n x
 
 -- Is no tick charged for a job but those at which it is blocked?
 abbrev pub ChargesBlocked : (Trace → ℕ → ℕ → Option Charge) → (Trace → ℕ → ℕ → Bool) → Trace → Type 0

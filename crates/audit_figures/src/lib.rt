@@ -1,10 +1,10 @@
-//! Sets what was measured of each task in a schedule beside what a certificate proves of it, and beside the ticks that charge its
-//! jobs.
+//! Audits a schedule against a certificate: judges both, and sets what the schedule did to each task beside what the certificate
+//! proves of it, and beside the ticks at which its jobs were charged.
 #![tactic(auto)]
 
 mod auditing;
-mod laws;
+mod beside;
 mod sums;
 
-pub use auditing::{TaskFigures, figures};
-pub use laws::{charges_of_sound_schedules, class_sums_add_up, figures_of_sound_schedules};
+pub use auditing::{AuditStop, audit, audit_with};
+pub use beside::TaskFigures;

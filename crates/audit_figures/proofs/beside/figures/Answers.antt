@@ -5,7 +5,7 @@ use Rattle.audit_figures.specs.Sums.{sums_at}
 use Rattle.audit_figures.specs.Figures.{no_figures}
 use Rattle.audit_figures.specs.Beside.{figures_from}
 use Rattle.audit_figures.proofs.Together.{answer_is}
-use Rattle.audit_figures.proofs.auditing.figures.Goals as goal
+use Rattle.audit_figures.proofs.beside.figures.Goals as goal
 
 pub returns : goal.returns
 returns c =

@@ -4,7 +4,7 @@ use Rattle.trace_conform.specs.Measured.{no_measure}
 use Rattle.audit_figures.specs.Sums.{sums_at}
 use Rattle.audit_figures.specs.Figures.{no_figures}
 use Rattle.audit_figures.specs.Beside.{figures_from}
-use Rattle.audit_figures.proofs.auditing.put_together.Given as goal
+use Rattle.audit_figures.proofs.beside.put_together.Given as goal
 
 abbrev pub invariant-loop-x : goal.invariant-loop-x
 invariant-loop-x l = record {
