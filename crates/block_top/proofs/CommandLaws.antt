@@ -130,6 +130,7 @@ simulate_quiet p set jobs n = λ bytes tasks b list. simulation_quiet p list n
 
 study_form_quiet : (seed sets : ℕ) → IsQuiet (plan_of (Study seed sets))
 study_form_quiet seed sets = study_quiet seed sets
+
 audits_quiet : (p : Protocol) (set cert jobs rows : List ℕ) → IsQuiet (plan_of (Audit p set cert jobs rows))
 audits_quiet p set cert jobs rows = λ bytes tasks b c d list e schedule. audit_quiet p c list schedule
 

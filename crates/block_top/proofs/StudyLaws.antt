@@ -24,8 +24,8 @@ same_text seed sets c d p q =
     let f : ℕ → List ℕ = λ i. step_line i (slice_index_or c.counts.items i []) in
     let g : ℕ → List ℕ = λ i. step_line i (slice_index_or d.counts.items i []) in
     let lines : collect_below 8 f ≡ collect_below 8 g = same_lines 8 f g (λ i here.
-        let same = step_once seed sets c d p q i here in
-        same_line i (slice_index_or c.counts.items i []) (slice_index_or d.counts.items i []) same.0 same.1 same.2) in
+    let same = step_once seed sets c d p q i here in
+    same_line i (slice_index_or c.counts.items i []) (slice_index_or d.counts.items i []) same.0 same.1 same.2) in
     ap (λ l. codes "step mpcp fmlp+ dpcp\n" ++ (l ++ (codes "stopped " ++ (decimal c.stopped ++ codes "\n")))) lines
     ∙ ap (λ n. codes "step mpcp fmlp+ dpcp\n" ++ (collect_below 8 g ++ (codes "stopped " ++ (decimal n ++ codes "\n")))) (stopped_is_one seed sets c d p q)
 

@@ -123,6 +123,7 @@ IsStudyAnswer seed sets answer = (c : StudyCounts) × IsStudy seed sets c × (an
 -- Making and counting sets, which always ends.
 abbrev pub study_of : ℕ → ℕ → Work
 study_of seed sets = record { answers = IsStudyAnswer seed sets; ends = Unit {0} }
+
 -- The answer on n rows where one that keeps the rules has this answer: it; or here is the first row that breaks a rule, with the
 -- first rule that it breaks.
 abbrev pub IsKept : (Rule → Trace → ℕ → Type 0) → Trace → ℕ → Answer → Answer → Type 0

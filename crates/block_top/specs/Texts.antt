@@ -65,6 +65,7 @@ step_line i row = decimal (i + 1) ++ (codes " " ++ (counts_text row ++ codes "\n
 abbrev pub study_text : List (List ℕ) → ℕ → List ℕ
 study_text rows stopped = codes "step mpcp fmlp+ dpcp\n"
     ++ (collect_below 8 (λ i. step_line i (slice_index_or rows i [])) ++ (codes "stopped " ++ (decimal stopped ++ codes "\n")))
+
 -- What stands behind a space.
 abbrev pub behind_space : ℕ → List ℕ
 behind_space n = codes " " ++ decimal n

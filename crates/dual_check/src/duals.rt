@@ -10,8 +10,8 @@ ghost use Rattle.dual_check.specs.Answers.{source_for, HasDenominators, IsWorth,
 
 use crate::answer::Invalid;
 use crate::sums::{holds_column, value_to};
-use program_form::{Certificate, Dual, Program};
 use charge::ChargedProtocol;
+use program_form::{Certificate, Dual, Program};
 use sporadic_model::{TaskId, TaskSet};
 use std::alloc::{AllocError, Global};
 
