@@ -70,12 +70,17 @@ study_text rows stopped = codes "step mpcp fmlp+ dpcp\n"
 abbrev pub behind_space : ℕ → List ℕ
 behind_space n = codes " " ++ decimal n
 
--- The figures of a task: the greatest response of its jobs, its bound, the greatest blocking and the bound on it, and the ticks of
--- each class.
+-- What stands beside its bound: the greatest response of a task's jobs, and their greatest blocking.
+abbrev pub bounded_text : TaskFigures → List ℕ
+bounded_text f = response_text f.response ++ (behind_space f.bound ++ (behind_space f.blocking ++ behind_space f.value))
+
+-- The ticks of each class.
+abbrev pub classes_text : TaskFigures → List ℕ
+classes_text f = behind_space f.direct ++ (behind_space f.indirect ++ behind_space f.preemption)
+
+-- The figures of a task.
 abbrev pub figures_text : TaskFigures → List ℕ
-figures_text f =
-    response_text f.response ++ (behind_space f.bound ++ (behind_space f.blocking ++ (behind_space f.value
-    ++ (behind_space f.direct ++ (behind_space f.indirect ++ behind_space f.preemption)))))
+figures_text f = bounded_text f ++ classes_text f
 
 -- A task's line: its name, and its figures.
 abbrev pub figures_line : List ℕ → TaskFigures → List ℕ

@@ -3,7 +3,7 @@ ghost use Rattle.sporadic_model.specs.SetDef.{task_at};
 ghost use Rattle.trace_conform.specs.Measured.{measure_seen, no_measure};
 ghost use Rattle.audit_figures.specs.Figures.{no_figures};
 ghost use Rattle.block_top.specs.Reached.{FailsTask};
-ghost use Rattle.block_top.specs.Texts.{not_shown_text, wide_text, response_text, measures_text, measures_line, measures_lines, lawful_text, rule_text, broken_text, failing_task, invalid_text, behind_space, figures_text, figures_line, figures_lines, kept_text};
+ghost use Rattle.block_top.specs.Texts.{not_shown_text, wide_text, response_text, measures_text, measures_line, measures_lines, lawful_text, rule_text, broken_text, failing_task, invalid_text, behind_space, bounded_text, classes_text, figures_text, figures_line, figures_lines, kept_text};
 
 use audit_figures::TaskFigures;
 use dual_check::Invalid;
@@ -183,17 +183,31 @@ fn push_behind_space(text: &mut Vec<u8>, n: u64) -> Result<(), AllocError>
     push_number(text, n)
 }
 
-/// Adds the figures of a task.
-fn push_figures(text: &mut Vec<u8>, figures: TaskFigures) -> Result<(), AllocError>
-    ensures { OnOk result (text.new.items ≡ text.old.items ++ figures_text figures) }
+/// Adds the response and the blocking of a task, each with its bound.
+fn push_bounded(text: &mut Vec<u8>, figures: TaskFigures) -> Result<(), AllocError>
+    ensures { OnOk result (text.new.items ≡ text.old.items ++ bounded_text figures) }
 {
     push_response(text, figures.response)?;
     push_behind_space(text, figures.bound)?;
     push_behind_space(text, figures.blocking)?;
-    push_behind_space(text, figures.value)?;
+    push_behind_space(text, figures.value)
+}
+
+/// Adds the ticks of each class.
+fn push_classes(text: &mut Vec<u8>, figures: TaskFigures) -> Result<(), AllocError>
+    ensures { OnOk result (text.new.items ≡ text.old.items ++ classes_text figures) }
+{
     push_behind_space(text, figures.direct)?;
     push_behind_space(text, figures.indirect)?;
     push_behind_space(text, figures.preemption)
+}
+
+/// Adds the figures of a task.
+fn push_figures(text: &mut Vec<u8>, figures: TaskFigures) -> Result<(), AllocError>
+    ensures { OnOk result (text.new.items ≡ text.old.items ++ figures_text figures) }
+{
+    push_bounded(text, figures)?;
+    push_classes(text, figures)
 }
 
 /// Adds the line of a task with its figures.
