@@ -8,7 +8,7 @@ use Rattle.response_fixpoint.specs.Written.{written}
 use Rattle.response_fixpoint.proofs.RunLaws.{one_ending}
 use Rattle.report.specs.Table.{table_text}
 use Rattle.block_top.specs.Plans.{Answer, Plan, Working, Reading, Known, IsOutcomeOf}
-use Rattle.block_top.specs.Words.{Form, Analyse, Check, Report, FullReport, Conform, Simulate, Study}
+use Rattle.block_top.specs.Words.{Form, Analyse, Check, Report, FullReport, Conform, Simulate, Study, Audit}
 use Rattle.block_top.specs.Commands.{ending_answer, IsAnalysis, analysis_of, IsTable, table_of, checked_answer, reported_answer, conformance_of, plan_of}
 use Rattle.block_top.specs.Inputs.{set_input}
 use Rattle.block_top.specs.Run.{AnalysisEnds, IsWideEnding, IsAllowanceEnding}
@@ -22,6 +22,7 @@ use Rattle.block_top.proofs.JudgementLaws.{judgement_lawful, judgement_quiet}
 use Rattle.block_top.proofs.CertInputLaws.{cert_reads_once}
 use Rattle.block_top.proofs.SimulationLaws.{simulation_lawful, simulation_quiet}
 use Rattle.block_top.proofs.StudyLaws.{study_lawful, study_quiet}
+use Rattle.block_top.proofs.AuditLaws.{audit_lawful, audit_quiet}
 
 one_analysis : (protocol : Protocol) (set : SetDef) (allowance : ℕ) (a b : Answer) → IsAnalysis protocol set allowance a → IsAnalysis protocol set allowance b → a ≡ b
 one_analysis protocol set allowance a b (e, ends, is) (f, ends', is') =
@@ -70,6 +71,14 @@ lawful (Conform protocol set jobs rows) =
     (set_reads_once protocol, λ bytes tasks. (jobs_read_once tasks, λ bytes list. (rows_read_once list, λ bytes schedule. conformance_lawful protocol list schedule)))
 lawful (Simulate protocol set jobs ticks) = (set_reads_once protocol, λ bytes tasks. (jobs_read_once tasks, λ bytes list. simulation_lawful protocol list ticks))
 lawful (Study seed sets) = study_lawful seed sets
+lawful (Audit protocol set cert jobs rows) = (
+  set_reads_once protocol,
+  λ bytes tasks. (
+    cert_reads_once protocol,
+    λ bytes c.
+        (jobs_read_once tasks, λ bytes list. (rows_read_once list, λ bytes schedule. audit_lawful protocol c list schedule)),
+  ),
+)
 
 -- An analysis has status 5 or 6 only where its rounds end so.
 pub wide_ending : (protocol : Protocol) (set : SetDef) (e : Ending) (a : Answer) → a ≡ ending_answer protocol set e → a.status ≡ 5 → (i : ℕ) × (e ≡ Wide i)
@@ -122,6 +131,9 @@ simulate_quiet p set jobs n = λ bytes tasks b list. simulation_quiet p list n
 study_form_quiet : (seed sets : ℕ) → IsQuiet (plan_of (Study seed sets))
 study_form_quiet seed sets = study_quiet seed sets
 
+audits_quiet : (p : Protocol) (set cert jobs rows : List ℕ) → IsQuiet (plan_of (Audit p set cert jobs rows))
+audits_quiet p set cert jobs rows = λ bytes tasks b c d list e schedule. audit_quiet p c list schedule
+
 pub only_wide : (k : Known) (form : Form) (a : Answer) → IsOutcomeOf k (plan_of form) a → a.status ≡ 5 → AnalysisEnds k form IsWideEnding
 only_wide k (Analyse protocol name allowance) a (inl stopped) five = absurd (omega (arith, stopped_status k (set_input protocol) name a stopped, five))
 only_wide k (Analyse protocol name allowance) a (inr (bytes, set, read, last, (e, ends, is))) five = record {
@@ -145,6 +157,8 @@ only_wide k (Conform protocol set jobs rows) a out five =
 only_wide k (Simulate protocol set jobs ticks) a out five =
     absurd (not_quiet k (plan_of (Simulate protocol set jobs ticks)) a 5 (simulate_quiet protocol set jobs ticks) out five (omega arith))
 only_wide k (Study seed sets) a out five = absurd (not_quiet k (plan_of (Study seed sets)) a 5 (study_form_quiet seed sets) out five (omega arith))
+only_wide k (Audit protocol set cert jobs rows) a out five =
+    absurd (not_quiet k (plan_of (Audit protocol set cert jobs rows)) a 5 (audits_quiet protocol set cert jobs rows) out five (omega arith))
 
 pub only_short : (k : Known) (form : Form) (a : Answer) → IsOutcomeOf k (plan_of form) a → a.status ≡ 6 → AnalysisEnds k form IsAllowanceEnding
 only_short k (Analyse protocol name allowance) a (inl stopped) six = absurd (omega (arith, stopped_status k (set_input protocol) name a stopped, six))
@@ -169,3 +183,5 @@ only_short k (Conform protocol set jobs rows) a out six =
 only_short k (Simulate protocol set jobs ticks) a out six =
     absurd (not_quiet k (plan_of (Simulate protocol set jobs ticks)) a 6 (simulate_quiet protocol set jobs ticks) out six (omega arith))
 only_short k (Study seed sets) a out six = absurd (not_quiet k (plan_of (Study seed sets)) a 6 (study_form_quiet seed sets) out six (omega arith))
+only_short k (Audit protocol set cert jobs rows) a out six =
+    absurd (not_quiet k (plan_of (Audit protocol set cert jobs rows)) a 6 (audits_quiet protocol set cert jobs rows) out six (omega arith))

@@ -61,14 +61,14 @@ one_rule keeps w n t r s p q = elim (cases_lt (rule_number r) (rule_number s)) [
 abbrev pub broken_answer : ℕ → Rule → Answer
 broken_answer tick r = record { status = 1; text = broken_text tick r }
 
-one_broken : (keeps : Rule → Trace → ℕ → Type 0) (w : Trace) (n t u : ℕ) (r s : Rule) → IsFirstUnlawful keeps w n t r → IsFirstUnlawful keeps w n u s → broken_answer t r ≡ broken_answer u s
+pub one_broken : (keeps : Rule → Trace → ℕ → Type 0) (w : Trace) (n t u : ℕ) (r s : Rule) → IsFirstUnlawful keeps w n t r → IsFirstUnlawful keeps w n u s → broken_answer t r ≡ broken_answer u s
 one_broken keeps w n t u r s p q =
     let ticks : t ≡ u = one_tick keeps w n t u r s p q in
     let p' : IsFirstUnlawful keeps w n u r = subst (λ x. IsFirstUnlawful keeps w n x r) ticks p in
     ap (λ x. broken_answer x r) ticks ∙ ap (λ x. broken_answer u x) (one_rule keeps w n u r s p' q)
 
 -- A schedule that keeps the rules has no row that breaks one.
-not_both : (keeps : Rule → Trace → ℕ → Type 0) (w : Trace) (n t : ℕ) (r : Rule) → KeepsBefore keeps w n → IsFirstUnlawful keeps w n t r → ⊥
+pub not_both : (keeps : Rule → Trace → ℕ → Type 0) (w : Trace) (n t : ℕ) (r : Rule) → KeepsBefore keeps w n → IsFirstUnlawful keeps w n t r → ⊥
 not_both keeps w n t r kept p = p.breaks.broken (kept t p.within r)
 
 one_conformance : (keeps : Rule → Trace → ℕ → Type 0) (interferes : Trace → ℕ → ℕ → Bool) (w : Trace) (n : ℕ) (a b : Answer) → IsConformance keeps interferes w n a → IsConformance keeps interferes w n b → a ≡ b

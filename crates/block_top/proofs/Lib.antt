@@ -15,3 +15,4 @@ pub mod CertInputLaws
 pub mod SoundLaws
 pub mod CheckedLaws
 pub mod SetTextLaws
+pub mod AuditLaws

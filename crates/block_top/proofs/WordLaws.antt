@@ -1,4 +1,4 @@
--- Words that are fewer than three or more than five have no form.
+-- Words that are fewer than three or more than six have no form.
 use Rattle.std.proofs.Common.{◌≡◌, ℕ, ◌<◌, List, [], ◌∷◌, length, refl, arith, None}
 use Rattle.block_top.specs.Words.{form_of}
 
@@ -8,11 +8,12 @@ fewer_words (a ∷ []) few = refl
 fewer_words (a ∷ b ∷ []) few = refl
 fewer_words (a ∷ b ∷ c ∷ words) few = absurd (omega arith)
 
-pub more_words : (words : List (List ℕ)) → 5 < length words → None ≡ form_of words
+pub more_words : (words : List (List ℕ)) → 6 < length words → None ≡ form_of words
 more_words [] many = absurd (omega arith)
 more_words (a ∷ []) many = absurd (omega arith)
 more_words (a ∷ b ∷ []) many = absurd (omega arith)
 more_words (a ∷ b ∷ c ∷ []) many = absurd (omega arith)
 more_words (a ∷ b ∷ c ∷ d ∷ []) many = absurd (omega arith)
 more_words (a ∷ b ∷ c ∷ d ∷ e ∷ []) many = absurd (omega arith)
-more_words (a ∷ b ∷ c ∷ d ∷ e ∷ f ∷ words) many = refl
+more_words (a ∷ b ∷ c ∷ d ∷ e ∷ f ∷ []) many = absurd (omega arith)
+more_words (a ∷ b ∷ c ∷ d ∷ e ∷ f ∷ g ∷ words) many = refl

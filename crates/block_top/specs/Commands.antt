@@ -1,5 +1,5 @@
 -- The commands: what each form of words does.
-use Rattle.std.specs.Prelude.{◌≡◌, ℕ, ◌⊎◌, Bool, List}
+use Rattle.std.specs.Prelude.{◌≡◌, ℕ, ◌⊎◌, Bool, List, slice_index}
 use Rattle.program_form.specs.Certificate.{CertificateDef}
 use Rattle.program_sources.specs.Valid.{IsValid, value_at}
 use Rattle.sporadic_model.specs.SetDef.{SetDef, task_at}
@@ -25,8 +25,10 @@ use Rattle.sim_engine.specs.Simulated.{IsSimulated}
 use Rattle.study_gen.specs.Counts.{IsStudy}
 use Rattle.study_gen.specs.declared.counting.StudyCounts.{StudyCounts}
 use Rattle.block_top.specs.Plans.{Answer, Work, Plan, Working, Reading}
-use Rattle.block_top.specs.Words.{Form, Analyse, Check, Report, FullReport, Conform, Simulate, Study}
-use Rattle.block_top.specs.Texts.{not_shown_text, wide_text, allowance_text, lawful_text, broken_text, valid_text, invalid_text, study_text}
+use Rattle.block_top.specs.Words.{Form, Analyse, Check, Report, FullReport, Conform, Simulate, Study, Audit}
+use Rattle.block_top.specs.Texts.{not_shown_text, wide_text, allowance_text, lawful_text, broken_text, valid_text, invalid_text, study_text, kept_text}
+use Rattle.charge.specs.ByProtocol.{charges_of}
+use Rattle.audit_figures.specs.Figures.{figures_of}
 use Rattle.block_top.specs.Inputs.{set_input, cert_input, jobs_input, rows_input}
 
 -- What goes out where the rounds of the set end so.
@@ -122,6 +124,41 @@ IsStudyAnswer seed sets answer = (c : StudyCounts) × IsStudy seed sets c × (an
 abbrev pub study_of : ℕ → ℕ → Work
 study_of seed sets = record { answers = IsStudyAnswer seed sets; ends = Unit {0} }
 
+-- The answer on n rows where one that keeps the rules has this answer: it; or here is the first row that breaks a rule, with the
+-- first rule that it breaks.
+abbrev pub IsKept : (Rule → Trace → ℕ → Type 0) → Trace → ℕ → Answer → Answer → Type 0
+IsKept keeps w n kept answer =
+    (KeepsBefore keeps w n × (answer ≡ kept))
+    ⊎ ((tick : ℕ) × (r : Rule) × (IsFirstUnlawful keeps w n tick r) × (answer ≡ record { status = 1; text = broken_text tick r }))
+
+-- The figures of all tasks over n rows.
+abbrev pub kept_answer : Protocol → CertificateDef → Trace → ℕ → Answer
+kept_answer protocol c w n = record {
+  status = 0;
+  text = kept_text w.set n (figures_of (charges_of protocol) (interference_of protocol) w (slice_index c.bounds)
+      (value_at (written protocol w.set) c) n);
+}
+
+-- The answer on a certificate and n rows: where the certificate is valid, that on the rows; else its first failure.
+abbrev pub IsAudit : Protocol → CertificateDef → Trace → ℕ → Answer → Type 0
+IsAudit protocol c w n answer =
+    (IsValid (written protocol w.set) c × IsKept (rules_of protocol) w n (kept_answer protocol c w n) answer)
+    ⊎ ((e : Invalid) × (IsFailure e (written protocol w.set) c) × (answer ≡ record { status = 1; text = invalid_text w.set e }))
+
+-- Judging both, and setting them beside each other, which there always is.
+abbrev pub audit_of : Protocol → CertificateDef → JobsDef → RowsDef → Work
+audit_of protocol c jobs rows = record { answers = IsAudit protocol c (trace_in jobs rows.runs) (ticks_of rows.runs); ends = Unit {0} }
+
+-- Reading the rows of a schedule of these jobs; before them jobs of this set; and before these a certificate.
+abbrev pub auditing_rows : Protocol → CertificateDef → List ℕ → JobsDef → Plan
+auditing_rows protocol c rows list = Reading (rows_input list) rows (λ bytes schedule. Working (audit_of protocol c list schedule))
+
+abbrev pub auditing_jobs : Protocol → CertificateDef → List ℕ → List ℕ → SetDef → Plan
+auditing_jobs protocol c jobs rows set = Reading (jobs_input set) jobs (λ bytes list. auditing_rows protocol c rows list)
+
+abbrev pub auditing : Protocol → List ℕ → List ℕ → List ℕ → SetDef → Plan
+auditing protocol cert jobs rows set = Reading (cert_input protocol) cert (λ bytes c. auditing_jobs protocol c jobs rows set)
+
 -- What each form of words does.
 abbrev pub plan_of : Form → Plan
 plan_of (Analyse protocol name allowance) = Reading (set_input protocol) name (λ bytes set. Working (analysis_of protocol set allowance))
@@ -131,3 +168,4 @@ plan_of (Report protocol name) = Reading (set_input protocol) name (λ bytes set
 plan_of (Conform protocol set jobs rows) = Reading (set_input protocol) set (λ bytes tasks. judging_jobs protocol jobs rows tasks)
 plan_of (Simulate protocol set jobs ticks) = Reading (set_input protocol) set (λ bytes tasks. simulating_jobs protocol jobs ticks tasks)
 plan_of (Study seed sets) = Working (study_of seed sets)
+plan_of (Audit protocol set cert jobs rows) = Reading (set_input protocol) set (λ bytes tasks. auditing protocol cert jobs rows tasks)

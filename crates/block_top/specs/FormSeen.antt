@@ -1,7 +1,7 @@
 -- What a contract sees of a command: the form of its words.
 use Rattle.std.specs.Prelude.{◌≤◌}
 use Rattle.sporadic_model.specs.declared.limits.TheConstants.{MOST_TICKS}
-use Rattle.block_top.specs.Words.{Form, Analyse, Check, Report, FullReport, Conform, Simulate, Study}
+use Rattle.block_top.specs.Words.{Form, Analyse, Check, Report, FullReport, Conform, Simulate, Study, Audit}
 use Rattle.block_top.specs.declared.words.Command.{Command}
 use Rattle.block_top.specs.declared.words.Command.TheVariants as command
 
@@ -13,6 +13,7 @@ form_seen (command.FullReport protocol set certificate) = FullReport protocol se
 form_seen (command.Conform protocol set jobs rows) = Conform protocol set.now jobs.now rows.now
 form_seen (command.Simulate protocol set jobs ticks) = Simulate protocol set.now jobs.now ticks
 form_seen (command.Study seed sets) = Study seed sets
+form_seen (command.Audit protocol set certificate jobs rows) = Audit protocol set.now certificate.now jobs.now rows.now
 
 -- Are the ticks of a simulation, where the form asks for one, as many as a schedule may have, and the sets of a study as many as
 -- a step may have?

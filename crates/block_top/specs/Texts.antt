@@ -5,6 +5,7 @@ use Rattle.sporadic_model.specs.SetDef.{SetDef, task_at}
 use Rattle.schedule_model.specs.Measures.{MeasuresDef}
 use Rattle.schedule_model.specs.declared.rule.Rule.{Rule}
 use Rattle.schedule_model.specs.declared.rule.Rule.TheVariants as rule
+use Rattle.audit_figures.specs.declared.beside.TaskFigures.{TaskFigures}
 use Rattle.dual_check.specs.declared.answer.Invalid.{Invalid}
 use Rattle.dual_check.specs.declared.answer.Invalid.TheVariants as invalid
 
@@ -64,6 +65,34 @@ step_line i row = decimal (i + 1) ++ (codes " " ++ (counts_text row ++ codes "\n
 abbrev pub study_text : List (List ℕ) → ℕ → List ℕ
 study_text rows stopped = codes "step mpcp fmlp+ dpcp\n"
     ++ (collect_below 8 (λ i. step_line i (slice_index_or rows i [])) ++ (codes "stopped " ++ (decimal stopped ++ codes "\n")))
+
+-- What stands behind a space.
+abbrev pub behind_space : ℕ → List ℕ
+behind_space n = codes " " ++ decimal n
+
+-- What stands beside its bound: the greatest response of a task's jobs, and their greatest blocking.
+abbrev pub bounded_text : TaskFigures → List ℕ
+bounded_text f = response_text f.response ++ (behind_space f.bound ++ (behind_space f.blocking ++ behind_space f.value))
+
+-- The ticks of each class.
+abbrev pub classes_text : TaskFigures → List ℕ
+classes_text f = behind_space f.direct ++ (behind_space f.indirect ++ behind_space f.preemption)
+
+-- The figures of a task.
+abbrev pub figures_text : TaskFigures → List ℕ
+figures_text f = bounded_text f ++ classes_text f
+
+-- A task's line: its name, and its figures.
+abbrev pub figures_line : List ℕ → TaskFigures → List ℕ
+figures_line name f = name ++ (codes " " ++ (figures_text f ++ codes "\n"))
+
+-- The lines of all tasks, with these figures.
+abbrev pub figures_lines : SetDef → (ℕ → TaskFigures) → List ℕ
+figures_lines set figures = collect_below (length set.tasks) (λ x. figures_line (task_at set x).name (figures x))
+
+-- A schedule of so many ticks that keeps the rules and the bounds, and the figures of each task.
+abbrev pub kept_text : SetDef → ℕ → (ℕ → TaskFigures) → List ℕ
+kept_text set ticks figures = codes "kept " ++ (decimal ticks ++ (codes "\n" ++ figures_lines set figures))
 
 -- A certificate that is valid.
 abbrev pub valid_text : List ℕ

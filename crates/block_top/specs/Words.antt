@@ -24,6 +24,8 @@ pub data Form : Type 0 where
   Simulate : Protocol → List ℕ → List ℕ → ℕ → Form
   -- the seed, the number of sets
   Study : ℕ → ℕ → Form
+  -- the protocol, the set, the certificate, the jobs, the rows
+  Audit : Protocol → List ℕ → List ℕ → List ℕ → List ℕ → Form
 
 -- Which protocol does this word name?
 abbrev pub protocol_of : List ℕ → Option Protocol
@@ -70,11 +72,18 @@ form_of_five command protocol set jobs last =
     else if bytes_eq command (codes "simulate") then simulate_form (protocol_of protocol) set jobs (number_between 1 MOST_TICKS last)
     else None
 
+-- Which form do these six words have?
+abbrev pub form_of_six : List ℕ → List ℕ → List ℕ → List ℕ → List ℕ → List ℕ → Option Form
+form_of_six command protocol set cert jobs rows =
+    if bytes_eq command (codes "audit") then option_map (λ p. Audit p set cert jobs rows) (protocol_of protocol)
+    else None
+
 -- Which form do the words have, if any?
 abbrev pub form_of : List (List ℕ) → Option Form
 form_of (command ∷ second ∷ last ∷ []) = form_of_three command second last
 form_of (command ∷ protocol ∷ name ∷ last ∷ []) = form_of_four command protocol name last
 form_of (command ∷ protocol ∷ set ∷ jobs ∷ last ∷ []) = form_of_five command protocol set jobs last
+form_of (command ∷ protocol ∷ set ∷ cert ∷ jobs ∷ rows ∷ []) = form_of_six command protocol set cert jobs rows
 form_of _ = None
 
 -- the allowance of units where the words give none

@@ -1,12 +1,15 @@
 ghost use Rattle.std.specs.Prelude.{◌≤◌, is_some, IfOk};
 ghost use Rattle.sporadic_model.specs.declared.limits.TheConstants.{MOST_TICKS};
 ghost use Rattle.sporadic_model.specs.Homes.{HasHomesFor};
-ghost use Rattle.block_top.specs.Words.{Analyse, Check, Report, FullReport, Conform, Simulate, words_seen};
+ghost use Rattle.block_top.specs.Words.{Analyse, Check, Report, FullReport, Conform, Simulate, words_seen, Audit};
 ghost use Rattle.block_top.specs.FormSeen.{form_seen, HasFittingNumbers};
-ghost use Rattle.block_top.specs.Commands.{check_of, full_table_of, with_certificate, judging_rows, judging_jobs, simulating_jobs, plan_of};
+ghost use Rattle.block_top.specs.Commands.{check_of, full_table_of, with_certificate, judging_rows, judging_jobs, simulating_jobs, plan_of, auditing_rows, auditing_jobs, auditing};
+ghost use Rattle.program_form.specs.Certificate.{certificate_seen};
+ghost use Rattle.dual_check.specs.Answers.{HasDenominators};
 ghost use Rattle.block_top.specs.Outcome.{IsReplyOf, IsReply};
 ghost use Rattle.block_top.specs.Replies.{reply_seen, Answered, Keeps};
 
+use crate::auditing::audited;
 use crate::halt::{Halt, Reply, settled};
 use crate::input::{get_cert, get_jobs, get_rows, get_set};
 use crate::judging::{judgement, proved_table};
@@ -14,6 +17,7 @@ use crate::study::counted;
 use crate::words::{Command, command_of};
 use crate::work::{analysis, conformance, no_form, simulation, table};
 use outside_ports::Shelf;
+use program_form::Certificate;
 use schedule_model::JobList;
 use sporadic_model::{Protocol, TaskSet};
 use std::alloc::{AllocError, Global};
@@ -230,6 +234,90 @@ fn simulate_reply<S: Shelf>(
     simulated_reply(alloc, shelf, protocol, &set, jobs, ticks)
 }
 
+/// Reads the rows of `audit`, once all other inputs are read, and does its work.
+fn audited_rows_reply<S: Shelf>(
+    alloc: Global,
+    shelf: &mut S,
+    protocol: Protocol,
+    certificate: &Certificate,
+    jobs: &JobList<'_>,
+    rows: &str,
+) -> Result<Reply, Halt>
+    requires suits { HasHomesFor protocol jobs.now.set }
+    requires denominators { HasDenominators (certificate_seen certificate.now) }
+    ensures reply { Answered result (IsReplyOf
+        (record { names = S.names shelf.old; before = S.faults shelf.old; now = S.faults shelf.new; given = S.given shelf.new })
+        (auditing_rows protocol (certificate_seen certificate.now) rows.now jobs.now)) }
+    ensures keeps { Keeps (S.names shelf.old) (S.names shelf.new) (is_some (S.rest shelf.old)) (is_some (S.rest shelf.new))
+        (S.faults shelf.old) (S.faults shelf.new) (S.steady shelf.old) (S.steady shelf.new) }
+{
+    let (_bytes, rows) = get_rows(alloc, shelf, jobs, rows)?;
+    audited(alloc, protocol, certificate, jobs, &rows)
+}
+
+/// Reads the jobs and the rows of `audit`, once its set and its certificate are read, and does its work.
+fn audited_jobs_reply<S: Shelf>(
+    alloc: Global,
+    shelf: &mut S,
+    protocol: Protocol,
+    set: &TaskSet,
+    certificate: &Certificate,
+    jobs: &str,
+    rows: &str,
+) -> Result<Reply, Halt>
+    requires suits { HasHomesFor protocol set.now }
+    requires denominators { HasDenominators (certificate_seen certificate.now) }
+    ensures reply { Answered result (IsReplyOf
+        (record { names = S.names shelf.old; before = S.faults shelf.old; now = S.faults shelf.new; given = S.given shelf.new })
+        (auditing_jobs protocol (certificate_seen certificate.now) jobs.now rows.now set.now)) }
+    ensures keeps { Keeps (S.names shelf.old) (S.names shelf.new) (is_some (S.rest shelf.old)) (is_some (S.rest shelf.new))
+        (S.faults shelf.old) (S.faults shelf.new) (S.steady shelf.old) (S.steady shelf.new) }
+{
+    let (_bytes, jobs) = get_jobs(alloc, shelf, set, jobs)?;
+    audited_rows_reply(alloc, shelf, protocol, certificate, &jobs, rows)
+}
+
+/// Reads the certificate, the jobs and the rows of `audit`, once its set is read, and does its work.
+fn audited_reply<S: Shelf>(
+    alloc: Global,
+    shelf: &mut S,
+    protocol: Protocol,
+    set: &TaskSet,
+    certificate: &str,
+    jobs: &str,
+    rows: &str,
+) -> Result<Reply, Halt>
+    requires { HasHomesFor protocol set.now }
+    ensures reply { Answered result (IsReplyOf
+        (record { names = S.names shelf.old; before = S.faults shelf.old; now = S.faults shelf.new; given = S.given shelf.new })
+        (auditing protocol certificate.now jobs.now rows.now set.now)) }
+    ensures keeps { Keeps (S.names shelf.old) (S.names shelf.new) (is_some (S.rest shelf.old)) (is_some (S.rest shelf.new))
+        (S.faults shelf.old) (S.faults shelf.new) (S.steady shelf.old) (S.steady shelf.new) }
+{
+    let (_bytes, certificate) = get_cert(alloc, shelf, protocol, certificate)?;
+    audited_jobs_reply(alloc, shelf, protocol, set, &certificate, jobs, rows)
+}
+
+/// Reads the inputs of `audit`, and does its work.
+fn audit_reply<S: Shelf>(
+    alloc: Global,
+    shelf: &mut S,
+    protocol: Protocol,
+    set: &str,
+    certificate: &str,
+    jobs: &str,
+    rows: &str,
+) -> Result<Reply, Halt>
+    ensures reply { Answered result (IsReplyOf
+        (record { names = S.names shelf.old; before = S.faults shelf.old; now = S.faults shelf.new; given = S.given shelf.new })
+        (plan_of (Audit protocol set.now certificate.now jobs.now rows.now))) }
+    ensures keeps { Keeps (S.names shelf.old) (S.names shelf.new) (is_some (S.rest shelf.old)) (is_some (S.rest shelf.new))
+        (S.faults shelf.old) (S.faults shelf.new) (S.steady shelf.old) (S.steady shelf.new) }
+{
+    let (_bytes, set) = get_set(alloc, shelf, protocol, set)?;
+    audited_reply(alloc, shelf, protocol, &set, certificate, jobs, rows)
+}
+
 /// Does what the words ask for.
 fn command_reply<R: Threads + Sync, S: Shelf>(
     rt: &R,
@@ -274,6 +362,13 @@ fn command_reply<R: Threads + Sync, S: Shelf>(
             ticks,
         } => simulate_reply(alloc, shelf, protocol, set, jobs, ticks),
         Command::Study { seed, sets } => counted(rt, alloc, seed, sets),
+        Command::Audit {
+            protocol,
+            set,
+            certificate,
+            jobs,
+            rows,
+        } => audit_reply(alloc, shelf, protocol, set, certificate, jobs, rows),
     }
 }
 

@@ -18,7 +18,11 @@ use sporadic_model::{Protocol, TaskSet};
 use std::alloc::{AllocError, Global};
 
 /// The reply where a certificate isn't valid.
-fn invalid_reply(alloc: Global, set: &TaskSet, failure: Invalid) -> Result<Reply, AllocError>
+pub(crate) fn invalid_reply(
+    alloc: Global,
+    set: &TaskSet,
+    failure: Invalid,
+) -> Result<Reply, AllocError>
     requires { FailsTask set.now failure }
     ensures { IfOk result (λ r. reply_seen r ≡ record { status = 1; text = invalid_text set.now failure }) }
 {

@@ -1,6 +1,7 @@
 //! The program's one call: it reads words, loads inputs and writes an answer.
 #![tactic(auto)]
 
+mod auditing;
 mod commands;
 mod halt;
 mod input;

@@ -1,9 +1,11 @@
 ghost use Rattle.std.specs.Prelude.{◌≡◌, ◌<◌, ◌++◌, IfOk, OnOk, map, length, slice_index_or};
 ghost use Rattle.sporadic_model.specs.SetDef.{task_at};
 ghost use Rattle.trace_conform.specs.Measured.{measure_seen, no_measure};
+ghost use Rattle.audit_figures.specs.Figures.{no_figures};
 ghost use Rattle.block_top.specs.Reached.{FailsTask};
-ghost use Rattle.block_top.specs.Texts.{not_shown_text, wide_text, response_text, measures_text, measures_line, measures_lines, lawful_text, rule_text, broken_text, failing_task, invalid_text};
+ghost use Rattle.block_top.specs.Texts.{not_shown_text, wide_text, response_text, measures_text, measures_line, measures_lines, lawful_text, rule_text, broken_text, failing_task, invalid_text, behind_space, bounded_text, classes_text, figures_text, figures_line, figures_lines, kept_text};
 
+use audit_figures::TaskFigures;
 use dual_check::Invalid;
 use schedule_model::Rule;
 use sporadic_model::{TaskId, TaskSet};
@@ -171,4 +173,88 @@ pub fn invalid_line(alloc: Global, set: &TaskSet, failure: Invalid) -> Result<Ve
         Invalid::Small(task) => failing_line(alloc, "invalid small", set, task),
         Invalid::Memory => Ok(Vec::new(alloc)),
     }
+}
+
+/// Adds a space and a number.
+fn push_behind_space(text: &mut Vec<u8>, n: u64) -> Result<(), AllocError>
+    ensures { OnOk result (text.new.items ≡ text.old.items ++ behind_space n) }
+{
+    text.extend_from_slice(b" ")?;
+    push_number(text, n)
+}
+
+/// Adds the response and the blocking of a task, each with its bound.
+fn push_bounded(text: &mut Vec<u8>, figures: TaskFigures) -> Result<(), AllocError>
+    ensures { OnOk result (text.new.items ≡ text.old.items ++ bounded_text figures) }
+{
+    push_response(text, figures.response)?;
+    push_behind_space(text, figures.bound)?;
+    push_behind_space(text, figures.blocking)?;
+    push_behind_space(text, figures.value)
+}
+
+/// Adds the ticks of each class.
+fn push_classes(text: &mut Vec<u8>, figures: TaskFigures) -> Result<(), AllocError>
+    ensures { OnOk result (text.new.items ≡ text.old.items ++ classes_text figures) }
+{
+    push_behind_space(text, figures.direct)?;
+    push_behind_space(text, figures.indirect)?;
+    push_behind_space(text, figures.preemption)
+}
+
+/// Adds the figures of a task.
+fn push_figures(text: &mut Vec<u8>, figures: TaskFigures) -> Result<(), AllocError>
+    ensures { OnOk result (text.new.items ≡ text.old.items ++ figures_text figures) }
+{
+    push_bounded(text, figures)?;
+    push_classes(text, figures)
+}
+
+/// Adds the line of a task with its figures.
+fn push_figures_line(
+    text: &mut Vec<u8>,
+    set: &TaskSet,
+    x: TaskId,
+    figures: TaskFigures,
+) -> Result<(), AllocError>
+    requires { x.0 < length set.now.tasks }
+    ensures { OnOk result (text.new.items ≡ text.old.items ++ figures_line (task_at set.now x.0).name figures) }
+{
+    text.extend_from_slice(set.task_name(x).as_bytes())?;
+    text.extend_from_slice(b" ")?;
+    push_figures(text, figures)?;
+    text.extend_from_slice(b"\n")
+}
+
+/// Adds the lines of all tasks with their figures.
+fn push_all_figures(
+    text: &mut Vec<u8>,
+    set: &TaskSet,
+    figures: &[TaskFigures],
+) -> Result<(), AllocError>
+    requires { length figures.now ≡ length set.now.tasks }
+    ensures { OnOk result (text.new.items ≡ text.old.items ++ figures_lines set.now (λ x. slice_index_or figures.now x no_figures)) }
+{
+    for x in 0..set.tasks() {
+        push_figures_line(text, set, TaskId(x), figures[x as usize])?;
+    }
+    Ok(())
+}
+
+/// The text for a schedule of so many ticks that keeps the rules and the bounds.
+pub fn kept_lines(
+    alloc: Global,
+    set: &TaskSet,
+    ticks: u64,
+    figures: &[TaskFigures],
+) -> Result<Vec<u8>, AllocError>
+    requires { length figures.now ≡ length set.now.tasks }
+    ensures { IfOk result (λ text. text.items ≡ kept_text set.now ticks (λ x. slice_index_or figures.now x no_figures)) }
+{
+    let mut text = Vec::new(alloc);
+    text.extend_from_slice(b"kept ")?;
+    push_number(&mut text, ticks)?;
+    text.extend_from_slice(b"\n")?;
+    push_all_figures(&mut text, set, figures)?;
+    Ok(text)
 }

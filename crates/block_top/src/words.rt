@@ -2,7 +2,7 @@ ghost use Rattle.std.specs.Prelude.{◌≡◌, ◌-◌, ◌^◌, option_map, IfS
 ghost use Rattle.sporadic_model.specs.declared.limits.TheConstants.{MOST_TICKS};
 ghost use Rattle.text_pieces.specs.Numbers.{number_between};
 ghost use Rattle.block_top.specs.declared.words.TheConstants.{GREATEST_ALLOWANCE, MOST_SETS};
-ghost use Rattle.block_top.specs.Words.{protocol_of, study_form, form_of_three, analyse_form, form_of_four, simulate_form, form_of_five, form_of, words_seen};
+ghost use Rattle.block_top.specs.Words.{protocol_of, study_form, form_of_three, analyse_form, form_of_four, simulate_form, form_of_five, form_of, words_seen, form_of_six};
 ghost use Rattle.block_top.specs.FormSeen.{form_seen, HasFittingNumbers};
 
 use sporadic_model::{MOST_TICKS, Protocol};
@@ -61,6 +61,15 @@ pub enum Command<'a> {
     Study {
         seed: u64,
         sets: u32,
+    },
+    /// Judge the certificate of this name and the rows of this name, both for the set of this name, and set what the rows did
+    /// beside what the certificate proves. The rows are of the jobs of this name.
+    Audit {
+        protocol: Protocol,
+        set: &'a str,
+        certificate: &'a str,
+        jobs: &'a str,
+        rows: &'a str,
     },
 }
 
@@ -208,6 +217,30 @@ fn command_of_five<'a>(
     None
 }
 
+/// What six words ask for.
+fn command_of_six<'a>(
+    command: &str,
+    protocol: &str,
+    set: &'a str,
+    certificate: &'a str,
+    jobs: &'a str,
+    rows: &'a str,
+) -> Option<Command<'a>>
+    ensures form { option_map form_seen result ≡ form_of_six command.now protocol.now set.now certificate.now jobs.now rows.now }
+    ensures ticks { IfSome result (λ c. HasFittingNumbers (form_seen c)) }
+{
+    if command == "audit" {
+        return protocol_named(protocol).map(|protocol| Command::Audit {
+            protocol,
+            set,
+            certificate,
+            jobs,
+            rows,
+        });
+    }
+    None
+}
+
 /// What the words ask for, or none where they have no form. The words are read by exact number and place.
 pub fn command_of(words: &[String]) -> Option<Command<'_>>
     ensures form { option_map form_seen result ≡ form_of (words_seen words.now) }
@@ -229,6 +262,14 @@ pub fn command_of(words: &[String]) -> Option<Command<'_>>
             set.as_str(),
             jobs.as_str(),
             last.as_str(),
+        ),
+        [command, protocol, set, certificate, jobs, rows] => command_of_six(
+            command.as_str(),
+            protocol.as_str(),
+            set.as_str(),
+            certificate.as_str(),
+            jobs.as_str(),
+            rows.as_str(),
         ),
         _ => None,
     }

@@ -159,7 +159,7 @@ fn lawful_reply(
 }
 
 /// The reply where the row at this tick breaks this rule.
-fn broken_reply(alloc: Global, tick: u64, rule: Rule) -> Result<Reply, AllocError>
+pub(crate) fn broken_reply(alloc: Global, tick: u64, rule: Rule) -> Result<Reply, AllocError>
     ensures { IfOk result (λ r. reply_seen r ≡ record { status = 1; text = broken_text tick rule }) }
 {
     Ok(Reply {

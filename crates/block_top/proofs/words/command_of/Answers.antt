@@ -4,7 +4,7 @@ use Rattle.std.proofs.lemmas.List.{length-map}
 use Rattle.block_top.specs.Words.{words_seen}
 use Rattle.block_top.proofs.WordLaws.{fewer_words, more_words}
 use Rattle.block_top.proofs.words.command_of.Goals as goal
-use Rattle.block_top.proofs.words.command_of.Goals.{in_default-via-then-words-lt3, in_default-via-else-words-lt3+else-words-lt4+else-words-lt5+else-words-lt6}
+use Rattle.block_top.proofs.words.command_of.Goals.{in_default-via-then-words-lt3, in_default-via-else-words-lt3+else-words-lt4+else-words-lt5+else-words-lt6+else-words-lt7}
 
 pub returns-in_default-clause-form : goal.returns-in_default-clause-form
 returns-in_default-clause-form c =
@@ -13,7 +13,7 @@ returns-in_default-clause-form c =
       | in_default-via-then-words-lt3 w ↦
           let few : length c.args.words.now < 3 = search rules in
           fewer_words (words_seen c.args.words.now) (omega (arith, same, few))
-      | in_default-via-else-words-lt3+else-words-lt4+else-words-lt5+else-words-lt6 w ↦
-          let many : 5 < length c.args.words.now = search rules in
+      | in_default-via-else-words-lt3+else-words-lt4+else-words-lt5+else-words-lt6+else-words-lt7 w ↦
+          let many : 6 < length c.args.words.now = search rules in
           more_words (words_seen c.args.words.now) (omega (arith, same, many))
     ]

@@ -1,0 +1,4 @@
+pub mod Sums
+pub mod Figures
+pub mod Beside
+pub mod Audited

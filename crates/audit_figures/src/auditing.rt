@@ -1,0 +1,180 @@
+ghost use Rattle.std.specs.Prelude.{◌≡◌, ℕ, ◌<◌, ◌≤◌, true, length, map, slice_index, slice_index_or, IfOk};
+ghost use Rattle.std.specs.List.{All};
+ghost use Rattle.program_form.specs.Certificate.{certificate_seen};
+ghost use Rattle.sporadic_model.specs.Homes.{HasHomesFor};
+ghost use Rattle.schedule_model.specs.RowDef.{trace_in, ticks_of};
+ghost use Rattle.schedule_model.specs.Fitting.{is_fitting};
+ghost use Rattle.schedule_model.specs.Keeping.{KeepsBefore};
+ghost use Rattle.trace_conform.specs.Conforming.{AreMeasures};
+ghost use Rattle.trace_conform.specs.ByProtocol.{rules_of, interference_of};
+ghost use Rattle.charge_model.specs.Windows.{AreBounds};
+ghost use Rattle.soundness_laws.specs.Sound.{Sound};
+ghost use Rattle.soundness_laws.specs.Analyses.{source_of};
+ghost use Rattle.charge.specs.Table.{item_seen, IsChargeTable};
+ghost use Rattle.charge.specs.ByProtocol.{charges_of};
+ghost use Rattle.dual_check.specs.Answers.{source_for, HasDenominators};
+ghost use Rattle.audit_figures.specs.Figures.{no_figures, blocked_sum, AreFigures};
+ghost use Rattle.audit_figures.specs.Audited.{Audits, LieWithin, charged_ticks};
+
+use crate::beside::{TaskFigures, figures};
+use charge::{ChargeStop, ChargeTable, ChargedProtocol, charge_with};
+use dpcp_rules::Dpcp;
+use dual_check::{Invalid, check_with};
+use fmlp_rules::FmlpPlus;
+use mpcp_rules::Mpcp;
+use program_form::Certificate;
+use schedule_model::{JobList, RowList, Rule};
+use sporadic_model::Protocol;
+use std::alloc::{AllocError, Global};
+use thiserror::Error;
+use trace_conform::{Measured, Unlawful, conform_with};
+
+/// Why a schedule is not audited. The causes are tried in the order in which they stand here.
+#[derive(Clone, Copy, Debug, PartialEq, Eq, Error)]
+pub enum AuditStop {
+    /// The certificate is not valid: the first test that fails.
+    #[error("the certificate is not valid")]
+    Invalid(Invalid),
+    /// A row breaks a rule: the first such tick, and the first rule that its row breaks.
+    #[error("the row at tick {tick} breaks a rule")]
+    Broken {
+        /// The tick, counted from 0.
+        tick: u64,
+        /// The rule.
+        rule: Rule,
+    },
+    /// Memory was refused.
+    #[error("out of memory")]
+    Memory,
+}
+
+/// The charges of a schedule that keeps the rules, where the bounds are sound: no job has passed its bound.
+fn sound_charges<P: ChargedProtocol>(
+    alloc: Global,
+    protocol: &P,
+    jobs: &JobList,
+    rows: &RowList,
+    bounds: &[u64],
+    values: &[u64],
+) -> Result<ChargeTable, AllocError>
+    requires suits { P.suits protocol.now jobs.now.set }
+    requires fits { is_fitting rows.now jobs.now ≡ true }
+    requires one_each { length bounds.now ≡ length jobs.now.set.tasks }
+    requires bounds { AreBounds jobs.now.set (slice_index bounds.now) }
+    requires sound { Sound (P.keeps protocol.now) (P.interferes protocol.now) jobs.now.set bounds.now values.now }
+    requires keeps { KeepsBefore (P.keeps protocol.now) (trace_in jobs.now rows.now.runs) (ticks_of rows.now.runs) }
+    ensures { IfOk result (λ table. IsChargeTable (P.charges protocol.now) (P.interferes protocol.now) (trace_in jobs.now rows.now.runs)
+        (slice_index bounds.now) (ticks_of rows.now.runs) (map item_seen table.charges.items)) }
+{
+    let _jobs = jobs.len();
+    match charge_with(alloc, protocol, jobs, rows, bounds) {
+        Ok(table) => Ok(table),
+        Err(ChargeStop::Memory) => Err(AllocError),
+        Err(ChargeStop::Unlawful { .. }) => unreachable!(),
+        Err(ChargeStop::BoundPassed(_)) => unreachable!(),
+    }
+}
+
+/// The figures of a schedule that keeps the rules, beside sound bounds and values.
+fn sound_figures<P: ChargedProtocol>(
+    alloc: Global,
+    protocol: &P,
+    jobs: &JobList,
+    rows: &RowList,
+    bounds: &[u64],
+    values: &[u64],
+    measured: &Measured,
+) -> Result<Vec<TaskFigures>, AllocError>
+    requires suits { P.suits protocol.now jobs.now.set }
+    requires fits { is_fitting rows.now jobs.now ≡ true }
+    requires one_each { length bounds.now ≡ length jobs.now.set.tasks }
+    requires values { length values.now ≡ length jobs.now.set.tasks }
+    requires bounds { AreBounds jobs.now.set (slice_index bounds.now) }
+    requires sound { Sound (P.keeps protocol.now) (P.interferes protocol.now) jobs.now.set bounds.now values.now }
+    requires keeps { KeepsBefore (P.keeps protocol.now) (trace_in jobs.now rows.now.runs) (ticks_of rows.now.runs) }
+    requires measures { AreMeasures (P.interferes protocol.now) (trace_in jobs.now rows.now.runs) (ticks_of rows.now.runs) measured.now }
+    ensures { IfOk result (λ v. AreFigures (P.charges protocol.now) (P.interferes protocol.now) (trace_in jobs.now rows.now.runs)
+        (slice_index bounds.now) (slice_index values.now) (ticks_of rows.now.runs) v.items) }
+{
+    let _ticks = rows.ticks();
+    let table = sound_charges(alloc, protocol, jobs, rows, bounds, values)?;
+    figures(alloc, jobs, measured, bounds, values, &table)
+}
+
+/// Judges the certificate, then the rows, and sets what the rows did to each task beside what the certificate proves of it. Each
+/// dual's denominator is at least 1.
+pub fn audit_with<P: ChargedProtocol>(
+    alloc: Global,
+    protocol: &P,
+    certificate: &Certificate,
+    jobs: &JobList,
+    rows: &RowList,
+) -> Result<Vec<TaskFigures>, AuditStop>
+    requires suits { P.suits protocol.now jobs.now.set }
+    requires denominators { HasDenominators (certificate_seen certificate.now) }
+    requires fits { is_fitting rows.now jobs.now ≡ true }
+
+    // The figures; or why the certificate is not valid; or else the first row that breaks a rule.
+    ensures audits { Audits (P.keeps protocol.now) (P.interferes protocol.now) (P.charges protocol.now)
+        (source_for (P.program_of protocol.now) (P.interfering protocol.now) jobs.now.set) (certificate_seen certificate.now)
+        (trace_in jobs.now rows.now.runs) (ticks_of rows.now.runs) result }
+
+    // The response of each task is at most its bound, and its blocking at most its value.
+    ensures within { IfOk result (λ v. All LieWithin v.items) }
+
+    // The ticks of the three classes are all those at which the task's jobs are blocked in their windows.
+    ensures adds_up { IfOk result (λ v. (x : ℕ) → x < length jobs.now.set.tasks → charged_ticks (slice_index_or v.items x no_figures)
+        ≡ blocked_sum (P.interferes protocol.now) (trace_in jobs.now rows.now.runs) (slice_index certificate.now.bounds.items)
+        (ticks_of rows.now.runs) x) }
+{
+    let _tasks = jobs.set().tasks();
+    let _jobs = jobs.len();
+    let valid = match check_with(alloc, protocol, jobs.set(), certificate) {
+        Ok(valid) => valid,
+        Err(Invalid::Memory) => return Err(AuditStop::Memory),
+        Err(failure) => return Err(AuditStop::Invalid(failure)),
+    };
+    let measured = match conform_with(alloc, protocol, jobs, rows) {
+        Ok(measured) => measured,
+        Err(Unlawful::Broken { tick, rule }) => return Err(AuditStop::Broken { tick, rule }),
+        Err(Unlawful::Memory) => return Err(AuditStop::Memory),
+    };
+    let bounds = &certificate.bounds;
+    match sound_figures(
+        alloc,
+        protocol,
+        jobs,
+        rows,
+        bounds,
+        &valid.values,
+        &measured,
+    ) {
+        Ok(figures) => Ok(figures),
+        Err(_) => Err(AuditStop::Memory),
+    }
+}
+
+/// The same by the protocol's name. Under DPCP each resource has a home.
+pub fn audit(
+    alloc: Global,
+    protocol: Protocol,
+    certificate: &Certificate,
+    jobs: &JobList,
+    rows: &RowList,
+) -> Result<Vec<TaskFigures>, AuditStop>
+    requires homes { HasHomesFor protocol jobs.now.set }
+    requires denominators { HasDenominators (certificate_seen certificate.now) }
+    requires fits { is_fitting rows.now jobs.now ≡ true }
+    ensures audits { Audits (rules_of protocol) (interference_of protocol) (charges_of protocol) (source_of protocol jobs.now.set)
+        (certificate_seen certificate.now) (trace_in jobs.now rows.now.runs) (ticks_of rows.now.runs) result }
+    ensures within { IfOk result (λ v. All LieWithin v.items) }
+    ensures adds_up { IfOk result (λ v. (x : ℕ) → x < length jobs.now.set.tasks → charged_ticks (slice_index_or v.items x no_figures)
+        ≡ blocked_sum (interference_of protocol) (trace_in jobs.now rows.now.runs) (slice_index certificate.now.bounds.items)
+        (ticks_of rows.now.runs) x) }
+{
+    match protocol {
+        Protocol::Mpcp => audit_with(alloc, &Mpcp, certificate, jobs, rows),
+        Protocol::FmlpPlus => audit_with(alloc, &FmlpPlus, certificate, jobs, rows),
+        Protocol::Dpcp => audit_with(alloc, &Dpcp, certificate, jobs, rows),
+    }
+}

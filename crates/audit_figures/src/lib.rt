@@ -1,0 +1,10 @@
+//! Audits a schedule against a certificate: judges both, and sets what the schedule did to each task beside what the certificate
+//! proves of it, and beside the ticks at which its jobs were charged.
+#![tactic(auto)]
+
+mod auditing;
+mod beside;
+mod sums;
+
+pub use auditing::{AuditStop, audit, audit_with};
+pub use beside::TaskFigures;
