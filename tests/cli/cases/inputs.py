@@ -1,6 +1,7 @@
 """Inputs that are no plain files, that end early, or that the system doesn't give; each command's own stand in `spoilt`."""
 from errno import EACCES, EIO, EMFILE, ENOENT, ENOMEM
 
+from commands import INPUTS
 from setting import Case, Fifo, Link, Padded
 from sets import GREATEST, NAMES, PAIR, PAIR_CERTIFICATE, PAIR_JOBS, PAIR_MEASURED, PAIR_ROWS
 from tracing import Fault, Pieces
@@ -17,10 +18,10 @@ def unread(shows, files, words=ANALYSE):
     return Case(shows, words, "fault read set\n", 4, files)
 
 
-def failing(shows, call, number, says, status, words=CONFORM):
-    """The system answers the call of this number with an error."""
+def failing(shows, call, number, says, status, words="audit fmlp+ set cert jobs rows"):
+    """The system answers the call of this number with an error. The words name all inputs, in their order."""
     name, error = call
-    return Case(shows, words, says, status, ALL, faults=(Fault(name, number, -error),))
+    return Case(shows, words, says, status, INPUTS, faults=(Fault(name, number, -error),))
 
 
 FILES = [
@@ -52,11 +53,11 @@ PIECES = [
 
 # each input is short: its first read gives all of it, and its second one gives the end
 FAULTS = [
-    *(failing(f"read {number} fails", ("read", EIO), number, f"fault read {which}\n", 4) for number, which in enumerate(2 * ["set"] + 2 * ["jobs"] + 2 * ["rows"], 1)),
-    *(failing(f"opening {number} isn't allowed", ("open", EACCES), number, f"fault read {which}\n", 4) for number, which in enumerate(ALL, 1)),
-    *(failing(f"opening {number} finds nothing", ("open", ENOENT), number, f"refused {which} absent\n", 3) for number, which in enumerate(ALL, 1)),
+    *(failing(f"read {2 * k + n} fails", ("read", EIO), 2 * k + n, f"fault read {which}\n", 4) for k, which in enumerate(INPUTS) for n in (1, 2)),
+    *(failing(f"opening {number} isn't allowed", ("open", EACCES), number, f"fault read {which}\n", 4) for number, which in enumerate(INPUTS, 1)),
+    *(failing(f"opening {number} finds nothing", ("open", ENOENT), number, f"refused {which} absent\n", 3) for number, which in enumerate(INPUTS, 1)),
     failing("too many files are open", ("open", EMFILE), 1, "fault read set\n", 4),
-    *(failing(f"opening {number} finds no memory", ("open", ENOMEM), number, "", 7) for number in (1, 2, 3)),
+    *(failing(f"opening {number} finds no memory", ("open", ENOMEM), number, "", 7) for number in (1, 2, 3, 4)),
     failing("the second read of an analysis fails", ("read", EIO), 2, "fault read set\n", 4, ANALYSE),
     failing("the second read of a report fails", ("read", EIO), 2, "fault read set\n", 4, "report mpcp set"),
 ]
