@@ -6,7 +6,7 @@ TOO_LONG = Zeros(67_108_865)
 EMPTY = {"set": "notjson", "cert": "notjson", "jobs": "fields 0", "rows": "fields 0"}
 
 # how many bytes are cut off at its end, and why what is left is refused
-CUTS = {"set": (3, "notjson"), "cert": (2, "notjson"), "jobs": (7, "fields 2"), "rows": (3, "fields 4")}
+CUTS = {"set": (3, "notjson"), "cert": (2, "notjson"), "jobs": (9, "fields 2"), "rows": (3, "fields 4")}
 
 
 def spoilt(command, name):
