@@ -63,6 +63,7 @@ FAULTS = [
 ]
 
 MEMORY = [
+    Case("a megabyte of JSON whose value takes a hundred", ANALYSE, "", 7, {"set": b"[" + 150_000 * b'{"":1},' + b"1]"}, memory=64 * MEGABYTE),
     Case("an input larger than memory", ANALYSE, "", 7, {"set": Padded(PAIR, 60 * MEGABYTE)}, memory=64 * MEGABYTE),
     Case("rows larger than memory", CONFORM, "", 7, {**ALL, "rows": Padded(PAIR_ROWS, 60 * MEGABYTE)}, memory=64 * MEGABYTE),
 ]
