@@ -32,6 +32,7 @@ REFUSER = r"""
 #include <fcntl.h>
 #include <stdio.h>
 #include <stdlib.h>
+#include <sys/syscall.h>
 #include <unistd.h>
 extern void *__libc_malloc(size_t), *__libc_calloc(size_t, size_t), *__libc_realloc(void *, size_t), *__libc_memalign(size_t, size_t);
 static unsigned long taken, refused;
@@ -55,14 +56,20 @@ __attribute__((constructor)) static void begin(void) {
     rest = getenv("REFUSED_REST") != NULL;
     counts = 1;
 }
+static void leave(int status) {
+    syscall(SYS_exit_group, status);
+    __builtin_unreachable();
+}
 __attribute__((destructor)) static void tell(void) {
     counts = 0;
     char *path = getenv("COUNTED"), text[32];
     int file = path ? open(path, O_WRONLY | O_CREAT | O_TRUNC, 0644) : -1;
     if (file < 0) return;
-    if (write(file, text, snprintf(text, sizeof text, "%lu", taken)) < 0) _exit(70);
+    if (write(file, text, snprintf(text, sizeof text, "%lu", taken)) < 0) leave(70);
     close(file);
 }
+/* a program that ends by this call runs no destructor */
+void _exit(int status) { tell(); leave(status); }
 """
 
 
