@@ -1,5 +1,5 @@
 -- Fractions and rows of lists: what an index reads, and what is true of one element more.
-use Rattle.std.proofs.Common.{◌≡◌, ℕ, ◌<◌, List, length, slice_index_or, pos, sym, arith}
+use Rattle.std.proofs.Common.{◌≡◌, ℕ, ◌<◌, List, length, slice_index_or, pos, sym}
 use Rattle.std.proofs.lemmas.List.{get_or_read, get_or_default}
 use Rattle.fraction128.specs.Fraction.{Fraction, whole}
 use Rattle.fraction128.specs.Scaling.{fraction_at}
