@@ -1,5 +1,5 @@
 -- Steps of a search or a loop over the rows and cells of a table: what is known of the first k and of the next is known of k + 1.
-use Rattle.std.proofs.Common.{◌≡◌, inl, inr, ℕ, ◌+◌, ◌<◌, ◌≤◌, add-one, List, All, ℤ, pos, ◌-ℤ◌, ◌*ℤ◌, neg_ℤ, ◌≤ℤ◌, refl, ap, ◌∙◌, sym, subst, arith}
+use Rattle.std.proofs.Common.{◌≡◌, inl, inr, ℕ, ◌+◌, ◌<◌, ◌≤◌, add-one, List, All, ℤ, pos, ◌-ℤ◌, ◌*ℤ◌, ◌≤ℤ◌, refl, ap, ◌∙◌, sym, subst, arith}
 use Rattle.std.proofs.lemmas.Int.{ints}
 use Rattle.std.proofs.lemmas.Bool.{cases_lt}
 use Rattle.std.proofs.lemmas.List.Elements.{All-from_get_or}
@@ -7,7 +7,7 @@ use Rattle.number_laws.proofs.Ring.{mul-one}
 use Rattle.fraction128.specs.Fraction.{Fraction, IsForm, IsQuotient, IsProduct, IsDifference, IsAtMost, whole}
 use Rattle.fraction128.proofs.Forms.{form_of_zero}
 use Rattle.program_form.specs.Program.{ProgramDef, height}
-use Rattle.exchange_runs.specs.Table.{Table, slack, objective}
+use Rattle.exchange_runs.specs.Table.{Table, slack}
 use Rattle.exchange_runs.specs.Exchange.{IsLast, HasRatio, IsRatio, IsLeastOf, IsLess, IsExchange}
 use Rattle.exchange_runs.specs.Run.{Reached}
 use Rattle.exchange_runs.specs.Readings.{IsValueOf, AreDuals}
