@@ -80,10 +80,7 @@ pub(crate) fn leaving(
     for i in 0..basis.len() {
         let cell = column[i];
         if cell.is_above_zero() {
-            let ratio = match rows[i].cell(place).div(cell) {
-                Ok(ratio) => ratio,
-                Err(Wide) => return Err(Wide),
-            };
+            let ratio = rows[i].cell(place).div(cell)?;
             best = Some(chosen(best, i, ratio, basis));
         }
     }

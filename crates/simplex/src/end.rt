@@ -43,10 +43,7 @@ fn dual_of(alloc: Global, program: &Program, row: &SparseRow) -> Result<Dual, So
 {
     let columns = program.columns() as usize;
     let variables = columns + program.rows() as usize;
-    let duals = match minus_cells(alloc, row, columns, variables) {
-        Ok(duals) => duals,
-        Err(AllocError) => return Err(SolveStop::Memory),
-    };
+    let duals = minus_cells(alloc, row, columns, variables)?;
     match scale(alloc, &duals) {
         Ok(Scaled { den, num }) => Ok(Dual { den, num }),
         Err(ScalingError::Memory) => Err(SolveStop::Memory),
@@ -114,17 +111,12 @@ pub(crate) fn finish(
     let objective = program.rows() as usize;
     let variables = program.columns() as usize + objective;
     let value = rows[objective].cell(variables).neg();
-    let dual = match dual_of(alloc, program, &rows[objective]) {
-        Ok(dual) => dual,
-        Err(stop) => return Err(stop),
-    };
-    match primal_of(alloc, program, rows, basis) {
-        Ok(primal) => Ok(Solved {
-            value,
-            primal,
-            dual,
-            exchanges,
-        }),
-        Err(AllocError) => Err(SolveStop::Memory),
-    }
+    let dual = dual_of(alloc, program, &rows[objective])?;
+    let primal = primal_of(alloc, program, rows, basis)?;
+    Ok(Solved {
+        value,
+        primal,
+        dual,
+        exchanges,
+    })
 }

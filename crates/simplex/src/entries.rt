@@ -7,7 +7,6 @@ ghost use Rattle.simplex.specs.CellSteps.{TakesCell, DividesAll, TakesAway};
 
 use crate::SolveStop;
 use fraction128::{Frac, Wide};
-use std::alloc::AllocError;
 
 // A nonzero cell of a row, at its variable.
 #[derive(Clone, Copy)]
@@ -101,10 +100,7 @@ pub(crate) fn divide_all(entries: &mut [Entry], by: Frac) -> Result<(), Wide>
 {
     for i in 0..entries.len() {
         let variable = entries[i].variable;
-        let value = match entries[i].value.div(by) {
-            Ok(value) => value,
-            Err(Wide) => return Err(Wide),
-        };
+        let value = entries[i].value.div(by)?;
         entries[i] = Entry { variable, value };
     }
     Ok(())
@@ -165,23 +161,13 @@ pub(crate) fn take_away(
 {
     let mut left = spare;
     left.clear();
-    match left.reserve(entries.len() + pivot.len()) {
-        Ok(()) => {}
-        Err(AllocError) => return Err(SolveStop::Memory),
-    }
     let mut i = 0;
     let mut j = 0;
     while i < entries.len() || j < pivot.len() {
         let v = variable_at(entries, i, end).min(variable_at(pivot, j, end));
-        let value = match taken(value_behind(entries, i, v), f, value_behind(pivot, j, v)) {
-            Ok(value) => value,
-            Err(Wide) => return Err(SolveStop::Wide),
-        };
+        let value = taken(value_behind(entries, i, v), f, value_behind(pivot, j, v))?;
         if !value.is_zero() {
-            match left.push(Entry { variable: v, value }) {
-                Ok(()) => {}
-                Err(_) => return Err(SolveStop::Memory),
-            }
+            left.push(Entry { variable: v, value })?;
         }
         i = count_through(entries, i, v);
         j = count_through(pivot, j, v);

@@ -45,10 +45,7 @@ fn take_all(
         if i != r {
             let f = column[i];
             if !f.is_zero() {
-                match rows[i].take_away(alloc, f, pivot, spare) {
-                    Ok(()) => {}
-                    Err(stop) => return Err(stop),
-                }
+                rows[i].take_away(alloc, f, pivot, spare)?;
             }
         }
     }
@@ -71,14 +68,8 @@ fn exchange(
     ensures { (e : ℕ) → IsColumn rows.old e column.now → ExchangesIn result rows.old rows.new e r }
 {
     let row = mem::replace(&mut rows[r], SparseRow::empty(alloc));
-    let pivot = match row.divided(column[r]) {
-        Ok(pivot) => pivot,
-        Err(Wide) => return Err(SolveStop::Wide),
-    };
-    match take_all(alloc, rows, column, r, &pivot, spare) {
-        Ok(()) => {}
-        Err(stop) => return Err(stop),
-    }
+    let pivot = row.divided(column[r])?;
+    take_all(alloc, rows, column, r, &pivot, spare)?;
     rows[r] = pivot;
     Ok(())
 }
@@ -106,10 +97,7 @@ pub(crate) fn step(
         Ok(None) => unreachable!(),
         Err(Wide) => return Err(SolveStop::Wide),
     };
-    match exchange(alloc, rows, column, r, spare) {
-        Ok(()) => {}
-        Err(stop) => return Err(stop),
-    }
+    exchange(alloc, rows, column, r, spare)?;
     basis[r] = e;
     Ok(())
 }

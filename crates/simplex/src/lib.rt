@@ -4,7 +4,7 @@
 //! `end` reads the answer off the last one. A row of a table is read by its places and cells alone.
 #![tactic(auto)]
 
-ghost use Rattle.std.specs.Prelude.{slice_index, IfOk};
+ghost use Rattle.std.specs.Prelude.{◌≡◌, slice_index, IfOk};
 ghost use Rattle.fraction128.specs.Scaling.{IsScaled};
 ghost use Rattle.program_form.specs.Certificate.{dual_seen};
 ghost use Rattle.program_form.specs.Points.{IsGreatestReached};
@@ -13,9 +13,9 @@ ghost use Rattle.program_form.specs.Program.{IsProgram};
 ghost use Rattle.exchange_runs.specs.Feasible.{IsOptimumValue, IsPointWorth};
 ghost use Rattle.simplex.specs.Solves.{Solves, IsOnlyAnswer};
 
-use fraction128::Frac;
+use fraction128::{Frac, Wide};
 use program_form::{Dual, Program};
-use std::alloc::{AllocError, Global};
+use std::alloc::{AllocError, AllocFailed, Global};
 use thiserror::Error;
 
 mod choice;
@@ -28,7 +28,7 @@ mod start;
 use choice::entering;
 use end::{finish, zeros};
 use exchange::step;
-use start::{first_basis, first_rows};
+use start::{first_basis, first_rows, with_room};
 
 /// The end of an exchange run: the optimum, the point that attains it, and a dual that shows that none passes it.
 #[derive(Debug, Drop)]
@@ -57,6 +57,36 @@ pub enum SolveStop {
     Units,
 }
 
+impl From<AllocError> for SolveStop {
+    ghost use Rattle.simplex.specs.declared.SolveStop.TheVariants.{Memory};
+
+    ghost from_gives = { λ _ stop. stop ≡ Memory };
+
+    fn from(_error: AllocError) -> SolveStop {
+        SolveStop::Memory
+    }
+}
+
+impl<T: Drop> From<AllocFailed<T>> for SolveStop {
+    ghost use Rattle.simplex.specs.declared.SolveStop.TheVariants.{Memory};
+
+    ghost from_gives = { λ _ stop. stop ≡ Memory };
+
+    fn from(_refused: AllocFailed<T>) -> SolveStop {
+        SolveStop::Memory
+    }
+}
+
+impl From<Wide> for SolveStop {
+    ghost use Rattle.simplex.specs.declared.SolveStop.TheVariants.{Wide as WideRun};
+
+    ghost from_gives = { λ _ stop. stop ≡ WideRun };
+
+    fn from(_wide: Wide) -> SolveStop {
+        SolveStop::Wide
+    }
+}
+
 /// Solves a program by its exchange run. The run takes 1 unit, and 1 more for each exchange begun.
 ///
 /// `Wide` comes exactly where the run is wide within the units, and `Units` exactly where it needs more of them. No program is
@@ -78,19 +108,10 @@ fn run(alloc: Global, program: &Program, units: u64) -> Result<Solved, SolveStop
     ensures outcome { Solves result program.now units }
     ensures program { IsProgram program.now }
 {
-    let mut rows = match first_rows(alloc, program) {
-        Ok(rows) => rows,
-        Err(AllocError) => return Err(SolveStop::Memory),
-    };
-    let mut basis = match first_basis(alloc, program) {
-        Ok(basis) => basis,
-        Err(AllocError) => return Err(SolveStop::Memory),
-    };
-    let mut column = match zeros(alloc, rows.len()) {
-        Ok(column) => column,
-        Err(AllocError) => return Err(SolveStop::Memory),
-    };
-    let mut spare = Vec::new(alloc);
+    let mut rows = first_rows(alloc, program)?;
+    let mut basis = first_basis(alloc, program)?;
+    let mut column = zeros(alloc, rows.len())?;
+    let mut spare = with_room(alloc, program)?;
     for exchanges in 0..units {
         let e = match entering(program, &rows) {
             Some(e) => e,
@@ -99,7 +120,7 @@ fn run(alloc: Global, program: &Program, units: u64) -> Result<Solved, SolveStop
         if exchanges + 1 == units {
             return Err(SolveStop::Units);
         }
-        match step(
+        step(
             alloc,
             program,
             &mut rows,
@@ -107,10 +128,7 @@ fn run(alloc: Global, program: &Program, units: u64) -> Result<Solved, SolveStop
             e,
             &mut column,
             &mut spare,
-        ) {
-            Ok(()) => {}
-            Err(stop) => return Err(stop),
-        }
+        )?;
     }
     Err(SolveStop::Units)
 }

@@ -82,18 +82,13 @@ impl SparseRow {
         ensures { DividesRow result self by }
     {
         let mut entries = self.entries;
-        match divide_all(&mut entries, by) {
-            Ok(()) => {}
-            Err(Wide) => return Err(Wide),
-        }
-        match self.limit.div(by) {
-            Ok(limit) => Ok(SparseRow {
-                entries,
-                place: self.place,
-                limit,
-            }),
-            Err(Wide) => Err(Wide),
-        }
+        divide_all(&mut entries, by)?;
+        let limit = self.limit.div(by)?;
+        Ok(SparseRow {
+            entries,
+            place: self.place,
+            limit,
+        })
     }
 
     // What is left of the row when f times another is taken away. It is made in `spare`.
@@ -101,18 +96,13 @@ impl SparseRow {
         requires { places self.now ≡ places pivot.now }
         ensures { LeavesRow result self.now f pivot.now }
     {
-        let limit = match taken(self.limit, f, pivot.limit) {
-            Ok(limit) => limit,
-            Err(Wide) => return Err(SolveStop::Wide),
-        };
-        match take_away(&self.entries, f, &pivot.entries, self.place, spare) {
-            Ok(entries) => Ok(SparseRow {
-                entries,
-                place: self.place,
-                limit,
-            }),
-            Err(stop) => Err(stop),
-        }
+        let limit = taken(self.limit, f, pivot.limit)?;
+        let entries = take_away(&self.entries, f, &pivot.entries, self.place, spare)?;
+        Ok(SparseRow {
+            entries,
+            place: self.place,
+            limit,
+        })
     }
 
     // Takes f times another row away. What is left is made in `spare`, which then gets the old list's memory.
@@ -127,10 +117,7 @@ impl SparseRow {
         ensures { TakesRow result self.old f pivot.now self.new }
     {
         let list = mem::replace(spare, Vec::new(alloc));
-        let left = match self.left(f, pivot, list) {
-            Ok(left) => left,
-            Err(stop) => return Err(stop),
-        };
+        let left = self.left(f, pivot, list)?;
         *spare = mem::replace(self, left).entries;
         Ok(())
     }

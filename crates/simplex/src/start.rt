@@ -1,6 +1,6 @@
 //! The first table of a program.
 
-ghost use Rattle.std.specs.Prelude.{◌≡◌, ◌<◌, ◌≤◌, ◌^◌, slice_index, IfOk};
+ghost use Rattle.std.specs.Prelude.{[], ◌≡◌, ◌<◌, ◌≤◌, ◌^◌, slice_index, IfOk};
 ghost use Rattle.program_form.specs.Program.{IsProgram, columns, height};
 ghost use Rattle.exchange_runs.specs.Table.{variables, first_entries, first_limit};
 ghost use Rattle.simplex.specs.Starts.{AreFirstEntries, IsFirstRow, AreFirstRows, IsFirstBasis};
@@ -38,12 +38,20 @@ fn bound_of(program: &Program, i: usize) -> u64
     }
 }
 
+// A list with room for a row of any table of the program's run. Of the basic variables only a row's own has a nonzero cell in it,
+// so such a row has at most one more than there are columns.
+pub(crate) fn with_room(alloc: Global, program: &Program) -> Result<Vec<Entry>, AllocError>
+    ensures { IfOk result (λ v. v.items ≡ []) }
+{
+    Vec::with_capacity(alloc, program.columns() as usize + 1)
+}
+
 // The nonzero numbers of the columns in row i of the first table.
 fn column_entries(alloc: Global, program: &Program, i: usize) -> Result<Vec<Entry>, AllocError>
     requires { i ≤ height program.now }
     ensures { IfOk result (λ v. AreFirstEntries program.now i (columns program.now) v.items) }
 {
-    let mut entries = Vec::new(alloc);
+    let mut entries = with_room(alloc, program)?;
     for c in 0..program.columns() as usize {
         let number = entry_at(program, i, c);
         if number != 0 {

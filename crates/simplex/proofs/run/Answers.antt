@@ -1,4 +1,5 @@
 use Rattle.std.proofs.Common.{◌≡◌, ◌<◌, ◌+◌, length, drop, inr, arith}
+use Rattle.std.proofs.lemmas.Result.{err_from_is_err_and}
 use Rattle.std.proofs.lemmas.List.{take_at}
 use Rattle.exchange_runs.proofs.Loops.{reached_next}
 use Rattle.simplex.specs.Tables.{table_of}
@@ -23,20 +24,22 @@ step-requires-clause-enters c =
     rw (c.deref_mut.ensures.value, c.deref_mut-in-loop-exchanges.ensures.value)
     (rw c.deref.ensures.value at (c.in-Some.ensures c.loop-exchanges.basis.items))
 
-pub returns-in-Err-step-clause-outcome : goal.returns-in-Err-step-clause-outcome
-returns-in-Err-step-clause-outcome c =
-    let stopped = rw (c.deref_mut.ensures.value, c.deref_mut-in-loop-exchanges.ensures.value) at c.in-Err-step.ensures in
+pub returns-in_err-step-clause-outcome : goal.returns-in_err-step-clause-outcome
+returns-in_err-step-clause-outcome c =
+    let stop = err_from_is_err_and c.from_residual-in_err-step.result c.from_residual-in_err-step.ensures.1 in
+    let stopped = rw (c.deref_mut.ensures.value, c.deref_mut-in-loop-exchanges.ensures.value) at c.in_err-step.ensures in
     let begun : c.loop-exchanges.exchanges + 1 < c.args.units = omega (arith, c.loop-exchanges-test.true, c.if-exchanges-units.false) in
-    solve_stop c.in-Err-step.stop c.args.program.now c.args.units c.loop-exchanges.exchanges c.in-Some.e c.loop-exchanges.rows.items c.loop-exchanges.basis.items
+    rw (stop.1, stop.2)
+    (solve_stop c.in_err-step.field-0.0 c.args.program.now c.args.units c.loop-exchanges.exchanges c.in-Some.e c.loop-exchanges.rows.items c.loop-exchanges.basis.items
     c.step.new.rows c.step.new.basis begun c.loop-exchanges.invariant.reached
-    (rw c.deref.ensures.value at (c.in-Some.ensures c.loop-exchanges.basis.items)) stopped
+    (rw c.deref.ensures.value at (c.in-Some.ensures c.loop-exchanges.basis.items)) stopped)
 
 pub loop-exchanges-preserved : goal.loop-exchanges-preserved
 loop-exchanges-preserved c =
     let inv = c.loop-exchanges.invariant in
     let old_rows = c.loop-exchanges.rows.items in
     let old_basis = c.loop-exchanges.basis.items in
-    let done = rw (c.deref_mut.ensures.value, c.deref_mut-in-loop-exchanges.ensures.value) at c.in-Ok-step.ensures in
+    let done = rw (c.deref_mut.ensures.value, c.deref_mut-in-loop-exchanges.ensures.value) at c.in_ok-step.ensures in
     let rows : length c.step.new.rows ≡ c.loop-exchanges.rows.len = omega (arith, done.0.row_each, inv.size.row_each, c.loop-exchanges.rows.ok.0) in
     let basis : length c.step.new.basis ≡ c.loop-exchanges.basis.len = omega (arith, done.0.basic_each, inv.size.basic_each, c.loop-exchanges.basis.ok.0) in
     let column : length c.step.new.column ≡ c.loop-exchanges.column.len = omega (arith, c.step.auto.column, c.deref_mut-in-loop-exchanges-2.ensures.len, c.loop-exchanges.column.ok.0) in

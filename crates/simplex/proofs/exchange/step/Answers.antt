@@ -1,4 +1,5 @@
 use Rattle.std.proofs.Common.{sym, ◌∙◌, arith}
+use Rattle.std.proofs.lemmas.Result.{err_from_is_err_and}
 use Rattle.simplex.specs.Tables.{table_of}
 use Rattle.exchange_runs.proofs.Bounded.{has_ratio}
 use Rattle.exchange_runs.proofs.Once.{forms}
@@ -12,19 +13,21 @@ unreachable-requires c =
     c.rows.ensures.program c.requires.reached.1 c.requires.enters.within in
     none some.0 (omega (arith, some.1, c.requires.size.basic_each)) some.2
 
-pub returns-in-Err-exchange : goal.returns-in-Err-exchange
-returns-in-Err-exchange c =
+pub returns-in_err-exchange : goal.returns-in_err-exchange
+returns-in_err-exchange c =
+    let stop = err_from_is_err_and c.from_residual.result c.from_residual.ensures.1 in
     let chosen = rw c.in-Ok-Some.field-0-is at (c.in-Ok-Some.ensures.least c.args.e c.read_column.ensures) in
     let least = rw (c.columns.ensures.value, c.rows.ensures.value, c.requires.size.basic_each) at chosen in
-    step_stop c.in-Err-exchange.stop c.args.program.now c.args.e c.in-Ok-Some.r c.args.rows.now c.args.basis.now c.exchange.new.rows c.args.basis.now
-    c.requires.size (record { ratio = c.in-Ok-Some.field-0-0-1; least = least }) (c.in-Err-exchange.ensures c.args.e c.read_column.ensures)
+    rw (stop.1, stop.2)
+    (step_stop c.in_err-exchange.field-0.0 c.args.program.now c.args.e c.in-Ok-Some.r c.args.rows.now c.args.basis.now c.exchange.new.rows c.args.basis.now
+    c.requires.size (record { ratio = c.in-Ok-Some.field-0-0-1; least = least }) (c.in_err-exchange.ensures c.args.e c.read_column.ensures))
 
 pub returns : goal.returns
 returns c =
     let chosen = rw c.in-Ok-Some.field-0-is at (c.in-Ok-Some.ensures.least c.args.e c.read_column.ensures) in
     let least = rw (c.columns.ensures.value, c.rows.ensures.value, c.requires.size.basic_each) at chosen in
     step_done c.args.program.now c.args.e c.in-Ok-Some.r c.args.rows.now c.exchange.new.rows c.args.basis.now c.requires.size c.requires.enters
-    (record { ratio = c.in-Ok-Some.field-0-0-1; least = least }) (c.in-Ok.ensures c.args.e c.read_column.ensures)
+    (record { ratio = c.in-Ok-Some.field-0-0-1; least = least }) (c.in_ok-exchange.ensures c.args.e c.read_column.ensures)
 
 pub exchange-requires-clause-row : goal.exchange-requires-clause-row
 exchange-requires-clause-row c =

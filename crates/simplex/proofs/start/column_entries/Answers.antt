@@ -6,7 +6,7 @@ use Rattle.simplex.proofs.start.column_entries.Goals as goal
 use Rattle.simplex.proofs.start.column_entries.Goals.{then-number-ne0+in_ok-push, else-number-ne0}
 
 pub loop-c-init : goal.loop-c-init
-loop-c-init c = rw c.new-entries.ensures.items (record { sparse = sparse_none; below = λ k l. absurd (omega arith); numbers = λ v l. absurd (omega arith) })
+loop-c-init c = rw c.in_ok-entries.ensures (record { sparse = sparse_none; below = λ k l. absurd (omega arith); numbers = λ v l. absurd (omega arith) })
 
 pub loop-c-preserved : goal.loop-c-preserved
 loop-c-preserved c =
