@@ -1,6 +1,6 @@
 -- The columns of a task under DPCP are of homes where it makes requests, and rows of other homes are not there.
 use Rattle.std.proofs.Common.{◌≡◌, ℕ, ◌<◌, ◌==◌, ◌&&◌, ◌||◌, not, Bool, true, false, List, [], ◌∷◌, map, length, refl, ◌∙◌, nat_lt, nat_le, inl, inr}
-use Rattle.std.proofs.lemmas.Bool.{and_parts, cases_Bool, both_ways, eqb-true}
+use Rattle.std.proofs.lemmas.Bool.{and_parts, cases_Bool, both_ways, eqb-true, eq-eqb}
 use Rattle.std.proofs.lemmas.List.Elements.{All-head, All-tail, All-same}
 use Rattle.std.specs.List.{All}
 use Rattle.bounded_sums.specs.Sums.{sum_below, only_if}
@@ -49,7 +49,7 @@ no_count : (set : SetDef) (i k : ℕ) → sum_below (length set.resources) (λ q
     → (q : ℕ) → q < length set.resources → is_user set q i ≡ true → home_in set q ≡ k → ⊥
 no_count set i k none q l user home =
     let term : only_if (home_in set q == k) (count_of set i q) ≡ 0 = sum_below-no_term (length set.resources) (λ q. only_if (home_in set q == k) (count_of set i q)) none q l in
-    let here : (home_in set q == k) ≡ true = rw home (eqb-refl k) in
+    let here : (home_in set q == k) ≡ true = eq-eqb (home_in set q) k home in
     let zero : count_of set i q ≡ 0 = rw here at term in
     both_ways (is_user set q i) (rw zero refl) user
 

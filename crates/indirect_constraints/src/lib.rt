@@ -137,7 +137,8 @@ fn add_home_row(
     requires asked { AreAskedAtHome set.now i.0 columns.now }
     ensures { OnOk result (block_seen block.new ≡ with_rows (block_seen block.old) (map column_seen columns.now) (home_row set.now i.0 row.now.processor ∷ []) bounds.now) }
 {
-    if home_count(set, i, row.processor) == 0 {
+    let asked = home_count(set, i, row.processor);
+    if asked == 0 {
         return Ok(());
     }
     add_row(alloc, block, row, set, i, bounds, columns)

@@ -7,5 +7,5 @@ pub add_row_within-requires-clause-stretch : goal.add_row_within-requires-clause
 add_row_within-requires-clause-stretch c =
     let x = c.args.row.now.task.0 in
     let q = c.args.row.now.resource.0 in
-    stretch_of_requests x q c.args.columns.now (request_row c.args.set.now c.args.i.0 x q) c.args.from c.requests_end.result
-    c.requires.from c.requests_end.ensures.begins c.requests_end.ensures.order (λ column other. rw other refl)
+    stretch_of_requests x q c.args.columns.now (request_row c.args.set.now c.args.i.0 x q) c.args.from c.requests_end-to.result
+    c.requires.from c.requests_end-to.ensures.begins c.requests_end-to.ensures.order (λ column other. rw other refl)
