@@ -1,10 +1,10 @@
 -- The columns of a task stand in order of the task, then the resource.
-use Rattle.std.proofs.Common.{◌≡◌, ℕ, zero, suc, ◌+◌, ◌-◌, ◌*◌, ◌<◌, ◌≤◌, List, [], ◌∷◌, ◌++◌, map, length, refl, subst, sym, arith, inl, inr}
+use Rattle.std.proofs.Common.{◌≡◌, ℕ, zero, suc, ◌-◌, ◌<◌, ◌≤◌, List, [], ◌∷◌, ◌++◌, map, length, refl, subst, sym, arith, inl, inr}
 use Rattle.std.proofs.Math.ListN.{get_or, get_or-append}
 use Rattle.std.proofs.Math.Seq.{get_or-append_right}
 use Rattle.std.proofs.lemmas.Bool.{cases_lt}
 use Rattle.std.proofs.lemmas.List.{length-append, length-map, get_or-map}
-use Rattle.std.proofs.lemmas.List.Elements.{All-nil, All-cons, All-append, All-weaker}
+use Rattle.std.proofs.lemmas.List.Elements.{All-nil, All-cons, All-weaker}
 use Rattle.std.proofs.lemmas.List.Kept.{IsNonDecreasingBy-filter}
 use Rattle.std.specs.List.{All}
 use Rattle.std.specs.List.Sorted.{IsNonDecreasingBy}
@@ -15,7 +15,7 @@ use Rattle.fragments.specs.ColumnDef.{ColumnDef, column_seen, classes_of, all_co
 use Rattle.fragments.specs.Columns.{is_column, columns_of}
 use Rattle.fragments.specs.declared.columns.Class.TheVariants as class
 use Rattle.fragments.specs.declared.columns.Fragment.{Fragment}
-use Rattle.fragments.specs.Stretches.{slot, slot_of, AreInOrder}
+use Rattle.fragments.specs.Stretches.{slot, AreInOrder}
 use Rattle.fragments.proofs.KnownColumns.{IsKnown, all_collected, all_known}
 
 -- Lists in order, of which the first holds nothing above b and the second nothing below, are in order one behind the other.

@@ -1,8 +1,7 @@
 -- Rows over stretches of columns: where a row's columns stand, and that what stands outside is zero.
-use Rattle.std.proofs.Common.{◌≡◌, ℕ, ◌+◌, ◌*◌, ◌<◌, ◌≤◌, ◌==◌, ◌&&◌, Bool, true, false, List, length, refl, arith, inl, inr}
+use Rattle.std.proofs.Common.{◌≡◌, ℕ, ◌+◌, ◌<◌, ◌≤◌, ◌==◌, ◌&&◌, false, List, arith, inl, inr}
 use Rattle.std.proofs.Math.ListN.{get_or}
 use Rattle.std.proofs.lemmas.Bool.{cases_Bool, and_parts, eqb-true}
-use Rattle.std.specs.List.{All, AllWithin}
 use Rattle.fragments.specs.ColumnDef.{ColumnDef, column_seen, AreKnown}
 use Rattle.fragments.specs.Constraints.{ConstraintDef}
 use Rattle.fragments.specs.declared.columns.Fragment.{Fragment}

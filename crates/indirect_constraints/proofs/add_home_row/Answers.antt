@@ -6,9 +6,9 @@ use Rattle.indirect_constraints.specs.Rows.{home_row}
 use Rattle.indirect_constraints.proofs.AskedAtHome.{no_home}
 use Rattle.indirect_constraints.proofs.add_home_row.Goals as goal
 
-pub returns-then-asked : goal.returns-then-asked
-returns-then-asked c =
+pub returns-then-asked-eq0 : goal.returns-then-asked-eq0
+returns-then-asked-eq0 c =
     let set = c.args.set.now in
     let k = c.args.row.now.processor in
     sym (row_missing (block_seen c.args.block.now) (map column_seen c.args.columns.now) (home_row set c.args.i.0 k) c.args.bounds.now
-    (no_home set c.args.i.0 k (sym c.home_count-asked.ensures ∙ c.if-asked.true) c.args.columns.now c.requires.asked))
+    (no_home set c.args.i.0 k (sym c.home_count-asked.ensures ∙ c.if-asked-eq0.true) c.args.columns.now c.requires.asked))

@@ -1,8 +1,4 @@
-use Rattle.std.proofs.Common.{◌≡◌, map, false, refl, sym, ◌∙◌, ◌&&◌, ◌==◌, length, arith}
-use Rattle.program_form.specs.RowBlock.{block_seen}
-use Rattle.fragments.specs.ColumnDef.{ColumnDef, column_seen, is_preemption}
-use Rattle.fragments.specs.Columns.{is_lower_local}
-use Rattle.fragments.proofs.Rows.{no_more_rows}
+use Rattle.std.proofs.Common.{refl, length, arith}
 use Rattle.fragments.proofs.RowStretches.{stretch_of_task}
 use Rattle.preempt_constraints.specs.Rows.{interval_row}
 use Rattle.preempt_constraints.proofs.add_interval_row.Goals as goal

@@ -1,5 +1,5 @@
 use Rattle.std.proofs.Common.{◌≡◌, ℕ, ◌<◌, ◌≤◌, length}
-use Rattle.std.specs.Prelude.{slice_index, slice_index_or, vec_len}
+use Rattle.std.specs.Prelude.{slice_index, slice_index_or}
 use Rattle.fragments.specs.declared.columns.Fragment.{Fragment}
 use Rattle.fragments.specs.ColumnDef.{column_seen}
 use Rattle.fragments.proofs.constraints.coefficients.Given as goal
