@@ -17,8 +17,3 @@ mod work;
 pub use laws::{analyse_and_check, analysed_then_checked, two_runs};
 pub use top::{Status, run};
 pub use words::DEFAULT_ALLOWANCE;
-
-#[cfg(test)]
-mod cert_tests;
-#[cfg(test)]
-mod tests;

@@ -1,5 +1,5 @@
 use crate::tests::{Given, SET_A, SET_A_CERTIFICATE, answer};
-use crate::{Status, analyse_and_check, analysed_then_checked, run};
+use block_top::{Status, analyse_and_check, analysed_then_checked, run};
 use outside_ports::{MemShelf, MemSink};
 use sporadic_model::Protocol;
 use std::alloc::{AllocError, Global};
@@ -42,89 +42,6 @@ fn judged<R: Threads + Sync>(
         status,
         written: Vec::from_slice(alloc, sink.written())?,
     })
-}
-
-// The bounds and the duals of a certificate for FMLP+, and the answer.
-const JUDGED: [(&str, &str, u8, &str); 7] = [
-    (
-        "[6,5]",
-        r#"{"den":1,"num":[0,0,2,0]},{"den":1,"num":[0,0,1,0]}"#,
-        0,
-        "valid\n",
-    ),
-    (
-        "[6,5]",
-        r#"{"den":1,"num":[2,0,0,0]},{"den":1,"num":[0,0,1,0]}"#,
-        1,
-        "invalid small t1\n",
-    ),
-    (
-        "[5,5]",
-        r#"{"den":1,"num":[1,0,0,0]},{"den":1,"num":[1,0,0,0]}"#,
-        1,
-        "invalid cover t1 1\n",
-    ),
-    (
-        "[5,5]",
-        r#"{"den":1,"num":[2,0,0]},{"den":1,"num":[1,0,0,0]}"#,
-        1,
-        "invalid dualsize t1\n",
-    ),
-    (
-        "[11,5]",
-        r#"{"den":1,"num":[2,0,0,0]},{"den":1,"num":[1,0,0,0]}"#,
-        1,
-        "invalid bound t1\n",
-    ),
-    (
-        "[5]",
-        r#"{"den":1,"num":[2,0,0,0]},{"den":1,"num":[1,0,0,0]}"#,
-        1,
-        "invalid size\n",
-    ),
-    (
-        "[5,true]",
-        r#"{"den":1,"num":[2,0,0,0]},{"den":1,"num":[1,0,0,0]}"#,
-        3,
-        "refused cert shape bounds\n",
-    ),
-];
-
-#[test]
-fn judges_certificates(rt: HostRuntime) -> Result<(), Fail> {
-    let alloc = rt.alloc();
-    for (bounds, duals, status, text) in JUDGED {
-        let cert = format!(in alloc;
-            "{{\"bounds\":{bounds},\"duals\":[{duals}],\"protocol\":\"fmlp+\",\"verdict\":\"schedulable\",\"version\":1}}"
-        )?;
-        let want = answer(alloc, status, text)?;
-        assert_eq!(rt; judged(&rt, alloc, "check", "fmlp+", cert.as_str())?, want);
-    }
-    Ok(())
-}
-
-#[test]
-fn refuses_certificates(rt: HostRuntime) -> Result<(), Fail> {
-    let alloc = rt.alloc();
-    let version = SET_A_CERTIFICATE.replacen(alloc, "\"version\":1", "\"version\":9", 1)?;
-    let dual = SET_A_CERTIFICATE.replacen(
-        alloc,
-        "{\"den\":1,\"num\":[1",
-        "{\"den\":0,\"num\":[1",
-        1,
-    )?;
-    for (protocol, cert, text) in [
-        ("mpcp", SET_A_CERTIFICATE, "refused cert otherprotocol\n"),
-        ("fmlp+", version.as_str(), "refused cert version\n"),
-        ("fmlp+", dual.as_str(), "refused cert shape dual 2\n"),
-        ("fmlp+", "{}", "refused cert shape root\n"),
-        ("fmlp+", "{", "refused cert notjson\n"),
-    ] {
-        let want = answer(alloc, 3, text)?;
-        assert_eq!(rt; judged(&rt, alloc, "check", protocol, cert)?, want);
-        assert_eq!(rt; judged(&rt, alloc, "report", protocol, cert)?, want);
-    }
-    Ok(())
 }
 
 #[test]
