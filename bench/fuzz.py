@@ -26,6 +26,8 @@ from pathlib import Path
 TOP = Path(__file__).resolve().parent.parent
 EXAMPLES = TOP / "examples"
 PROTOCOLS = ("mpcp", "fmlp+", "dpcp")
+# of a set: its jobs, how many ticks are simulated, and its rows, where they aren't those that the program makes
+SCHEDULES = {"pair.json": ("pair-jobs.csv", 50, "pair-rows.csv"), "plant.json": ("plant-jobs.csv", 100000, None)}
 
 NUMBERS = [0, 1, 2, 9, 10, 31, 32, 33, 63, 64, 65, 255, 256, 257, 999, 1000, 1001, 10**5, 10**9 - 1, 10**9, 10**9 + 1, 2**31, 2**32 - 1, 2**32]
 NUMBERS += [2**53, 2**63 - 1, 2**63, 2**64 - 1, 2**64, 10**30]
@@ -81,32 +83,29 @@ def example(name):
 
 
 def base_commands(program, folder):
-    """Each command over examples that it accepts. Certificates and schedules come from the program itself, where it makes some."""
-    found = []
+    """Each command over examples that it accepts. Certificates come from the program itself, and so do schedules where there are none."""
+    found = [Command("study 0 1", {})]
     for protocol in PROTOCOLS:
         for name in ("pair.json", "plant.json", "shared.json", "three.json", "overloaded.json"):
             text = example(name)
             if protocol == "dpcp" and b"home" not in text and b"resources" in text:
                 continue
-            found.append(Command(f"analyse {protocol} set", {"set": text}))
-            found.append(Command(f"analyse {protocol} set 1000", {"set": text}))
-            found.append(Command(f"report {protocol} set", {"set": text}))
-            status, certificate, _ = found[-3].run(program, folder, {"set": text}, found[-3].words, 600)
+            analyse = Command(f"analyse {protocol} set", {"set": text})
+            found += [analyse, Command(f"analyse {protocol} set 1000", {"set": text}), Command(f"report {protocol} set", {"set": text})]
+            status, certificate, _ = analyse.run(program, folder, analyse.files, analyse.words, 600)
             if status == 0:
-                found.append(Command(f"check {protocol} set cert", {"set": text, "cert": certificate}))
-                found.append(Command(f"report {protocol} set cert", {"set": text, "cert": certificate}))
-            if name == "pair.json":
-                found += over_schedules(protocol, text, certificate)
-    return [*found, Command("study 0 1", {})]
+                found += [Command(f"{word} {protocol} set cert", {"set": text, "cert": certificate}) for word in ("check", "report")]
+            if name in SCHEDULES:
+                found += over_schedules(program, folder, protocol, {"set": text, "cert": certificate}, *SCHEDULES[name])
+    return found
 
 
-def over_schedules(protocol, text, certificate):
-    files = {"set": text, "jobs": example("pair-jobs.csv"), "rows": example("pair-rows.csv")}
-    return [
-        Command(f"conform {protocol} set jobs rows", files),
-        Command(f"audit {protocol} set cert jobs rows", {**files, "cert": certificate}),
-        Command(f"simulate {protocol} set jobs 50", {"set": text, "jobs": files["jobs"]}),
-    ]
+def over_schedules(program, folder, protocol, known, jobs, ticks, rows):
+    simulate = Command(f"simulate {protocol} set jobs {ticks}", {"set": known["set"], "jobs": example(jobs)})
+    made = example(rows) if rows else simulate.run(program, folder, simulate.files, simulate.words, 600)[1]
+    files = {**simulate.files, "rows": made}
+    conform = Command(f"conform {protocol} set jobs rows", files)
+    return [simulate, conform, Command(f"audit {protocol} set cert jobs rows", {**files, "cert": known["cert"]})]
 
 
 def known_commands(program, folder):

@@ -41,6 +41,25 @@ PAIR_CERTIFICATE = certificate("fmlp+", [5, 5], [[2, 0, 0, 0], [1, 0, 0, 0]])
 PAIR_JOBS = "task,release,script\nt1,0,1 q:1 1\nt2,0,1 q:2 1\n"
 PAIR_ROWS = "ticks,P1,P2,q\n1,1,2,\n2,,2,2\n1,1,2,1\n1,1,,\n"
 PAIR_MEASURED = "lawful 5\nt1 1 5 2\nt2 1 4 0\n"
+PAIR_AUDITED = "kept 5\nt1 5 5 2 2 2 0 0\nt2 4 5 0 1 0 0 0\n"
+PAIR_SIMULATED = "ticks,P1,P2,q\n1,1,2,\n1,1,,1\n1,1,2,2\n1,,2,2\n1,,2,\n"
+
+HEADER = "task                            cpu     period   deadline       cost      local\n"
+PAIR_TABLE = (
+    HEADER
+    + "t1                                1         10         10          3          3\n"
+    + "t2                                2         10         10          4          4\n"
+    + "load 1 300000\nload 2 400000\n"
+)
+PAIR_FULL_TABLE = (
+    "task                            cpu     period   deadline       cost      local      bound   blocking      slack\n"
+    "t1                                1         10         10          3          3          5          2          5\n"
+    "t2                                2         10         10          4          4          5          1          5\n"
+    "load 1 300000\nload 2 400000\n"
+)
+
+# each of eight generated sets, one of each step, is schedulable under each protocol
+STUDIED = "step mpcp fmlp+ dpcp\n" + "".join(f"{step} 1 1 1\n" for step in range(1, 9)) + "stopped 0\n"
 
 FIVE = task_set(2, [resource("q")], task("t1", 1, 10, 2), task("t2", 1, 20, 4, ("q", 2)), task("t3", 2, 20, 5, ("q", 3)))
 

@@ -40,9 +40,6 @@ VERDICTS = [
 ]
 
 SETS = [
-    Case("a set that isn't there", "analyse fmlp+ set", "refused set absent\n", 3),
-    refused("a set cut after 20 bytes", "notjson", PAIR[:20]),
-    refused("an empty file", "notjson", ""),
     refused("a member that isn't listed", "shape task 1", pair(first={"prio": 1})),
     refused("no task", "notask", task_set(1, [])),
     refused("65 processors", "size processors", many(processors=65)),

@@ -1,6 +1,6 @@
 """The command `audit`: a certificate and a schedule, side by side."""
 from setting import Case
-from sets import PAIR, PAIR_CERTIFICATE, PAIR_JOBS, PAIR_ROWS, certificate, resource, task, task_set
+from sets import PAIR, PAIR_AUDITED, PAIR_CERTIFICATE, PAIR_JOBS, PAIR_ROWS, certificate, resource, task, task_set
 
 FILES = {"set": PAIR, "cert": PAIR_CERTIFICATE, "jobs": PAIR_JOBS, "rows": PAIR_ROWS}
 AUDIT = "audit fmlp+ set cert jobs rows"
@@ -14,7 +14,7 @@ CLASSES = {
 }
 
 CASES = [
-    Case("bounds and charges of two jobs", AUDIT, "kept 5\nt1 5 5 2 2 2 0 0\nt2 4 5 0 1 0 0 0\n", 0, FILES),
+    Case("bounds and charges of two jobs", AUDIT, PAIR_AUDITED, 0, FILES),
     Case("charges of two classes under DPCP", "audit dpcp set cert jobs rows", "kept 7\nt1 3 3 0 0 0 0 0\nt2 6 7 1 2 0 1 0\nt3 7 10 2 4 1 1 0\n", 0, CLASSES),
     Case("an invalid certificate before a broken schedule", AUDIT, "invalid cover t1 1\n", 1, {**FILES, "cert": UNCOVERED, "rows": "ticks,P1,P2,q\n1,2,1,\n"}),
     Case("a broken schedule", AUDIT, "broken 0 run\n", 1, {**FILES, "rows": "ticks,P1,P2,q\n1,2,1,\n"}),

@@ -1,13 +1,6 @@
 """The commands `check` and `report` with a certificate."""
 from setting import Case
-from sets import FIVE, PAIR, PAIR_CERTIFICATE, SIX, SIX_CERTIFICATE, certificate, pair, resource
-
-FULL_TABLE = (
-    "task                            cpu     period   deadline       cost      local      bound   blocking      slack\n"
-    "t1                                1         10         10          3          3          5          2          5\n"
-    "t2                                2         10         10          4          4          5          1          5\n"
-    "load 1 300000\nload 2 400000\n"
-)
+from sets import FIVE, PAIR, PAIR_CERTIFICATE, PAIR_FULL_TABLE, SIX, SIX_CERTIFICATE, certificate, pair, resource
 
 
 def checked(shows, says, cert, set=PAIR, protocol="fmlp+", command="check"):
@@ -48,10 +41,8 @@ CASES = [
     checked("a bound that is no whole number", "refused cert shape bounds", changed("[5,5]", "[5,-5]")),
     checked("a denominator of 0", "refused cert shape dual 2", changed('{"den":1,"num":[1', '{"den":0,"num":[1')),
     checked("a numerator of 2^63", "refused cert shape dual 1", changed("[2,0", "[9223372036854775808,0")),
-    checked("a certificate cut short", "refused cert notjson", PAIR_CERTIFICATE[:40]),
     checked("the set is read first", "refused set nohome resource 1", "{", pair([resource("q")]), "dpcp"),
-    Case("a certificate that isn't there", "check fmlp+ set cert", "refused cert absent\n", 3, {"set": PAIR}),
-    checked("the table with bounds, blocking and slack", FULL_TABLE, PAIR_CERTIFICATE, command="report"),
+    checked("the table with bounds, blocking and slack", PAIR_FULL_TABLE, PAIR_CERTIFICATE, command="report"),
     checked("no table of a certificate that isn't valid", "invalid small t2", certificate("fmlp+", [5, 4], [[2, 0, 0, 0], [1, 0, 0, 0]]), command="report"),
     checked("nor of one that is refused", "refused cert otherprotocol", PAIR_CERTIFICATE, protocol="mpcp", command="report"),
 ]

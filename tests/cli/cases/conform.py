@@ -52,7 +52,6 @@ ROW_FILES = [
 ORDER = [
     Case("the set is named before jobs and rows", "conform fmlp+ no nothing nowhere", "refused set absent\n", 3),
     Case("jobs that aren't there are named before rows", "conform fmlp+ set no nowhere", "refused jobs absent\n", 3, {"set": PAIR}),
-    Case("rows that aren't there", "conform fmlp+ set jobs no", "refused rows absent\n", 3, {"set": PAIR, "jobs": PAIR_JOBS}),
     Case("one file for all three", "conform fmlp+ set set set", "refused jobs fields 0\n", 3, {"set": PAIR}),
 ]
 

@@ -1,7 +1,8 @@
-"""Inputs that are no plain files, that end early, or that the system doesn't give."""
+"""Inputs that are no plain files, that end early, or that the system doesn't give; each command's own stand in `spoilt`."""
 from errno import EACCES, EIO, EMFILE, ENOENT, ENOMEM
 
-from setting import Case, Fifo, Folder, Link, Padded, Unreadable, Zeros
+from commands import INPUTS
+from setting import Case, Fifo, Link, Padded
 from sets import GREATEST, NAMES, PAIR, PAIR_CERTIFICATE, PAIR_JOBS, PAIR_MEASURED, PAIR_ROWS
 from tracing import Fault, Pieces
 
@@ -13,14 +14,14 @@ GREATEST_SAYS = f"not shown {NAMES[0]} 1000000028 1000000000\n"
 ALL = {"set": PAIR, "jobs": PAIR_JOBS, "rows": PAIR_ROWS}
 
 
-def unread(shows, files, words=ANALYSE, which="set", **more):
-    return Case(shows, words, f"fault read {which}\n", 4, files, **more)
+def unread(shows, files, words=ANALYSE):
+    return Case(shows, words, "fault read set\n", 4, files)
 
 
-def failing(shows, call, number, says, status, words=CONFORM):
-    """The system answers the call of this number with an error."""
+def failing(shows, call, number, says, status, words="audit fmlp+ set cert jobs rows"):
+    """The system answers the call of this number with an error. The words name all inputs, in their order."""
     name, error = call
-    return Case(shows, words, says, status, ALL, faults=(Fault(name, number, -error),))
+    return Case(shows, words, says, status, INPUTS, faults=(Fault(name, number, -error),))
 
 
 FILES = [
@@ -30,40 +31,33 @@ FILES = [
     Case("a path outside ASCII", ["analyse", "fmlp+", "Anlage \u2116 5"], PAIR_CERTIFICATE, 0, {"Anlage \u2116 5": PAIR}),
     Case("a path that looks like an option", "analyse fmlp+ --set", PAIR_CERTIFICATE, 0, {"--set": PAIR}),
     Case("no standard input", ANALYSE, PAIR_CERTIFICATE, 0, {"set": PAIR}, without_input=True),
-    unread("a folder", {"set": Folder()}),
-    unread("a folder in the place of jobs", {**ALL, "jobs": Folder()}, CONFORM, "jobs"),
-    unread("a folder in the place of rows", {**ALL, "rows": Folder()}, CONFORM, "rows"),
     unread("links in a loop", {"set": Link("other"), "other": Link("set")}),
     unread("a path through a file", {"set": PAIR}, "analyse fmlp+ set/set"),
     unread("a name of 300 bytes", {}, f"analyse fmlp+ {300 * 's'}"),
-    unread("a file that may not be read", {"set": Unreadable(PAIR)}, as_nobody=True),
 ]
 
 PIECES = [
     Case("a pipe in pieces of one byte", ANALYSE, PAIR_CERTIFICATE, 0, {"set": Fifo(PAIR, 1)}),
     Case("a pipe in pieces of 7 bytes", ANALYSE, GREATEST_SAYS, 1, {"set": Fifo(GREATEST, 7)}),
-    Case("a pipe whose writer ends early", ANALYSE, "refused set notjson\n", 3, {"set": Fifo(PAIR[:-3], 100)}),
-    Case("three pipes", CONFORM, PAIR_MEASURED, 0, {name: Fifo(text, 5) for name, text in ALL.items()}),
     Case("reads of one byte each", CONFORM, PAIR_MEASURED, 0, ALL, faults=(Pieces("read", 1),)),
     Case("a file that ends in the middle of a read", ANALYSE, PAIR_CERTIFICATE, 0, {"set": Padded(PAIR, 3 * 4096 + 17)}),
     Case("a file that ends with a read", ANALYSE, PAIR_CERTIFICATE, 0, {"set": Padded(PAIR, 2 * 4096)}),
     Case("a set cut in the middle of a read", ANALYSE, "refused set notjson\n", 3, {"set": GREATEST[: 4096 + 17]}),
     Case("a set cut at the end of a read", ANALYSE, "refused set notjson\n", 3, {"set": GREATEST[:8192]}),
     Case("a set of more than a megabyte", ANALYSE, PAIR_CERTIFICATE, 0, {"set": Padded(PAIR, MEGABYTE + 1)}),
-    Case("the longest input", ANALYSE, "refused set notjson\n", 3, {"set": Zeros(GREATEST_INPUT)}),
-    Case("one byte more than the longest input", ANALYSE, "refused set toolong\n", 3, {"set": Zeros(GREATEST_INPUT + 1)}),
-    Case("one byte too many of rows", CONFORM, "refused rows toolong\n", 3, {**ALL, "rows": Zeros(GREATEST_INPUT + 1)}),
+    Case("the longest input, all of it white space", ANALYSE, "refused set notjson\n", 3, {"set": Padded("", GREATEST_INPUT)}),
+    Case("the longest set", ANALYSE, PAIR_CERTIFICATE, 0, {"set": Padded(PAIR, GREATEST_INPUT)}),
     Case("an input without end", "analyse fmlp+ /dev/zero", "refused set toolong\n", 3),
     Case("an input that is always empty", "analyse fmlp+ /dev/null", "refused set notjson\n", 3),
 ]
 
 # each input is short: its first read gives all of it, and its second one gives the end
 FAULTS = [
-    *(failing(f"read {number} fails", ("read", EIO), number, f"fault read {which}\n", 4) for number, which in enumerate(2 * ["set"] + 2 * ["jobs"] + 2 * ["rows"], 1)),
-    *(failing(f"opening {number} isn't allowed", ("open", EACCES), number, f"fault read {which}\n", 4) for number, which in enumerate(ALL, 1)),
-    *(failing(f"opening {number} finds nothing", ("open", ENOENT), number, f"refused {which} absent\n", 3) for number, which in enumerate(ALL, 1)),
+    *(failing(f"read {2 * k + n} fails", ("read", EIO), 2 * k + n, f"fault read {which}\n", 4) for k, which in enumerate(INPUTS) for n in (1, 2)),
+    *(failing(f"opening {number} isn't allowed", ("open", EACCES), number, f"fault read {which}\n", 4) for number, which in enumerate(INPUTS, 1)),
+    *(failing(f"opening {number} finds nothing", ("open", ENOENT), number, f"refused {which} absent\n", 3) for number, which in enumerate(INPUTS, 1)),
     failing("too many files are open", ("open", EMFILE), 1, "fault read set\n", 4),
-    *(failing(f"opening {number} finds no memory", ("open", ENOMEM), number, "", 7) for number in (1, 2, 3)),
+    *(failing(f"opening {number} finds no memory", ("open", ENOMEM), number, "", 7) for number in (1, 2, 3, 4)),
     failing("the second read of an analysis fails", ("read", EIO), 2, "fault read set\n", 4, ANALYSE),
     failing("the second read of a report fails", ("read", EIO), 2, "fault read set\n", 4, "report mpcp set"),
 ]

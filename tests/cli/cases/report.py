@@ -1,14 +1,7 @@
 """The command `report`: tables."""
 from setting import Case
-from sets import GREATEST, NAMES, PAIR, pair, resource
+from sets import GREATEST, HEADER, NAMES, PAIR, PAIR_TABLE, pair, resource
 
-HEADER = "task                            cpu     period   deadline       cost      local\n"
-PAIR_TABLE = (
-    HEADER
-    + "t1                                1         10         10          3          3\n"
-    + "t2                                2         10         10          4          4\n"
-    + "load 1 300000\nload 2 400000\n"
-)
 GREATEST_TABLE = (
     HEADER
     + "".join(f"{NAMES[k]}{k + 1:3} 1000000000 1000000000 1000000000 1000000000\n" for k in range(64))

@@ -1,0 +1,28 @@
+"""Each command over the pair of tasks: its words, the inputs that it reads, in that order, and the whole of what it writes."""
+from dataclasses import dataclass
+
+from sets import PAIR, PAIR_AUDITED, PAIR_CERTIFICATE, PAIR_FULL_TABLE, PAIR_JOBS, PAIR_MEASURED, PAIR_ROWS, PAIR_SIMULATED, PAIR_TABLE, STUDIED
+
+INPUTS = {"set": PAIR, "cert": PAIR_CERTIFICATE, "jobs": PAIR_JOBS, "rows": PAIR_ROWS}
+
+
+@dataclass(frozen=True)
+class Command:
+    words: str
+    says: str
+
+    def files(self):
+        """The inputs that it reads, by name."""
+        return {word: INPUTS[word] for word in self.words.split() if word in INPUTS}
+
+
+COMMANDS = [
+    Command("analyse fmlp+ set", PAIR_CERTIFICATE),
+    Command("check fmlp+ set cert", "valid\n"),
+    Command("report fmlp+ set", PAIR_TABLE),
+    Command("report fmlp+ set cert", PAIR_FULL_TABLE),
+    Command("conform fmlp+ set jobs rows", PAIR_MEASURED),
+    Command("simulate fmlp+ set jobs 5", PAIR_SIMULATED),
+    Command("audit fmlp+ set cert jobs rows", PAIR_AUDITED),
+    Command("study 1 1", STUDIED),
+]
