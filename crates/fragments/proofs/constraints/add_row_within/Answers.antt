@@ -4,7 +4,7 @@ use Rattle.program_form.specs.RowBlock.{block_seen}
 use Rattle.fragments.specs.ColumnDef.{column_seen}
 use Rattle.fragments.specs.Constraints.{holds_some, pushed_row}
 use Rattle.fragments.proofs.Rows.{list_any-map, row_missing, row_there}
-use Rattle.fragments.proofs.constraints.add_row.Goals as goal
+use Rattle.fragments.proofs.constraints.add_row_within.Goals as goal
 
 pub returns-in_ok-push_row : goal.returns-in_ok-push_row
 returns-in_ok-push_row g c =
