@@ -1,15 +1,17 @@
 #!/usr/bin/env python3
 """Runs the gate from nothing, and prints what each crate takes of it: processor time for its proof, its tests and its edits, and memory.
 
-    python3 bench/gate.py [COMMAND ..]
-    python3 bench/gate.py --watch PID
+    python3 bench/gate.py [--tables FILE] [COMMAND ..]
+    python3 bench/gate.py [--tables FILE] --watch PID
 
 COMMAND is `rt ci --anew` where none is given. It runs at the top, what it writes goes on to standard output, and each line that says
 that a crate is done is preceded by the time since the start. With --watch a run that goes on already is watched to its end, and what
 it did before isn't counted. The processor times are those of the prover's processes, looked at twice a second, so each may be half a
-second too small; where other work runs beside it they are greater than on an idle machine. The tables go to standard error.
-It is no test: it bounds nothing.
+second too small; where other work runs beside it they are greater than on an idle machine. The tables, in the form of a page of docs/,
+go to standard error: the crates, and the edits that took longest. FILE gets them once a minute too, with every edit, while the run goes
+on. It is no test: it bounds nothing.
 """
+import argparse
 import collections
 import os
 import re
@@ -22,6 +24,8 @@ from pathlib import Path
 TOP = Path(__file__).resolve().parent.parent
 TICK = os.sysconf("SC_CLK_TCK")
 PAUSE = 0.5
+BETWEEN_TABLES = 60
+EDITS_SHOWN = 20
 KINDS = ("proof", "tests", "edits")
 
 
@@ -43,17 +47,47 @@ def processes():
     return found
 
 
+def text_with(edit, file, text):
+    """The text of a file with what an edit says of it, as the gate applies it."""
+    path = old = ""
+    for line in edit.split("\n"):
+        key, _, rest = line.partition(":")
+        rest = rest.removeprefix(" ")
+        if key == "file":
+            path = rest.strip()
+        elif key == "old":
+            old = rest
+        elif key == "new" and path == file:
+            text = text.replace(old, rest)
+    return text
+
+
+def edit_of(crate, room):
+    """The name of the edit that a copy of a crate holds, or "" where it holds none, as the copy that the edits begin with."""
+    own = TOP / "crates" / crate
+    for file in sorted((own / "src").glob("*.rt")):
+        place = f"src/{file.name}"
+        text, here = read(file).decode(), read(f"{room}/{place}").decode()
+        if here and here != text:
+            for edit in sorted((own / "must-fail").glob("*.edit")):
+                if text_with(read(edit).decode(), place, text) == here:
+                    return edit.stem
+    return ""
+
+
 def work_of(pid):
-    """The crate and the kind of work of a process of the prover, or None."""
+    """The crate, the kind of work and the edit of a process of the prover, or None."""
     words = read(f"/proc/{pid}/cmdline").decode(errors="replace").split("\0")
     if not words[0].endswith("/rattle") or "--crate-name" not in words:
         return None
     try:
-        is_edit = os.path.basename(os.readlink(f"/proc/{pid}/cwd")).startswith("rt-edit-")
+        room = os.readlink(f"/proc/{pid}/cwd")
     except OSError:
         return None
-    kind = "edits" if is_edit else "tests" if "--test" in words else "proof"
-    return words[words.index("--crate-name") + 1], kind
+    crate = words[words.index("--crate-name") + 1]
+    if os.path.basename(room).startswith("rt-edit-"):
+        return crate, "edits", edit_of(crate, room)
+    return crate, "tests" if "--test" in words else "proof", ""
 
 
 def memory_of(pid):
@@ -71,6 +105,7 @@ class Watch:
         self.spent = {}
         self.before = {} if anew else None
         self.memory = collections.Counter()
+        self.start = time.monotonic()
 
     def look(self):
         running = processes()
@@ -92,8 +127,15 @@ class Watch:
 
     def by_crate(self):
         table = collections.defaultdict(lambda: dict.fromkeys(KINDS, 0.0))
-        for process, (crate, kind) in self.works.items():
+        for process, (crate, kind, _) in self.works.items():
             table[crate][kind] += self.spent[process] - self.before.get(process, 0.0)
+        return table
+
+    def by_edit(self):
+        table = collections.Counter()
+        for process, (crate, kind, edit) in self.works.items():
+            if kind == "edits":
+                table[f"{crate}/{edit or '(begin)'}"] += self.spent[process] - self.before.get(process, 0.0)
         return table
 
 
@@ -101,18 +143,45 @@ def clock(seconds):
     return f"{int(seconds) // 60}:{int(seconds) % 60:02}"
 
 
-def print_table(watch, wall):
+def row(cells):
+    return "| " + " | ".join(cells) + " |"
+
+
+def crate_rows(watch):
+    """The table of the crates, dearest first: minutes and seconds of processor time."""
     table = watch.by_crate()
-    whole = sum(sum(times.values()) for times in table.values())
-    lines = ["", f"{'processor time, minutes':24}" + "".join(f"{kind:>9}" for kind in (*KINDS, "all", "share")) + f"{'memory':>10}"]
+    lines = [row(["Crate", "Proof", "Tests", "Edits", "All", "Memory, GB"]), "|---|--:|--:|--:|--:|--:|"]
     for crate, times in sorted(table.items(), key=lambda entry: -sum(entry[1].values())):
-        spent = sum(times.values())
-        lines.append(f"{crate:24}" + "".join(f"{clock(times[kind]):>9}" for kind in KINDS) + f"{clock(spent):>9}{spent / max(whole, 1):9.1%}{watch.memory[crate]:7.1f} GB")
+        cells = [clock(times[kind]) if times[kind] else "" for kind in KINDS]
+        lines.append(row([f"`{crate}`", *cells, clock(sum(times.values())), f"{watch.memory[crate]:.1f}"]))
     sums = [sum(times[kind] for times in table.values()) for kind in KINDS]
-    lines.append(f"{'all':24}" + "".join(f"{clock(spent):>9}" for spent in (*sums, whole)))
-    lines.append(f"{'share':24}" + "".join(f"{spent / max(whole, 1):9.1%}" for spent in sums))
-    lines.append(f"it took {clock(wall)} minutes on {os.cpu_count()} processors")
-    print("\n".join(lines), file=sys.stderr)
+    lines.append(row(["all", *map(clock, sums), clock(sum(sums)), ""]))
+    return lines
+
+
+def edit_rows(watch, most):
+    """The table of the edits that took longest."""
+    costs = watch.by_edit().most_common(most)
+    return [row(["Edit", "Time"]), "|---|--:|", *[row([f"`{edit}`", clock(spent)]) for edit, spent in costs]]
+
+
+def tables(watch, most_edits):
+    took = f"{clock(time.monotonic() - watch.start)} minutes on {os.cpu_count()} processors; processor time in minutes and seconds:"
+    return "\n".join([took, "", *crate_rows(watch), "", *edit_rows(watch, most_edits), ""])
+
+
+def watched(watch, goes_on, file):
+    """Looks at a run while it goes on, and writes the tables so far into the file now and then."""
+    written = watch.start
+    while goes_on():
+        watch.look()
+        if file and time.monotonic() - written > BETWEEN_TABLES:
+            Path(file).write_text(tables(watch, None), encoding="utf-8")
+            written = time.monotonic()
+        time.sleep(PAUSE)
+    if file:
+        Path(file).write_text(tables(watch, None), encoding="utf-8")
+    print("\n" + tables(watch, EDITS_SHOWN), file=sys.stderr)
 
 
 def pass_on(lines, start):
@@ -123,24 +192,21 @@ def pass_on(lines, start):
 
 
 def main():
-    words = sys.argv[1:]
-    start = time.monotonic()
-    if words[:1] == ["--watch"]:
-        watch = Watch(int(words[1]), anew=False)
-        while os.path.exists(f"/proc/{watch.top}/stat"):
-            watch.look()
-            time.sleep(PAUSE)
-        print_table(watch, time.monotonic() - start)
+    words = argparse.ArgumentParser()
+    words.add_argument("--tables", metavar="FILE")
+    words.add_argument("--watch", metavar="PID", type=int)
+    words.add_argument("command", nargs=argparse.REMAINDER)
+    words = words.parse_args()
+    if words.watch:
+        watch = Watch(words.watch, anew=False)
+        watched(watch, lambda: os.path.exists(f"/proc/{watch.top}/stat"), words.tables)
         return 0
-    run = subprocess.Popen(words or ["rt", "ci", "--anew"], cwd=None if words else TOP, stdout=subprocess.PIPE, stderr=subprocess.STDOUT, text=True, errors="replace")
-    reader = threading.Thread(target=pass_on, args=(run.stdout, start))
+    command, place = (words.command, None) if words.command else (["rt", "ci", "--anew"], TOP)
+    run = subprocess.Popen(command, cwd=place, stdout=subprocess.PIPE, stderr=subprocess.STDOUT, text=True, errors="replace")
+    reader = threading.Thread(target=pass_on, args=(run.stdout, time.monotonic()))
     reader.start()
-    watch = Watch(run.pid, anew=True)
-    while run.poll() is None:
-        watch.look()
-        time.sleep(PAUSE)
+    watched(Watch(run.pid, anew=True), lambda: run.poll() is None, words.tables)
     reader.join()
-    print_table(watch, time.monotonic() - start)
     return run.returncode
 
 

@@ -1,6 +1,6 @@
 -- The columns of a task are of requests that are made, and rows of others are not there.
 use Rattle.std.proofs.Common.{◌≡◌, ℕ, ◌==◌, ◌&&◌, not, true, false, List, [], ◌∷◌, map, refl, nat_lt, inl, inr}
-use Rattle.std.proofs.lemmas.Bool.{and_parts, and_from, cases_Bool, both_ways, eqb-true}
+use Rattle.std.proofs.lemmas.Bool.{and_parts, cases_Bool, both_ways, eqb-true}
 use Rattle.std.proofs.lemmas.List.Elements.{All-head, All-tail, All-same, All-weaker}
 use Rattle.sporadic_model.specs.SetDef.{SetDef, is_higher_local}
 use Rattle.sporadic_model.specs.Users.{is_user}
@@ -14,7 +14,7 @@ use Rattle.fragments.specs.Columns.{is_column, may_block, columns_of}
 use Rattle.fragments.specs.Constraints.{ConstraintDef, holds_some}
 use Rattle.fragments.proofs.KnownColumns.{columns_pass, all_mapped}
 use Rattle.direct_constraints.specs.Asked.{IsAskedFor, AreAskedFor}
-use Rattle.direct_constraints.specs.Rows.{request_row, turn_row}
+use Rattle.direct_constraints.specs.Rows.{lower_holder_row}
 
 -- What blocks directly is of a resource that the analysed task uses.
 direct_user : (p : Protocol) (set : SetDef) (i x q : ℕ) (k : Class) → may_block p set i x q k ≡ true → is_direct k ≡ true → is_user set q i ≡ true
@@ -42,33 +42,16 @@ none_held set i row fails (c ∷ cs) h =
     let P : Fragment → Type 0 = λ f. IsAskedFor set i (column_seen f) in
     rw (fails (column_seen c) (All-head P c cs h)) (none_held set i row fails cs (All-tail P c cs h))
 
-request_fails : (set : SetDef) (i x q : ℕ) → is_user set q x ≡ false → (c : ColumnDef) → IsAskedFor set i c → nat_lt 0 ((request_row set i x q).coefficient c) ≡ false
-request_fails set i x q unused c asked = elim (cases_Bool ((c.task == x) && (c.resource == q))) [
-  | inl both ↦
-      let parts = and_parts (c.task == x) (c.resource == q) both in
-      let task : c.task ≡ x = eqb-true c.task x parts.0 in
-      let resource : c.resource ≡ q = eqb-true c.resource q parts.1 in
-      let none : is_user set c.resource c.task ≡ false = rw (task, resource) unused in
-      absurd (both_ways (is_user set c.resource c.task) none asked.0)
-  | inr apart ↦ rw apart refl
-]
-
-turn_fails : (set : SetDef) (i x q : ℕ) → (is_user set q x && is_user set q i) ≡ false → (c : ColumnDef) → IsAskedFor set i c → nat_lt 0 ((turn_row set i x q).coefficient c) ≡ false
-turn_fails set i x q unused c asked = elim (cases_Bool (((c.task == x) && (c.resource == q)) && is_direct c.class)) [
+lower_holder_fails : (set : SetDef) (i q : ℕ) → is_user set q i ≡ false → (c : ColumnDef) → IsAskedFor set i c → nat_lt 0 ((lower_holder_row set i q).coefficient c) ≡ false
+lower_holder_fails set i q unused c asked = elim (cases_Bool (((c.resource == q) && is_direct c.class) && nat_lt i c.task)) [
   | inl all ↦
-      let direct = and_parts ((c.task == x) && (c.resource == q)) (is_direct c.class) all in
-      let parts = and_parts (c.task == x) (c.resource == q) direct.0 in
-      let task : c.task ≡ x = eqb-true c.task x parts.0 in
-      let resource : c.resource ≡ q = eqb-true c.resource q parts.1 in
-      let none : (is_user set c.resource c.task && is_user set c.resource i) ≡ false = rw (task, resource) unused in
-      absurd (both_ways (is_user set c.resource c.task && is_user set c.resource i) none
-      (and_from (is_user set c.resource c.task) (is_user set c.resource i) asked.0 (asked.1 direct.1)))
+      let parts = and_parts (c.resource == q) (is_direct c.class) (and_parts ((c.resource == q) && is_direct c.class) (nat_lt i c.task) all).0 in
+      let resource : c.resource ≡ q = eqb-true c.resource q parts.0 in
+      let none : is_user set c.resource i ≡ false = rw resource unused in
+      absurd (both_ways (is_user set c.resource i) none (asked.1 parts.1))
   | inr apart ↦ rw apart refl
 ]
 
--- No column is of requests that a task doesn't make, and none waits for a turn that nobody takes.
-pub no_requests : (set : SetDef) (i x q : ℕ) → is_user set q x ≡ false → (cs : List Fragment) → AreAskedFor set i cs → holds_some (map column_seen cs) (request_row set i x q) ≡ false
-no_requests set i x q unused cs asked = none_held set i (request_row set i x q) (request_fails set i x q unused) cs asked
-
-pub no_turns : (set : SetDef) (i x q : ℕ) → (is_user set q x && is_user set q i) ≡ false → (cs : List Fragment) → AreAskedFor set i cs → holds_some (map column_seen cs) (turn_row set i x q) ≡ false
-no_turns set i x q unused cs asked = none_held set i (turn_row set i x q) (turn_fails set i x q unused) cs asked
+-- No column waits for lower holders of a resource that the analysed task doesn't use.
+pub no_lower_holders : (set : SetDef) (i q : ℕ) → is_user set q i ≡ false → (cs : List Fragment) → AreAskedFor set i cs → holds_some (map column_seen cs) (lower_holder_row set i q) ≡ false
+no_lower_holders set i q unused cs asked = none_held set i (lower_holder_row set i q) (lower_holder_fails set i q unused) cs asked

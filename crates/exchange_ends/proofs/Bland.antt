@@ -7,6 +7,7 @@ use Rattle.number_laws.proofs.Order.{times_nonneg, times_positive, times_le, can
 use Rattle.bounded_sums.proofs.TotalLaws.{total_below-nonneg}
 use Rattle.program_form.specs.Program.{ProgramDef, height}
 use Rattle.exchange_runs.specs.Table.{variables}
+use Rattle.exchange_runs.proofs.Signs.{weaker, turned}
 use Rattle.exchange_runs.proofs.Invariants.{exchanged-here, exchanged-away}
 use Rattle.exchange_ends.proofs.States.{State, IsGood, Enters, Leaves, IsStep, IsBasic, objective_read, basic_zero, not_zero, apart}
 
@@ -14,16 +15,10 @@ use Rattle.exchange_ends.proofs.States.{State, IsGood, Enters, Leaves, IsStep, I
 abbrev pub IsFirm : ProgramDef → ℕ → State → ℕ → Type 0
 IsFirm p t s i = (t < s.basic i) ⊎ (pos 0 <ℤ s.z i (variables p))
 
-weaker : (x : ℤ) → pos 0 <ℤ x → pos 0 ≤ℤ x
-weaker x h = omega (arith, ints)
-
 -- a product of two numbers that are not above zero
 both_below : (a b : ℤ) → a ≤ℤ pos 0 → b ≤ℤ pos 0 → pos 0 ≤ℤ (a *ℤ b)
-both_below a b h k = over _ _ (both a b) (times_nonneg (neg_ℤ a) (neg_ℤ b) (turned a h) (turned b k))
+both_below a b h k = over _ _ (both a b) (times_nonneg (neg_ℤ a) (neg_ℤ b) (turned h) (turned k))
   where
-    turned : (x : ℤ) → x ≤ℤ pos 0 → pos 0 ≤ℤ neg_ℤ x
-    turned x l = omega (arith, ints)
-
     both : (x y : ℤ) → x *ℤ y ≡ neg_ℤ x *ℤ neg_ℤ y
     both x y = rw (as_diff x, as_diff y) (simp diffs (same_diff _ _ _ _ (omega arith)))
 
@@ -38,7 +33,7 @@ zero_times a b h = rw h (none b)
 
 -- a ratio of a limit that is not above zero is no greater than any
 least_ratio : (x q y c : ℤ) → x ≤ℤ pos 0 → pos 0 <ℤ q → pos 0 ≤ℤ y → pos 0 <ℤ c → (x *ℤ q) ≤ℤ (y *ℤ c)
-least_ratio x q y c h pq hy pc = between _ _ q (times_le x (pos 0) q (weaker q pq) h) (times_nonneg y c hy (weaker c pc))
+least_ratio x q y c h pq hy pc = between _ _ q (times_le x (pos 0) q (weaker pq) h) (times_nonneg y c hy (weaker pc))
   where
     between : (a b k : ℤ) → a ≤ℤ (pos 0 *ℤ k) → pos 0 ≤ℤ b → a ≤ℤ b
     between a b k l g = omega (arith, ints)
@@ -49,7 +44,7 @@ pub no_return : (p : ProgramDef) (s g : State) (e r t : ℕ) → IsGood p s → 
     → ((i : ℕ) → i < height p → IsFirm p t s i → IsBasic p (s.basic i) g) → ⊥
 no_return p s g e r t hs hg enters leaves is_t returns e_to firm =
     clash _ _ _ _ (objective_read p g s e hg hs)
-    (times_le (g.z m e) (pos 0) s.d (weaker s.d hs.positive) (returns.least e e_below))
+    (times_le (g.z m e) (pos 0) s.d (weaker hs.positive) (returns.least e e_below))
     (times_positive g.d (s.z m e) hg.positive enters.above)
     (total_below-nonneg m (λ i. g.z m (s.basic i) *ℤ s.z i e) each)
     (mul-comm s.d (g.z m e))
@@ -71,8 +66,8 @@ no_return p s g e r t hs hg enters leaves is_t returns e_to firm =
     of_flat i l to none = elim (cases_eq (s.basic i) t) [
       | inl same ↦
           let one : i ≡ r = apart p s i r hs l leaves.within (same ∙ sym is_t) in
-          times_nonneg _ _ (subst (λ (v : ℕ). pos 0 ≤ℤ g.z (height p) v) (sym same) (weaker _ returns.above))
-          (subst (λ (k : ℕ). pos 0 ≤ℤ s.z k e) (sym one) (weaker _ leaves.pivot))
+          times_nonneg _ _ (subst (λ (v : ℕ). pos 0 ≤ℤ g.z (height p) v) (sym same) (weaker returns.above))
+          (subst (λ (k : ℕ). pos 0 ≤ℤ s.z k e) (sym one) (weaker leaves.pivot))
       | inr away ↦
           let before : s.basic i < t = omega arith in
           both_below _ _ (returns.least (s.basic i) before)

@@ -10,6 +10,7 @@ use Rattle.bounded_sums.proofs.TotalLaws.{total_below-zero}
 use Rattle.bounded_sums.proofs.TestLaws.{any_below-from, any_below-some}
 use Rattle.program_form.specs.Program.{ProgramDef, height}
 use Rattle.exchange_runs.specs.Table.{variables}
+use Rattle.exchange_runs.proofs.Signs.{weaker}
 use Rattle.exchange_runs.proofs.Invariants.{exchanged-away}
 use Rattle.exchange_ends.proofs.States.{State, IsGood, Enters, IsStep, IsBasic, objective_read, basic_zero, entering_not_basic, apart}
 use Rattle.exchange_ends.proofs.Bland.{IsFirm, no_return, firm_on, firm_back}
@@ -51,13 +52,10 @@ taken_off p s u e r step =
     off_ring : (q v c y d : ℤ) → ((q *ℤ v) -ℤ (c *ℤ y)) *ℤ d ≡ (v *ℤ (d *ℤ q)) -ℤ ((c *ℤ y) *ℤ d)
     off_ring q v c y d = rw (as_diff q, as_diff v, as_diff c, as_diff y, as_diff d) (simp diffs (same_diff _ _ _ _ (omega arith)))
 
-weaker : (x : ℤ) → pos 0 <ℤ x → pos 0 ≤ℤ x
-weaker x h = omega (arith, ints)
-
 step_falls : (p : ProgramDef) (s u : State) (e r : ℕ) → IsGood p s → IsStep p s e r u → IsNoMore p u s
 step_falls p s u e r good step =
     less _ _ _ (taken_off p s u e r step)
-    (times_nonneg _ s.d (times_nonneg _ _ (weaker _ step.enters.above) (good.limits r step.leaves.within)) (weaker _ good.positive))
+    (times_nonneg _ s.d (times_nonneg _ _ (weaker step.enters.above) (good.limits r step.leaves.within)) (weaker good.positive))
   where
     less : (x y k : ℤ) → x ≡ y -ℤ k → pos 0 ≤ℤ k → x ≤ℤ y
     less x y k q h = omega (arith, ints)

@@ -20,6 +20,7 @@ use Rattle.exchange_runs.specs.Table.{Table, variables, slack, objective}
 use Rattle.exchange_runs.specs.Exchange.{IsLast}
 use Rattle.exchange_runs.specs.Readings.{value_of, dual_at, IsValueOf, IsPrimal, IsWrittenDual}
 use Rattle.exchange_runs.specs.Feasible.{IsOptimumValue, IsPointWorth}
+use Rattle.exchange_runs.proofs.Signs.{weaker, turned}
 use Rattle.exchange_runs.proofs.Shown.{Shows, shows_minus, shows_at_most_zero, at_least_zero_shown}
 use Rattle.exchange_runs.proofs.Ends.{end_covers, end_value, end_row, end_objective, at_variable, at_variable-nonneg, at_variable-basic, at_variable-none}
 use Rattle.exchange_runs.proofs.FirstTable.{first_z, has_slacks, number_at_column, number_at_cost, number_at_limit, number_at_value}
@@ -27,12 +28,6 @@ use Rattle.exchange_runs.proofs.Shadows.{IsShadow}
 
 pub size_is : (x : ℤ) → pos 0 ≤ℤ x → pos (unsigned_abs x) ≡ x
 size_is x h = omega (arith, ints)
-
-weaker : (x : ℤ) → pos 0 <ℤ x → pos 0 ≤ℤ x
-weaker x h = omega (arith, ints)
-
-turned : (x : ℤ) → x ≤ℤ pos 0 → pos 0 ≤ℤ neg_ℤ x
-turned x h = omega (arith, ints)
 
 same_natural : (a b : ℕ) → pos a ≡ pos b → a ≡ b
 same_natural a b h = omega (arith, ints)
@@ -71,7 +66,7 @@ value_size p t d z v h = sym (size_is _ (at_variable-nonneg (height p) t.basic (
 
 dual_size : (p : ProgramDef) (t : Table) (d : ℤ) (z : ℕ → ℕ → ℤ) (r : ℕ) → IsShadow p t d z → IsLast p t → r < height p
     → neg_ℤ (z (height p) (slack p r)) ≡ pos (dual_num p z r)
-dual_size p t d z r h last l = sym (size_is _ (turned _ (none_above p t d z (slack p r) h last (omega arith))))
+dual_size p t d z r h last l = sym (size_is _ (turned (none_above p t d z (slack p r) h last (omega arith))))
 
 -- The values of the columns are a point that meets every row. (This holds of every table of the run.)
 pub is_point : (p : ProgramDef) (t : Table) (d : ℤ) (z : ℕ → ℕ → ℤ) → IsShadow p t d z → IsScaledPoint p (scale_of d) (point_of p t z)
@@ -82,7 +77,7 @@ is_point p t d z h = record {
       let left : total_below (columns p) (λ c. first_z p r c *ℤ value_z p t z c) ≡ pos (sum_below (columns p) (λ c. entry p r c * point_of p t z c))
       = total_of_products (columns p) (first_z p r) (value_z p t z) (entry p r) (point_of p t z) (λ c k. ap pos (number_at_column p r c l k)) (λ c k. value_size p t d z c h) in
       let right : d *ℤ first_z p r (variables p) ≡ pos (scale_of d * limit p r)
-      = ap₂ ◌*ℤ◌ (sym (size_is d (weaker d h.positive))) (ap pos (number_at_limit p r l)) in
+      = ap₂ ◌*ℤ◌ (sym (size_is d (weaker h.positive))) (ap pos (number_at_limit p r l)) in
       at_most_natural _ _ (rw (← left, ← right) rows);
 }
   where
@@ -106,7 +101,7 @@ covers_of p t d z h last = record {
       = total_of_products (height p) (λ r. neg_ℤ (z (height p) (slack p r))) (λ r. first_z p r c) (dual_num p z) (λ r. entry p r c)
       (λ r k. dual_size p t d z r h last k) (λ r k. ap pos (number_at_column p r c k l)) in
       let left : d *ℤ first_z p (height p) c ≡ pos (scale_of d * cost p c)
-      = ap₂ ◌*ℤ◌ (sym (size_is d (weaker d h.positive))) (ap pos (number_at_cost p c l)) in
+      = ap₂ ◌*ℤ◌ (sym (size_is d (weaker h.positive))) (ap pos (number_at_cost p c l)) in
       at_most_natural _ _ (rw (← left, ← right) cover);
 }
 
@@ -219,9 +214,9 @@ primal_is_point p t d z primal h is = record {
   is_point = is_point p t d z h;
   columns_are = λ c l.
       shown_scaled d (value_z p t z c) (fraction_at primal c) (scale_of d) (point_of p t z c) h.positive (column_shows p t d z c (fraction_at primal c) h (is.values c l))
-      (ap₂ ◌*ℤ◌ (sym (value_size p t d z c h)) (sym (size_is d (weaker d h.positive))));
+      (ap₂ ◌*ℤ◌ (sym (value_size p t d z c h)) (sym (size_is d (weaker h.positive))));
   worth_is = shown_scaled d (neg_ℤ (z (height p) (variables p))) (value_of p t) (scale_of d) (worth p (point_of p t z)) h.positive (value_shows p t d z h)
-      (ap₂ ◌*ℤ◌ (worth_of p t d z h) (sym (size_is d (weaker d h.positive))));
+      (ap₂ ◌*ℤ◌ (worth_of p t d z h) (sym (size_is d (weaker h.positive))));
 }
 
 -- Totals of multipliers over another denominator.
@@ -261,7 +256,7 @@ written_number p t d z w r h last is l =
     let shown : pos (slice_index w.num r) *ℤ d ≡ neg_ℤ (z (height p) (slack p r)) *ℤ pos w.den
     = scaled_shown d (neg_ℤ (z (height p) (slack p r))) (dual_at p t r) w.den (slice_index w.num r) (dual_shows p t d z r h) scaled in
     same_natural _ _
-    (ap (λ a. pos (slice_index w.num r) *ℤ a) (size_is d (weaker d h.positive))
+    (ap (λ a. pos (slice_index w.num r) *ℤ a) (size_is d (weaker h.positive))
     ∙ (shown ∙ ap (λ a. a *ℤ pos w.den) (dual_size p t d z r h last l)))
 
 -- The written dual is feasible and optimal.
@@ -284,5 +279,5 @@ dual_worth p t d z w h last is =
     let sums : total * scale_of d ≡ dual_total p (dual_num p z) * w.den
     = scaled_total p (scale_of d) w.den (dual_num p z) (λ r. slice_index w.num r) (λ r l. written_number p t d z w r h last is l) in
     shown_scaled d (neg_ℤ (z (height p) (variables p))) (value_of p t) w.den total h.positive (value_shows p t d z h)
-    (ap (λ a. pos total *ℤ a) (sym (size_is d (weaker d h.positive)))
+    (ap (λ a. pos total *ℤ a) (sym (size_is d (weaker h.positive)))
     ∙ (ap pos sums ∙ ap (λ a. a *ℤ pos w.den) (dual_total_of p t d z h last)))

@@ -7,7 +7,7 @@ use Rattle.std.proofs.lemmas.List.Elements.{All-from_get_or}
 use Rattle.fraction128.specs.Fraction.{Fraction, IsForm, IsQuotient, whole}
 use Rattle.fraction128.specs.Gives.{HasNoForm}
 use Rattle.fraction128.specs.Scaling.{IsLeastCommon, IsScaled, fraction_at}
-use Rattle.fraction128.proofs.Forms.{form_of_whole, form_of_negated}
+use Rattle.fraction128.proofs.Forms.{form_of_negated, form_of_zero}
 use Rattle.fraction128.proofs.Unique.{one_quotient}
 use Rattle.fraction128.proofs.ScalingLemmas.{least_exists, scaled_over}
 use Rattle.program_form.specs.Program.{ProgramDef, IsProgram, columns, height}
@@ -25,9 +25,6 @@ use Rattle.exchange_runs.proofs.Leasts.{least_among}
 use Rattle.exchange_runs.proofs.Loops.{reached_next, less_at_zero, quotient_of_zero, value_none, value_here, value_more, duals_not_below}
 use Rattle.exchange_runs.proofs.Found.{quotient_found, less_found, all_or_some, listed}
 
-zero_form : IsForm (whole (pos 0))
-zero_form = form_of_whole 0 (omega arith)
-
 not_zero : (x : ℤ) → pos 0 <ℤ x → x ≡ pos 0 → ⊥
 not_zero x h e = omega (arith, ints)
 
@@ -44,7 +41,7 @@ zero_past_run p (suc k) t accepted h i v l past =
     let form = forms p k s accepted h.3 in
     let pivot : t.cell r v ≡ whole (pos 0)
     = one_quotient (s.cell r v) (s.cell r e) (t.cell r v) (whole (pos 0)) (form r v within) (not_zero (s.cell r e).num h.4.leaves.least.has.above)
-    (h.4.divided_form v) zero_form (h.4.divided v) (quotient_of_zero (s.cell r v) (s.cell r e) (ap (λ c. c.num) (zero_past_run p k s accepted h.3 r v within past))) in
+    (h.4.divided_form v) form_of_zero (h.4.divided v) (quotient_of_zero (s.cell r v) (s.cell r e) (ap (λ c. c.num) (zero_past_run p k s accepted h.3 r v within past))) in
     elim (cases_eq i r) [
       | inl here ↦ rw here pivot
       | inr away ↦
@@ -110,7 +107,7 @@ divided_or_wide p k t e r accepted reached within has =
       | inl all ↦ inl (λ v. elim (cases_lt v (variables p + 1)) [
         | inl inside ↦ all v inside
         | inr past ↦
-            (whole (pos 0), zero_form, quotient_of_zero (t.cell r v) (t.cell r e) (ap (λ c. c.num) (zero_past_run p k t accepted reached r v (omega (arith, within)) (omega (arith, past)))))
+            (whole (pos 0), form_of_zero, quotient_of_zero (t.cell r v) (t.cell r e) (ap (λ c. c.num) (zero_past_run p k t accepted reached r v (omega (arith, within)) (omega (arith, past)))))
       ])
     ]
 
@@ -149,7 +146,7 @@ left_or_wide p k t e r accepted reached within has divided =
             let zero_there : t.cell r v ≡ whole (pos 0) = zero_past_run p k t accepted reached r v (omega (arith, within)) (omega (arith, past)) in
             let zero_divided : (divided v).0 ≡ whole (pos 0)
             = one_quotient (t.cell r v) (t.cell r e) (divided v).0 (whole (pos 0)) (form r v (omega (arith, within))) (not_zero (t.cell r e).num has.above)
-            (divided v).1 zero_form (divided v).2 (quotient_of_zero (t.cell r v) (t.cell r e) (ap (λ c. c.num) zero_there)) in
+            (divided v).1 form_of_zero (divided v).2 (quotient_of_zero (t.cell r v) (t.cell r e) (ap (λ c. c.num) zero_there)) in
             (t.cell i v, less_at_zero (t.cell i v) (t.cell i e) (divided v).0 (ap (λ c. c.num) zero_divided) (form i v l))
       ])
     ]

@@ -10,7 +10,7 @@ use lib.Signed.{le_z, lt_z}
 use Rattle.number_laws.specs.Divisors.{IsCoprime}
 use Rattle.fraction128.specs.Fraction.{Fraction, IsForm, IsQuotient, IsAtMost, over, whole}
 use Rattle.fraction128.specs.LowestTerms.{signed}
-use Rattle.fraction128.proofs.Forms.{form_of_whole}
+use Rattle.fraction128.proofs.Forms.{form_of_zero}
 use Rattle.bounded_sums.specs.Tests.{all_below}
 use Rattle.bounded_sums.proofs.TestLaws.{all_below-each}
 use Rattle.program_form.specs.Program.{ProgramDef, height}
@@ -194,9 +194,6 @@ basis_test p t u e r = u.basic r == e && all_below (height p) (λ i. i == r || u
 abbrev pub IsZeroPast : ProgramDef → Table → Type 0
 IsZeroPast p t = (i v : ℕ) → variables p < v → t.cell i v ≡ whole (pos 0)
 
-zero_form : IsForm (whole (pos 0))
-zero_form = form_of_whole 0 (omega arith)
-
 pub exchange_from : (p : ProgramDef) (t u : Table) (e r : ℕ) (f : Fraction) → IsZeroPast p t → IsZeroPast p u
     → entering_test p t e ≡ true → leaving_test p t e r f ≡ true → divided_test p t u e r ≡ true → taken_test p t u e r ≡ true → basis_test p t u e r ≡ true
     → IsExchange p t u e r
@@ -208,7 +205,7 @@ exchange_from p t u e r f past_t past_u entering leaving divided taken basis =
       | inr past ↦
           let at_t : t.cell r v ≡ whole (pos 0) = past_t r v (omega (arith, past)) in
           let at_u : u.cell r v ≡ whole (pos 0) = past_u r v (omega (arith, past)) in
-          (rw at_u zero_form, rw at_u (quotient_of_zero (t.cell r v) (t.cell r e) (ap (λ c. c.num) at_t)))
+          (rw at_u form_of_zero, rw at_u (quotient_of_zero (t.cell r v) (t.cell r e) (ap (λ c. c.num) at_t)))
     ] in
     let parts = and_parts (u.basic r == e) _ basis in
     record {
@@ -224,7 +221,7 @@ exchange_from p t u e r f past_t past_u entering leaving divided taken basis =
         | inr past ↦
             let beyond : variables p < v = omega (arith, past) in
             let same : u.cell i v ≡ t.cell i v = past_u i v beyond ∙ sym (past_t i v beyond) in
-            rw same (less_at_zero (t.cell i v) (t.cell i e) (u.cell r v) (ap (λ c. c.num) (past_u r v beyond)) (rw (past_t i v beyond) zero_form))
+            rw same (less_at_zero (t.cell i v) (t.cell i e) (u.cell r v) (ap (λ c. c.num) (past_u r v beyond)) (rw (past_t i v beyond) form_of_zero))
       ];
       entered = eqb-true (u.basic r) e parts.0;
       stayed = λ i l away. eqb-true (u.basic i) (t.basic i) (other_row (height p) (λ j. u.basic j == t.basic j) r parts.1 i l away);

@@ -7,6 +7,7 @@ use Rattle.number_laws.proofs.Ring.{as_diff, diffs, same_diff, by_two, mul-comm,
 use Rattle.number_laws.proofs.Order.{times_nonneg, times_positive}
 use Rattle.bounded_sums.specs.WholeSums.{total_below, only_at}
 use Rattle.bounded_sums.proofs.TotalLaws.{total_below-agree, total_below-plus, total_below-mix, total_below-times, total_below-nonneg, total_below-only, only_at-here, only_at-away}
+use Rattle.exchange_runs.proofs.Signs.{weaker, turned}
 
 -- Is the row x so many times the first objective row, and each first row as many times as x has at its slack?
 pub record IsMix (m n : ℕ) (first : ℕ → ℕ → ℤ) (times : ℤ) (x : ℕ → ℤ) : Type 0 where
@@ -141,15 +142,12 @@ pub never_unbounded : (m e : ℕ) (d : ℤ) (g : ℕ → ℤ) (z : ℕ → ℕ �
 never_unbounded m e d g z basic pd above at_e h none =
     let left : pos 0 <ℤ (d *ℤ g e) = times_positive d (g e) pd at_e in
     let flipped : pos 0 ≤ℤ total_below m (λ i. g (basic i) *ℤ neg_ℤ (z i e))
-    = total_below-nonneg m (λ i. g (basic i) *ℤ neg_ℤ (z i e)) (λ i l. times_nonneg (g (basic i)) (neg_ℤ (z i e)) (above (basic i)) (turned (z i e) (none i l))) in
+    = total_below-nonneg m (λ i. g (basic i) *ℤ neg_ℤ (z i e)) (λ i l. times_nonneg (g (basic i)) (neg_ℤ (z i e)) (above (basic i)) (turned (none i l))) in
     let minus : total_below m (λ i. g (basic i) *ℤ neg_ℤ (z i e)) ≡ neg_ℤ (pos 1) *ℤ total_below m (λ i. g (basic i) *ℤ z i e)
     = total_below-agree m (λ i. g (basic i) *ℤ neg_ℤ (z i e)) (λ i. neg_ℤ (pos 1) *ℤ (g (basic i) *ℤ z i e)) (λ i l. minus_ring (g (basic i)) (z i e))
     ∙ total_below-times m (neg_ℤ (pos 1)) (λ i. g (basic i) *ℤ z i e) in
     clash (d *ℤ g e) (z m e) (total_below m (λ i. g (basic i) *ℤ z i e)) (total_below m (λ i. g (basic i) *ℤ neg_ℤ (z i e))) left (h.read e) minus flipped
   where
-    turned : (x : ℤ) → x ≤ℤ pos 0 → pos 0 ≤ℤ neg_ℤ x
-    turned x p = omega (arith, ints)
-
     minus_ring : (a b : ℤ) → a *ℤ neg_ℤ b ≡ neg_ℤ (pos 1) *ℤ (a *ℤ b)
     minus_ring a b = out a b ∙ minus_one (a *ℤ b)
       where
@@ -209,18 +207,12 @@ pub limits_after : (m : ℕ) (d : ℤ) (z : ℕ → ℕ → ℤ) (r e w : ℕ) �
     → ((i : ℕ) → i < m → pos 0 <ℤ z i e → (z r w *ℤ z i e) ≤ℤ (z i w *ℤ z r e))
     → (i : ℕ) → i < m → pos 0 ≤ℤ exchanged r e d z i w
 limits_after m d z r e w pd above within limits least i l = elim (cases_eq i r) [
-  | inl here ↦ rw (here, exchanged-here r e d z w) (times_nonneg d (z r w) (weaker d pd) (limits r within))
+  | inl here ↦ rw (here, exchanged-here r e d z w) (times_nonneg d (z r w) (weaker pd) (limits r within))
   | inr away ↦ rw (exchanged-away r e d z i w away) (by_lt_z (pos 0) (z i e)
       (λ ratio. apart _ _ (at_most (z r w) (z i e) (z i w) (z r e) (least i l ratio)))
-      (λ none. apart _ _ (across (z r e) (z i w) (z i e) (z r w) (times_nonneg (z r e) (z i w) (weaker (z r e) above) (limits i l)) (times_nonneg (neg_ℤ (z i e)) (z r w) (turned (z i e) none) (limits r within)))))
+      (λ none. apart _ _ (across (z r e) (z i w) (z i e) (z r w) (times_nonneg (z r e) (z i w) (weaker above) (limits i l)) (times_nonneg (neg_ℤ (z i e)) (z r w) (turned none) (limits r within)))))
 ]
   where
-    weaker : (a : ℤ) → pos 0 <ℤ a → pos 0 ≤ℤ a
-    weaker a p = omega (arith, ints)
-
-    turned : (x : ℤ) → x ≤ℤ pos 0 → pos 0 ≤ℤ neg_ℤ x
-    turned x p = omega (arith, ints)
-
     apart : (x y : ℤ) → y ≤ℤ x → pos 0 ≤ℤ (x -ℤ y)
     apart x y p = omega (arith, ints)
 

@@ -6,6 +6,7 @@ use Rattle.number_laws.proofs.Comparison.{chained_le}
 use Rattle.fraction128.specs.Fraction.{Fraction, IsAtMost}
 use Rattle.exchange_runs.specs.Table.{Table}
 use Rattle.exchange_runs.specs.Exchange.{HasRatio, IsRatioOver, IsLeastOver}
+use Rattle.exchange_runs.proofs.Signs.{weaker}
 
 -- Has each such value a denominator above zero?
 abbrev pub AreFractions : (Fraction → Type 0) → Type 0
@@ -79,9 +80,6 @@ least_replaced IsCell w t e k r f g are h has_k is at_most tie = record {
   ];
 }
 
-weaker : (x y : ℤ) → x <ℤ y → x ≤ℤ y
-weaker x y h = omega (arith, ints)
-
 not_back : (x y : ℤ) → x <ℤ y → y ≤ℤ x → ⊥
 not_back x y h k = omega (arith, ints)
 
@@ -90,7 +88,7 @@ least_more : (IsCell : Fraction → Type 0) (w : ℕ) (t : Table) (e k r : ℕ) 
     → IsRatioOver IsCell w t e k g → (s : ℕ) × (m : Fraction) × IsLeastOver IsCell w t e (k + 1) s m
 least_more IsCell w t e k r f g are h has is =
     by_lt_z (f.num *ℤ g.den) (g.num *ℤ f.den)
-    (λ below. (r, f, least_kept IsCell w t e k r f g h is (record { le = weaker _ _ below }) (λ back. absurd (not_back _ _ below back.le))))
+    (λ below. (r, f, least_kept IsCell w t e k r f g h is (record { le = weaker below }) (λ back. absurd (not_back _ _ below back.le))))
     (λ at_most. by_lt_z (g.num *ℤ f.den) (f.num *ℤ g.den)
     (λ below. (k, g, least_replaced IsCell w t e k r f g are h has is (record { le = at_most }) (λ back. absurd (not_back _ _ below back.le))))
     (λ equal. elim (cases_lt (t.basic k) (t.basic r)) [

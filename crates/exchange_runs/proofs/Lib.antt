@@ -1,3 +1,4 @@
+pub mod Signs
 pub mod Shown
 pub mod Invariants
 pub mod Ends

@@ -5,12 +5,13 @@ use Rattle.std.proofs.lemmas.Bool.{cases_lt}
 use Rattle.std.proofs.lemmas.List.Elements.{All-from_get_or}
 use Rattle.number_laws.proofs.Ring.{mul-one}
 use Rattle.fraction128.specs.Fraction.{Fraction, IsForm, IsQuotient, IsProduct, IsDifference, IsAtMost, whole}
-use Rattle.fraction128.proofs.Forms.{form_of_whole}
+use Rattle.fraction128.proofs.Forms.{form_of_zero}
 use Rattle.program_form.specs.Program.{ProgramDef, height}
 use Rattle.exchange_runs.specs.Table.{Table, slack, objective}
 use Rattle.exchange_runs.specs.Exchange.{IsLast, HasRatio, IsRatio, IsLeastOf, IsLess, IsExchange}
 use Rattle.exchange_runs.specs.Run.{Reached}
 use Rattle.exchange_runs.specs.Readings.{IsValueOf, AreDuals}
+use Rattle.exchange_runs.proofs.Signs.{turned}
 use Rattle.exchange_runs.proofs.Leasts.{least_without, least_kept, least_replaced}
 
 -- A run goes on by an exchange.
@@ -31,9 +32,6 @@ pub least_take : (w : ℕ) (t : Table) (e k r : ℕ) (f g : Fraction) → IsLeas
     → (IsAtMost f g → t.basic k ≤ t.basic r) → IsLeastOf w t e (k + 1) k g
 least_take w t e k r f g h has is at_most tie = least_replaced IsForm w t e k r f g (λ c form. form.positive) h has is at_most tie
 
-zero_form : IsForm (whole (pos 0))
-zero_form = form_of_whole 0 (omega arith)
-
 no_product : (f y : Fraction) → f.num *ℤ y.num ≡ pos 0 → IsProduct f y (whole (pos 0))
 no_product f y none = record { same = rw none (zeros (f.den *ℤ y.den) (pos 1)) }
   where
@@ -53,7 +51,7 @@ less_nothing a = record { same = nothing a.num a.den }
 pub less_of_zero : (a f y : Fraction) → f.num ≡ pos 0 → IsForm a → IsLess a f y a
 less_of_zero a f y zero_f form = record {
   product = whole (pos 0);
-  product_form = zero_form;
+  product_form = form_of_zero;
   is_product = no_product f y (ap (λ x. x *ℤ y.num) zero_f ∙ none y.num);
   form = form;
   is_difference = less_nothing a;
@@ -66,7 +64,7 @@ less_of_zero a f y zero_f form = record {
 pub less_at_zero : (a f y : Fraction) → y.num ≡ pos 0 → IsForm a → IsLess a f y a
 less_at_zero a f y zero_y form = record {
   product = whole (pos 0);
-  product_form = zero_form;
+  product_form = form_of_zero;
   is_product = no_product f y (ap (λ x. f.num *ℤ x) zero_y ∙ none f.num);
   form = form;
   is_difference = less_nothing a;
@@ -106,7 +104,4 @@ pub duals_not_below : (p : ProgramDef) (t : Table) (duals : List Fraction) → I
 duals_not_below p t duals last are =
     All-from_get_or (λ f. pos 0 ≤ℤ f.num) duals (whole (pos 0)) (λ i l.
     let within : i < height p = rw (← are.dual_each) l in
-    subst (λ (f : Fraction). pos 0 ≤ℤ f.num) (sym (are.duals_are i within)) (turned (objective p t (slack p i)).num (last.none (slack p i) (omega (arith, within)))))
-  where
-    turned : (x : ℤ) → x ≤ℤ pos 0 → pos 0 ≤ℤ neg_ℤ x
-    turned x h = omega (arith, ints)
+    subst (λ (f : Fraction). pos 0 ≤ℤ f.num) (sym (are.duals_are i within)) (turned (last.none (slack p i) (omega (arith, within)))))

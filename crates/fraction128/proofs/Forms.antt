@@ -1,10 +1,11 @@
 -- Forms of single fractions: a whole number, the other sign, and the whole part.
-use Rattle.std.proofs.Common.{◌≡◌, ℕ, suc, ◌+◌, ◌*◌, ◌/◌, ◌<◌, ◌≤◌, ◌^◌, ℤ, pos, negsuc, ◌*ℤ◌, neg_ℤ, ◌≤ℤ◌, ◌<ℤ◌, unsigned_abs, sym, subst, arith}
+use Rattle.std.proofs.Common.{◌≡◌, ℕ, suc, ◌+◌, ◌*◌, ◌/◌, ◌<◌, ◌≤◌, ◌^◌, sym, subst, arith}
+use Rattle.std.proofs.Common.{ℤ, pos, negsuc, ◌*ℤ◌, neg_ℤ, ◌≤ℤ◌, ◌<ℤ◌, unsigned_abs}
 use Rattle.std.specs.Int.{int_div_euclid}
 use Rattle.std.proofs.lemmas.Int.{ints}
 use Rattle.std.proofs.Math.Nat.{eq-one_of_dvd-one, div-mul-le_self, lt-mul-div-succ, div-lt_iff_lt-mul, le-div_iff_mul-le}
 use Rattle.number_laws.specs.Divisors.{IsCoprime}
-use Rattle.fraction128.specs.Fraction.{Fraction, IsForm, IsFloor, over}
+use Rattle.fraction128.specs.Fraction.{Fraction, IsForm, IsFloor, over, whole}
 
 pub form_of_whole : (n : ℕ) → n < 2 ^ 63 → IsForm (over (pos n) (pos 1))
 form_of_whole n h = record {
@@ -13,6 +14,9 @@ form_of_whole n h = record {
   small_den = omega arith;
   lowest = λ d p q. eq-one_of_dvd-one q;
 }
+
+pub form_of_zero : IsForm (whole (pos 0))
+form_of_zero = form_of_whole 0 (omega arith)
 
 size-neg : (n : ℤ) → unsigned_abs (neg_ℤ n) ≡ unsigned_abs n
 size-neg n = omega (arith, ints)

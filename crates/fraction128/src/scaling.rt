@@ -6,7 +6,7 @@ ghost use Rattle.fraction128.specs.Scales.{Scales};
 
 use crate::divisor::gcd;
 use crate::{Frac, MOST, Wide};
-use std::alloc::Global;
+use std::alloc::{AllocFailed, Global};
 use thiserror::Error;
 
 /// Fractions over their least common denominator: each is its number over `den`. All are at most 2^63 - 1.
@@ -25,6 +25,26 @@ pub enum ScalingError {
     /// The least common denominator, or a number over it, passes 2^63 - 1.
     #[error("the least common denominator or a number over it passes 2^63 - 1")]
     Wide,
+}
+
+impl<T: Drop> From<AllocFailed<T>> for ScalingError {
+    ghost use Rattle.fraction128.specs.declared.scaling.ScalingError.TheVariants.{Memory};
+
+    ghost from_gives = { λ _ error. error ≡ Memory };
+
+    fn from(_refused: AllocFailed<T>) -> ScalingError {
+        ScalingError::Memory
+    }
+}
+
+impl From<Wide> for ScalingError {
+    ghost use Rattle.fraction128.specs.declared.scaling.ScalingError.TheVariants.{Wide as WideOver};
+
+    ghost from_gives = { λ _ error. error ≡ WideOver };
+
+    fn from(_wide: Wide) -> ScalingError {
+        ScalingError::Wide
+    }
 }
 
 /// The least common denominator; Wide where it passes 2^63 - 1.
@@ -76,20 +96,11 @@ pub fn scale(alloc: Global, values: &[Frac]) -> Result<Scaled, ScalingError>
     requires { All (λ f. pos 0 ≤ℤ f.num) values.now }
     ensures { Scales result values.now }
 {
-    let den = match common_denominator(values) {
-        Ok(den) => den,
-        Err(Wide) => return Err(ScalingError::Wide),
-    };
+    let den = common_denominator(values)?;
     let mut num = Vec::new(alloc);
     for value in values {
-        let number = match number_over(den, *value) {
-            Ok(number) => number,
-            Err(Wide) => return Err(ScalingError::Wide),
-        };
-        match num.push(number) {
-            Ok(()) => {}
-            Err(_) => return Err(ScalingError::Memory),
-        }
+        let number = number_over(den, *value)?;
+        num.push(number)?;
     }
     Ok(Scaled { den, num })
 }

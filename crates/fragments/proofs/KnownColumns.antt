@@ -30,7 +30,7 @@ classes_known n m x q a b =
     All-cons (IsKnown n m) direct (indirect ∷ preemption ∷ []) (a, b)
     (All-cons (IsKnown n m) indirect (preemption ∷ []) (a, b) (All-cons (IsKnown n m) preemption [] (a, b) (All-nil (IsKnown n m))))
 
-all_known : (n m : ℕ) → All (IsKnown n m) (all_columns n m)
+pub all_known : (n m : ℕ) → All (IsKnown n m) (all_columns n m)
 all_known n m = all_collected (IsKnown n m) n (λ x. collect_below m (λ q. classes_of x q)) (λ x a.
     all_collected (IsKnown n m) m (λ q. classes_of x q) (λ q b. classes_known n m x q a b))
 

@@ -3,3 +3,5 @@ pub mod ColumnDef
 pub mod Columns
 pub mod Windows
 pub mod Constraints
+pub mod Stretches
+pub mod Links

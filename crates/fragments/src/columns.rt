@@ -1,12 +1,12 @@
-ghost use Rattle.std.specs.Prelude.{◌≡◌, ◌<◌, ◌++◌, map, length, OnOk, IfOk, [], ◌∷◌, not, ◌==◌, ◌&&◌, nat_lt, nat_le, ◌||◌};
-ghost use Rattle.std.specs.List.{filter};
+ghost use Rattle.std.specs.Prelude.{◌≡◌, ◌<◌, ◌++◌, map, length, OnOk, IfOk, [], ◌∷◌, not, ◌==◌, ◌&&◌, nat_lt, nat_le, ◌||◌, if◌then◌else◌};
+ghost use Rattle.std.specs.List.{All, filter, list_any};
 ghost use Rattle.bounded_sums.specs.Sums.{collect_below};
-ghost use Rattle.bounded_sums.specs.Tests.{any_below};
 ghost use Rattle.sporadic_model.specs.SetDef.{task_at};
 ghost use Rattle.sporadic_model.specs.Users.{is_user};
 ghost use Rattle.sporadic_model.specs.Homes.{HasHomesFor, home_in};
 ghost use Rattle.fragments.specs.ColumnDef.{column_seen, classes_of, is_direct, is_indirect, is_preemption};
-ghost use Rattle.fragments.specs.Columns.{have_one_processor, may_run_before, is_path, has_path, requests_beside, blocks_by_sharing, blocks_at_home, may_block, is_column, columns_of};
+ghost use Rattle.fragments.specs.Columns.{have_one_processor, may_run_before, has_path, requests_beside, blocks_by_sharing, blocks_at_home, may_block, is_column, columns_of};
+ghost use Rattle.fragments.specs.Links.{is_used_beside, is_link, AreLinks};
 
 use crate::places::{boost_place, ceiling_place, home, lower_local, share_processor, uses};
 use sporadic_model::{Protocol, ResourceId, TaskId, TaskSet};
@@ -88,17 +88,14 @@ fn stands_beside(set: &TaskSet, i: TaskId, x: TaskId, y: TaskId) -> bool
     share_processor(set, y, x) && y.0 != x.0 && y.0 != i.0
 }
 
-// May `i` wait for the resource `r`, another one than the requests', whose holder waits for its processor while they run there?
-fn stands_behind(set: &TaskSet, protocol: Protocol, i: TaskId, c: Fragment, r: ResourceId) -> bool
-    requires task { i.0 < length set.now.tasks }
+// Is the resource `r` another one than the requests', and may its holder wait for its processor while they run there?
+fn stands_behind(set: &TaskSet, protocol: Protocol, c: Fragment, r: ResourceId) -> bool
     requires column { c.task.0 < length set.now.tasks }
     requires resource { c.resource.0 < length set.now.resources }
     requires by { r.0 < length set.now.resources }
-    ensures { result ≡ (not (r.0 == c.resource.0) && (is_user set.now r.0 i.0 && may_run_before protocol set.now (task_at set.now c.task.0).processor c.resource.0 r.0)) }
+    ensures { result ≡ (not (r.0 == c.resource.0) && may_run_before protocol set.now (task_at set.now c.task.0).processor c.resource.0 r.0) }
 {
-    r.0 != c.resource.0
-        && uses(set, i, r)
-        && runs_before(set, protocol, set.processor(c.task), c.resource, r)
+    r.0 != c.resource.0 && runs_before(set, protocol, set.processor(c.task), c.resource, r)
 }
 
 // Is `y` a task beside `x`, and neither `x` nor `i`, that uses the resource `r`?
@@ -115,7 +112,7 @@ fn is_user_beside(set: &TaskSet, i: TaskId, x: TaskId, r: ResourceId, y: TaskId)
 fn has_user_beside(set: &TaskSet, i: TaskId, x: TaskId, r: ResourceId) -> bool
     requires task { x.0 < length set.now.tasks }
     requires by { r.0 < length set.now.resources }
-    ensures { result ≡ any_below (length set.now.tasks) (λ y. (have_one_processor set.now y x.0 && (not (y == x.0) && not (y == i.0))) && is_user set.now r.0 y) }
+    ensures { result ≡ is_used_beside set.now i.0 x.0 r.0 }
 {
     for y in 0..set.tasks() {
         if is_user_beside(set, i, x, r, TaskId(y)) {
@@ -125,81 +122,155 @@ fn has_user_beside(set: &TaskSet, i: TaskId, x: TaskId, r: ResourceId) -> bool
     false
 }
 
-// Is some task with the resource `r` a path from `i` to the requests?
-fn leads_by(set: &TaskSet, protocol: Protocol, i: TaskId, c: Fragment, r: ResourceId) -> bool
+// Can requests by `x` block `i` indirectly by the resource `r`?
+fn links(set: &TaskSet, protocol: Protocol, i: TaskId, x: TaskId, r: ResourceId) -> bool
     requires task { i.0 < length set.now.tasks }
+    requires other { x.0 < length set.now.tasks }
+    requires by { r.0 < length set.now.resources }
+    ensures { result ≡ is_link protocol set.now i.0 x.0 r.0 }
+{
+    match protocol {
+        Protocol::Mpcp | Protocol::FmlpPlus => uses(set, i, r) && has_user_beside(set, i, x, r),
+        Protocol::Dpcp => uses(set, i, r),
+    }
+}
+
+// Adds the resource, if requests by `x` can block `i` indirectly by it.
+fn add_link(
+    list: &mut Vec<ResourceId>,
+    set: &TaskSet,
+    protocol: Protocol,
+    i: TaskId,
+    x: TaskId,
+    r: ResourceId,
+) -> Result<(), AllocError>
+    requires task { i.0 < length set.now.tasks }
+    requires other { x.0 < length set.now.tasks }
+    requires by { r.0 < length set.now.resources }
+    ensures { OnOk result (list.new.items ≡ list.old.items ++ (if is_link protocol set.now i.0 x.0 r.0 then r ∷ [] else [])) }
+{
+    if links(set, protocol, i, x, r) {
+        list.push(r)?;
+    }
+    Ok(())
+}
+
+// The resources by which requests by `x` can block `i` indirectly.
+fn links_of(
+    alloc: Global,
+    set: &TaskSet,
+    protocol: Protocol,
+    i: TaskId,
+    x: TaskId,
+) -> Result<Vec<ResourceId>, AllocError>
+    requires task { i.0 < length set.now.tasks }
+    requires other { x.0 < length set.now.tasks }
+    ensures links { IfOk result (λ v. AreLinks protocol set.now i.0 x.0 v.items) }
+    ensures known { IfOk result (λ v. All (λ r. r.0 < length set.now.resources) v.items) }
+{
+    let mut list = Vec::new(alloc);
+    for r in 0..set.resources() {
+        add_link(&mut list, set, protocol, i, x, ResourceId(r))?;
+    }
+    Ok(list)
+}
+
+// Does one of the resources lie on a path to the requests?
+fn leads(set: &TaskSet, protocol: Protocol, c: Fragment, links: &[ResourceId]) -> bool
     requires column { c.task.0 < length set.now.tasks }
     requires resource { c.resource.0 < length set.now.resources }
-    requires by { r.0 < length set.now.resources }
-    ensures { result ≡ any_below (length set.now.tasks) (λ y. is_path protocol set.now i.0 c.task.0 c.resource.0 y r.0) }
+    requires known { All (λ r. r.0 < length set.now.resources) links.now }
+    ensures { result ≡ list_any (λ r. not (r.0 == c.resource.0) && may_run_before protocol set.now (task_at set.now c.task.0).processor c.resource.0 r.0) links.now }
 {
-    stands_behind(set, protocol, i, c, r) && has_user_beside(set, i, c.task, r)
+    for r in links {
+        if stands_behind(set, protocol, c, *r) {
+            return true;
+        }
+    }
+    false
 }
 
 // Is there a path from `i` to the requests?
-fn reaches(set: &TaskSet, protocol: Protocol, i: TaskId, c: Fragment) -> bool
+fn reaches(set: &TaskSet, protocol: Protocol, i: TaskId, c: Fragment, links: &[ResourceId]) -> bool
     requires task { i.0 < length set.now.tasks }
     requires column { c.task.0 < length set.now.tasks }
     requires resource { c.resource.0 < length set.now.resources }
+    requires links { AreLinks protocol set.now i.0 c.task.0 links.now }
+    requires known { All (λ r. r.0 < length set.now.resources) links.now }
     ensures { result ≡ has_path protocol set.now i.0 c.task.0 c.resource.0 }
 {
-    for r in 0..set.resources() {
-        if leads_by(set, protocol, i, c, ResourceId(r)) {
-            return true;
-        }
-    }
-    false
+    leads(set, protocol, c, links)
 }
 
-// Is the resource `r` another one than `q`, of the same home, and does the task request it?
-fn asks_for(set: &TaskSet, i: TaskId, q: ResourceId, r: ResourceId) -> bool
-    requires task { i.0 < length set.now.tasks }
+// Is the resource `r` another one than `q`, of the same home?
+fn shares_home(set: &TaskSet, q: ResourceId, r: ResourceId) -> bool
     requires resource { q.0 < length set.now.resources }
     requires other { r.0 < length set.now.resources }
-    ensures { result ≡ (not (r.0 == q.0) && (is_user set.now r.0 i.0 && (home_in set.now r.0 == home_in set.now q.0))) }
+    ensures { result ≡ (not (r.0 == q.0) && (home_in set.now r.0 == home_in set.now q.0)) }
 {
-    r.0 != q.0 && uses(set, i, r) && home(set, r) == home(set, q)
+    r.0 != q.0 && home(set, r) == home(set, q)
 }
 
-// Does the task request another resource of the same home?
-fn asks_beside(set: &TaskSet, i: TaskId, q: ResourceId) -> bool
-    requires task { i.0 < length set.now.tasks }
+// Does one of the resources share the home of another one?
+fn has_one_beside(set: &TaskSet, q: ResourceId, links: &[ResourceId]) -> bool
     requires resource { q.0 < length set.now.resources }
-    ensures { result ≡ requests_beside set.now i.0 q.0 }
+    requires known { All (λ r. r.0 < length set.now.resources) links.now }
+    ensures { result ≡ list_any (λ r. not (r.0 == q.0) && (home_in set.now r.0 == home_in set.now q.0)) links.now }
 {
-    for r in 0..set.resources() {
-        if asks_for(set, i, q, ResourceId(r)) {
+    for r in links {
+        if shares_home(set, q, *r) {
             return true;
         }
     }
     false
+}
+
+// Does `i` request another resource of the same home?
+fn asks_beside(set: &TaskSet, i: TaskId, c: Fragment, links: &[ResourceId]) -> bool
+    requires task { i.0 < length set.now.tasks }
+    requires resource { c.resource.0 < length set.now.resources }
+    requires links { AreLinks Protocol.Dpcp set.now i.0 c.task.0 links.now }
+    requires known { All (λ r. r.0 < length set.now.resources) links.now }
+    ensures { result ≡ requests_beside set.now i.0 c.resource.0 }
+{
+    has_one_beside(set, c.resource, links)
 }
 
 // Under MPCP and FMLP+, may the requests block `i` in this way?
-fn blocks_shared(set: &TaskSet, protocol: Protocol, i: TaskId, c: Fragment) -> bool
+fn blocks_shared(
+    set: &TaskSet,
+    protocol: Protocol,
+    i: TaskId,
+    c: Fragment,
+    links: &[ResourceId],
+) -> bool
     requires task { i.0 < length set.now.tasks }
     requires column { c.task.0 < length set.now.tasks }
     requires resource { c.resource.0 < length set.now.resources }
+    requires links { AreLinks protocol set.now i.0 c.task.0 links.now }
+    requires known { All (λ r. r.0 < length set.now.resources) links.now }
     ensures { result ≡ blocks_by_sharing protocol set.now i.0 c.task.0 c.resource.0 c.class }
 {
     match c.class {
         Class::Direct => uses(set, i, c.resource),
-        Class::Indirect => reaches(set, protocol, i, c),
+        Class::Indirect => reaches(set, protocol, i, c, links),
         Class::Preemption => lower_local(set, i, c.task),
     }
 }
 
 // Under DPCP, may they?
-fn blocks_distributed(set: &TaskSet, i: TaskId, c: Fragment) -> bool
+fn blocks_distributed(set: &TaskSet, i: TaskId, c: Fragment, links: &[ResourceId]) -> bool
     requires task { i.0 < length set.now.tasks }
     requires column { c.task.0 < length set.now.tasks }
     requires resource { c.resource.0 < length set.now.resources }
+    requires links { AreLinks Protocol.Dpcp set.now i.0 c.task.0 links.now }
+    requires known { All (λ r. r.0 < length set.now.resources) links.now }
     ensures { result ≡ blocks_at_home set.now i.0 c.task.0 c.resource.0 c.class }
 {
     match c.class {
         Class::Direct => uses(set, i, c.resource),
         Class::Indirect => {
-            asks_beside(set, i, c.resource)
+            asks_beside(set, i, c, links)
                 && (c.task.0 <= i.0 || ceiling_place(set, c.resource) <= i.0)
         }
         Class::Preemption => home(set, c.resource) == set.processor(i),
@@ -207,28 +278,38 @@ fn blocks_distributed(set: &TaskSet, i: TaskId, c: Fragment) -> bool
 }
 
 // May they under the protocol?
-fn blocks(set: &TaskSet, protocol: Protocol, i: TaskId, c: Fragment) -> bool
+fn blocks(set: &TaskSet, protocol: Protocol, i: TaskId, c: Fragment, links: &[ResourceId]) -> bool
     requires task { i.0 < length set.now.tasks }
     requires column { c.task.0 < length set.now.tasks }
     requires resource { c.resource.0 < length set.now.resources }
+    requires links { AreLinks protocol set.now i.0 c.task.0 links.now }
+    requires known { All (λ r. r.0 < length set.now.resources) links.now }
     ensures { result ≡ may_block protocol set.now i.0 c.task.0 c.resource.0 c.class }
 {
     match protocol {
         Protocol::Mpcp | Protocol::FmlpPlus => {
-            !set.higher_local(i, c.task) && blocks_shared(set, protocol, i, c)
+            !set.higher_local(i, c.task) && blocks_shared(set, protocol, i, c, links)
         }
-        Protocol::Dpcp => blocks_distributed(set, i, c),
+        Protocol::Dpcp => blocks_distributed(set, i, c, links),
     }
 }
 
 // Is it a column of `i`'s program?
-fn is_fragment(set: &TaskSet, protocol: Protocol, i: TaskId, c: Fragment) -> bool
+fn is_fragment(
+    set: &TaskSet,
+    protocol: Protocol,
+    i: TaskId,
+    c: Fragment,
+    links: &[ResourceId],
+) -> bool
     requires task { i.0 < length set.now.tasks }
     requires column { c.task.0 < length set.now.tasks }
     requires resource { c.resource.0 < length set.now.resources }
+    requires links { AreLinks protocol set.now i.0 c.task.0 links.now }
+    requires known { All (λ r. r.0 < length set.now.resources) links.now }
     ensures { result ≡ is_column protocol set.now i.0 (column_seen c) }
 {
-    c.task.0 != i.0 && uses(set, c.task, c.resource) && blocks(set, protocol, i, c)
+    c.task.0 != i.0 && uses(set, c.task, c.resource) && blocks(set, protocol, i, c, links)
 }
 
 // Adds the column, if it is one.
@@ -238,13 +319,16 @@ fn add_column(
     protocol: Protocol,
     i: TaskId,
     c: Fragment,
+    links: &[ResourceId],
 ) -> Result<(), AllocError>
     requires task { i.0 < length set.now.tasks }
     requires column { c.task.0 < length set.now.tasks }
     requires resource { c.resource.0 < length set.now.resources }
+    requires links { AreLinks protocol set.now i.0 c.task.0 links.now }
+    requires known { All (λ r. r.0 < length set.now.resources) links.now }
     ensures { OnOk result (map column_seen columns.new.items ≡ map column_seen columns.old.items ++ filter (is_column protocol set.now i.0) (column_seen c ∷ [])) }
 {
-    if is_fragment(set, protocol, i, c) {
+    if is_fragment(set, protocol, i, c, links) {
         columns.push(c)?;
     }
     Ok(())
@@ -257,10 +341,13 @@ fn add_classes(
     protocol: Protocol,
     i: TaskId,
     of: (TaskId, ResourceId),
+    links: &[ResourceId],
 ) -> Result<(), AllocError>
     requires task { i.0 < length set.now.tasks }
     requires other { of.0.0 < length set.now.tasks }
     requires resource { of.1.0 < length set.now.resources }
+    requires links { AreLinks protocol set.now i.0 of.0.0 links.now }
+    requires known { All (λ r. r.0 < length set.now.resources) links.now }
     ensures { OnOk result (map column_seen columns.new.items ≡ map column_seen columns.old.items ++ filter (is_column protocol set.now i.0) (classes_of of.0.0 of.1.0)) }
 {
     let (task, resource) = of;
@@ -275,6 +362,7 @@ fn add_classes(
             resource,
             class,
         },
+        links,
     )?;
     let class = Class::Indirect;
     add_column(
@@ -287,6 +375,7 @@ fn add_classes(
             resource,
             class,
         },
+        links,
     )?;
     let class = Class::Preemption;
     add_column(
@@ -299,11 +388,13 @@ fn add_classes(
             resource,
             class,
         },
+        links,
     )
 }
 
 // Adds the columns of the requests by task `x`.
 fn add_task(
+    alloc: Global,
     columns: &mut Vec<Fragment>,
     set: &TaskSet,
     protocol: Protocol,
@@ -314,8 +405,9 @@ fn add_task(
     requires other { x.0 < length set.now.tasks }
     ensures { OnOk result (map column_seen columns.new.items ≡ map column_seen columns.old.items ++ filter (is_column protocol set.now i.0) (collect_below (length set.now.resources) (λ q. classes_of x.0 q))) }
 {
+    let links = links_of(alloc, set, protocol, i, x)?;
     for q in 0..set.resources() {
-        add_classes(columns, set, protocol, i, (x, ResourceId(q)))?;
+        add_classes(columns, set, protocol, i, (x, ResourceId(q)), &links)?;
     }
     Ok(())
 }
@@ -334,7 +426,7 @@ pub fn fragments(
 {
     let mut columns = Vec::new(alloc);
     for x in 0..set.tasks() {
-        add_task(&mut columns, set, protocol, i, TaskId(x))?;
+        add_task(alloc, &mut columns, set, protocol, i, TaskId(x))?;
     }
     Ok(columns)
 }

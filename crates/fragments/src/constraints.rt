@@ -5,6 +5,7 @@ ghost use Rattle.sporadic_model.specs.SetDef.{SetDef};
 ghost use Rattle.program_sources.specs.Bounds.{AreWithinDeadlines};
 ghost use Rattle.fragments.specs.ColumnDef.{column_seen, AreKnown};
 ghost use Rattle.fragments.specs.Constraints.{ConstraintDef, with_rows, pushed_row};
+ghost use Rattle.fragments.specs.Stretches.{IsStretch};
 
 use crate::columns::Fragment;
 use program_form::RowBlock;
@@ -35,37 +36,48 @@ pub trait Constraint {
         ensures { result ≡ (row_of self.now set.now i.0).limit (slice_index bounds.now) };
 }
 
-// Has some column a coefficient above zero in the row?
-fn holds<K: Constraint>(kind: &K, set: &TaskSet, i: TaskId, columns: &[Fragment]) -> bool
+// Has some column a coefficient above zero in the row, where none outside the stretch has one?
+fn holds<K: Constraint>(
+    kind: &K,
+    set: &TaskSet,
+    i: TaskId,
+    columns: &[Fragment],
+    stretch: (usize, usize),
+) -> bool
     requires fits { K.fits kind.now set.now }
     requires task { i.0 < length set.now.tasks }
     requires known { AreKnown (length set.now.tasks) (length set.now.resources) columns.now }
+    requires stretch { IsStretch (K.row_of kind.now set.now i.0) columns.now stretch.0 stretch.1 }
     ensures { result ≡ list_any (λ c. nat_lt 0 ((K.row_of kind.now set.now i.0).coefficient (column_seen c))) columns.now }
 {
-    for column in columns {
-        if kind.coefficient(set, i, *column) > 0 {
+    let (from, to) = stretch;
+    for place in from..to {
+        if kind.coefficient(set, i, columns[place]) > 0 {
             return true;
         }
     }
     false
 }
 
-// The coefficients of the columns.
+// The coefficients of the columns, where those outside the stretch are zero.
 fn coefficients<K: Constraint>(
     alloc: Global,
     kind: &K,
     set: &TaskSet,
     i: TaskId,
     columns: &[Fragment],
+    stretch: (usize, usize),
 ) -> Result<Vec<u64>, AllocError>
     requires fits { K.fits kind.now set.now }
     requires task { i.0 < length set.now.tasks }
     requires known { AreKnown (length set.now.tasks) (length set.now.resources) columns.now }
+    requires stretch { IsStretch (K.row_of kind.now set.now i.0) columns.now stretch.0 stretch.1 }
     ensures { IfOk result (λ v. v.items ≡ map (λ c. (K.row_of kind.now set.now i.0).coefficient (column_seen c)) columns.now) }
 {
-    let mut list = Vec::with_capacity(alloc, columns.len())?;
-    for column in columns {
-        list.push(kind.coefficient(set, i, *column))?;
+    let (from, to) = stretch;
+    let mut list = vec![in alloc; 0u64; columns.len()]?;
+    for place in from..to {
+        list[place] = kind.coefficient(set, i, columns[place]);
     }
     Ok(list)
 }
@@ -76,6 +88,32 @@ fn push_row(block: &mut RowBlock, list: Vec<u64>, limit: u64) -> Result<(), Allo
 {
     block.rows.push(list)?;
     block.limits.push(limit)?;
+    Ok(())
+}
+
+/// Adds the row to the block, if some column has a coefficient above zero in it. It looks at the columns of the stretch alone, from
+/// its first place to below its second, since none outside has one.
+pub fn add_row_within<K: Constraint>(
+    alloc: Global,
+    block: &mut RowBlock,
+    kind: &K,
+    set: &TaskSet,
+    i: TaskId,
+    bounds: &[u64],
+    columns: &[Fragment],
+    stretch: (usize, usize),
+) -> Result<(), AllocError>
+    requires fits { K.fits kind.now set.now }
+    requires task { i.0 < length set.now.tasks }
+    requires within { AreWithinDeadlines set.now bounds.now }
+    requires known { AreKnown (length set.now.tasks) (length set.now.resources) columns.now }
+    requires stretch { IsStretch (K.row_of kind.now set.now i.0) columns.now stretch.0 stretch.1 }
+    ensures { OnOk result (block_seen block.new ≡ with_rows (block_seen block.old) (map column_seen columns.now) (K.row_of kind.now set.now i.0 ∷ []) bounds.now) }
+{
+    if holds(kind, set, i, columns, stretch) {
+        let list = coefficients(alloc, kind, set, i, columns, stretch)?;
+        push_row(block, list, kind.limit(set, i, bounds))?;
+    }
     Ok(())
 }
 
@@ -95,9 +133,14 @@ pub fn add_row<K: Constraint>(
     requires known { AreKnown (length set.now.tasks) (length set.now.resources) columns.now }
     ensures { OnOk result (block_seen block.new ≡ with_rows (block_seen block.old) (map column_seen columns.now) (K.row_of kind.now set.now i.0 ∷ []) bounds.now) }
 {
-    if holds(kind, set, i, columns) {
-        let list = coefficients(alloc, kind, set, i, columns)?;
-        push_row(block, list, kind.limit(set, i, bounds))?;
-    }
-    Ok(())
+    add_row_within(
+        alloc,
+        block,
+        kind,
+        set,
+        i,
+        bounds,
+        columns,
+        (0, columns.len()),
+    )
 }

@@ -4,9 +4,11 @@
 mod columns;
 mod constraints;
 mod places;
+mod stretches;
 mod windows;
 
 pub use columns::{Class, Fragment, fragments};
-pub use constraints::{Constraint, add_row};
+pub use constraints::{Constraint, add_row, add_row_within};
 pub use places::{home, lower_local, share_processor, uses};
+pub use stretches::{columns_stand_in_order, requests_end, task_end};
 pub use windows::{cnt, jobs, requests_of};

@@ -8,3 +8,4 @@ pub mod Limits
 pub mod Rests
 pub mod MemoryShelfView
 pub mod MemorySinkView
+pub mod Openings

@@ -1,7 +1,10 @@
-ghost use Rattle.std.specs.Prelude.{◌≡◌, IfOk, None};
+ghost use Rattle.std.specs.Prelude.{◌≡◌, ◌<◌, ◌≤◌, length, IfOk, OnErr, None};
+ghost use Rattle.outside_ports.specs.Counts.{Rose};
+ghost use Rattle.outside_ports.specs.Openings.{FollowsWrite, faults_called};
 
 use crate::sink::{Sink, SinkFault};
 use std::alloc::AllocError;
+use std::io;
 
 /// The standard output. It tells no content and counts no writes.
 ///
@@ -34,8 +37,28 @@ impl<R: Print + Drop> Sink for OutSink<R> {
 
     ghost takes = { λ s room. ⊥ };
 
-    fn write(&mut self, piece: &[u8]) -> Result<usize, SinkFault> {
-        match self.runtime.write_some(piece) {
+    /// Each write is one write of the system. A write that took no byte is a fault, and each fault is counted.
+    fn write(&mut self, piece: &[u8]) -> Result<usize, SinkFault>
+        requires { 0 < length piece.now }
+        ensures counts { self.new.faults ≡ faults_called self.old.faults result }
+        ensures some { IfOk result (λ n. 0 < n) }
+        ensures bound { IfOk result (λ n. n ≤ length piece.now) }
+        ensures later { self.old.faults ≤ self.new.faults }
+        ensures failed { OnErr result (Rose self.old.faults self.new.faults) }
+    {
+        let answer = self.runtime.write_some(piece);
+        self.take(answer)
+    }
+}
+
+impl<R: Print + Drop> OutSink<R> {
+    /// Takes what a write of the system answered.
+    fn take(&mut self, answer: io::Result<usize>) -> Result<usize, SinkFault>
+        ensures answer { FollowsWrite answer result }
+        ensures faults { self.new.faults ≡ faults_called self.old.faults result }
+        ensures later { self.old.faults ≤ self.new.faults }
+    {
+        match answer {
             Ok(count) if count > 0 => Ok(count),
             _ => {
                 self.faults = self.faults.saturating_add(1);

@@ -118,3 +118,18 @@ fn reads_4096_bytes_at_a_time(rt: HostRuntime) -> Result<(), Fail> {
     }
     Ok(())
 }
+
+#[test]
+fn moves_more_than_a_megabyte(rt: HostRuntime) -> Result<(), Fail> {
+    let text = vec![in rt.alloc(); b'x'; 1_300_000]?;
+    let mut files = Vec::new(rt.alloc());
+    let name = String::from_str(rt.alloc(), "large")?;
+    files.push((name, Vec::from_slice(rt.alloc(), &text)?))?;
+    let mut shelf = MemShelf::new(files, 10_000, Vec::new(rt.alloc()));
+    let loaded = load(rt.alloc(), &mut shelf, "large")?;
+    assert!(rt; loaded == text);
+    let mut sink = MemSink::new(rt.alloc(), 1_300_000, 70_000, Vec::new(rt.alloc()))?;
+    assert_eq!(rt; put_all(&mut sink, &loaded), Ok(()));
+    assert!(rt; sink.written() == text.as_slice());
+    Ok(())
+}

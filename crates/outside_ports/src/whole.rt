@@ -32,6 +32,16 @@ pub enum LoadFault {
     Memory,
 }
 
+impl From<AllocError> for LoadFault {
+    ghost use Rattle.outside_ports.specs.declared.whole.LoadFault.TheVariants.{Memory};
+
+    ghost from_gives = { λ _ fault. fault ≡ Memory };
+
+    fn from(_error: AllocError) -> LoadFault {
+        LoadFault::Memory
+    }
+}
+
 /// All bytes of the named input, read to its end.
 ///
 /// `Absent` comes exactly where the shelf's `start` answered so, `Read` only where the shelf's count of faults rose
@@ -90,10 +100,7 @@ fn read_all<S: Shelf>(alloc: Global, shelf: &mut S) -> Result<Vec<u8>, LoadFault
         if count > GREATEST_INPUT_BYTES - bytes.len() {
             return Err(LoadFault::TooLong);
         }
-        match bytes.extend_from_slice(&buffer[..count]) {
-            Ok(()) => {}
-            Err(AllocError) => return Err(LoadFault::Memory),
-        }
+        bytes.extend_from_slice(&buffer[..count])?;
     }
 }
 

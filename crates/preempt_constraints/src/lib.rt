@@ -1,16 +1,20 @@
 //! The rows of preemption blocking: what requests of lower tasks on the analysed task's processor can do to it.
 #![tactic(auto)]
 
-ghost use Rattle.std.specs.Prelude.{◌≡◌, ◌<◌, map, length, IfOk, OnOk, [], ◌∷◌, if◌then◌else◌};
+ghost use Rattle.std.specs.Prelude.{◌≡◌, ◌<◌, ◌+◌, map, length, IfOk, OnOk, [], ◌∷◌, if◌then◌else◌};
 ghost use Rattle.program_form.specs.RowBlock.{block_seen};
 ghost use Rattle.program_sources.specs.Bounds.{AreWithinDeadlines};
 ghost use Rattle.sporadic_model.specs.Homes.{HasHomesFor};
 ghost use Rattle.fragments.specs.ColumnDef.{column_seen, AreKnown};
 ghost use Rattle.fragments.specs.Columns.{columns_of, is_lower_local};
 ghost use Rattle.fragments.specs.Constraints.{block_of, with_rows};
+ghost use Rattle.fragments.specs.Stretches.{slot, AreInOrder, BeginsAt};
 ghost use Rattle.preempt_constraints.specs.Rows.{interval_row, preemption_rows};
 
-use fragments::{Constraint, Fragment, add_row, lower_local, requests_of};
+use fragments::{
+    Constraint, Fragment, add_row_within, columns_stand_in_order, lower_local, requests_of,
+    task_end,
+};
 use program_form::RowBlock;
 use sporadic_model::{Protocol, TaskId, TaskSet};
 use std::alloc::{AllocError, Global};
@@ -39,7 +43,8 @@ impl Constraint for IntervalRow {
     }
 }
 
-// Adds the row of task `x`, if it is a lower task on `i`'s processor and has a column of preemption.
+// Adds the row of task `x`, if it is a lower task on `i`'s processor and has a column of preemption. Its columns begin at
+// `from`; answers where they end.
 fn add_interval_row(
     alloc: Global,
     block: &mut RowBlock,
@@ -48,25 +53,24 @@ fn add_interval_row(
     x: TaskId,
     bounds: &[u64],
     columns: &[Fragment],
-) -> Result<(), AllocError>
+    from: usize,
+) -> Result<usize, AllocError>
     requires task { i.0 < length set.now.tasks }
     requires other { x.0 < length set.now.tasks }
     requires within { AreWithinDeadlines set.now bounds.now }
     requires known { AreKnown (length set.now.tasks) (length set.now.resources) columns.now }
-    ensures { OnOk result (block_seen block.new ≡ with_rows (block_seen block.old) (map column_seen columns.now) (if is_lower_local set.now i.0 x.0 then interval_row set.now i.0 x.0 ∷ [] else []) bounds.now) }
+    requires order { AreInOrder columns.now }
+    requires from { BeginsAt (slot x.0 0) columns.now from }
+    ensures rows { OnOk result (block_seen block.new ≡ with_rows (block_seen block.old) (map column_seen columns.now) (if is_lower_local set.now i.0 x.0 then interval_row set.now i.0 x.0 ∷ [] else []) bounds.now) }
+    ensures end { IfOk result (λ n. BeginsAt (slot (x.0 + 1) 0) columns.now n) }
 {
+    let _resources = set.resources();
+    let row = IntervalRow { task: x };
+    let to = task_end(set, columns, from, x);
     if lower_local(set, i, x) {
-        return add_row(
-            alloc,
-            block,
-            &IntervalRow { task: x },
-            set,
-            i,
-            bounds,
-            columns,
-        );
+        add_row_within(alloc, block, &row, set, i, bounds, columns, (from, to))?;
     }
-    Ok(())
+    Ok(to)
 }
 
 /// The rows of preemption blocking, the same under every protocol: one for each lower task on `i`'s processor that has a
@@ -89,8 +93,10 @@ pub fn rows(
         rows: Vec::new(alloc),
         limits: Vec::new(alloc),
     };
+    columns_stand_in_order(set, protocol, i, columns);
+    let mut place = 0;
     for x in 0..set.tasks() {
-        add_interval_row(alloc, &mut block, set, i, TaskId(x), bounds, columns)?;
+        place = add_interval_row(alloc, &mut block, set, i, TaskId(x), bounds, columns, place)?;
     }
     Ok(block)
 }

@@ -1,5 +1,5 @@
 -- The worked schedules under FMLP+ and MPCP.
-use Rattle.std.proofs.Common.{◌≡◌, ℕ, zero, suc, ◌<◌, ◌≤◌, true, false, List, [], ◌∷◌, refl, arith, Some}
+use Rattle.std.proofs.Common.{◌≡◌, ℕ, zero, suc, ◌<◌, ◌≤◌, true, false, List, [], ◌∷◌, refl, arith, Some, None}
 use Rattle.sporadic_model.specs.Users.{ceiling_of, remote_ceiling_of}
 use Rattle.schedule_model.specs.RowDef.{runs_in}
 use Rattle.schedule_model.specs.Phase.{phase_from, executed, phase_of}
@@ -16,7 +16,7 @@ use Rattle.bounded_sums.proofs.TestLaws.{all_below-each}
 use Rattle.schedule_model.specs.Chosen.{IsSharedChoice}
 use Rattle.schedule_model.proofs.ChoiceTests.{passes_choice, choice_from}
 use Rattle.schedule_model.proofs.KeepingTests.{keeps_from, first_from}
-use Rattle.schedule_model.proofs.WorkedFiles.{trace_a, trace_chosen, trace_run, trace_twice, trace_idle, trace_keep, trace_grant, trace_priority, trace_boost, set_boost}
+use Rattle.schedule_model.proofs.WorkedFiles.{trace_a, trace_chosen, trace_late, trace_run, trace_twice, trace_idle, trace_keep, trace_grant, trace_priority, trace_boost, set_boost}
 
 -- What holds at ticks 0 to 4, in a list.
 abbrev pub at_five : {A : Type 0} → (ℕ → A) → List A
@@ -81,6 +81,13 @@ pub measures_of_chosen : measures_of is_shared_interference trace_chosen 5 0 ∷
     ≡ record { finished = 1; response = Some 3; blocking = 0 } ∷ record { finished = 1; response = Some 5; blocking = 1 } ∷ []
 unfolding phase_of phase_from executed runs_in is_pending is_next is_active is_delayed runs_higher is_shared_interference is_blocked has_finished finish_of response_of blocking_of counts_for finished_jobs measures_of
 measures_of_chosen = refl
+
+-- A job that is released past the last row counts for nothing. One that was released at tick 2 and never runs is blocked at all
+-- ticks from then on, and gives no response.
+pub measures_of_late : measures_of is_shared_interference trace_late 5 0 ∷ measures_of is_shared_interference trace_late 5 1 ∷ []
+    ≡ record { finished = 0; response = None; blocking = 0 } ∷ record { finished = 0; response = None; blocking = 3 } ∷ []
+unfolding phase_of phase_from executed runs_in is_pending is_next is_active is_delayed runs_higher is_shared_interference is_blocked has_finished finish_of response_of blocking_of counts_for finished_jobs measures_of
+measures_of_late = refl
 
 -- Under MPCP the grant at tick 1 is to a lower task, though a higher one requests the resource.
 pub a_breaks_mpcp : IsFirstUnlawful (shared_rule mpcp) trace_a 5 1 rule.Grant

@@ -83,6 +83,13 @@ trace_keep = trace_in jobs_a (
 abbrev pub trace_grant : Trace
 trace_grant = trace_in jobs_a (run 1 (Some 0 ∷ Some 1 ∷ []) (None ∷ []) ∷ run 3 (None ∷ Some 1 ∷ []) (Some 1 ∷ []) ∷ [])
 
+-- A job that is released past the last row, and one that no row runs.
+abbrev pub jobs_late : JobsDef
+jobs_late = record { set = set_a; jobs = job 0 9 (local_only 1 ∷ []) ∷ job 1 2 (local_only 1 ∷ []) ∷ [] }
+
+abbrev pub trace_late : Trace
+trace_late = trace_in jobs_late (run 5 (None ∷ None ∷ []) (None ∷ []) ∷ [])
+
 -- A task without requests and a lower one on its processor, and a user of the resource on another.
 abbrev pub set_five : SetDef
 set_five = record {

@@ -58,10 +58,7 @@ impl<'a> JobList<'a> {
             None => {}
         }
         let segments = self.segments + job.script.len() as u64;
-        match self.jobs.push(job) {
-            Ok(()) => {}
-            Err(_) => return Err(JobRefusal::Memory),
-        }
+        self.jobs.push(job)?;
         self.segments = segments;
         Ok(())
     }
@@ -84,6 +81,15 @@ impl<'a> JobList<'a> {
         ensures listed { IsJobList self.now }
     {
         &self.jobs[j.0 as usize]
+    }
+
+    /// Every list's jobs are lawful and within the limits of lists. This says so, and does nothing.
+    pub fn keeps_its_rules(&self)
+        ensures lawful { AreLawfulJobs self.now }
+        ensures listed { IsJobList self.now }
+    {
+        // what every list keeps is known once a field is read
+        let _jobs = &self.jobs;
     }
 
     /// The set whose tasks the jobs are of.

@@ -1,3 +1,6 @@
+ghost use Rattle.std.specs.Prelude.{◌≡◌};
+
+use std::alloc::AllocFailed;
 use thiserror::Error;
 
 /// Why a job is not taken into a list. The refusals are tried in the order in which they stand here.
@@ -22,6 +25,16 @@ pub enum JobRefusal {
     Memory,
 }
 
+impl<T: Drop> From<AllocFailed<T>> for JobRefusal {
+    ghost use Rattle.schedule_model.specs.declared.refusal.JobRefusal.TheVariants.{Memory};
+
+    ghost from_gives = { λ _ refusal. refusal ≡ Memory };
+
+    fn from(_error: AllocFailed<T>) -> JobRefusal {
+        JobRefusal::Memory
+    }
+}
+
 /// Why a run of equal rows is not taken into a list. The refusals are tried in the order in which they
 /// stand here.
 #[derive(Clone, Copy, Debug, PartialEq, Eq, Error)]
@@ -38,4 +51,14 @@ pub enum RowRefusal {
     /// Memory was refused.
     #[error("out of memory")]
     Memory,
+}
+
+impl<T: Drop> From<AllocFailed<T>> for RowRefusal {
+    ghost use Rattle.schedule_model.specs.declared.refusal.RowRefusal.TheVariants.{Memory};
+
+    ghost from_gives = { λ _ refusal. refusal ≡ Memory };
+
+    fn from(_error: AllocFailed<T>) -> RowRefusal {
+        RowRefusal::Memory
+    }
 }

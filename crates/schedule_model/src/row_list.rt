@@ -68,10 +68,7 @@ impl RowList {
             return Err(RowRefusal::TooLong);
         }
         let ticks = self.ticks + run.ticks;
-        match self.runs.push(run) {
-            Ok(()) => {}
-            Err(_) => return Err(RowRefusal::Memory),
-        }
+        self.runs.push(run)?;
         self.ticks = ticks;
         Ok(())
     }
@@ -93,6 +90,14 @@ impl RowList {
         ensures most { result ≤ MOST_TICKS }
     {
         self.ticks
+    }
+
+    /// Every list's rows fit its sizes and are within the limits of lists. This says so, and does nothing.
+    pub fn keeps_its_rules(&self)
+        ensures { IsRowList self.now }
+    {
+        // what every list keeps is known once a field is read
+        let _runs = &self.runs;
     }
 
     /// The runs, in order.

@@ -1,14 +1,10 @@
 -- Fractions and rows of lists: what an index reads, and what is true of one element more.
 use Rattle.std.proofs.Common.{◌≡◌, ℕ, ◌<◌, List, length, slice_index_or, pos, sym, arith}
 use Rattle.std.proofs.lemmas.List.{get_or_read, get_or_default}
-use Rattle.fraction128.specs.Fraction.{Fraction, IsForm, whole}
+use Rattle.fraction128.specs.Fraction.{Fraction, whole}
 use Rattle.fraction128.specs.Scaling.{fraction_at}
-use Rattle.fraction128.proofs.Forms.{form_of_whole}
 use Rattle.simplex.specs.Rows.{RowDef, no_row}
 use Rattle.simplex.specs.Tables.{row_of}
-
-pub form_of_zero : IsForm (whole (pos 0))
-form_of_zero = form_of_whole 0 (omega arith)
 
 -- what an index reads
 pub fraction_read : (xs : List Fraction) (i : ℕ) (x : Fraction) → i < length xs → x ≡ slice_index_or xs i x → fraction_at xs i ≡ x

@@ -6,7 +6,7 @@ use Rattle.std.proofs.lemmas.Int.{ints}
 use Rattle.fraction128.specs.Fraction.{IsForm, whole}
 use Rattle.simplex.specs.Entries.{listed_at, entry_at, AreSparse, AreBelow, IsSplit}
 use Rattle.simplex.specs.declared.entries.Entry.{Entry}
-use Rattle.simplex.proofs.Cells.{form_of_zero}
+use Rattle.fraction128.proofs.Forms.{form_of_zero}
 
 abbrev pub nothing : Entry
 nothing = record { variable = 0; value = whole (pos 0) }

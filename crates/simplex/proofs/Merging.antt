@@ -10,7 +10,7 @@ use Rattle.exchange_runs.proofs.Loops.{less_at_zero}
 use Rattle.simplex.specs.Entries.{listed_at, entry_at, variable_or, AreSparse, AreBelow, IsSplit}
 use Rattle.simplex.specs.CellSteps.{AreLeft}
 use Rattle.simplex.specs.declared.entries.Entry.{Entry}
-use Rattle.simplex.proofs.Cells.{form_of_zero}
+use Rattle.fraction128.proofs.Forms.{form_of_zero}
 use Rattle.simplex.proofs.Listed.{nothing, listed_past, listed_push, listed_push_other, below_push, sparse_push, split_gap, split_up}
 
 -- all variables below `from` are done

@@ -10,7 +10,7 @@ use Rattle.simplex.specs.Exchanges.{AreTaken, TakesAll, AreExchanged, ExchangesI
 use Rattle.simplex.specs.declared.SolveStop.{SolveStop}
 use Rattle.simplex.specs.declared.SolveStop.TheVariants.{Memory, Wide, Units}
 use Rattle.exchange_runs.proofs.Loops.{less_of_zero}
-use Rattle.simplex.proofs.Cells.{form_of_zero}
+use Rattle.fraction128.proofs.Forms.{form_of_zero}
 use Rattle.simplex.proofs.Listed.{sparse_none}
 use Rattle.simplex.proofs.Sparse.{forms_of}
 

@@ -1,4 +1,7 @@
+ghost use Rattle.std.specs.Prelude.{◌≡◌};
+
 use crate::ids::{ResourceId, TaskId};
+use std::alloc::AllocError;
 use thiserror::Error;
 
 /// Where in a task set a refusal points. Positions count from 0.
@@ -74,4 +77,14 @@ pub enum ModelRefusal {
     /// Memory was refused.
     #[error("out of memory")]
     Memory,
+}
+
+impl From<AllocError> for ModelRefusal {
+    ghost use Rattle.sporadic_model.specs.declared.refusal.ModelRefusal.TheVariants.{Memory};
+
+    ghost from_gives = { λ _ refusal. refusal ≡ Memory };
+
+    fn from(_error: AllocError) -> ModelRefusal {
+        ModelRefusal::Memory
+    }
 }

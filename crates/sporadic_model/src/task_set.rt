@@ -13,7 +13,7 @@ use crate::limits::{MOST_COUNT, MOST_PROCESSORS, MOST_RESOURCES, MOST_TASKS, MOS
 use crate::lookup::{place_of_resource, place_of_task, resource_part, task_part};
 use crate::parts::{Parts, ResourcePart, TaskPart};
 use crate::refusal::ModelRefusal;
-use std::alloc::{AllocError, Global};
+use std::alloc::Global;
 use std::marker::Model;
 
 /// An accepted task set. Its tasks stand from the highest base priority to the lowest.
@@ -61,14 +61,8 @@ impl TaskSet {
         ensures ok { IfOk result (λ set. set ≡ parts_seen parts) }
         ensures err { IfErr result (λ refusal. refusal ≡ ModelRefusal.Memory) }
     {
-        let demands = match demands_of(alloc, &parts) {
-            Ok(demands) => demands,
-            Err(AllocError) => return Err(ModelRefusal::Memory),
-        };
-        let ceilings = match ceilings_of(alloc, &parts, &demands) {
-            Ok(ceilings) => ceilings,
-            Err(AllocError) => return Err(ModelRefusal::Memory),
-        };
+        let demands = demands_of(alloc, &parts)?;
+        let ceilings = ceilings_of(alloc, &parts, &demands)?;
         Ok(TaskSet {
             parts,
             demands,
@@ -328,6 +322,7 @@ impl TaskSet {
         ensures entries { (x : ℕ) → x < length self.now.tasks → AreEntries self.now x }
         ensures requests { (x j : ℕ) → x < length self.now.tasks → j < length (task_at self.now x).requests → RequestNumbers self.now x j }
     {
+        // what every set keeps is known once a field is read
         let _parts = &self.parts;
     }
 

@@ -309,6 +309,49 @@ fn keeps_the_limits_on_sizes(rt: HostRuntime) -> Result<(), Fail> {
     Ok(())
 }
 
+const NAME_OF_29: &str = "a_name_of_thirty_two_bytes_in";
+
+/// A task with four entries, of the greatest numbers.
+fn largest_task(alloc: Global, x: u64) -> Result<TaskPart, AllocError> {
+    let most = 1_000_000_000;
+    let mut task = task_of(alloc, &("", 64, [most, most, most, most], &[]))?;
+    task.name = format!(in alloc; "{NAME_OF_29}{}", 100 + x)?;
+    for j in 0..4 {
+        task.requests.push(RequestPart {
+            resource: format!(in alloc; "{NAME_OF_29}{}", 100 + (4 * x + j) % 32)?,
+            count: 1000,
+            length: most - 1,
+        })?;
+    }
+    Ok(task)
+}
+
+#[test]
+fn takes_a_set_at_all_its_limits(rt: HostRuntime) -> Result<(), Fail> {
+    let mut parts = parts_of(rt.alloc(), 64, &[], &[])?;
+    for q in 0..32 {
+        parts.resources.push(ResourcePart {
+            name: format!(in rt.alloc(); "{NAME_OF_29}{}", 100 + q)?,
+            home: Some(64),
+        })?;
+    }
+    for x in 0..64 {
+        parts.tasks.push(largest_task(rt.alloc(), x)?)?;
+    }
+    let Ok(set) = TaskSet::new(rt.alloc(), parts) else {
+        return Err("refused".into());
+    };
+    assert!(rt; set.tasks() == 64 && set.resources() == 32);
+    let (last, q) = (TaskId(63), ResourceId(31));
+    assert_eq!(rt;
+        [set.count(last, q), set.length(last, q)],
+        [1000, 999_999_999]
+    );
+    assert_eq!(rt; set.task_name(last), "a_name_of_thirty_two_bytes_in163");
+    assert_eq!(rt; [set.ceiling(q), set.boost(q, 1)], [Some(TaskId(7)); 2]);
+    Ok(())
+}
+
 fn is_shared<T: Send + Sync>(_value: &T) {}
 
 const SHARED: (&[Resource], &[Task]) = (

@@ -8,7 +8,7 @@ ghost use Rattle.text_pieces.specs.Columns.{space, left, right};
 mod number;
 
 use itoa::Buffer;
-pub use number::number_between;
+pub use number::{is_number, number_between};
 use std::alloc::AllocError;
 
 /// Adds a number in decimal digits.
@@ -93,6 +93,28 @@ mod tests {
         push_right(&mut text, 1, b"wide")?;
         push_number(&mut text, 1200)?;
         assert_eq!(rt; text.as_slice(), b"ab    cd  7wide1200".as_slice());
+        Ok(())
+    }
+
+    #[test]
+    fn numbers_go_up_to_the_greatest(rt: HostRuntime) -> Result<(), Fail> {
+        let mut text = Vec::new(rt.alloc());
+        push_number(&mut text, u64::MAX)?;
+        push_right_number(&mut text, 24, 1_000_000_000_000)?;
+        assert_eq!(rt;
+            text.as_slice(),
+            b"18446744073709551615           1000000000000".as_slice()
+        );
+        assert_eq!(rt;
+            number_between(b"18446744073709551615", 0, u64::MAX),
+            Some(u64::MAX)
+        );
+        assert_eq!(rt;
+            number_between(b"1000000000000", 1, 1_000_000_000_000),
+            Some(1_000_000_000_000)
+        );
+        assert_eq!(rt; number_between(b"18446744073709551616", 0, u64::MAX), None);
+        assert_eq!(rt; number_between(b"0123456789", 0, u64::MAX), None);
         Ok(())
     }
 }

@@ -9,7 +9,7 @@ fn are_digits(text: &[u8]) -> bool
 }
 
 /// Is the text decimal digits without a sign, and without a leading zero but in `0` itself?
-fn is_number(text: &[u8]) -> bool
+pub fn is_number(text: &[u8]) -> bool
     ensures { result ≡ is_number text.now }
 {
     !text.is_empty() && are_digits(text) && (text[0] != b'0' || text.len() == 1)

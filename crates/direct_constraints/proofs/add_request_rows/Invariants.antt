@@ -2,8 +2,12 @@ use Rattle.std.proofs.Common.{◌≡◌, map, length}
 use Rattle.program_form.specs.RowBlock.{block_seen}
 use Rattle.fragments.specs.ColumnDef.{column_seen}
 use Rattle.fragments.specs.Constraints.{per_pair, with_rows}
+use Rattle.fragments.specs.Stretches.{slot, BeginsAt}
 use Rattle.direct_constraints.specs.Rows.{request_row}
 use Rattle.direct_constraints.proofs.add_request_rows.Given as goal
 
 abbrev pub invariant-loop-x : goal.invariant-loop-x
-invariant-loop-x l = block_seen l.block ≡ with_rows (block_seen l.initial.block) (map column_seen l.columns) (per_pair l.x (length l.set.resources) (request_row l.set l.i.0)) l.bounds
+invariant-loop-x l = record {
+  rows : block_seen l.block ≡ with_rows (block_seen l.initial.block) (map column_seen l.columns) (per_pair l.x (length l.set.resources) (request_row l.set l.i.0)) l.bounds;
+  place : BeginsAt (slot l.x 0) l.columns l.place;
+}

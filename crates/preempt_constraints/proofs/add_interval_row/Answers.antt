@@ -1,11 +1,16 @@
-use Rattle.std.proofs.Common.{◌≡◌, map, false, sym, ◌∙◌}
+use Rattle.std.proofs.Common.{◌≡◌, map, false, refl, sym, ◌∙◌, ◌&&◌, ◌==◌, length, arith}
 use Rattle.program_form.specs.RowBlock.{block_seen}
-use Rattle.fragments.specs.ColumnDef.{column_seen}
+use Rattle.fragments.specs.ColumnDef.{ColumnDef, column_seen, is_preemption}
 use Rattle.fragments.specs.Columns.{is_lower_local}
 use Rattle.fragments.proofs.Rows.{no_more_rows}
+use Rattle.fragments.proofs.RowStretches.{stretch_of_task}
+use Rattle.preempt_constraints.specs.Rows.{interval_row}
 use Rattle.preempt_constraints.proofs.add_interval_row.Goals as goal
 
-pub returns : goal.returns
-returns c =
-    let other : is_lower_local c.args.set.now c.args.i.0 c.args.x.0 ≡ false = sym c.lower_local.ensures ∙ c.if-lower_local.false in
-    rw other (sym (no_more_rows (block_seen c.args.block.now) (map column_seen c.args.columns.now) c.args.bounds.now))
+pub add_row_within-requires-clause-stretch : goal.add_row_within-requires-clause-stretch
+add_row_within-requires-clause-stretch c =
+    let set = c.args.set.now in
+    let x = c.args.x.0 in
+    stretch_of_task (length set.tasks) (length set.resources) x c.args.columns.now (interval_row set c.args.i.0 x) c.args.from c.task_end.result
+    c.requires.known (omega (arith, c.resources-resources.ensures.most, c.resources-resources.ensures.value))
+    c.requires.from c.task_end.ensures.begins c.task_end.ensures.order (λ column other. rw other refl)

@@ -3,8 +3,12 @@ use Rattle.program_form.specs.RowBlock.{block_seen}
 use Rattle.fragments.specs.ColumnDef.{column_seen}
 use Rattle.fragments.specs.Columns.{is_lower_local}
 use Rattle.fragments.specs.Constraints.{block_of, per_where}
+use Rattle.fragments.specs.Stretches.{slot, BeginsAt}
 use Rattle.preempt_constraints.specs.Rows.{interval_row}
 use Rattle.preempt_constraints.proofs.rows.Given as goal
 
 abbrev pub invariant-loop-x : goal.invariant-loop-x
-invariant-loop-x l = block_seen l.block ≡ block_of (map column_seen l.columns) (per_where (is_lower_local l.set l.i.0) l.x (interval_row l.set l.i.0)) l.bounds
+invariant-loop-x l = record {
+  rows : block_seen l.block ≡ block_of (map column_seen l.columns) (per_where (is_lower_local l.set l.i.0) l.x (interval_row l.set l.i.0)) l.bounds;
+  place : BeginsAt (slot l.x 0) l.columns l.place;
+}

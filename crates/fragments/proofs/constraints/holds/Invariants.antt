@@ -1,7 +1,7 @@
-use Rattle.std.proofs.Common.{◌≡◌, false, nat_lt, take}
-use Rattle.std.specs.List.{list_any}
+use Rattle.std.proofs.Common.{◌≡◌}
+use Rattle.std.specs.List.{AllWithin}
 use Rattle.fragments.specs.ColumnDef.{column_seen}
 use Rattle.fragments.proofs.constraints.holds.Given as goal
 
-abbrev pub invariant-loop-column : goal.invariant-loop-column
-invariant-loop-column g l = list_any (λ c. nat_lt 0 ((g.K.Constraint.row_of l.kind l.set l.i.0).coefficient (column_seen c))) (take l.column-index l.columns) ≡ false
+abbrev pub invariant-loop-place : goal.invariant-loop-place
+invariant-loop-place g l = AllWithin (λ c. (g.K.Constraint.row_of l.kind l.set l.i.0).coefficient (column_seen c) ≡ 0) l.columns 0 l.place

@@ -1,0 +1,31 @@
+-- Where columns stand in their order, and the stretch of them in which a row can have coefficients above zero.
+use Rattle.std.specs.Prelude.{◌≡◌, ℕ, ◌+◌, ◌*◌, ◌<◌, ◌≤◌, List, length}
+use Rattle.std.specs.List.{AllWithin}
+use Rattle.std.specs.List.Sorted.{IsNonDecreasingBy}
+use Rattle.fragments.specs.declared.columns.Fragment.{Fragment}
+use Rattle.fragments.specs.ColumnDef.{column_seen}
+use Rattle.fragments.specs.Constraints.{ConstraintDef}
+
+-- The number of task x and resource q in the order of columns, where there are at most 2 ^ 32 resources.
+abbrev pub slot : ℕ → ℕ → ℕ
+slot x q = x * 4294967296 + q
+
+abbrev pub slot_of : Fragment → ℕ
+slot_of c = slot c.task.0 c.resource.0
+
+-- Do the columns stand in order of the task, then the resource?
+abbrev pub AreInOrder : List Fragment → Type 0
+AreInOrder columns = IsNonDecreasingBy slot_of columns
+
+-- Do the columns of slot s and of later ones begin at this place?
+pub record BeginsAt (s : ℕ) (columns : List Fragment) (place : ℕ) : Type 0 where
+  pub within : place ≤ length columns
+  pub before : AllWithin (λ c. slot_of c < s) columns 0 place
+  pub behind : AllWithin (λ c. s ≤ slot_of c) columns place (length columns)
+
+-- Has no column before the place a, nor from the place b on, a coefficient in the row?
+pub record IsStretch (row : ConstraintDef) (columns : List Fragment) (a b : ℕ) : Type 0 where
+  pub order : a ≤ b
+  pub within : b ≤ length columns
+  pub before : AllWithin (λ c. row.coefficient (column_seen c) ≡ 0) columns 0 a
+  pub behind : AllWithin (λ c. row.coefficient (column_seen c) ≡ 0) columns b (length columns)

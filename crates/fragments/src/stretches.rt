@@ -1,0 +1,58 @@
+ghost use Rattle.std.specs.Prelude.{◌≡◌, ◌+◌, ◌<◌, ◌≤◌, map, length};
+ghost use Rattle.fragments.specs.ColumnDef.{column_seen, AreKnown};
+ghost use Rattle.fragments.specs.Columns.{columns_of};
+ghost use Rattle.fragments.specs.Stretches.{slot, AreInOrder, BeginsAt};
+
+use crate::columns::Fragment;
+use sporadic_model::{Protocol, ResourceId, TaskId, TaskSet};
+
+/// The columns of a task are of tasks and resources of the set, and stand in order. This says so, and does nothing.
+pub fn columns_stand_in_order(set: &TaskSet, protocol: Protocol, i: TaskId, columns: &[Fragment])
+    requires columns { map column_seen columns.now ≡ columns_of protocol set.now i.0 }
+    ensures known { AreKnown (length set.now.tasks) (length set.now.resources) columns.now }
+    ensures order { AreInOrder columns.now }
+{
+    let _resources = set.resources();
+}
+
+/// The place behind the columns of task `x`, which begin at `from`.
+pub fn task_end(set: &TaskSet, columns: &[Fragment], from: usize, x: TaskId) -> usize
+    requires known { AreKnown (length set.now.tasks) (length set.now.resources) columns.now }
+    requires order { AreInOrder columns.now }
+    requires from { BeginsAt (slot x.0 0) columns.now from }
+    ensures begins { BeginsAt (slot (x.0 + 1) 0) columns.now result }
+    ensures order { from ≤ result }
+{
+    let _resources = set.resources();
+    let mut place = from;
+    while place < columns.len() && columns[place].task.0 == x.0 {
+        place += 1;
+    }
+    place
+}
+
+/// The place behind the columns of requests of `q` by task `x`, which begin at `from`.
+pub fn requests_end(
+    set: &TaskSet,
+    columns: &[Fragment],
+    from: usize,
+    x: TaskId,
+    q: ResourceId,
+) -> usize
+    requires resource { q.0 < length set.now.resources }
+    requires known { AreKnown (length set.now.tasks) (length set.now.resources) columns.now }
+    requires order { AreInOrder columns.now }
+    requires from { BeginsAt (slot x.0 q.0) columns.now from }
+    ensures begins { BeginsAt (slot x.0 (q.0 + 1)) columns.now result }
+    ensures order { from ≤ result }
+{
+    let _resources = set.resources();
+    let mut place = from;
+    while place < columns.len()
+        && columns[place].task.0 == x.0
+        && columns[place].resource.0 == q.0
+    {
+        place += 1;
+    }
+    place
+}

@@ -1,0 +1,12 @@
+use Rattle.std.proofs.Common.{refl, length, arith}
+use Rattle.fragments.proofs.RowStretches.{stretch_of_task}
+use Rattle.indirect_constraints.specs.Rows.{holding_row}
+use Rattle.indirect_constraints.proofs.add_holding_row.Goals as goal
+
+pub add_row_within-requires-clause-stretch : goal.add_row_within-requires-clause-stretch
+add_row_within-requires-clause-stretch c =
+    let set = c.args.set.now in
+    let x = c.args.x.0 in
+    stretch_of_task (length set.tasks) (length set.resources) x c.args.columns.now (holding_row set c.args.i.0 x) c.args.from c.task_end.result
+    c.requires.known (omega (arith, c.resources-resources.ensures.most, c.resources-resources.ensures.value))
+    c.requires.from c.task_end.ensures.begins c.task_end.ensures.order (λ column other. rw other refl)

@@ -1,0 +1,16 @@
+-- What the analysed task requests where its columns' requests run.
+use Rattle.std.specs.Prelude.{◌≡◌, ℕ, ◌<◌, false, true, List, length}
+use Rattle.std.specs.List.{All}
+use Rattle.sporadic_model.specs.SetDef.{SetDef}
+use Rattle.sporadic_model.specs.Users.{is_user}
+use Rattle.sporadic_model.specs.Homes.{home_in}
+use Rattle.fragments.specs.declared.columns.Fragment.{Fragment}
+use Rattle.fragments.specs.ColumnDef.{ColumnDef, column_seen, is_preemption}
+
+-- Does task i, unless the column is of preemption, use a resource of the home of the column's resource?
+abbrev pub IsAskedAtHome : SetDef → ℕ → ColumnDef → Type 0
+IsAskedAtHome set i c = is_preemption c.class ≡ false → (q : ℕ) × (q < length set.resources) × (is_user set q i ≡ true) × (home_in set q ≡ home_in set c.resource)
+
+-- Is each of the columns so?
+abbrev pub AreAskedAtHome : SetDef → ℕ → List Fragment → Type 0
+AreAskedAtHome set i columns = All (λ c. IsAskedAtHome set i (column_seen c)) columns
