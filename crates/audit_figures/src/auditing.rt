@@ -48,6 +48,16 @@ pub enum AuditStop {
     Memory,
 }
 
+impl From<AllocError> for AuditStop {
+    ghost use Rattle.audit_figures.specs.declared.auditing.AuditStop.TheVariants.{Memory};
+
+    ghost from_gives = { λ _ stop. stop ≡ Memory };
+
+    fn from(_error: AllocError) -> AuditStop {
+        AuditStop::Memory
+    }
+}
+
 /// The charges of a schedule that keeps the rules, where the bounds are sound: no job has passed its bound.
 fn sound_charges<P: ChargedProtocol>(
     alloc: Global,
@@ -66,7 +76,7 @@ fn sound_charges<P: ChargedProtocol>(
     ensures { IfOk result (λ table. IsChargeTable (P.charges protocol.now) (P.interferes protocol.now) (trace_in jobs.now rows.now.runs)
         (slice_index bounds.now) (ticks_of rows.now.runs) (map item_seen table.charges.items)) }
 {
-    let _jobs = jobs.len();
+    jobs.keeps_its_rules();
     match charge_with(alloc, protocol, jobs, rows, bounds) {
         Ok(table) => Ok(table),
         Err(ChargeStop::Memory) => Err(AllocError),
@@ -96,7 +106,7 @@ fn sound_figures<P: ChargedProtocol>(
     ensures { IfOk result (λ v. AreFigures (P.charges protocol.now) (P.interferes protocol.now) (trace_in jobs.now rows.now.runs)
         (slice_index bounds.now) (slice_index values.now) (ticks_of rows.now.runs) v.items) }
 {
-    let _ticks = rows.ticks();
+    rows.keeps_its_rules();
     let table = sound_charges(alloc, protocol, jobs, rows, bounds, values)?;
     figures(alloc, jobs, measured, bounds, values, &table)
 }
@@ -127,8 +137,8 @@ pub fn audit_with<P: ChargedProtocol>(
         ≡ blocked_sum (P.interferes protocol.now) (trace_in jobs.now rows.now.runs) (slice_index certificate.now.bounds.items)
         (ticks_of rows.now.runs) x) }
 {
-    let _tasks = jobs.set().tasks();
-    let _jobs = jobs.len();
+    jobs.set().keeps_the_model();
+    jobs.keeps_its_rules();
     let valid = match check_with(alloc, protocol, jobs.set(), certificate) {
         Ok(valid) => valid,
         Err(Invalid::Memory) => return Err(AuditStop::Memory),
@@ -140,7 +150,7 @@ pub fn audit_with<P: ChargedProtocol>(
         Err(Unlawful::Memory) => return Err(AuditStop::Memory),
     };
     let bounds = &certificate.bounds;
-    match sound_figures(
+    let figures = sound_figures(
         alloc,
         protocol,
         jobs,
@@ -148,10 +158,8 @@ pub fn audit_with<P: ChargedProtocol>(
         bounds,
         &valid.values,
         &measured,
-    ) {
-        Ok(figures) => Ok(figures),
-        Err(_) => Err(AuditStop::Memory),
-    }
+    )?;
+    Ok(figures)
 }
 
 /// The same by the protocol's name. Under DPCP each resource has a home.

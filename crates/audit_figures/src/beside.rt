@@ -91,7 +91,7 @@ pub(crate) fn figures(
         → IsChargeTable charges interferes w (slice_index bounds.now) n (map item_seen table.now.charges.items)
         → AreFigures charges interferes w (slice_index bounds.now) (slice_index values.now) n v.items) }
 {
-    let _jobs = jobs.len();
+    jobs.keeps_its_rules();
     let sums = sums_of_tasks(alloc, jobs, table)?;
     put_together(alloc, &measured.tasks, bounds, values, &sums)
 }

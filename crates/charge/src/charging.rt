@@ -41,11 +41,8 @@ pub fn charge_with<P: ChargedProtocol>(
     ensures rows { OnOk result (MeetRows (P.program_of protocol.now jobs.now.set) (P.columns_of protocol.now jobs.now.set)
         (P.charges protocol.now) (trace_in jobs.now rows.now.runs) bounds.now (ticks_of rows.now.runs)) }
 {
-    let _tasks = jobs.set().tasks();
-    let mut machine = match Machine::new(alloc, jobs) {
-        Ok(machine) => machine,
-        Err(_) => return Err(ChargeStop::Memory),
-    };
+    jobs.set().keeps_the_model();
+    let mut machine = Machine::new(alloc, jobs)?;
     let mut ledger = Ledger {
         ticks: BTreeMap::new(alloc),
         passed: None,
@@ -54,10 +51,8 @@ pub fn charge_with<P: ChargedProtocol>(
     if let Some(j) = ledger.passed {
         return Err(ChargeStop::BoundPassed(j));
     }
-    match items_of(alloc, &ledger.ticks) {
-        Ok(charges) => Ok(ChargeTable { charges }),
-        Err(_) => Err(ChargeStop::Memory),
-    }
+    let charges = items_of(alloc, &ledger.ticks)?;
+    Ok(ChargeTable { charges })
 }
 
 /// The same by the protocol's name. Under DPCP each resource has a home.

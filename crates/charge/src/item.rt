@@ -1,6 +1,9 @@
+ghost use Rattle.std.specs.Prelude.{◌≡◌};
+
 use fragments::Class;
 use schedule_model::{JobId, Rule};
 use sporadic_model::ResourceId;
+use std::alloc::AllocError;
 use thiserror::Error;
 
 /// So many ticks at which a job was blocked, all charged to one request of another job, in one way.
@@ -44,4 +47,14 @@ pub enum ChargeStop {
     /// Memory was refused.
     #[error("out of memory")]
     Memory,
+}
+
+impl From<AllocError> for ChargeStop {
+    ghost use Rattle.charge.specs.declared.item.ChargeStop.TheVariants.{Memory};
+
+    ghost from_gives = { λ _ stop. stop ≡ Memory };
+
+    fn from(_error: AllocError) -> ChargeStop {
+        ChargeStop::Memory
+    }
 }

@@ -15,7 +15,7 @@ ghost use Rattle.schedule_model.specs.Seen.{row_seen};
 ghost use Rattle.phase_machine.specs.MachineDef.{under};
 ghost use Rattle.phase_machine.specs.Shows.{Shows};
 ghost use Rattle.phase_machine.specs.Taking.{IsRowFor};
-ghost use Rattle.program_sources.specs.Bounds.{AreWithinDeadlines, AreFromCostsAbove};
+ghost use Rattle.program_sources.specs.Bounds.{AreWithinDeadlines, AreFromCostsAbove, most_of_one_task};
 ghost use Rattle.program_sources.specs.Recurrence.{interference_of};
 ghost use Rattle.fragments.specs.ColumnDef.{ColumnDef};
 ghost use Rattle.program_laws.specs.Programs.{cost_of};
@@ -82,7 +82,7 @@ pub trait ChargedProtocol: Judge {
         requires within { AreWithinDeadlines set.now bounds.now }
         requires from_costs { AreFromCostsAbove set.now bounds.now i.0 }
         ensures value { result ≡ interference_of (interfering self.now set.now) set.now bounds.now i.0 }
-        ensures most { result ≤ i.0 * 3000000000 };
+        ensures most { result ≤ i.0 * most_of_one_task };
 
     /// The program has one column for each of these, and it is worth the length of the column's requests.
     ghost worth: { (p : Self) (set : SetDef) (i : ℕ) (bounds : List ℕ) → Self.suits p set → i < length set.tasks

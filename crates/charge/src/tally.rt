@@ -32,10 +32,8 @@ fn add_tick(ticks: &mut BTreeMap<Place, u64>, place: Place) -> Result<(), AllocE
         → IsTally ticks.new (λ p. count p + flag (is_same_place place p))) }
 {
     let before = ticks.get(&place).copied().unwrap_or(0);
-    match ticks.insert(place, before + 1) {
-        Ok(_) => Ok(()),
-        Err(_) => Err(AllocError),
-    }
+    ticks.insert(place, before + 1)?;
+    Ok(())
 }
 
 /// The same, if a place is named.

@@ -40,10 +40,7 @@ fn walk_tick<P: ChargedProtocol>(
         Ok(()) => {}
         Err(rule) => return Err(ChargeStop::Unlawful { tick, rule }),
     }
-    match charge_tick(protocol, rows, i, machine, bounds, &mut ledger.ticks) {
-        Ok(()) => {}
-        Err(_) => return Err(ChargeStop::Memory),
-    }
+    charge_tick(protocol, rows, i, machine, bounds, &mut ledger.ticks)?;
     machine.advance(row);
     ledger.passed = first_of_due(machine, bounds, ledger.passed);
     Ok(())

@@ -1,4 +1,7 @@
+ghost use Rattle.std.specs.Prelude.{◌≡◌};
+
 use sporadic_model::TaskId;
+use std::alloc::{AllocError, AllocFailed};
 
 /// What is known of a certificate that is valid.
 #[derive(Debug, Drop)]
@@ -22,4 +25,24 @@ pub enum Invalid {
     Small(TaskId),
     /// No memory is left.
     Memory,
+}
+
+impl From<AllocError> for Invalid {
+    ghost use Rattle.dual_check.specs.declared.answer.Invalid.TheVariants.{Memory};
+
+    ghost from_gives = { λ _ failure. failure ≡ Memory };
+
+    fn from(_error: AllocError) -> Invalid {
+        Invalid::Memory
+    }
+}
+
+impl<T: Drop> From<AllocFailed<T>> for Invalid {
+    ghost use Rattle.dual_check.specs.declared.answer.Invalid.TheVariants.{Memory};
+
+    ghost from_gives = { λ _ failure. failure ≡ Memory };
+
+    fn from(_error: AllocFailed<T>) -> Invalid {
+        Invalid::Memory
+    }
 }

@@ -13,7 +13,7 @@ use crate::sums::{holds_column, value_to};
 use charge::ChargedProtocol;
 use program_form::{Certificate, Dual, Program};
 use sporadic_model::{TaskId, TaskSet};
-use std::alloc::{AllocError, Global};
+use std::alloc::Global;
 
 /// What a dual is worth for its program.
 #[derive(Clone, Copy, Debug)]
@@ -65,18 +65,12 @@ pub(crate) fn weigh_duals<P: ChargedProtocol>(
     let mut worths = Vec::new(alloc);
     for i in 0..set.tasks() {
         let task = TaskId(i);
-        let program = match protocol.program(alloc, set, task, &certificate.bounds) {
-            Ok(program) => program,
-            Err(AllocError) => return Err(Invalid::Memory),
-        };
+        let program = protocol.program(alloc, set, task, &certificate.bounds)?;
         let dual = &certificate.duals[i as usize];
         if dual.num.len() != program.rows() as usize {
             return Err(Invalid::DualSize(task));
         }
-        match worths.push(weigh(&program, dual, certificate.bounds[i as usize])) {
-            Ok(()) => {}
-            Err(_) => return Err(Invalid::Memory),
-        }
+        worths.push(weigh(&program, dual, certificate.bounds[i as usize]))?;
     }
     Ok(worths)
 }

@@ -72,7 +72,7 @@ fn response<P: ChargedProtocol>(
     requires most { blocking < 2 ^ 63 }
     ensures { result ≡ response_with (source_for (P.program_of protocol.now) (P.interfering protocol.now) set.now) bounds.now i.0 blocking }
 {
-    let _tasks = set.tasks();
+    set.keeps_the_model();
     set.cost(i) + blocking + protocol.interference(set, i, bounds)
 }
 
@@ -99,10 +99,7 @@ fn add_up<P: ChargedProtocol>(
         if response(set, protocol, task, &certificate.bounds, value) > bound {
             return Err(Invalid::Small(task));
         }
-        match values.push(value) {
-            Ok(()) => {}
-            Err(_) => return Err(Invalid::Memory),
-        }
+        values.push(value)?;
     }
     Ok(values)
 }
@@ -126,17 +123,12 @@ fn judged<P: ChargedProtocol>(
     if let Some(task) = first_late(set, &certificate.bounds) {
         return Err(Invalid::Bound(task));
     }
-    let worths = match weigh_duals(alloc, set, protocol, certificate) {
-        Ok(worths) => worths,
-        Err(failure) => return Err(failure),
-    };
+    let worths = weigh_duals(alloc, set, protocol, certificate)?;
     if let Some((task, column)) = first_uncovered_of(&worths) {
         return Err(Invalid::Cover(task, column));
     }
-    match add_up(alloc, set, protocol, certificate, &worths) {
-        Ok(values) => Ok(Valid { values }),
-        Err(failure) => Err(failure),
-    }
+    let values = add_up(alloc, set, protocol, certificate, &worths)?;
+    Ok(Valid { values })
 }
 
 /// Judges a certificate for the programs of a protocol, which the set suits. Each dual's denominator is at least 1.
@@ -161,7 +153,7 @@ pub fn check_with<P: ChargedProtocol>(
     // What is Ok holds in every schedule that keeps the protocol's rules, of whatever lawful jobs.
     ensures sound { IfOk result (λ v. Sound (P.keeps protocol.now) (P.interferes protocol.now) set.now certificate.now.bounds.items v.values.items) }
 {
-    let _accepted = set.tasks();
+    set.keeps_the_model();
     charged_protocols_are_analysed::<P>();
     what_passes_is_sound::<P>();
     judged(alloc, protocol, set, certificate)

@@ -1,6 +1,7 @@
 -- Vectors of bounds on response times: lists with one number of ticks for each task.
-use Rattle.std.specs.Prelude.{◌≡◌, ℕ, ◌<◌, ◌≤◌, List, length, slice_index}
+use Rattle.std.specs.Prelude.{◌≡◌, ℕ, ◌*◌, ◌<◌, ◌≤◌, List, length, slice_index, refl}
 use Rattle.sporadic_model.specs.SetDef.{SetDef, task_at}
+use Rattle.sporadic_model.specs.declared.limits.TheConstants.{MOST_TICKS}
 
 -- Is r at most s in each of the first n places?
 abbrev pub AtMost : ℕ → List ℕ → List ℕ → Type 0
@@ -20,3 +21,10 @@ pub record IsInRange (set : SetDef) (r : List ℕ) : Type 0 where
   pub one_each : length r ≡ length set.tasks
   pub from_cost : (i : ℕ) → i < length set.tasks → (task_at set i).cost ≤ slice_index r i
   pub to_deadline : (i : ℕ) → i < length set.tasks → slice_index r i ≤ (task_at set i).deadline
+
+-- The most ticks that jobs of one higher task can count for: as many as a window and a bound last, and one job more.
+abbrev pub most_of_one_task : ℕ
+most_of_one_task = 3 * MOST_TICKS
+
+pub most_of_one_task-is : most_of_one_task ≡ 3000000000
+most_of_one_task-is = refl

@@ -3,7 +3,7 @@ ghost use Rattle.program_form.specs.Program.{ProgramDef, IsProgram, IsCovered, c
 ghost use Rattle.program_form.specs.Limits.{HasLimitsAtMost};
 ghost use Rattle.sporadic_model.specs.SetDef.{SetDef, task_at};
 ghost use Rattle.sporadic_model.specs.Accepted.{IsAccepted, TaskNumbers};
-ghost use Rattle.program_sources.specs.Bounds.{AtMost, AreWithinDeadlines, AreFromCostsAbove};
+ghost use Rattle.program_sources.specs.Bounds.{AtMost, AreWithinDeadlines, AreFromCostsAbove, most_of_one_task};
 ghost use Rattle.program_sources.specs.Recurrence.{interference_of};
 
 use program_form::Program;
@@ -42,7 +42,7 @@ pub trait ProgramSource {
         requires within { AreWithinDeadlines set.now bounds.now }
         requires from_costs { AreFromCostsAbove set.now bounds.now i.0 }
         ensures value { result ≡ interference_of (interfering self.now set.now) set.now bounds.now i.0 }
-        ensures most { result ≤ i.0 * 3000000000 };
+        ensures most { result ≤ i.0 * most_of_one_task };
 
     /// Each column has a coefficient above zero in some row.
     ghost covers: { (p : Self) (set : SetDef) (i : ℕ) (r : List ℕ) (c : ℕ) → suits p set → i < length set.tasks

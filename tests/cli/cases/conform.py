@@ -1,9 +1,17 @@
 """The command `conform`: lawful and broken schedules, and files of jobs and rows that are refused."""
 from setting import Case
-from sets import FIVE, PAIR, PAIR_JOBS, PAIR_MEASURED, PAIR_ROWS
+from sets import FIVE, PAIR, PAIR_JOBS, PAIR_MEASURED, PAIR_ROWS, task, task_set
 
 JOBS = "task,release,script\n"
 ROWS = "ticks,P1,P2,q\n"
+
+
+# a task that may have a job at each tick
+EACH_TICK = task_set(1, [], task("t1", 1, 1, 1))
+
+
+def each_tick(jobs):
+    return JOBS + "".join(f"t1,{release},1\n" for release in range(jobs))
 
 
 def judged(shows, says, status=0, text=PAIR, jobs=PAIR_JOBS, rows=PAIR_ROWS, protocol="fmlp+"):
@@ -36,7 +44,11 @@ JOB_FILES = [
     refused_jobs("two jobs too close", "tooclose 2", "t1,0,1\nt1,9,1\n"),
     refused_jobs("a line of two fields", "fields 2", "t1,0,1\nt2,0\n"),
     refused_jobs("a release with a sign", "number 1", "t1,-1,1\n"),
-    judged("no header", "refused jobs fields 0\n", 3, jobs=""),
+    judged("a header that ends early", "refused jobs fields 0\n", 3, jobs="task,release,scr"),
+    refused_jobs("a script that ends after a colon", "script 1", "t1,0,1 q:"),
+    refused_jobs("a last line that ends early", "fields 2", "t1,0,1 q:1 1\nt2,0"),
+    judged("as many jobs as there may be", "lawful 0\nt1 0 - 0\n", 0, EACH_TICK, each_tick(100_000), "ticks,P1\n"),
+    judged("a job too many", "refused jobs toomany 100001\n", 3, EACH_TICK, each_tick(100_001), "ticks,P1\n"),
 ]
 
 ROW_FILES = [

@@ -19,11 +19,11 @@ sound_figures-requires-clause-bounds g c =
     let cert : CertificateDef = certificate_seen c.args.certificate.now in
     let judged : IsValid f cert × AreValues f cert c.in-Ok.valid.values.items =
     rw c.set-2.ensures at c.in-Ok.ensures.judges in
-    let accepted : IsAccepted c.args.jobs.now.set = rw c.set.ensures at c.tasks-tasks.ensures.accepted in
+    let accepted : IsAccepted c.args.jobs.now.set = rw c.set.ensures at c.keeps_the_model.ensures.accepted in
     rw c.deref.ensures.value (valid_bounds f cert accepted judged.0)
 
-pub returns-in-Ok-sound_figures-clause-audits : goal.returns-in-Ok-sound_figures-clause-audits
-returns-in-Ok-sound_figures-clause-audits g c =
+pub returns-clause-audits : goal.returns-clause-audits
+returns-clause-audits g c =
     let f : SourceDef =
     source_for (g.P.ChargedProtocol.program_of c.args.protocol.now) (g.P.ChargedProtocol.interfering c.args.protocol.now) c.args.jobs.now.set in
     let cert : CertificateDef = certificate_seen c.args.certificate.now in
@@ -31,41 +31,41 @@ returns-in-Ok-sound_figures-clause-audits g c =
     let judged : IsValid f cert × AreValues f cert c.in-Ok.valid.values.items =
     rw c.set-2.ensures at c.in-Ok.ensures.judges in
     let are : AreFigures (g.P.ChargedProtocol.charges c.args.protocol.now) (g.P.BlockingProtocol.interferes c.args.protocol.now) w
-    (slice_index cert.bounds) (slice_index c.in-Ok.valid.values.items) (ticks_of c.args.rows.now.runs) c.in-Ok-sound_figures.figures.items =
-    rw (c.deref.ensures.value, c.deref-2.ensures.value) at c.in-Ok-sound_figures.ensures in (
+    (slice_index cert.bounds) (slice_index c.in-Ok.valid.values.items) (ticks_of c.args.rows.now.runs) c.in_ok-figures.figures.items =
+    rw (c.deref.ensures.value, c.deref-2.ensures.value) at c.in_ok-figures.ensures in (
       judged.0,
       c.in-Ok-conform_with.ensures.0,
       same_values (g.P.ChargedProtocol.charges c.args.protocol.now)
           (g.P.BlockingProtocol.interferes c.args.protocol.now) w (slice_index cert.bounds) (slice_index c.in-Ok.valid.values.items) (value_at f cert)
-          (ticks_of c.args.rows.now.runs) c.in-Ok-sound_figures.figures.items judged.1.each are,
+          (ticks_of c.args.rows.now.runs) c.in_ok-figures.figures.items judged.1.each are,
     )
 
-pub returns-in-Ok-sound_figures-clause-within : goal.returns-in-Ok-sound_figures-clause-within
-returns-in-Ok-sound_figures-clause-within g c =
+pub returns-clause-within : goal.returns-clause-within
+returns-clause-within g c =
     let cert : CertificateDef = certificate_seen c.args.certificate.now in
     let w : Trace = trace_in c.args.jobs.now c.args.rows.now.runs in
     let are : AreFigures (g.P.ChargedProtocol.charges c.args.protocol.now) (g.P.BlockingProtocol.interferes c.args.protocol.now) w
-    (slice_index cert.bounds) (slice_index c.in-Ok.valid.values.items) (ticks_of c.args.rows.now.runs) c.in-Ok-sound_figures.figures.items =
-    rw (c.deref.ensures.value, c.deref-2.ensures.value) at c.in-Ok-sound_figures.ensures in
+    (slice_index cert.bounds) (slice_index c.in-Ok.valid.values.items) (ticks_of c.args.rows.now.runs) c.in_ok-figures.figures.items =
+    rw (c.deref.ensures.value, c.deref-2.ensures.value) at c.in_ok-figures.ensures in
     let sound : Sound (g.P.BlockingProtocol.keeps c.args.protocol.now) (g.P.BlockingProtocol.interferes c.args.protocol.now)
     c.args.jobs.now.set cert.bounds c.in-Ok.valid.values.items = rw c.set-2.ensures at c.in-Ok.ensures.sound in
     let lawful : IsLawfulSchedule (g.P.BlockingProtocol.keeps c.args.protocol.now) c.args.jobs.now.set w (ticks_of c.args.rows.now.runs) =
-    record { set_is = refl; jobs = c.len-jobs.ensures.lawful; rows = c.in-Ok-conform_with.ensures.0 } in
+    record { set_is = refl; jobs = c.keeps_its_rules.ensures.lawful; rows = c.in-Ok-conform_with.ensures.0 } in
     lie_within (g.P.ChargedProtocol.charges c.args.protocol.now) (g.P.BlockingProtocol.interferes c.args.protocol.now) w cert.bounds
-    c.in-Ok.valid.values.items (ticks_of c.args.rows.now.runs) c.in-Ok-sound_figures.figures.items (sound w (ticks_of c.args.rows.now.runs) lawful)
+    c.in-Ok.valid.values.items (ticks_of c.args.rows.now.runs) c.in_ok-figures.figures.items (sound w (ticks_of c.args.rows.now.runs) lawful)
     are
 
-pub returns-in-Ok-sound_figures-clause-adds_up : goal.returns-in-Ok-sound_figures-clause-adds_up
-returns-in-Ok-sound_figures-clause-adds_up g c =
+pub returns-clause-adds_up : goal.returns-clause-adds_up
+returns-clause-adds_up g c =
     let cert : CertificateDef = certificate_seen c.args.certificate.now in
     let w : Trace = trace_in c.args.jobs.now c.args.rows.now.runs in
     let are : AreFigures (g.P.ChargedProtocol.charges c.args.protocol.now) (g.P.BlockingProtocol.interferes c.args.protocol.now) w
-    (slice_index cert.bounds) (slice_index c.in-Ok.valid.values.items) (ticks_of c.args.rows.now.runs) c.in-Ok-sound_figures.figures.items =
-    rw (c.deref.ensures.value, c.deref-2.ensures.value) at c.in-Ok-sound_figures.ensures in
+    (slice_index cert.bounds) (slice_index c.in-Ok.valid.values.items) (ticks_of c.args.rows.now.runs) c.in_ok-figures.figures.items =
+    rw (c.deref.ensures.value, c.deref-2.ensures.value) at c.in_ok-figures.ensures in
     add_up (g.P.ChargedProtocol.charges c.args.protocol.now) (g.P.BlockingProtocol.interferes c.args.protocol.now) w (slice_index cert.bounds)
-    (slice_index c.in-Ok.valid.values.items) (ticks_of c.args.rows.now.runs) c.in-Ok-sound_figures.figures.items
+    (slice_index c.in-Ok.valid.values.items) (ticks_of c.args.rows.now.runs) c.in_ok-figures.figures.items
     (λ t j charge is. g.met.P.ChargedProtocol.charges_only c.args.protocol.now w t j charge is)
     (λ t j l blocked.
     let a = g.met.P.ChargedProtocol.charges_blocked c.args.protocol.now w (ticks_of c.args.rows.now.runs) t j c.requires.suits
-    c.len-jobs.ensures.lawful c.in-Ok-conform_with.ensures.0 l blocked in
+    c.keeps_its_rules.ensures.lawful c.in-Ok-conform_with.ensures.0 l blocked in
     (a.charge, a.is_it)) are

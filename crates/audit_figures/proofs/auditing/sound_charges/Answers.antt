@@ -12,7 +12,7 @@ pub unreachable-requires-in-Err-BoundPassed : goal.unreachable-requires-in-Err-B
 unreachable-requires-in-Err-BoundPassed g c =
     let w : Trace = trace_in c.args.jobs.now c.args.rows.now.runs in
     let lawful : IsLawfulSchedule (g.P.BlockingProtocol.keeps c.args.protocol.now) c.args.jobs.now.set w (ticks_of c.args.rows.now.runs) =
-    record { set_is = refl; jobs = c.len-jobs.ensures.lawful; rows = c.requires.keeps } in
+    record { set_is = refl; jobs = c.keeps_its_rules.ensures.lawful; rows = c.requires.keeps } in
     let said : Charged (g.P.BlockingProtocol.keeps c.args.protocol.now) (g.P.BlockingProtocol.interferes c.args.protocol.now)
     (g.P.ChargedProtocol.charges c.args.protocol.now) w (slice_index c.args.bounds.now) (ticks_of c.args.rows.now.runs)
     (Err (stop.BoundPassed c.in-Err-BoundPassed.field-0-0)) =

@@ -16,6 +16,6 @@ returns g c =
     let w : Trace = trace_in c.args.jobs.now c.args.rows.now.runs in
     IfOk-weaker c.figures.result _ _
     (λ v are. are (g.P.ChargedProtocol.charges c.args.protocol.now) (g.P.BlockingProtocol.interferes c.args.protocol.now) w
-    (ticks_of c.args.rows.now.runs) refl c.ticks-ticks.ensures.listed.most
+    (ticks_of c.args.rows.now.runs) refl c.keeps_its_rules.ensures.most
     (λ t j charge is. g.met.P.ChargedProtocol.charges_only c.args.protocol.now w t j charge is) c.requires.measures c.in_ok-table.ensures)
     c.figures.ensures

@@ -16,4 +16,4 @@ returns c =
     (sums_at c.in_ok-sums.sums.items x)) =
     rw (c.deref.ensures.value, c.deref-2.ensures.value) at c.put_together.ensures.each in
     answer_is c.put_together.result c.args.jobs.now c.args.measured.now c.args.bounds.now c.args.values.now c.args.table.now.charges.items
-    c.in_ok-sums.sums.items c.len-jobs.ensures.listed.most c.requires.measured c.in_ok-sums.ensures.each size each
+    c.in_ok-sums.sums.items c.keeps_its_rules.ensures.listed.most c.requires.measured c.in_ok-sums.ensures.each size each

@@ -17,17 +17,17 @@ use Rattle.charge.proofs.charging.charge_with.Goals as goal
 pub walk_all-requires-clause-reached : goal.walk_all-requires-clause-reached
 walk_all-requires-clause-reached g c =
     reached_first (g.P.BlockingProtocol.keeps c.args.protocol.now) (g.P.ChargedProtocol.charges c.args.protocol.now) (row_in c.args.rows.now.runs)
-    c.args.bounds.now c.in-Ok.machine _ (c.in-Ok.ensures.shows (row_in c.args.rows.now.runs)) c.in-Ok.ensures.tick
-    (rw c.in-Ok.ensures.list c.requires.bounds) c.new-2.ensures.empty refl
+    c.args.bounds.now c.in_ok-machine.machine _ (c.in_ok-machine.ensures.shows (row_in c.args.rows.now.runs)) c.in_ok-machine.ensures.tick
+    (rw c.in_ok-machine.ensures.list c.requires.bounds) c.new-2.ensures.empty refl
 
-pub returns-in-Ok-items_of-clause-charged : goal.returns-in-Ok-items_of-clause-charged
-returns-in-Ok-items_of-clause-charged g c =
+pub returns-clause-charged : goal.returns-clause-charged
+returns-clause-charged g c =
     let w : Trace = trace_in c.args.jobs.now c.args.rows.now.runs in
     let n : ℕ = ticks_of c.args.rows.now.runs in
     let a : Walked (g.P.BlockingProtocol.keeps c.args.protocol.now) (g.P.ChargedProtocol.charges c.args.protocol.now) w
     (slice_index c.args.bounds.now) n c.walk_all.new.ledger =
     walked_all (g.P.BlockingProtocol.keeps c.args.protocol.now) (g.P.ChargedProtocol.charges c.args.protocol.now) (row_in c.args.rows.now.runs)
-    c.args.bounds.now c.walk_all.new.machine c.walk_all.new.ledger c.args.jobs.now n (c.walk_all.ensures.list ∙ c.in-Ok.ensures.list)
+    c.args.bounds.now c.walk_all.new.machine c.walk_all.new.ledger c.args.jobs.now n (c.walk_all.ensures.list ∙ c.in_ok-machine.ensures.list)
     c.in_ok-walk_all.ensures.walked.0 c.in_ok-walk_all.ensures.walked.1 in
     let only : (t : ℕ) → OfActive (g.P.ChargedProtocol.charges c.args.protocol.now) w t =
     λ t k charge e. let b : Blocked (g.P.BlockingProtocol.interferes c.args.protocol.now) w t k =
@@ -36,7 +36,7 @@ returns-in-Ok-items_of-clause-charged g c =
     let table : IsChargeTable (g.P.ChargedProtocol.charges c.args.protocol.now) (g.P.BlockingProtocol.interferes c.args.protocol.now) w
     (slice_index c.args.bounds.now) n _ =
     table_is (g.P.ChargedProtocol.charges c.args.protocol.now) (g.P.BlockingProtocol.interferes c.args.protocol.now) w
-    (slice_index c.args.bounds.now) n c.walk_all.new.ledger.ticks a.counted c.items_of.ensures.ordered only
+    (slice_index c.args.bounds.now) n c.walk_all.new.ledger.ticks a.counted c.items_of-charges.ensures.ordered only
     (λ t j l blocked. let k : IsCharged (g.P.ChargedProtocol.charges c.args.protocol.now)
     (g.P.ChargedProtocol.columns_of c.args.protocol.now w.set (task_of w j)) w t j =
     g.met.P.ChargedProtocol.charges_blocked c.args.protocol.now w n t j c.requires.suits a.lawful a.keeps_all l blocked in
@@ -44,23 +44,23 @@ returns-in-Ok-items_of-clause-charged g c =
       a.keeps_all,
       sym a.passed ∙ none_noted c.walk_all.new.ledger.passed c.in_default.not-Some,
       subst (λ (items : List ItemDef). IsChargeTable (g.P.ChargedProtocol.charges c.args.protocol.now)
-          (g.P.BlockingProtocol.interferes c.args.protocol.now) w (slice_index c.args.bounds.now) n items) (sym c.in-Ok-items_of.ensures.items) table,
+          (g.P.BlockingProtocol.interferes c.args.protocol.now) w (slice_index c.args.bounds.now) n items) (sym c.in_ok-charges.ensures.items) table,
     )
 
-pub returns-in-Ok-items_of-clause-rows : goal.returns-in-Ok-items_of-clause-rows
-returns-in-Ok-items_of-clause-rows g c = λ j l.
+pub returns-clause-rows : goal.returns-clause-rows
+returns-clause-rows g c = λ j l.
     let w : Trace = trace_in c.args.jobs.now c.args.rows.now.runs in
     let n : ℕ = ticks_of c.args.rows.now.runs in
     let a : Walked (g.P.BlockingProtocol.keeps c.args.protocol.now) (g.P.ChargedProtocol.charges c.args.protocol.now) w
     (slice_index c.args.bounds.now) n c.walk_all.new.ledger =
     walked_all (g.P.BlockingProtocol.keeps c.args.protocol.now) (g.P.ChargedProtocol.charges c.args.protocol.now) (row_in c.args.rows.now.runs)
-    c.args.bounds.now c.walk_all.new.machine c.walk_all.new.ledger c.args.jobs.now n (c.walk_all.ensures.list ∙ c.in-Ok.ensures.list)
+    c.args.bounds.now c.walk_all.new.machine c.walk_all.new.ledger c.args.jobs.now n (c.walk_all.ensures.list ∙ c.in_ok-machine.ensures.list)
     c.in_ok-walk_all.ensures.walked.0 c.in_ok-walk_all.ensures.walked.1 in
     let only : (t : ℕ) → OfActive (g.P.ChargedProtocol.charges c.args.protocol.now) w t =
     λ t k charge e. let b : Blocked (g.P.BlockingProtocol.interferes c.args.protocol.now) w t k =
     blocked_is (g.P.BlockingProtocol.interferes c.args.protocol.now) w t k
     (g.met.P.ChargedProtocol.charges_only c.args.protocol.now w t k charge e) in b.active in
-    let accepted : IsAccepted w.set = subst IsAccepted c.set.ensures c.tasks-tasks.ensures.accepted in
+    let accepted : IsAccepted w.set = subst IsAccepted c.set.ensures c.keeps_the_model.ensures.accepted in
     let job : JobDef = job_of c.args.jobs.now.jobs j in
     let lawful : IsLawfulJob w.set job = a.lawful.each j l in
     let first = g.met.P.ChargedProtocol.meets_rows c.args.protocol.now (alone w.set job) c.args.bounds.now 0 0 c.requires.suits

@@ -41,5 +41,5 @@ returns-clause-walked g c =
       c.advance.ensures.tick,
       reached_next (g.P.BlockingProtocol.keeps c.args.protocol.now) (g.P.ChargedProtocol.charges c.args.protocol.now) rows c.args.bounds.now m n
           c.args.ledger.now (record { ticks = c.charge_tick.new.ticks; passed = c.first_of_due-ledger.result }) c.requires.reached c.advance.ensures.list
-          c.advance.ensures.tick shows keeps c.in-Ok-charge_tick.ensures passed,
+          c.advance.ensures.tick shows keeps c.in_ok-charge_tick.ensures passed,
     )
