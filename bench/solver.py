@@ -8,8 +8,8 @@ It wants `rt` on the path. The others are measured where they are installed, and
     glpk    `glpsol` of the package glpk-utils, in floating point, and with --exact
     qsopt   `esolver` of the package qsopt-ex, which is exact
 The last two are timed as processes, less the time of a process that solves one column. Of each program the least of three times counts.
-Where `cc` is installed the memory that the exchanges take is counted too: the allocations of a whole run, less those of a run that ends
-before its first exchange.
+Where `cc` is installed the memory that the exchanges take is counted too: the allocations of a run that stops before its last exchange,
+less those of one that stops before its first, and beside it the same for the whole run with its answer.
 The program that solves is built in a temporary directory; building proves it and the crates below it, which takes some minutes.
 FILE is bench/programs.txt where none is given. A line of it is a program: the costs, then for each row, after a semicolon, its limit
 and its coefficients, each as COLUMN:NUMBER with columns counted from 0. Lines that begin with # are comments. A program of 768
@@ -273,15 +273,19 @@ def allocations(program, folder, programs, units):
     return int((folder / "counted.txt").read_text())
 
 
-def count_memory(program, folder, programs, exchanges):
+def count_memory(program, folder, programs, ours):
     if shutil.which("cc") is None:
         print("cc is missing: the memory that exchanges take isn't counted")
         return
     (folder / "counter.c").write_text(COUNTER)
     run(["cc", "-O1", "-shared", "-fPIC", "counter.c", "-o", "counter.so", "-ldl"], folder)
-    whole = allocations(program, folder, programs, UNITS)
+    # with as many units as exchanges a run stops before its last exchange, with none before its first
+    runs = [(one, exchanges) for one, (_, exchanges, _) in zip(programs, ours) if exchanges > 1]
+    taken = sum(allocations(program, folder, [one], exchanges) - allocations(program, folder, [one], 0) for one, exchanges in runs)
     tables = allocations(program, folder, programs, 0)
-    print(f"memory        {(whole - tables) / max(exchanges, 1):10.2f} times taken per exchange, with what the answer takes; {tables} times before the first")
+    whole = allocations(program, folder, programs, UNITS) - tables
+    print(f"memory        {taken / max(sum(exchanges - 1 for _, exchanges in runs), 1):10.2f} times taken per exchange,"
+          f" {whole / max(sum(answer[1] for answer in ours), 1):.2f} with what the answer takes; {tables} times before the first")
 
 
 def compare(name, ours, theirs, exact):
@@ -303,7 +307,7 @@ def measure(program, folder, programs):
     exchanges = sum(ours[i][1] for i in solved)
     print(f"{len(programs)} programs, {len(solved)} solved by {exchanges} exchanges, {len(programs) - len(solved)} wide")
     print(f"simplex       {sum(ours[i][2] for i in solved) / 1e6:10.2f} ms")
-    count_memory(program, folder, programs, exchanges)
+    count_memory(program, folder, programs, ours)
     if shutil.which("rustc") is None:
         print("rustc is missing: no run in plain Rust to compare with")
     else:

@@ -28,7 +28,7 @@ fn minus_cells(
     requires within { last ≤ places row.now }
     ensures { IfOk result (λ list. AreMinus row.now first (last - first) list.items) }
 {
-    let mut list = Vec::new(alloc);
+    let mut list = Vec::with_capacity(alloc, last - first)?;
     for v in first..last {
         list.push(row.cell(v).neg())?;
     }
@@ -56,7 +56,7 @@ pub(crate) fn zeros(alloc: Global, count: usize) -> Result<Vec<Frac>, AllocError
     ensures len { IfOk result (λ v. length v.items ≡ count) }
     ensures zero { IfOk result (λ v. (c : ℕ) → fraction_at v.items c ≡ whole (pos 0)) }
 {
-    let mut list = Vec::new(alloc);
+    let mut list = Vec::with_capacity(alloc, count)?;
     for _ in 0..count {
         list.push(Frac::whole(0))?;
     }

@@ -94,7 +94,7 @@ pub(crate) fn first_rows(alloc: Global, program: &Program) -> Result<Vec<SparseR
     ensures rows { IfOk result (λ rows. AreFirstRows program.now rows.items) }
     ensures program { IsProgram program.now }
 {
-    let mut rows = Vec::new(alloc);
+    let mut rows = Vec::with_capacity(alloc, program.rows() as usize + 1)?;
     for i in 0..program.rows() as usize + 1 {
         rows.push(first_row(alloc, program, i)?)?;
     }
@@ -105,7 +105,7 @@ pub(crate) fn first_rows(alloc: Global, program: &Program) -> Result<Vec<SparseR
 pub(crate) fn first_basis(alloc: Global, program: &Program) -> Result<Vec<usize>, AllocError>
     ensures { IfOk result (λ basis. IsFirstBasis program.now basis.items) }
 {
-    let mut basis = Vec::new(alloc);
+    let mut basis = Vec::with_capacity(alloc, program.rows() as usize)?;
     for i in 0..program.rows() {
         basis.push(program.columns() as usize + i as usize)?;
     }
