@@ -2,7 +2,6 @@
 use Rattle.std.proofs.Common.{◌≡◌, ℕ, ◌<◌, ◌==◌, ◌&&◌, ◌||◌, not, Bool, true, false, List, [], ◌∷◌, map, length, refl, ◌∙◌, nat_lt, nat_le, inl, inr}
 use Rattle.std.proofs.lemmas.Bool.{and_parts, cases_Bool, both_ways, eqb-true, eq-eqb}
 use Rattle.std.proofs.lemmas.List.Elements.{All-head, All-tail, All-same}
-use Rattle.std.specs.List.{All}
 use Rattle.bounded_sums.specs.Sums.{sum_below, only_if}
 use Rattle.bounded_sums.proofs.SumLaws.{sum_below-no_term}
 use Rattle.bounded_sums.proofs.TestLaws.{any_below-some}
@@ -17,7 +16,7 @@ use Rattle.fragments.specs.Ceilings.{ceiling_rank}
 use Rattle.fragments.specs.ColumnDef.{ColumnDef, column_seen, is_preemption}
 use Rattle.fragments.specs.Columns.{is_column, blocks_at_home, requests_beside, columns_of}
 use Rattle.fragments.specs.Constraints.{holds_some}
-use Rattle.fragments.proofs.KnownColumns.{IsKnown, columns_pass, columns_known, all_mapped}
+use Rattle.fragments.proofs.KnownColumns.{columns_pass, columns_known, all_mapped}
 use Rattle.indirect_constraints.specs.Asked.{IsAskedAtHome, AreAskedAtHome}
 use Rattle.indirect_constraints.specs.Rows.{home_row}
 
