@@ -9,9 +9,9 @@ use sporadic_model::{ResourceId, TaskId, TaskSet};
 use std::alloc::{AllocError, Global};
 use std::thread::{Threads, map_indices};
 
-/// From how much work for each task on threads are worth their start, counted in rows gone through. To start and join a thread takes
-/// about as long as some 600 of these (`bench/parallel.py`).
-const WORTH_THREADS: u64 = 2_000;
+/// From how much work for each task on threads are worth their start, counted in rows gone through. A thread costs about as long as
+/// 2,000 to 4,000 of these, most of it in the kernel: its stack, its memory, its end.
+const WORTH_THREADS: u64 = 4_000;
 
 /// How many entries of requests a task has.
 fn entries_of(set: &TaskSet, x: TaskId) -> u64
