@@ -1,15 +1,16 @@
 #!/usr/bin/env python3
 """Times `analyse` and `check` beside the usual way, and prints the ratios.
 
-    python3 bench/analyse.py [SEED]
+    python3 bench/analyse.py [SEED] [SIZE..]
 
 The usual way forms the same programs in Python (bench/blocking_programs.py) and solves each by `glpsol` of the package glpk-utils, in
 floating point and with --exact; a word is printed where it is missing. It takes the rounds of docs/ANALYSIS.md, as `analyse` does. Of
 each call of `glpsol` the time of the same call with --check, which starts, reads the file and solves nothing, is told apart.
 Times are those of processes, the least of a few calls; of the program's own the time of a call that answers `refused words` is told
-apart in the same way. Sets: examples/plant.json, and sets of 8, 16, 32 and 64 tasks with resources, made from SEED (1 where none is
-given), each under the three protocols. Units are the least allowance with which the answer is the same.
-The program is the one that ./block builds. It is no test: no gate runs it, and it bounds nothing.
+apart in the same way. Sets: examples/plant.json, and two sets each of 8, 16, 32 and 64 tasks, or of as many as SIZE says, with
+resources, made from SEED (1 where none is given), each under the three protocols. Units are the least allowance with which the answer
+is the same; where an analysis takes more than a tenth of a second they aren't looked for. The program is the one that ./block builds.
+It is no test: no gate runs it, and it bounds nothing.
 """
 import json
 import shutil
@@ -26,17 +27,17 @@ PROGRAM = TOP / "crates" / "block_cli" / "out" / "block_cli"
 SIZES = (8, 16, 32, 64)
 SETS = 2
 CALLS = 5
+SECONDS = 5
 
 
 def timed(command, where, calls):
-    """The least time of a few calls, their status and what they write."""
-    least = None
-    for _ in range(calls):
+    """The least time of a few calls, fewer where they are long, their status and what they write."""
+    times = []
+    while len(times) < calls and sum(times) < SECONDS:
         begun = time.perf_counter()
         done = subprocess.run(command, cwd=where, capture_output=True, text=True)
-        took = time.perf_counter() - begun
-        least = took if least is None else min(least, took)
-    return least, done.returncode, done.stdout
+        times.append(time.perf_counter() - begun)
+    return min(times), done.returncode, done.stdout
 
 
 def units_of(protocol, where, status):
@@ -101,7 +102,8 @@ def measured(name, parts, protocol, where, start):
     (where / "set").write_text(json.dumps(parts))
     took, status, text = timed([PROGRAM, "analyse", protocol, "set"], where, CALLS)
     own = max(took - start, 1e-5)
-    line = [name, protocol, f"status {status}", f"units {units_of(protocol, where, status)}", f"analyse {milliseconds(own)} ms"]
+    units = units_of(protocol, where, status) if own < 0.1 else "not looked for"
+    line = [name, protocol, f"status {status}", f"units {units}", f"analyse {milliseconds(own)} ms"]
     if status == 0:
         (where / "cert").write_text(text)
         took, verdict, _ = timed([PROGRAM, "check", protocol, "set", "cert"], where, CALLS)
@@ -113,7 +115,8 @@ def measured(name, parts, protocol, where, start):
             whole = usual.forming + usual.reading + usual.solving
             word = "exact" if exact else "floats"
             line.append(f"glpsol in {word}: forming {milliseconds(usual.forming)}, starting and reading {milliseconds(usual.reading)}, "
-                        f"solving {milliseconds(usual.solving)} ms, in all {whole / own:.0f} times analyse, solving alone {usual.solving / own:.1f} times")
+                        f"solving {milliseconds(usual.solving)} ms, in all {whole / own:.1f} times analyse, "
+                        f"solving alone {usual.solving / own:.1f} times")
             if status == 0 and bounds != json.loads(text)["bounds"]:
                 line.append("OTHER BOUNDS")
     print("; ".join(line), flush=True)
@@ -121,14 +124,14 @@ def measured(name, parts, protocol, where, start):
 
 
 def main():
-    seed = int(sys.argv[1]) if len(sys.argv) > 1 else 1
+    seed, *sizes = [int(word) for word in sys.argv[1:]] or [1]
     if not PROGRAM.exists():
         sys.exit("build the program first: ./block analyse fmlp+ examples/plant.json")
     if not shutil.which("glpsol"):
         print("glpsol is not installed (package glpk-utils): the usual way is left out")
     sets = [("plant", json.loads((TOP / "examples" / "plant.json").read_text()))]
     draw = seeded(seed)
-    sets += [(f"{n} tasks, set {k + 1}", generated(n, draw)) for n in SIZES for k in range(SETS)]
+    sets += [(f"{n} tasks, set {k + 1}", generated(n, draw)) for n in sizes or SIZES for k in range(SETS)]
     with tempfile.TemporaryDirectory() as folder:
         where = Path(folder)
         start, _, _ = timed([PROGRAM], where, 20)

@@ -1,13 +1,14 @@
 #!/usr/bin/env python3
 """Times analyses and a study with a round's programs solved side by side, and without, and prints the ratios.
 
-    python3 bench/parallel.py [SEED]
+    python3 bench/parallel.py [SEED] [SIZE..]
 
-It wants `rt` on the path. Measured are `examples/plant.json`, the study 5 20, and generated sets of 16 to 64 tasks on four processors,
-each under each protocol. Two programs are built in a temporary directory, one of the crates as they stand and one of a copy whose rounds
-start no thread; building proves them and the crates below them, which takes some minutes. The two run in turn, the least of their tries
-counts, and both must come to the same answer. A ratio above 1 is how often faster the rounds side by side are; on four processors it
-can be at most 4. It is no test: no gate runs it, and it bounds nothing.
+It wants `rt` on the path. Measured are `examples/plant.json`, the study 5 20, and generated sets of 16, 32 and 64 tasks, or of as many
+as SIZE says, on four processors, each under each protocol. Two programs are built in a temporary directory, one of the crates as they
+stand and one of a copy whose rounds start no thread; building proves them and the crates below them, which takes some minutes. The two
+run in turn, the least of their tries counts, and both must come to the same answer. A ratio above 1 is how often faster the rounds side
+by side are; on four processors it can be at most 4, and what else runs on the machine takes processors from the threads. It is no test:
+no gate runs it, and it bounds nothing.
 """
 import json
 import random
@@ -25,8 +26,8 @@ PROCESSORS = 4
 RESOURCES = 8
 
 # What the copy without threads has in place of the rule in response_fixpoint.
-RULE = "    earlier.is_empty() || work >= WORTH_THREADS"
-NEVER = "    earlier.is_empty() && work >= WORTH_THREADS"
+RULE = "    work >= WORTH_THREADS.saturating_mul(tasks)"
+NEVER = "    work >= u64::MAX.saturating_mul(tasks)"
 
 RATTLE = r"""//! Analyses the set beside it, or makes a study, and writes the answer and the nanoseconds.
 #![tactic(auto)]
@@ -135,9 +136,8 @@ def generated(tasks, seed):
         period = numbers.choice(PERIODS)
         share = 0.45 * PROCESSORS / tasks
         cost = max(300, int(period * share * numbers.uniform(0.6, 1.4)))
-        requests = [
-            {"resource": f"r{q}", "count": numbers.randint(1, 3), "length": numbers.randint(1, 40)} for q in numbers.sample(range(RESOURCES), 4)
-        ]
+        used = numbers.sample(range(RESOURCES), 4)
+        requests = [{"resource": f"r{q}", "count": numbers.randint(1, 3), "length": numbers.randint(1, 40)} for q in used]
         made.append({"name": f"t{number}", "processor": number % PROCESSORS + 1, "period": period, "cost": cost, "requests": requests})
     made.sort(key=lambda task: task["period"])
     resources = [{"name": f"r{q}", "home": q % PROCESSORS + 1} for q in range(RESOURCES)]
@@ -157,11 +157,12 @@ def measure(name, work, text, programs, folder, tries):
     if len(answers) != 1:
         sys.exit(f"{name} under {work}: the answers differ")
     beside, alone = least
-    print(f"{name:10} {work:6} side by side {beside / 1e6:10.2f} ms, alone {alone / 1e6:10.2f} ms, alone / side by side = {alone / max(beside, 1):.2f}", flush=True)
+    times = f"side by side {beside / 1e6:10.2f} ms, alone {alone / 1e6:10.2f} ms"
+    print(f"{name:10} {work:6} {times}, alone / side by side = {alone / max(beside, 1):.2f}", flush=True)
 
 
 def main():
-    seed = int(sys.argv[1]) if len(sys.argv) > 1 else 1
+    seed, *sizes = [int(word) for word in sys.argv[1:]] or [1]
     with tempfile.TemporaryDirectory() as one, tempfile.TemporaryDirectory() as other, tempfile.TemporaryDirectory() as place:
         folder = Path(place)
         programs = [build(Path(one), True), build(Path(other), False)]
@@ -169,9 +170,9 @@ def main():
         for protocol in PROTOCOLS:
             measure("plant", protocol, plant, programs, folder, 9)
         measure("study 5 20", "study", "{}", programs, folder, 3)
-        for tasks in (16, 32, 64):
+        for tasks in sizes or (16, 32, 64):
             for protocol in PROTOCOLS:
-                measure(f"{tasks} tasks", protocol, generated(tasks, seed), programs, folder, 1)
+                measure(f"{tasks} tasks", protocol, generated(tasks, seed), programs, folder, 3)
 
 
 main()

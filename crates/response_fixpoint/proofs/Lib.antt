@@ -9,3 +9,4 @@ pub mod RunLaws
 pub mod EndLaws
 pub mod SolutionLaws
 pub mod AnswerLaws
+pub mod WorkedRounds

@@ -3,3 +3,4 @@ pub mod Runs
 pub mod Written
 pub mod Solutions
 pub mod Answers
+pub mod Worked

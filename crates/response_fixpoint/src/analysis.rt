@@ -60,10 +60,8 @@ fn duals_of(alloc: Global, solutions: Vec<Solution>) -> Result<Vec<Dual>, AllocE
 fn settled(alloc: Global, bounds: Vec<u64>, solutions: Vec<Solution>) -> Result<Verdict, Stop>
     ensures { IsSettled result bounds.items (map (λ s. dual_seen s.dual) solutions.items) }
 {
-    match duals_of(alloc, solutions) {
-        Ok(duals) => Ok(Verdict::Schedulable(Certificate { bounds, duals })),
-        Err(AllocError) => Err(Stop::Memory),
-    }
+    let duals = duals_of(alloc, solutions)?;
+    Ok(Verdict::Schedulable(Certificate { bounds, duals }))
 }
 
 /// One round, with its programs solved ahead of it where that is worth its threads.
@@ -81,10 +79,8 @@ fn next_round<R: Threads + Sync, P: ProgramSource + Sync>(
     requires earlier { AreEarlier (record { set = set.now; program = P.program_of protocol.now set.now; interfering = P.interfering protocol.now set.now }) earlier.now }
     ensures { GivesRound result (record { set = set.now; program = P.program_of protocol.now set.now; interfering = P.interfering protocol.now set.now }) bounds.now left }
 {
-    match solve_ahead(rt, alloc, set, protocol, bounds, left, earlier) {
-        Ok(ahead) => take_round(alloc, set, protocol, bounds, left, earlier, ahead),
-        Err(AllocError) => Err(RoundStop::Memory),
-    }
+    let ahead = solve_ahead(rt, alloc, set, protocol, bounds, left, earlier)?;
+    take_round(alloc, set, protocol, bounds, left, earlier, ahead)
 }
 
 /// Takes rounds from the costs on, until one ends or gives the vector that it began with.
@@ -98,10 +94,8 @@ fn take_rounds<R: Threads + Sync, P: ProgramSource + Sync>(
     requires { P.suits protocol.now set.now }
     ensures { Answers result (record { set = set.now; program = P.program_of protocol.now set.now; interfering = P.interfering protocol.now set.now }) allowance }
 {
-    let mut bounds = match costs(alloc, set) {
-        Ok(bounds) => bounds,
-        Err(AllocError) => return Err(Stop::Memory),
-    };
+    let mut bounds = costs(alloc, set)?;
+    // a set has a task, so each round takes a unit, and the rounds end
     let _tasks = set.tasks();
     let mut earlier = Vec::new(alloc);
     let mut spent = 0;
@@ -130,9 +124,11 @@ fn take_rounds<R: Threads + Sync, P: ProgramSource + Sync>(
 ///
 /// Bounds are in ticks. `allowance` is the number of units that all programs together may take: each takes one, and one more for
 /// each exchange of its run. A round solves its programs side by side, but one whose limits are those of the round before, whose
-/// solution is taken over with its units; the answer is that of one thread that solves each program in turn. `Stop::Wide` and `Stop::Allowance` come exactly where the rounds end so; `Stop::Memory` comes for
-/// want of memory alone. This is the fixed-point iteration of response-time analysis (Joseph and Pandya 1986; Audsley et al.
-/// 1993), taken over the bounds of all tasks at once.
+/// solution is taken over with its units; the answer is that of one thread that solves each program in turn.
+///
+/// `Stop::Wide` and `Stop::Allowance` come exactly where the rounds end so; `Stop::Memory` comes for want of memory alone. This is
+/// the fixed-point iteration of response-time analysis (Joseph and Pandya 1986; Audsley et al. 1993), taken over the bounds of all
+/// tasks at once.
 pub fn analyse_with<R: Threads + Sync, P: ProgramSource + Sync>(
     rt: &R,
     alloc: Global,
@@ -159,6 +155,7 @@ pub fn analyse_with<R: Threads + Sync, P: ProgramSource + Sync>(
         → length set.now.tasks * (1 + slack_of (record { set = set.now; program = P.program_of protocol.now set.now; interfering = P.interfering protocol.now set.now })) ≤ allowance
         → IsErrOf result Stop.Allowance → ⊥ }
 {
+    // the costs of a set are within its deadlines
     let _tasks = set.tasks();
     recurrence_is_monotone::<P>();
     take_rounds(rt, alloc, set, protocol, allowance)

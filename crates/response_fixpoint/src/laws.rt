@@ -5,8 +5,9 @@ ghost use Rattle.sporadic_model.specs.SetDef.{SetDef};
 ghost use Rattle.sporadic_model.specs.declared.ids.Protocol.{Protocol};
 ghost use Rattle.program_sources.specs.Recurrence.{SourceDef};
 ghost use Rattle.program_sources.specs.Fitting.{AreFitting, AreLeastFitting};
-ghost use Rattle.response_fixpoint.specs.Rounds.{Ending, EndsIn};
+ghost use Rattle.response_fixpoint.specs.Rounds.{Ending, Schedulable, Allowance, Reaches, EndsIn};
 ghost use Rattle.response_fixpoint.specs.Runs.{rounds_of, HasNoColumns};
+ghost use Rattle.response_fixpoint.specs.Worked.{source_alone, bounds_alone, duals_alone};
 ghost use Rattle.response_fixpoint.specs.Written.{written, RequestsNothing};
 
 use program_sources::{ProgramSource, recurrence_is_monotone};
@@ -28,4 +29,12 @@ pub fn the_rounds_have_one_ending()
 /// Where no task requests a resource, no program has a column, under any protocol.
 pub fn no_requests_no_columns()
     ensures { (protocol : Protocol) (set : SetDef) → RequestsNothing set → HasNoColumns (written protocol set) }
+{}
+
+/// A worked set of three tasks: three rounds come to new bounds, the last time to 1, 3 and 10, and a fourth keeps these. Each takes
+/// three units, so twelve are enough, and eleven too few.
+pub fn three_tasks_take_four_rounds()
+    ensures rounds { Reaches (rounds_of source_alone) 12 3 9 bounds_alone }
+    ensures ends { EndsIn (rounds_of source_alone) 12 (Schedulable bounds_alone duals_alone) }
+    ensures short { EndsIn (rounds_of source_alone) 11 Allowance }
 {}

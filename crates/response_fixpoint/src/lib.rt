@@ -13,7 +13,10 @@ mod task_run;
 mod verdict;
 
 pub use analysis::{analyse, analyse_with};
-pub use laws::{a_least_fitting_vector_exists, no_requests_no_columns, the_rounds_have_one_ending};
+pub use laws::{
+    a_least_fitting_vector_exists, no_requests_no_columns, the_rounds_have_one_ending,
+    three_tasks_take_four_rounds,
+};
 pub use verdict::{Stop, Verdict};
 
 #[cfg(test)]

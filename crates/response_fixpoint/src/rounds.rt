@@ -7,7 +7,7 @@ use crate::task_run::{Solution, TaskRun, run_task};
 use program_sources::ProgramSource;
 use simplex::SolveStop;
 use sporadic_model::{TaskId, TaskSet};
-use std::alloc::Global;
+use std::alloc::{AllocError, AllocFailed, Global};
 
 /// What a round has found: its units, and for each task that passed the next bound in ticks, and the solution of its program.
 #[derive(Debug, Drop)]
@@ -27,6 +27,26 @@ pub enum RoundStop {
     /// The runs want more units than are left.
     Allowance,
     Memory,
+}
+
+impl From<AllocError> for RoundStop {
+    ghost use Rattle.response_fixpoint.specs.declared.rounds.RoundStop.TheVariants.{Memory};
+
+    ghost from_gives = { λ _ stop. stop ≡ Memory };
+
+    fn from(_error: AllocError) -> RoundStop {
+        RoundStop::Memory
+    }
+}
+
+impl<T: Drop> From<AllocFailed<T>> for RoundStop {
+    ghost use Rattle.response_fixpoint.specs.declared.rounds.RoundStop.TheVariants.{Memory};
+
+    ghost from_gives = { λ _ stop. stop ≡ Memory };
+
+    fn from(_failed: AllocFailed<T>) -> RoundStop {
+        RoundStop::Memory
+    }
 }
 
 /// Why a round ends where the run of a task stops so.
@@ -50,14 +70,8 @@ fn take_run(round: &mut Round, run: TaskRun, task: TaskId, deadline: u64) -> Res
         return Err(RoundStop::NotShown { task, bound: value });
     }
     let used = solution.used;
-    match round.values.push(value) {
-        Ok(()) => {}
-        Err(_) => return Err(RoundStop::Memory),
-    }
-    match round.solutions.push(solution) {
-        Ok(()) => {}
-        Err(_) => return Err(RoundStop::Memory),
-    }
+    round.values.push(value)?;
+    round.solutions.push(solution)?;
     round.used += used;
     Ok(())
 }

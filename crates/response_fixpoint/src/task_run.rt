@@ -62,6 +62,7 @@ fn solve_program(
     requires { limits.items ≡ program.now.limits }
     ensures { GivesSolution result program.now units }
 {
+    // the lists of a program are one
     let _columns = program.columns();
     match solve(alloc, program, units) {
         Ok(solved) => Ok(Solution {
@@ -140,6 +141,7 @@ fn response<P: ProgramSource>(
     requires most { blocking < 2 ^ 63 }
     ensures { result ≡ response_with (record { set = set.now; program = P.program_of protocol.now set.now; interfering = P.interfering protocol.now set.now }) bounds.now i.0 blocking }
 {
+    // a set has at most 64 tasks and no cost is large, so the sum fits
     let _tasks = set.tasks();
     set.cost(i) + blocking + protocol.interference(set, i, bounds)
 }

@@ -66,6 +66,44 @@ const THREE: Set = (
     ],
 );
 
+// Two tasks, each on a processor of its own, that request each of 32 resources.
+const EACH: &[(usize, u64)] = &[
+    (0, 1),
+    (1, 1),
+    (2, 1),
+    (3, 1),
+    (4, 1),
+    (5, 1),
+    (6, 1),
+    (7, 1),
+    (8, 1),
+    (9, 1),
+    (10, 1),
+    (11, 1),
+    (12, 1),
+    (13, 1),
+    (14, 1),
+    (15, 1),
+    (16, 1),
+    (17, 1),
+    (18, 1),
+    (19, 1),
+    (20, 1),
+    (21, 1),
+    (22, 1),
+    (23, 1),
+    (24, 1),
+    (25, 1),
+    (26, 1),
+    (27, 1),
+    (28, 1),
+    (29, 1),
+    (30, 1),
+    (31, 1),
+];
+
+const BUSY: Set = (2, &[None; 32], &[(1, 1000, 40, EACH), (2, 1000, 40, EACH)]);
+
 // The tasks of `WIDE`. The first task's optimum is reached at one point alone, which holds 1 - 1/2^28 - 1/3^17 - 1/5^12.
 const WIDE_FIRST: Task = (1, 1_000_000_000, 10, &[(0, 1), (1, 1), (2, 1), (3, 1)]);
 
@@ -391,11 +429,19 @@ fn the_first_stop_of_a_round_is_answered(rt: HostRuntime) -> Result<(), Fail> {
     Ok(())
 }
 
+fn has_bounds(verdict: &Result<Verdict, Stop>, bounds: &[u64]) -> bool {
+    match verdict {
+        Ok(Verdict::Schedulable(found)) => found.bounds.as_slice() == bounds,
+        _ => false,
+    }
+}
+
+// Each request of a task waits for one of the other's: 40 + 32. Programs of so many requests are worth threads.
 #[test]
 fn two_tasks_are_at_work_at_the_same_time(rt: HostRuntime) -> Result<(), Fail> {
     let (first_came, first_saw) = (AtomicBool::new(false), AtomicBool::new(false));
     let (second_came, second_saw) = (AtomicBool::new(false), AtomicBool::new(false));
-    let set = set_of(rt.alloc(), PAIR)?;
+    let set = set_of(rt.alloc(), BUSY)?;
     let meeting = Meeting {
         first: Side {
             came: &first_came,
@@ -408,8 +454,7 @@ fn two_tasks_are_at_work_at_the_same_time(rt: HostRuntime) -> Result<(), Fail> {
         written: Written(Protocol::FmlpPlus),
     };
     let verdict = analyse_with(&rt, rt.alloc(), &set, &meeting, MOST);
-    let best = Wanted::Best(&[5, 5], &[(1, &[2, 0, 0, 0]), (1, &[1, 0, 0, 0])]);
-    assert!(rt; is_wanted(&verdict, &best));
+    assert!(rt; has_bounds(&verdict, &[72, 72]));
     assert!(rt; first_saw.load(Ordering::SeqCst) && second_saw.load(Ordering::SeqCst));
     Ok(())
 }

@@ -1,5 +1,8 @@
+ghost use Rattle.std.specs.Prelude.{◌≡◌};
+
 use program_form::Certificate;
 use sporadic_model::TaskId;
+use std::alloc::AllocError;
 
 /// What an analysis answers.
 #[derive(Debug, Drop)]
@@ -19,4 +22,14 @@ pub enum Stop {
     Allowance,
     /// No memory is left.
     Memory,
+}
+
+impl From<AllocError> for Stop {
+    ghost use Rattle.response_fixpoint.specs.declared.verdict.Stop.TheVariants.{Memory};
+
+    ghost from_gives = { λ _ stop. stop ≡ Memory };
+
+    fn from(_error: AllocError) -> Stop {
+        Stop::Memory
+    }
 }
