@@ -1,9 +1,12 @@
 -- The laws of counting the numbers below a bound that pass a test.
-use Rattle.std.proofs.Common.{◌≡◌, ℕ, zero, suc, ◌+◌, ◌*◌, ◌<◌, ◌≤◌, ◌==◌, refl, sym, ap, ◌∙◌, arith, inl, inr, Bool, true, false, not, ◌&&◌, ◌||◌}
+use Rattle.std.proofs.Common.{◌≡◌, ℕ, zero, suc, ◌+◌, ◌*◌, ◌<◌, ◌≤◌, ◌==◌, refl, sym, ap, ◌∙◌, arith, inl, inr, Bool}
+use Rattle.std.proofs.Common.{true, false, not, ◌&&◌, ◌||◌}
 use Rattle.std.proofs.lemmas.Bool.{cases_Bool, eq-eqb, ne_eqb}
 use Rattle.bounded_sums.specs.Sums.{sum_below, flag, only_if}
 use Rattle.bounded_sums.specs.Tests.{count_below}
-use Rattle.bounded_sums.proofs.SumLaws.{sum_below-agree, sum_below-monotone, sum_below-some, sum_below-plus, sum_below-split, sum_below-longer, sum_below-constant, sum_below-times_right, sum_below-zero, sum_below-term, sum_below-one}
+use Rattle.bounded_sums.proofs.SumLaws.{sum_below-agree, sum_below-monotone, sum_below-some, sum_below-plus}
+use Rattle.bounded_sums.proofs.SumLaws.{sum_below-split, sum_below-longer, sum_below-constant, sum_below-times_right}
+use Rattle.bounded_sums.proofs.SumLaws.{sum_below-zero, sum_below-term, sum_below-one}
 
 pub flag-at_most : (b : Bool) → flag b ≤ 1
 flag-at_most true = omega arith
@@ -70,7 +73,11 @@ count_below-parts n p q =
 
 pub count_below-either : (n : ℕ) (p q : ℕ → Bool) → count_below n (λ k. p k || q k) ≤ count_below n p + count_below n q
 count_below-either n p q =
-    omega (arith, sum_below-monotone n (λ k. flag (p k || q k)) (λ k. flag (p k) + flag (q k)) (λ k l. flag-either (p k) (q k)), sum_below-plus n (λ k. flag (p k)) (λ k. flag (q k)))
+    omega (
+      arith,
+      sum_below-monotone n (λ k. flag (p k || q k)) (λ k. flag (p k) + flag (q k)) (λ k l. flag-either (p k) (q k)),
+      sum_below-plus n (λ k. flag (p k)) (λ k. flag (q k)),
+    )
 
 pub count_below-split : (a b : ℕ) (p : ℕ → Bool) → count_below (a + b) p ≡ count_below a p + count_below b (λ k. p (a + k))
 count_below-split a b p = sum_below-split a b (λ k. flag (p k))
@@ -78,7 +85,8 @@ count_below-split a b p = sum_below-split a b (λ k. flag (p k))
 pub count_below-longer : (a b : ℕ) (p : ℕ → Bool) → a ≤ b → count_below a p ≤ count_below b p
 count_below-longer a b p h = sum_below-longer a b (λ k. flag (p k)) h
 
-other_fails : (n : ℕ) (p : ℕ → Bool) → ((i k : ℕ) → i < suc n → k < suc n → p i ≡ true → p k ≡ true → i ≡ k) → p n ≡ true → (k : ℕ) → k < n → p k ≡ false
+other_fails : (n : ℕ) (p : ℕ → Bool) → ((i k : ℕ) → i < suc n → k < suc n → p i ≡ true → p k ≡ true → i ≡ k)
+    → p n ≡ true → (k : ℕ) → k < n → p k ≡ false
 other_fails n p h here k l = elim (cases_Bool (p k)) [
   | inl passes ↦ absurd (omega (arith, h k n (omega arith) (omega arith) passes here))
   | inr fails ↦ fails
@@ -93,7 +101,8 @@ count_below-one (suc n) p h = elim (cases_Bool (p n)) [
 ]
 
 -- A sum whose terms stand only where a test passes, each at most c, is at most c for each that passes.
-pub sum_below-counted : (n c : ℕ) (p : ℕ → Bool) (f : ℕ → ℕ) → ((k : ℕ) → k < n → f k ≤ flag (p k) * c) → sum_below n f ≤ count_below n p * c
+pub sum_below-counted : (n c : ℕ) (p : ℕ → Bool) (f : ℕ → ℕ) → ((k : ℕ) → k < n → f k ≤ flag (p k) * c)
+    → sum_below n f ≤ count_below n p * c
 sum_below-counted n c p f h =
     omega (arith, sum_below-monotone n f (λ k. flag (p k) * c) h, sum_below-times_right n c (λ k. flag (p k)))
 

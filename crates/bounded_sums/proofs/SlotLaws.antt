@@ -3,7 +3,8 @@ use Rattle.std.proofs.Common.{◌≡◌, ℕ, ◌*◌, ◌<◌, ◌≤◌, ◌==
 use Rattle.std.proofs.lemmas.Bool.{cases_lt, eq-eqb, ne_eqb}
 use Rattle.bounded_sums.specs.Sums.{sum_below, flag, only_if}
 use Rattle.bounded_sums.specs.Tests.{count_below}
-use Rattle.bounded_sums.proofs.SumLaws.{sum_below-agree, sum_below-one, sum_below-swap, sum_below-zero, only_if-true, only_if-false, only_if-at_most}
+use Rattle.bounded_sums.proofs.SumLaws.{sum_below-agree, sum_below-one, sum_below-swap, sum_below-zero, only_if-true}
+use Rattle.bounded_sums.proofs.SumLaws.{only_if-false, only_if-at_most}
 use Rattle.bounded_sums.proofs.CountLaws.{sum_below-counted}
 
 slot_term : (m s x : ℕ) → s < m → sum_below m (λ k. only_if (s == k) x) ≡ x
@@ -21,7 +22,8 @@ one_slot m s x within = elim (cases_lt 0 x) [
 ]
 
 -- A sum is the sum over the slots of what has the slot. A term of 0 needs none.
-pub sum_below-slots : (n m : ℕ) (slot f : ℕ → ℕ) → ((u : ℕ) → u < n → 0 < f u → slot u < m) → sum_below n f ≡ sum_below m (λ k. sum_below n (λ u. only_if (slot u == k) (f u)))
+pub sum_below-slots : (n m : ℕ) (slot f : ℕ → ℕ) → ((u : ℕ) → u < n → 0 < f u → slot u < m)
+    → sum_below n f ≡ sum_below m (λ k. sum_below n (λ u. only_if (slot u == k) (f u)))
 sum_below-slots n m slot f within =
     sum_below-agree n f (λ u. sum_below m (λ k. only_if (slot u == k) (f u))) (λ u l. sym (one_slot m (slot u) (f u) (within u l)))
     ∙ sum_below-swap n m (λ u k. only_if (slot u == k) (f u))

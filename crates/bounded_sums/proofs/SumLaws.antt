@@ -1,5 +1,6 @@
 -- The laws of sums of natural numbers below a bound.
-use Rattle.std.proofs.Common.{◌≡◌, ℕ, zero, suc, ◌+◌, ◌*◌, ◌<◌, ◌≤◌, List, [], ◌∷◌, get_or, length, sum, sum_by, refl, sym, ap, ◌∙◌, arith, inl, inr, Bool, true, false}
+use Rattle.std.proofs.Common.{◌≡◌, ℕ, zero, suc, ◌+◌, ◌*◌, ◌<◌, ◌≤◌, List, [], ◌∷◌, get_or, length, sum, sum_by, refl}
+use Rattle.std.proofs.Common.{sym, ap, ◌∙◌, arith, inl, inr, Bool, true, false}
 use Rattle.std.proofs.Math.Nat.{mul_comm}
 use Rattle.std.proofs.lemmas.Bool.{cases_lt}
 use Rattle.std.proofs.lemmas.List.Sums.{sum_by-cons, sum_by_from}
@@ -20,7 +21,8 @@ pub sum_below-strict : (n : ℕ) (f g : ℕ → ℕ) (i : ℕ) → ((k : ℕ) �
 sum_below-strict zero f g i h l s = absurd (omega arith)
 sum_below-strict (suc n) f g i h l s = elim (cases_lt i n) [
   | inl below ↦ omega (arith, sum_below-strict n f g i (λ k m. h k (omega arith)) below s, h n (omega arith))
-  | inr above ↦ let e : i ≡ n = omega arith in let t : f n < g n = rw (← e) s in omega (arith, sum_below-monotone n f g (λ k m. h k (omega arith)), t)
+  | inr above ↦ let e : i ≡ n = omega arith in
+      let t : f n < g n = rw (← e) s in omega (arith, sum_below-monotone n f g (λ k m. h k (omega arith)), t)
 ]
 
 -- A sum of zeros is zero.

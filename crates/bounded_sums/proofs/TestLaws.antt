@@ -172,7 +172,8 @@ found_below-none n p h k l = elim (cases_Bool (ltb (first_below n p) n)) [
 ]
 
 -- Where one alone passes, it is what is found.
-pub found_below-one : (n : ℕ) (p : ℕ → Bool) (k : ℕ) → k < n → p k ≡ true → ((i : ℕ) → i < n → p i ≡ true → i ≡ k) → found_below n p ≡ Some k
+pub found_below-one : (n : ℕ) (p : ℕ → Bool) (k : ℕ) → k < n → p k ≡ true → ((i : ℕ) → i < n → p i ≡ true → i ≡ k)
+    → found_below n p ≡ Some k
 found_below-one n p k l h one =
     let below : first_below n p < n = first_below-found n p k l h in
     let e : first_below n p ≡ k = one (first_below n p) below (first_below-passes n p below) in

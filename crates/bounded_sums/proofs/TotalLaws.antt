@@ -1,5 +1,6 @@
 -- The laws of sums of whole numbers below a bound.
-use Rattle.std.proofs.Common.{add-one, ◌≡◌, ℕ, zero, suc, ◌+◌, ◌<◌, ◌≤◌, refl, sym, ap, ◌∙◌, arith, inl, inr, ℤ, pos, negsuc, ◌+ℤ◌, ◌*ℤ◌, ◌≤ℤ◌}
+use Rattle.std.proofs.Common.{add-one, ◌≡◌, ℕ, zero, suc, ◌+◌, ◌<◌, ◌≤◌, refl, sym, ap, ◌∙◌, arith, inl, inr, ℤ, pos}
+use Rattle.std.proofs.Common.{negsuc, ◌+ℤ◌, ◌*ℤ◌, ◌≤ℤ◌}
 use Rattle.std.proofs.lemmas.Int.{ints}
 use Rattle.std.proofs.lemmas.Bool.{eq-eqb, ne_eqb, cases_lt}
 use Rattle.bounded_sums.specs.Sums.{sum_below}
@@ -50,12 +51,14 @@ total_below-times_right n c f =
     total_below-agree n (λ k. f k *ℤ c) (λ k. c *ℤ f k) (λ k l. *ℤ_comm (f k) c) ∙ total_below-times n c f ∙ *ℤ_comm c (total_below n f)
 
 -- The total of a times f and b times g is a times the one and b times the other.
-pub total_below-mix : (n : ℕ) (a b : ℤ) (f g : ℕ → ℤ) → total_below n (λ k. (a *ℤ f k) +ℤ (b *ℤ g k)) ≡ (a *ℤ total_below n f) +ℤ (b *ℤ total_below n g)
+pub total_below-mix : (n : ℕ) (a b : ℤ) (f g : ℕ → ℤ)
+    → total_below n (λ k. (a *ℤ f k) +ℤ (b *ℤ g k)) ≡ (a *ℤ total_below n f) +ℤ (b *ℤ total_below n g)
 total_below-mix n a b f g =
     total_below-plus n (λ k. a *ℤ f k) (λ k. b *ℤ g k) ∙ rw (total_below-times n a f, total_below-times n b g) refl
 
 -- Two totals may be exchanged.
-pub total_below-swap : (m n : ℕ) (f : ℕ → ℕ → ℤ) → total_below m (λ r. total_below n (λ c. f r c)) ≡ total_below n (λ c. total_below m (λ r. f r c))
+pub total_below-swap : (m n : ℕ) (f : ℕ → ℕ → ℤ)
+    → total_below m (λ r. total_below n (λ c. f r c)) ≡ total_below n (λ c. total_below m (λ r. f r c))
 total_below-swap zero n f = sym (total_below-zero n (λ c. pos 0) (λ k l. refl))
 total_below-swap (suc m) n f =
     ap (λ x. x +ℤ total_below n (f m)) (total_below-swap m n f) ∙ sym (total_below-plus n (λ c. total_below m (λ r. f r c)) (f m))

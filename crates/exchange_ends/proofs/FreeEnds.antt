@@ -1,5 +1,6 @@
 -- A run over unbounded fractions goes on until no objective cell is above zero, and what it ends at is the optimum.
-use Rattle.std.proofs.Common.{◌≡◌, ◌⊎◌, inl, inr, ℕ, zero, suc, ◌+◌, ◌*◌, ◌^◌, ◌<◌, ◌≤◌, List, length, slice_index, ℤ, pos, ◌-ℤ◌, ◌*ℤ◌, ◌<ℤ◌, refl, ap, sym, subst, arith, if◌then◌else◌, nat_eq}
+use Rattle.std.proofs.Common.{◌≡◌, ◌⊎◌, inl, inr, ℕ, zero, suc, ◌+◌, ◌*◌, ◌^◌, ◌<◌, ◌≤◌, List, length, slice_index, ℤ}
+use Rattle.std.proofs.Common.{pos, ◌-ℤ◌, ◌*ℤ◌, ◌<ℤ◌, refl, ap, sym, subst, arith, if◌then◌else◌, nat_eq}
 use Rattle.std.proofs.lemmas.Bool.{eq-eqb, ne_eqb}
 use Rattle.number_laws.proofs.Order.{times_positive}
 use Rattle.bounded_sums.specs.Sums.{sum_below}

@@ -1,5 +1,6 @@
 -- A run over unbounded fractions as a run of whole numbers. So it makes fewer exchanges than there are sets of variables.
-use Rattle.std.proofs.Common.{◌≡◌, inl, inr, ℕ, zero, suc, ◌^◌, ◌<◌, ◌≤◌, ℤ, pos, ◌*ℤ◌, ◌<ℤ◌, refl, ap, ◌∙◌, sym, subst, arith, if◌then◌else◌, nat_lt}
+use Rattle.std.proofs.Common.{◌≡◌, inl, inr, ℕ, zero, suc, ◌^◌, ◌<◌, ◌≤◌, ℤ, pos, ◌*ℤ◌, ◌<ℤ◌, refl, ap, ◌∙◌, sym, subst}
+use Rattle.std.proofs.Common.{arith, if◌then◌else◌, nat_lt}
 use Rattle.std.proofs.lemmas.Bool.{cases_lt, lt-ltb, le-ltb}
 use Rattle.fraction128.specs.Fraction.{Fraction, IsForm}
 use Rattle.program_form.specs.Program.{ProgramDef, height}

@@ -4,7 +4,9 @@ use Rattle.std.proofs.lemmas.Int.{ints}
 use Rattle.std.proofs.lemmas.Bool.{cases_eq}
 use Rattle.number_laws.proofs.Ring.{as_diff, diffs, same_diff, by_two, mul-comm}
 use Rattle.bounded_sums.specs.WholeSums.{total_below, only_at}
-use Rattle.bounded_sums.proofs.TotalLaws.{total_below-agree, total_below-plus, total_below-times, total_below-times_right, total_below-swap, total_below-only, only_at-here, only_at-away}
+use Rattle.bounded_sums.proofs.TotalLaws.{total_below-agree, total_below-plus, total_below-times}
+use Rattle.bounded_sums.proofs.TotalLaws.{total_below-times_right, total_below-swap, total_below-only, only_at-here}
+use Rattle.bounded_sums.proofs.TotalLaws.{only_at-away}
 use Rattle.program_form.specs.Program.{ProgramDef, columns, height}
 use Rattle.exchange_runs.specs.Table.{variables}
 use Rattle.exchange_runs.proofs.Invariants.{IsMix, IsRead, exchanged}

@@ -26,7 +26,8 @@ some_ratio (suc m) t e = elim (some_ratio m t e) [
 ]
 
 -- Some first row stands above zero at each variable: a covered column's, and a slack's own.
-first_above : (p : ProgramDef) (e : ℕ) → ((c : ℕ) → c < columns p → IsCovered p c) → e < variables p → (j : ℕ) × (j < height p) × (pos 0 <ℤ first_z p j e)
+first_above : (p : ProgramDef) (e : ℕ) → ((c : ℕ) → c < columns p → IsCovered p c) → e < variables p
+    → (j : ℕ) × (j < height p) × (pos 0 <ℤ first_z p j e)
 first_above p e covered l = elim (cases_lt e (columns p)) [
   | inl column ↦
       let held : IsCovered p e = covered e column in
@@ -34,14 +35,19 @@ first_above p e covered l = elim (cases_lt e (columns p)) [
   | inr behind ↦
       let k : ℕ = e - columns p in
       let at : e ≡ columns p + k = omega arith in
-      let within : k < height p = omega arith in
-      (k, within, subst (λ (v : ℕ). pos 0 <ℤ first_z p k v) (sym at) (subst (λ (x : ℤ). pos 0 <ℤ x) (sym (has_slacks p k k (omega arith) within ∙ only_at-here k (pos 1))) (omega (arith, ints))))
+      let within : k < height p = omega arith in (
+        k,
+        within,
+        subst (λ (v : ℕ). pos 0 <ℤ first_z p k v) (sym at) (subst (λ (x : ℤ). pos 0 <ℤ x)
+            (sym (has_slacks p k k (omega arith) within ∙ only_at-here k (pos 1))) (omega (arith, ints))),
+      )
 ]
   where
     above_zero : (n : ℕ) → 0 < n → pos 0 <ℤ pos n
     above_zero n h = omega (arith, ints)
 
-pub shadow_has_ratio : (p : ProgramDef) (t : Table) (e : ℕ) (d : ℤ) (z : ℕ → ℕ → ℤ) → ((c : ℕ) → c < columns p → IsCovered p c) → IsShadow p t d z
+pub shadow_has_ratio : (p : ProgramDef) (t : Table) (e : ℕ) (d : ℤ) (z : ℕ → ℕ → ℤ)
+    → ((c : ℕ) → c < columns p → IsCovered p c) → IsShadow p t d z
     → e < variables p → (i : ℕ) × (i < height p) × HasRatio t e i
 shadow_has_ratio p t e d z covered h l = elim (some_ratio (height p) t e) [
   | inl there ↦ there
@@ -54,7 +60,8 @@ shadow_has_ratio p t e d z covered h l = elim (some_ratio (height p) t e) [
     not_negative : (n : ℕ) → pos 0 ≤ℤ pos n
     not_negative n = omega (arith, ints)
 
-pub has_ratio : (p : ProgramDef) (k : ℕ) (t : Table) (e : ℕ) → IsProgram p → Reached p k t → e < variables p → (i : ℕ) × (i < height p) × HasRatio t e i
+pub has_ratio : (p : ProgramDef) (k : ℕ) (t : Table) (e : ℕ) → IsProgram p → Reached p k t → e < variables p
+    → (i : ℕ) × (i < height p) × HasRatio t e i
 has_ratio p k t e accepted reached l =
     let behind : (d : ℤ) × (z : ℕ → ℕ → ℤ) × IsShadow p t d z = shadow_reached p k t reached in
     shadow_has_ratio p t e behind.0 behind.1 accepted.covered behind.2 l

@@ -1,5 +1,7 @@
 -- Every run goes on until it ends, is wide or needs more units.
-use Rattle.std.proofs.Common.{◌≡◌, ◌⊎◌, inl, inr, ℕ, zero, suc, ◌+◌, ◌*◌, ◌/◌, ◌^◌, ◌<◌, ◌≤◌, add-one, nat_eq, if◌then◌else◌, List, length, All, ℤ, pos, ◌≤ℤ◌, ◌<ℤ◌, unsigned_abs, refl, ap, ◌∙◌, sym, subst, arith}
+use Rattle.std.proofs.Common.{◌≡◌, ◌⊎◌, inl, inr, ℕ, zero, suc, ◌+◌, ◌*◌, ◌/◌, ◌^◌, ◌<◌, ◌≤◌, add-one, nat_eq}
+use Rattle.std.proofs.Common.{if◌then◌else◌, List, length, All, ℤ, pos, ◌≤ℤ◌, ◌<ℤ◌, unsigned_abs, refl, ap, ◌∙◌, sym}
+use Rattle.std.proofs.Common.{subst, arith}
 use Rattle.std.specs.Int.{◌∣◌}
 use Rattle.std.proofs.lemmas.Int.{ints, by_lt_z}
 use Rattle.std.proofs.lemmas.Bool.{cases_lt, cases_eq, eq-eqb, ne_eqb}
@@ -29,10 +31,12 @@ not_zero : (x : ℤ) → pos 0 <ℤ x → x ≡ pos 0 → ⊥
 not_zero x h e = omega (arith, ints)
 
 -- Past the place of the limit every cell of a run is zero.
-pub zero_past_run : (p : ProgramDef) (k : ℕ) (t : Table) → IsProgram p → Reached p k t → (i v : ℕ) → i ≤ height p → variables p < v → t.cell i v ≡ whole (pos 0)
+pub zero_past_run : (p : ProgramDef) (k : ℕ) (t : Table) → IsProgram p → Reached p k t → (i v : ℕ) → i ≤ height p
+    → variables p < v → t.cell i v ≡ whole (pos 0)
 zero_past_run p zero t accepted h i v l past =
     h.cells i v l
-    ∙ ap (λ n. whole (pos n)) (first_of-past (columns p) (first_entries p i) (slack p i) (variables p) (first_limit p i) v (omega arith) past)
+    ∙ ap (λ n. whole (pos n))
+    (first_of-past (columns p) (first_entries p i) (slack p i) (variables p) (first_limit p i) v (omega arith) past)
 zero_past_run p (suc k) t accepted h i v l past =
     let s : Table = h.0 in
     let e : ℕ = h.1 in
@@ -40,12 +44,15 @@ zero_past_run p (suc k) t accepted h i v l past =
     let within : r ≤ height p = omega (arith, h.4.leaves.least.within) in
     let form = forms p k s accepted h.3 in
     let pivot : t.cell r v ≡ whole (pos 0)
-    = one_quotient (s.cell r v) (s.cell r e) (t.cell r v) (whole (pos 0)) (form r v within) (not_zero (s.cell r e).num h.4.leaves.least.has.above)
-    (h.4.divided_form v) form_of_zero (h.4.divided v) (quotient_of_zero (s.cell r v) (s.cell r e) (ap (λ c. c.num) (zero_past_run p k s accepted h.3 r v within past))) in
+    = one_quotient (s.cell r v) (s.cell r e) (t.cell r v) (whole (pos 0)) (form r v within)
+    (not_zero (s.cell r e).num h.4.leaves.least.has.above)
+    (h.4.divided_form v) form_of_zero (h.4.divided v)
+    (quotient_of_zero (s.cell r v) (s.cell r e) (ap (λ c. c.num) (zero_past_run p k s accepted h.3 r v within past))) in
     elim (cases_eq i r) [
       | inl here ↦ rw here pivot
       | inr away ↦
-          one_less (s.cell i v) (s.cell i e) (t.cell r v) (t.cell i v) (s.cell i v) (form i v l) (form i e l) (h.4.divided_form v) (h.4.taken i v l away)
+          one_less (s.cell i v) (s.cell i e) (t.cell r v) (t.cell i v) (s.cell i v) (form i v l) (form i e l)
+          (h.4.divided_form v) (h.4.taken i v l away)
           (less_at_zero (s.cell i v) (s.cell i e) (t.cell r v) (ap (λ c. c.num) pivot) (form i v l))
           ∙ zero_past_run p k s accepted h.3 i v l past
     ]
@@ -75,7 +82,9 @@ not_back : (x y : ℤ) → x <ℤ y → y ≤ℤ x → ⊥
 not_back x y h k = omega (arith, ints)
 
 -- A row has no ratio, or one with a form, or one with none.
-ratio_found : (w : ℕ) (t : Table) (e i : ℕ) → IsForm (t.cell i w) → (HasRatio t e i → (g : Fraction) × IsRatio w t e i g) ⊎ (HasRatio t e i × HasNoForm (IsQuotient (t.cell i w) (t.cell i e)))
+ratio_found : (w : ℕ) (t : Table) (e i : ℕ) → IsForm (t.cell i w)
+    → (HasRatio t e i → (g : Fraction) × IsRatio w t e i g)
+    ⊎ (HasRatio t e i × HasNoForm (IsQuotient (t.cell i w) (t.cell i e)))
 ratio_found w t e i form =
     by_lt_z (pos 0) (t.cell i e).num
     (λ above. elim (quotient_found (t.cell i w) (t.cell i e) form above) [
@@ -88,7 +97,8 @@ ratio_found w t e i form =
 leaving_or_wide : (p : ProgramDef) (k : ℕ) (t : Table) (e : ℕ) → IsProgram p → Reached p k t → e < variables p
     → ((r : ℕ) × IsLeaving p t e r) ⊎ IsWideRatio (variables p) (height p) t e
 leaving_or_wide p k t e accepted reached within =
-    elim (all_or_some (λ i. HasRatio t e i → (g : Fraction) × IsRatio (variables p) t e i g) (λ i. HasRatio t e i × HasNoForm (IsQuotient (t.cell i (variables p)) (t.cell i e))) (height p)
+    elim (all_or_some (λ i. HasRatio t e i → (g : Fraction) × IsRatio (variables p) t e i g)
+    (λ i. HasRatio t e i × HasNoForm (IsQuotient (t.cell i (variables p)) (t.cell i e))) (height p)
     (λ i l. ratio_found (variables p) t e i (forms p k t accepted reached i (variables p) (omega (arith, l))))) [
       | inr wide ↦ inr (record { of_row = wide.0; within = wide.1; has = wide.2.0; wide = wide.2.1 })
       | inl ratios ↦ elim (least_among IsForm (variables p) t e (height p) (λ f form. form.positive) ratios) [
@@ -101,20 +111,26 @@ leaving_or_wide p k t e accepted reached within =
 divided_or_wide : (p : ProgramDef) (k : ℕ) (t : Table) (e r : ℕ) → IsProgram p → Reached p k t → r < height p → HasRatio t e r
     → ((v : ℕ) → (f : Fraction) × (IsForm f) × IsQuotient (t.cell r v) (t.cell r e) f) ⊎ IsWideQuotient t e r
 divided_or_wide p k t e r accepted reached within has =
-    elim (all_or_some (λ v. (f : Fraction) × (IsForm f) × IsQuotient (t.cell r v) (t.cell r e) f) (λ v. HasNoForm (IsQuotient (t.cell r v) (t.cell r e))) (variables p + 1)
+    elim (all_or_some (λ v. (f : Fraction) × (IsForm f) × IsQuotient (t.cell r v) (t.cell r e) f)
+    (λ v. HasNoForm (IsQuotient (t.cell r v) (t.cell r e))) (variables p + 1)
     (λ v l. quotient_found (t.cell r v) (t.cell r e) (forms p k t accepted reached r v (omega (arith, within))) has.above)) [
       | inr wide ↦ inr (record { at_place = wide.0; wide = wide.2 })
       | inl all ↦ inl (λ v. elim (cases_lt v (variables p + 1)) [
         | inl inside ↦ all v inside
-        | inr past ↦
-            (whole (pos 0), form_of_zero, quotient_of_zero (t.cell r v) (t.cell r e) (ap (λ c. c.num) (zero_past_run p k t accepted reached r v (omega (arith, within)) (omega (arith, past)))))
+        | inr past ↦ (
+          whole (pos 0),
+          form_of_zero,
+          quotient_of_zero (t.cell r v) (t.cell r e) (ap (λ c. c.num)
+              (zero_past_run p k t accepted reached r v (omega (arith, within)) (omega (arith, past)))),
+        )
       ])
     ]
 
 -- What is left of the other rows, or a product or difference without a form.
 left_or_wide : (p : ProgramDef) (k : ℕ) (t : Table) (e r : ℕ) → IsProgram p → Reached p k t → r < height p → HasRatio t e r
     → (divided : (v : ℕ) → (f : Fraction) × (IsForm f) × IsQuotient (t.cell r v) (t.cell r e) f)
-    → ((i v : ℕ) → i ≤ height p → (i ≡ r → ⊥) → (b : Fraction) × IsLess (t.cell i v) (t.cell i e) (divided v).0 b) ⊎ IsWideTaking (height p) t e r
+    → ((i v : ℕ) → i ≤ height p → (i ≡ r → ⊥) → (b : Fraction) × IsLess (t.cell i v) (t.cell i e) (divided v).0 b)
+    ⊎ IsWideTaking (height p) t e r
 left_or_wide p k t e r accepted reached within has divided =
     let form = forms p k t accepted reached in
     elim (all_or_some
@@ -123,8 +139,10 @@ left_or_wide p k t e r accepted reached within has divided =
     (height p + 1)
     (λ i l. elim (cases_eq i r) [
       | inl same ↦ inl (λ away. absurd (away same))
-      | inr away ↦ elim (all_or_some (λ v. (b : Fraction) × IsLess (t.cell i v) (t.cell i e) (divided v).0 b) (λ v. IsWideLess (t.cell i v) (t.cell i e) (divided v).0) (variables p + 1)
-          (λ v m. less_found (t.cell i v) (t.cell i e) (divided v).0 (form i v (omega (arith, l))) (form i e (omega (arith, l))) (divided v).1)) [
+      | inr away ↦ elim (all_or_some (λ v. (b : Fraction) × IsLess (t.cell i v) (t.cell i e) (divided v).0 b)
+          (λ v. IsWideLess (t.cell i v) (t.cell i e) (divided v).0) (variables p + 1)
+          (λ v m. less_found (t.cell i v) (t.cell i e) (divided v).0 (form i v (omega (arith, l)))
+          (form i e (omega (arith, l))) (divided v).1)) [
             | inl all ↦ inl (λ other. all)
             | inr wide ↦ inr (away, wide)
           ]
@@ -143,9 +161,11 @@ left_or_wide p k t e r accepted reached within has divided =
       | inl all ↦ inl (λ i v l away. elim (cases_lt v (variables p + 1)) [
         | inl inside ↦ all i (omega (arith, l)) away v inside
         | inr past ↦
-            let zero_there : t.cell r v ≡ whole (pos 0) = zero_past_run p k t accepted reached r v (omega (arith, within)) (omega (arith, past)) in
+            let zero_there : t.cell r v ≡ whole (pos 0) =
+            zero_past_run p k t accepted reached r v (omega (arith, within)) (omega (arith, past)) in
             let zero_divided : (divided v).0 ≡ whole (pos 0)
-            = one_quotient (t.cell r v) (t.cell r e) (divided v).0 (whole (pos 0)) (form r v (omega (arith, within))) (not_zero (t.cell r e).num has.above)
+            = one_quotient (t.cell r v) (t.cell r e) (divided v).0 (whole (pos 0)) (form r v (omega (arith, within)))
+            (not_zero (t.cell r e).num has.above)
             (divided v).1 form_of_zero (divided v).2 (quotient_of_zero (t.cell r v) (t.cell r e) (ap (λ c. c.num) zero_there)) in
             (t.cell i v, less_at_zero (t.cell i v) (t.cell i e) (divided v).0 (ap (λ c. c.num) zero_divided) (form i v l))
       ])
@@ -157,7 +177,9 @@ exchange_of : (p : ProgramDef) (t : Table) (e r : ℕ) → IsEntering p t e → 
     → ((i v : ℕ) → i ≤ height p → (i ≡ r → ⊥) → (b : Fraction) × IsLess (t.cell i v) (t.cell i e) (divided v).0 b)
     → (u : Table) × IsExchange p t u e r
 exchange_of p t e r enters leaves divided left =
-    let picked : (i v : ℕ) → (b : Fraction) × (i ≤ height p → (i ≡ r → ⊥) → IsLess (t.cell i v) (t.cell i e) (divided v).0 b) = λ i v. elim (cases_lt (height p) i) [
+    let picked : (i v : ℕ)
+    → (b : Fraction) × (i ≤ height p → (i ≡ r → ⊥) → IsLess (t.cell i v) (t.cell i e) (divided v).0 b) =
+    λ i v. elim (cases_lt (height p) i) [
       | inl past ↦ (whole (pos 0), λ l away. absurd (omega (arith, past, l)))
       | inr inside ↦ elim (cases_eq i r) [
         | inl same ↦ (whole (pos 0), λ l away. absurd (away same))
@@ -217,7 +239,8 @@ primal_found p t =
       xs.0,
       record {
         value_each = xs.1;
-        values = λ c l. subst (λ (f : Fraction). IsValueOf (variables p) t (height p) c f) (sym (xs.2 c l)) (value_among (variables p) t c (height p)).1;
+        values = λ c l. subst (λ (f : Fraction). IsValueOf (variables p) t (height p) c f) (sym (xs.2 c l))
+            (value_among (variables p) t c (height p)).1;
       },
     )
 
@@ -232,7 +255,8 @@ number_found l f form above divides =
     ]
 
 -- The last table's dual can be written, or its end is wide.
-written_or_wide : (p : ProgramDef) (k : ℕ) (t : Table) → IsProgram p → IsExchangeRun p k t → ((d : DualDef) × IsWrittenDual p t d) ⊎ IsWideEnd p t
+written_or_wide : (p : ProgramDef) (k : ℕ) (t : Table) → IsProgram p → IsExchangeRun p k t
+    → ((d : DualDef) × IsWrittenDual p t d) ⊎ IsWideEnd p t
 written_or_wide p k t accepted run =
     let xs = listed Fraction (whole (pos 0)) (height p) (dual_at p t) in
     let fs : List Fraction = xs.0 in
@@ -241,17 +265,28 @@ written_or_wide p k t accepted run =
     = All-from_get_or IsForm fs (whole (pos 0)) (λ i l.
     let within : i < height p = rw (← xs.1) l in
     let cell : Fraction = objective p t (slack p i) in
-    subst IsForm (sym (xs.2 i within)) (form_of_negated cell.num cell.den (forms p k t accepted run.reached (height p) (slack p i) (omega arith)))) in
+    subst IsForm (sym (xs.2 i within))
+    (form_of_negated cell.num cell.den (forms p k t accepted run.reached (height p) (slack p i) (omega arith)))) in
     let least : (l : ℕ) × IsLeastCommon fs l = least_exists fs form in
     elim (cases_lt least.0 (2 ^ 63)) [
       | inr wide ↦ inr (record { duals = fs; are_duals = are; common = least.0; least = least.1; wide = inl wide })
       | inl small ↦ elim (all_or_some
-          (λ i. (n : ℕ) × (IsScaled least.0 (fraction_at fs i) n) × (n < 2 ^ 63)) (λ i. (n : ℕ) × (IsScaled least.0 (fraction_at fs i) n) × (2 ^ 63 ≤ n)) (length fs)
-          (λ i l. number_found least.0 (fraction_at fs i) (form i (whole (pos 0)) l) (duals_not_below p t fs run.last are i (whole (pos 0)) l) (least.1.common i (whole (pos 0)) l))) [
+          (λ i. (n : ℕ) × (IsScaled least.0 (fraction_at fs i) n) × (n < 2 ^ 63))
+          (λ i. (n : ℕ) × (IsScaled least.0 (fraction_at fs i) n) × (2 ^ 63 ≤ n)) (length fs)
+          (λ i l. number_found least.0 (fraction_at fs i) (form i (whole (pos 0)) l)
+          (duals_not_below p t fs run.last are i (whole (pos 0)) l) (least.1.common i (whole (pos 0)) l))) [
             | inr wide ↦
-                inr (record { duals = fs; are_duals = are; common = least.0; least = least.1; wide = inr (wide.0, wide.2.0, wide.1, wide.2.1, wide.2.2) })
+                inr (record {
+                  duals = fs;
+                  are_duals = are;
+                  common = least.0;
+                  least = least.1;
+                  wide = inr (wide.0, wide.2.0, wide.1, wide.2.1, wide.2.2);
+                })
             | inl all ↦
-                let picked : (i : ℕ) → (n : ℕ) × (i < length fs → (IsScaled least.0 (fraction_at fs i) n) × (n < 2 ^ 63)) = λ i. elim (cases_lt i (length fs)) [
+                let picked : (i : ℕ)
+                → (n : ℕ) × (i < length fs → (IsScaled least.0 (fraction_at fs i) n) × (n < 2 ^ 63)) =
+                λ i. elim (cases_lt i (length fs)) [
                   | inl inside ↦ ((all i inside).0, λ l. ((all i inside).1, (all i inside).2))
                   | inr past ↦ (0, λ l. absurd (omega (arith, past, l)))
                 ] in
@@ -262,7 +297,11 @@ written_or_wide p k t accepted run =
                     duals = fs;
                     are_duals = are;
                     least = least.1;
-                    scaled = record { len = ns.1; each = λ i l. subst (λ (n : ℕ). IsScaled least.0 (fraction_at fs i) n) (sym (ns.2 i l)) ((picked i).1 l).0 };
+                    scaled = record {
+                      len = ns.1;
+                      each = λ i l.
+                          subst (λ (n : ℕ). IsScaled least.0 (fraction_at fs i) n) (sym (ns.2 i l)) ((picked i).1 l).0;
+                    };
                     small_den = small;
                     small_num = All-from_get_or (λ n. n < 2 ^ 63) ns.0 0 (λ i l.
                         let within : i < length fs = rw (← ns.1) l in
@@ -277,7 +316,18 @@ end_outcome p units k t accepted run within = elim (written_or_wide p k t accept
   | inr wide ↦ inr (inl (record { exchanges = k; table = t; reached = run.reached; wide = inr (within, run, wide) }))
   | inl dual ↦
       let primal : (primal : List Fraction) × IsPrimal p t primal = primal_found p t in
-      inl (k, value_of p t, primal.0, dual.0, record { table = t; run = run; within = within; read_off = record { is_value = refl; is_primal = primal.1; is_dual = dual.1 } })
+      inl (
+        k,
+        value_of p t,
+        primal.0,
+        dual.0,
+        record {
+          table = t;
+          run = run;
+          within = within;
+          read_off = record { is_value = refl; is_primal = primal.1; is_dual = dual.1 };
+        },
+      )
 ]
 
 -- The run goes on from a table, with n units left.
@@ -291,7 +341,8 @@ goes_on p units (suc (suc n)) k t accepted reached sum left = elim (entering_or_
   | inr last ↦ end_outcome p units k t accepted (record { reached = reached; last = last }) (omega arith)
   | inl entering ↦ elim (next_or_wide p k t entering.0 accepted reached entering.1) [
     | inr wide ↦ inr (inl (record { exchanges = k; table = t; reached = reached; wide = inl (omega arith, wide) }))
-    | inl next ↦ goes_on p units (suc n) (k + 1) next.0 accepted (reached_next p k t next.0 entering.0 next.1 reached next.2) (omega arith) (omega arith)
+    | inl next ↦ goes_on p units (suc n) (k + 1) next.0 accepted
+        (reached_next p k t next.0 entering.0 next.1 reached next.2) (omega arith) (omega arith)
   ]
 ]
 

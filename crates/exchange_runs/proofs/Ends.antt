@@ -6,7 +6,9 @@ use Rattle.std.proofs.lemmas.Bool.{cases_eq}
 use Rattle.number_laws.proofs.Ring.{mul-neg_left, mul-zero}
 use Rattle.number_laws.proofs.Order.{times_nonneg}
 use Rattle.bounded_sums.specs.WholeSums.{total_below, only_at}
-use Rattle.bounded_sums.proofs.TotalLaws.{total_below-agree, total_below-zero, total_below-times, total_below-nonneg, total_below-only, total_below-swap, total_below-split, only_at-here, only_at-away}
+use Rattle.bounded_sums.proofs.TotalLaws.{total_below-agree, total_below-zero, total_below-times, total_below-nonneg}
+use Rattle.bounded_sums.proofs.TotalLaws.{total_below-only, total_below-swap, total_below-split, only_at-here}
+use Rattle.bounded_sums.proofs.TotalLaws.{only_at-away}
 use Rattle.exchange_runs.proofs.Invariants.{IsMix, IsRead}
 
 -- A slack stands with one in its own first row and with zero in each other, the objective row among them.
@@ -34,11 +36,13 @@ picked j i x = elim (cases_eq i j) [
 
 picked_sum : (m j : ℕ) (by x : ℕ → ℤ) → j < m → ((i : ℕ) → i < m → by i ≡ only_at i (pos 1) j) → total_below m (λ i. by i *ℤ x i) ≡ x j
 picked_sum m j by x l h =
-    total_below-agree m (λ i. by i *ℤ x i) (only_at j (x j)) (λ i k. ap (λ c. c *ℤ x i) (h i k) ∙ picked j i x) ∙ total_below-only m j (x j) l
+    total_below-agree m (λ i. by i *ℤ x i) (only_at j (x j)) (λ i k. ap (λ c. c *ℤ x i) (h i k) ∙ picked j i x)
+    ∙ total_below-only m j (x j) l
 
 none_sum : (m : ℕ) (by x : ℕ → ℤ) → ((i : ℕ) → i < m → by i ≡ only_at i (pos 1) m) → total_below m (λ i. by i *ℤ x i) ≡ pos 0
 none_sum m by x h =
-    total_below-zero m (λ i. by i *ℤ x i) (λ i k. ap (λ c. c *ℤ x i) (h i k ∙ only_at-away i (pos 1) m (λ e. omega arith)) ∙ zero_times (x i))
+    total_below-zero m (λ i. by i *ℤ x i)
+    (λ i k. ap (λ c. c *ℤ x i) (h i k ∙ only_at-away i (pos 1) m (λ e. omega arith)) ∙ zero_times (x i))
 
 pub start_mix : (m n : ℕ) (first : ℕ → ℕ → ℤ) (i : ℕ) → HasSlacks m n first → i < m → IsMix m n first (pos 0) (first i)
 start_mix m n first i slacks l = record {
@@ -49,7 +53,8 @@ start_mix m n first i slacks l = record {
 
 pub start_mix_objective : (m n : ℕ) (first : ℕ → ℕ → ℤ) → HasSlacks m n first → IsMix m n first (pos 1) (first m)
 start_mix_objective m n first slacks = record {
-  mixed = λ v. one_alone (first m v) (total_below m (λ r. first m (n + r) *ℤ first r v)) (none_sum m (λ r. first m (n + r)) (λ r. first r v) (λ r k. slacks m r (omega arith) k));
+  mixed = λ v. one_alone (first m v) (total_below m (λ r. first m (n + r) *ℤ first r v))
+      (none_sum m (λ r. first m (n + r)) (λ r. first r v) (λ r k. slacks m r (omega arith) k));
 }
 
 pub start_read : (m n : ℕ) (first : ℕ → ℕ → ℤ) (basic : ℕ → ℕ) (j : ℕ) → HasSlacks m n first → ((i : ℕ) → i < m → basic i ≡ n + i) → j < m
@@ -66,13 +71,15 @@ pub start_read_objective : (m n : ℕ) (first : ℕ → ℕ → ℤ) (basic : �
 start_read_objective m n first basic slacks is = record {
   read = λ v.
       one_times (first m v)
-      ∙ one_alone (first m v) (total_below m (λ i. first m (basic i) *ℤ first i v)) (none_sum m (λ i. first m (basic i)) (λ i. first i v) (λ i k. ap (first m) (is i k) ∙ slacks m i (omega arith) k));
+      ∙ one_alone (first m v) (total_below m (λ i. first m (basic i) *ℤ first i v)) (none_sum m (λ i. first m (basic i))
+      (λ i. first i v) (λ i k. ap (first m) (is i k) ∙ slacks m i (omega arith) k));
 }
 
 -- A total of products whose first factors turn their sign.
 total_minus : (m : ℕ) (x y : ℕ → ℤ) → total_below m (λ r. neg_ℤ (x r) *ℤ y r) ≡ neg_ℤ (total_below m (λ r. x r *ℤ y r))
 total_minus m x y =
-    total_below-agree m (λ r. neg_ℤ (x r) *ℤ y r) (λ r. neg_ℤ (pos 1) *ℤ (x r *ℤ y r)) (λ r l. mul-neg_left (x r) (y r) ∙ minus_one (x r *ℤ y r))
+    total_below-agree m (λ r. neg_ℤ (x r) *ℤ y r) (λ r. neg_ℤ (pos 1) *ℤ (x r *ℤ y r))
+    (λ r l. mul-neg_left (x r) (y r) ∙ minus_one (x r *ℤ y r))
     ∙ (total_below-times m (neg_ℤ (pos 1)) (λ r. x r *ℤ y r) ∙ sym (minus_one (total_below m (λ r. x r *ℤ y r))))
   where
     minus_one : (a : ℤ) → neg_ℤ a ≡ neg_ℤ (pos 1) *ℤ a
@@ -131,7 +138,8 @@ pub by_variables : (m n : ℕ) (basic : ℕ → ℕ) (g x : ℕ → ℤ) → ((i
     → total_below m (λ i. g (basic i) *ℤ x i) ≡ total_below n (λ v. g v *ℤ at_variable m basic x v)
 by_variables m n basic g x within =
     total_below-agree m (λ i. g (basic i) *ℤ x i) (λ i. total_below n (λ v. g v *ℤ only_at (basic i) (x i) v)) (λ i l.
-    sym (total_below-agree n (λ v. g v *ℤ only_at (basic i) (x i) v) (only_at (basic i) (g (basic i) *ℤ x i)) (λ v k. only_times g (basic i) v (x i))
+    sym (total_below-agree n (λ v. g v *ℤ only_at (basic i) (x i) v) (only_at (basic i) (g (basic i) *ℤ x i))
+    (λ v k. only_times g (basic i) v (x i))
     ∙ total_below-only n (basic i) (g (basic i) *ℤ x i) (within i l)))
     ∙ (total_below-swap m n (λ i v. g v *ℤ only_at (basic i) (x i) v)
     ∙ total_below-agree n (λ v. total_below m (λ i. g v *ℤ only_at (basic i) (x i) v)) (λ v. g v *ℤ at_variable m basic x v)
@@ -146,7 +154,8 @@ end_row m n w d g z basic h within above limits =
     let all = by_variables m (n + m) basic g (λ i. z i w) within in
     let split = total_below-split n m (λ v. g v *ℤ values v) in
     let rest : pos 0 ≤ℤ total_below m (λ k. g (n + k) *ℤ values (n + k))
-    = total_below-nonneg m (λ k. g (n + k) *ℤ values (n + k)) (λ k l. times_nonneg (g (n + k)) (values (n + k)) (above (n + k)) (at_variable-nonneg m basic (λ i. z i w) (n + k) limits)) in
+    = total_below-nonneg m (λ k. g (n + k) *ℤ values (n + k)) (λ k l. times_nonneg (g (n + k)) (values (n + k))
+    (above (n + k)) (at_variable-nonneg m basic (λ i. z i w) (n + k) limits)) in
     at_most (d *ℤ g w) (z m w) _ _ _ _ (h.read w) all split rest
   where
     at_most : (l o s t a b : ℤ) → l ≡ (pos 0 *ℤ o) +ℤ s → s ≡ t → t ≡ a +ℤ b → pos 0 ≤ℤ b → a ≤ℤ l
@@ -161,7 +170,8 @@ end_objective m n w d g z basic h within none slacks =
     let all = by_variables m (n + m) basic g (λ i. z i w) within in
     let split = total_below-split n m (λ v. g v *ℤ values v) in
     let rest : total_below m (λ k. g (n + k) *ℤ values (n + k)) ≡ pos 0
-    = total_below-zero m (λ k. g (n + k) *ℤ values (n + k)) (λ k l. ap (λ c. c *ℤ values (n + k)) (slacks k l) ∙ zero_times (values (n + k))) in
+    = total_below-zero m (λ k. g (n + k) *ℤ values (n + k))
+    (λ k l. ap (λ c. c *ℤ values (n + k)) (slacks k l) ∙ zero_times (values (n + k))) in
     worth_is d (z m w) _ _ _ _ (sym (ap (λ c. d *ℤ c) none) ∙ h.read w) all split rest
   where
     worth_is : (d o s t a b : ℤ) → d *ℤ pos 0 ≡ (pos 1 *ℤ o) +ℤ s → s ≡ t → t ≡ a +ℤ b → b ≡ pos 0 → a ≡ neg_ℤ o

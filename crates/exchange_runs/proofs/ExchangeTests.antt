@@ -1,5 +1,7 @@
 -- Tests of tables that are given: where they pass, one is the other after an exchange.
-use Rattle.std.proofs.Common.{◌≡◌, inl, inr, ℕ, zero, suc, ◌+◌, ◌*◌, ◌/◌, ◌%◌, ◌<◌, ◌≤◌, ◌==◌, Bool, true, false, ◌&&◌, ◌||◌, nat_lt, nat_le, if◌then◌else◌, ℤ, pos, negsuc, ◌-ℤ◌, ◌*ℤ◌, ◌≤ℤ◌, ◌<ℤ◌, unsigned_abs, ap, ◌∙◌, sym, subst, arith}
+use Rattle.std.proofs.Common.{◌≡◌, inl, inr, ℕ, zero, suc, ◌+◌, ◌*◌, ◌/◌, ◌%◌, ◌<◌, ◌≤◌, ◌==◌, Bool, true, false, ◌&&◌}
+use Rattle.std.proofs.Common.{◌||◌, nat_lt, nat_le, if◌then◌else◌, ℤ, pos, negsuc, ◌-ℤ◌, ◌*ℤ◌, ◌≤ℤ◌, ◌<ℤ◌, unsigned_abs}
+use Rattle.std.proofs.Common.{ap, ◌∙◌, sym, subst, arith}
 use Rattle.std.proofs.lemmas.Int.{ints}
 use Rattle.std.proofs.lemmas.Bool.{and_parts, or_cases, cases_lt, ltb-true, leb-true, eqb-true}
 use Rattle.std.proofs.lemmas.Bool.Decides.{Decides-int_eq}
@@ -24,7 +26,8 @@ no_divisor n d h e in_n in_d = elim (or_cases (d == 1) (n % d == 1 || (n + 1) % 
   | inr rest ↦ elim (or_cases (n % d == 1) ((n + 1) % d == 0) rest) [
     | inl left_one ↦
         let split : n ≡ n / d * d + 1 = sym (ap (λ m. n / d * d + m) (sym (eqb-true (n % d) 1 left_one)) ∙ div-add-mod' n d) in
-        eq-one_of_dvd-one ((dvd-add_iff_right e {m = n / d * d} {n = 1} (dvd-mul_left_of_dvd e in_d (n / d))).1 (subst (λ (m : ℕ). e ∣ m) split in_n))
+        eq-one_of_dvd-one ((dvd-add_iff_right e {m = n / d * d} {n = 1} (dvd-mul_left_of_dvd e in_d (n / d))).1
+        (subst (λ (m : ℕ). e ∣ m) split in_n))
     | inr one_short ↦
         let next : e ∣ n + 1 = dvd_trans e in_d (dvd_of_mod-eq-zero d (eqb-true ((n + 1) % d) 0 one_short)) in
         eq-one_of_dvd-one ((dvd-add_iff_right e {m = n} {n = 1} in_n).1 next)
@@ -33,7 +36,8 @@ no_divisor n d h e in_n in_d = elim (or_cases (d == 1) (n % d == 1 || (n + 1) % 
 
 abbrev small_form : ℤ → ℤ → Bool
 small_form n (pos d) =
-    nat_lt 0 d && (nat_lt (unsigned_abs n) 9223372036854775808 && (nat_lt d 9223372036854775808 && (d == 1 || (unsigned_abs n % d == 1 || (unsigned_abs n + 1) % d == 0))))
+    nat_lt 0 d && (nat_lt (unsigned_abs n) 9223372036854775808
+    && (nat_lt d 9223372036854775808 && (d == 1 || (unsigned_abs n % d == 1 || (unsigned_abs n + 1) % d == 0))))
 small_form n (negsuc d) = false
 
 form_of_test : (n d : ℤ) → small_form n d ≡ true → IsForm (over n d)
@@ -65,7 +69,8 @@ divisor_by (suc n) a b = if b == 0 then a else divisor_by n b (a % b)
 
 abbrev lowest : ℤ → ℤ → Fraction
 lowest n d =
-    over (signed n (unsigned_abs n / divisor_by 6 (unsigned_abs n) (unsigned_abs d))) (pos (unsigned_abs d / divisor_by 6 (unsigned_abs n) (unsigned_abs d)))
+    over (signed n (unsigned_abs n / divisor_by 6 (unsigned_abs n) (unsigned_abs d)))
+    (pos (unsigned_abs d / divisor_by 6 (unsigned_abs n) (unsigned_abs d)))
 
 abbrev pub product_found : Fraction → Fraction → Fraction
 product_found f y = lowest (f.num *ℤ y.num) (f.den *ℤ y.den)
@@ -79,7 +84,8 @@ quotient_test a b c = form_test c && int_eq (c.num *ℤ (a.den *ℤ b.num)) ((a.
 abbrev pub less_test : Fraction → Fraction → Fraction → Fraction → Bool
 less_test a f y b =
     (form_test (product_found f y) && int_eq ((product_found f y).num *ℤ (f.den *ℤ y.den)) ((f.num *ℤ y.num) *ℤ (product_found f y).den))
-    && (form_test b && int_eq (b.num *ℤ (a.den *ℤ (product_found f y).den)) (((a.num *ℤ (product_found f y).den) -ℤ ((product_found f y).num *ℤ a.den)) *ℤ b.den))
+    && (form_test b && int_eq (b.num *ℤ (a.den *ℤ (product_found f y).den))
+    (((a.num *ℤ (product_found f y).den) -ℤ ((product_found f y).num *ℤ a.den)) *ℤ b.den))
 
 pub quotient_from : (a b c : Fraction) → quotient_test a b c ≡ true → IsForm c × IsQuotient a b c
 quotient_from a b c h =
@@ -88,7 +94,9 @@ quotient_from a b c h =
 
 pub less_from : (a f y b : Fraction) → less_test a f y b ≡ true → IsLess a f y b
 less_from a f y b h =
-    let halves = and_parts (form_test (product_found f y) && int_eq ((product_found f y).num *ℤ (f.den *ℤ y.den)) ((f.num *ℤ y.num) *ℤ (product_found f y).den)) _ h in
+    let halves = and_parts
+    (form_test (product_found f y)
+    && int_eq ((product_found f y).num *ℤ (f.den *ℤ y.den)) ((f.num *ℤ y.num) *ℤ (product_found f y).den)) _ h in
     let first = and_parts (form_test (product_found f y)) _ halves.0 in
     let second = and_parts (form_test b) _ halves.1 in
     record {
@@ -137,7 +145,8 @@ entering_from p t e h =
 abbrev pub behind_test : ℕ → Table → ℕ → ℕ → Fraction → ℕ → Fraction → Bool
 behind_test w t e r f i g =
     le_z (t.cell i e).num (pos 0)
-    || (quotient_test (t.cell i w) (t.cell i e) g && (le_z (f.num *ℤ g.den) (g.num *ℤ f.den) && (lt_z (f.num *ℤ g.den) (g.num *ℤ f.den) || nat_le (t.basic r) (t.basic i))))
+    || (quotient_test (t.cell i w) (t.cell i e) g && (le_z (f.num *ℤ g.den) (g.num *ℤ f.den)
+    && (lt_z (f.num *ℤ g.den) (g.num *ℤ f.den) || nat_le (t.basic r) (t.basic i))))
 
 behind_from : (w : ℕ) (t : Table) (e r : ℕ) (f : Fraction) (i : ℕ) (g : Fraction) → behind_test w t e r f i g ≡ true → HasRatio t e i
     → (IsRatio w t e i g) × (IsAtMost f g) × (IsAtMost g f → t.basic r ≤ t.basic i)
@@ -163,7 +172,8 @@ leaving_test p t e r f =
     && (quotient_test (t.cell r (variables p)) (t.cell r e) f
     && all_below (height p) (λ i. behind_test (variables p) t e r f i (ratio_found (t.cell i (variables p)) (t.cell i e)))))
 
-pub leaving_from : (p : ProgramDef) (t : Table) (e r : ℕ) (f : Fraction) → leaving_test p t e r f ≡ true → IsLeastOf (variables p) t e (height p) r f
+pub leaving_from : (p : ProgramDef) (t : Table) (e r : ℕ) (f : Fraction) → leaving_test p t e r f ≡ true
+    → IsLeastOf (variables p) t e (height p) r f
 leaving_from p t e r f h =
     let parts = and_parts (nat_lt r (height p)) _ h in
     let above = and_parts (lt_z (pos 0) (t.cell r e).num) _ parts.1 in
@@ -176,7 +186,9 @@ leaving_from p t e r f h =
       least = λ i l has.
           let g : Fraction = ratio_found (t.cell i (variables p)) (t.cell i e) in
           let behind = behind_from (variables p) t e r f i g
-          (all_below-each (height p) (λ j. behind_test (variables p) t e r f j (ratio_found (t.cell j (variables p)) (t.cell j e))) rest.1 i l) has in
+          (all_below-each (height p)
+          (λ j. behind_test (variables p) t e r f j (ratio_found (t.cell j (variables p)) (t.cell j e))) rest.1 i l)
+          has in
           (g, behind.0, behind.1, behind.2);
     }
 
@@ -185,7 +197,8 @@ divided_test p t u e r = all_below (variables p + 1) (λ v. quotient_test (t.cel
 
 abbrev pub taken_test : ProgramDef → Table → Table → ℕ → ℕ → Bool
 taken_test p t u e r =
-    all_below (height p + 1) (λ i. i == r || all_below (variables p + 1) (λ v. less_test (t.cell i v) (t.cell i e) (u.cell r v) (u.cell i v)))
+    all_below (height p + 1)
+    (λ i. i == r || all_below (variables p + 1) (λ v. less_test (t.cell i v) (t.cell i e) (u.cell r v) (u.cell i v)))
 
 abbrev pub basis_test : ProgramDef → Table → Table → ℕ → ℕ → Bool
 basis_test p t u e r = u.basic r == e && all_below (height p) (λ i. i == r || u.basic i == t.basic i)
@@ -195,10 +208,12 @@ abbrev pub IsZeroPast : ProgramDef → Table → Type 0
 IsZeroPast p t = (i v : ℕ) → variables p < v → t.cell i v ≡ whole (pos 0)
 
 pub exchange_from : (p : ProgramDef) (t u : Table) (e r : ℕ) (f : Fraction) → IsZeroPast p t → IsZeroPast p u
-    → entering_test p t e ≡ true → leaving_test p t e r f ≡ true → divided_test p t u e r ≡ true → taken_test p t u e r ≡ true → basis_test p t u e r ≡ true
+    → entering_test p t e ≡ true → leaving_test p t e r f ≡ true → divided_test p t u e r ≡ true
+    → taken_test p t u e r ≡ true → basis_test p t u e r ≡ true
     → IsExchange p t u e r
 exchange_from p t u e r f past_t past_u entering leaving divided taken basis =
-    let each_divided : (v : ℕ) → IsForm (u.cell r v) × IsQuotient (t.cell r v) (t.cell r e) (u.cell r v) = λ v. elim (cases_lt v (variables p + 1)) [
+    let each_divided : (v : ℕ) → IsForm (u.cell r v) × IsQuotient (t.cell r v) (t.cell r e) (u.cell r v) =
+    λ v. elim (cases_lt v (variables p + 1)) [
       | inl within ↦
           quotient_from (t.cell r v) (t.cell r e) (u.cell r v)
           (all_below-each (variables p + 1) (λ k. quotient_test (t.cell r k) (t.cell r e) (u.cell r k)) divided v within)
@@ -215,19 +230,23 @@ exchange_from p t u e r f past_t past_u entering leaving divided taken basis =
       divided = λ v. (each_divided v).1;
       taken = λ i v l away. elim (cases_lt v (variables p + 1)) [
         | inl within ↦
-            let row = other_row (height p + 1) (λ j. all_below (variables p + 1) (λ k. less_test (t.cell j k) (t.cell j e) (u.cell r k) (u.cell j k))) r taken i (omega (arith, l)) away in
+            let row = other_row (height p + 1)
+            (λ j. all_below (variables p + 1) (λ k. less_test (t.cell j k) (t.cell j e) (u.cell r k) (u.cell j k))) r
+            taken i (omega (arith, l)) away in
             less_from (t.cell i v) (t.cell i e) (u.cell r v) (u.cell i v)
             (all_below-each (variables p + 1) (λ k. less_test (t.cell i k) (t.cell i e) (u.cell r k) (u.cell i k)) row v within)
         | inr past ↦
             let beyond : variables p < v = omega (arith, past) in
             let same : u.cell i v ≡ t.cell i v = past_u i v beyond ∙ sym (past_t i v beyond) in
-            rw same (less_at_zero (t.cell i v) (t.cell i e) (u.cell r v) (ap (λ c. c.num) (past_u r v beyond)) (rw (past_t i v beyond) form_of_zero))
+            rw same (less_at_zero (t.cell i v) (t.cell i e) (u.cell r v) (ap (λ c. c.num) (past_u r v beyond))
+            (rw (past_t i v beyond) form_of_zero))
       ];
       entered = eqb-true (u.basic r) e parts.0;
       stayed = λ i l away. eqb-true (u.basic i) (t.basic i) (other_row (height p) (λ j. u.basic j == t.basic j) r parts.1 i l away);
     }
   where
-    other_row : (n : ℕ) (test : ℕ → Bool) (k : ℕ) → all_below n (λ j. j == k || test j) ≡ true → (i : ℕ) → i < n → (i ≡ k → ⊥) → test i ≡ true
+    other_row : (n : ℕ) (test : ℕ → Bool) (k : ℕ) → all_below n (λ j. j == k || test j) ≡ true → (i : ℕ) → i < n
+        → (i ≡ k → ⊥) → test i ≡ true
     other_row n test k h i l away = elim (or_cases (i == k) (test i) (all_below-each n (λ j. j == k || test j) h i l)) [
       | inl same ↦ absurd (away (eqb-true i k same))
       | inr passes ↦ passes

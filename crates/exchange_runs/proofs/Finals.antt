@@ -29,29 +29,34 @@ value_is_best p k t run =
     let behind : (d : ℤ) × (z : ℕ → ℕ → ℤ) × IsShadow p t d z = shadow_reached p k t run.reached in
     optimum_value p t behind.0 behind.1 behind.2 run.last
 
-pub ends_at_optimum : (p : ProgramDef) (units k : ℕ) (value : Fraction) (primal : List Fraction) (d : DualDef) → EndsWithin p units k value primal d
+pub ends_at_optimum : (p : ProgramDef) (units k : ℕ) (value : Fraction) (primal : List Fraction) (d : DualDef)
+    → EndsWithin p units k value primal d
     → IsOptimumValue p value
 ends_at_optimum p units k value primal d h = rw h.read_off.is_value (value_is_best p k h.table h.run)
 
-pub ends_at_point : (p : ProgramDef) (units k : ℕ) (value : Fraction) (primal : List Fraction) (d : DualDef) → EndsWithin p units k value primal d
+pub ends_at_point : (p : ProgramDef) (units k : ℕ) (value : Fraction) (primal : List Fraction) (d : DualDef)
+    → EndsWithin p units k value primal d
     → IsPointWorth p primal value
 ends_at_point p units k value primal d h =
     let behind : (d : ℤ) × (z : ℕ → ℕ → ℤ) × IsShadow p h.table d z = shadow_reached p k h.table h.run.reached in
     rw h.read_off.is_value (primal_is_point p h.table behind.0 behind.1 primal behind.2 h.read_off.is_primal)
 
-pub ends_with_dual : (p : ProgramDef) (units k : ℕ) (value : Fraction) (primal : List Fraction) (d : DualDef) → EndsWithin p units k value primal d
+pub ends_with_dual : (p : ProgramDef) (units k : ℕ) (value : Fraction) (primal : List Fraction) (d : DualDef)
+    → EndsWithin p units k value primal d
     → IsOptimalDual p d
 ends_with_dual p units k value primal d h =
     let behind : (d : ℤ) × (z : ℕ → ℕ → ℤ) × IsShadow p h.table d z = shadow_reached p k h.table h.run.reached in
     dual_is_optimal p h.table behind.0 behind.1 d behind.2 h.run.last h.read_off.is_dual
 
-pub ends_equal : (p : ProgramDef) (units k : ℕ) (value : Fraction) (primal : List Fraction) (d : DualDef) → EndsWithin p units k value primal d
+pub ends_equal : (p : ProgramDef) (units k : ℕ) (value : Fraction) (primal : List Fraction) (d : DualDef)
+    → EndsWithin p units k value primal d
     → IsScaled d.den value (dual_total p (λ r. slice_index d.num r))
 ends_equal p units k value primal d h =
     let behind : (d : ℤ) × (z : ℕ → ℕ → ℤ) × IsShadow p h.table d z = shadow_reached p k h.table h.run.reached in
     rw h.read_off.is_value (dual_worth p h.table behind.0 behind.1 d behind.2 h.run.last h.read_off.is_dual)
 
-pub ends_greatest : (p : ProgramDef) (units k : ℕ) (value : Fraction) (primal : List Fraction) (d : DualDef) → EndsWithin p units k value primal d
+pub ends_greatest : (p : ProgramDef) (units k : ℕ) (value : Fraction) (primal : List Fraction) (d : DualDef)
+    → EndsWithin p units k value primal d
     → IsGreatestReached p (dual_value p d.den (λ r. slice_index d.num r))
 ends_greatest p units k value primal d h =
     optimum_reached p (dual_total p (λ r. slice_index d.num r)) d.den (ends_with_dual p units k value primal d h).optimum
@@ -82,7 +87,8 @@ one_duals p t u fs gs same h k =
 duals_positive : (p : ProgramDef) (t : Table) (fs : List Fraction) → ((i v : ℕ) → i ≤ height p → IsForm (t.cell i v)) → AreDuals p t fs
     → (i : ℕ) → i < length fs → pos 0 <ℤ (fraction_at fs i).den
 duals_positive p t fs form are i l =
-    subst (λ (f : Fraction). pos 0 <ℤ f.den) (sym (are.duals_are i (rw (← are.dual_each) l))) (form (height p) (slack p i) (omega arith)).positive
+    subst (λ (f : Fraction). pos 0 <ℤ f.den) (sym (are.duals_are i (rw (← are.dual_each) l)))
+    (form (height p) (slack p i) (omega arith)).positive
 
 -- A fraction is one number over a scale.
 one_number : (l k j : ℕ) (f : Fraction) → pos 0 <ℤ f.den → IsScaled l f k → IsScaled l f j → k ≡ j
@@ -91,7 +97,8 @@ one_number l k j f positive h i = same_natural k j (cancel (pos k) (pos j) f.den
     same_natural : (a b : ℕ) → pos a ≡ pos b → a ≡ b
     same_natural a b e = omega (arith, ints)
 
-one_scaling : (l : ℕ) (fs : List Fraction) (ks js : List ℕ) → ((i : ℕ) → i < length fs → pos 0 <ℤ (fraction_at fs i).den) → AreScaled l fs ks → AreScaled l fs js → ks ≡ js
+one_scaling : (l : ℕ) (fs : List Fraction) (ks js : List ℕ)
+    → ((i : ℕ) → i < length fs → pos 0 <ℤ (fraction_at fs i).den) → AreScaled l fs ks → AreScaled l fs js → ks ≡ js
 one_scaling l fs ks js positive h k =
     same_number_lists ks js (h.len ∙ sym k.len) (λ i below.
     let within : i < length fs = rw (← h.len) below in
@@ -102,19 +109,23 @@ one_written : (p : ProgramDef) (t u : Table) (d e : DualDef) → ((i v : ℕ) �
 one_written p t u d e form same h k =
     let lists : h.duals ≡ k.duals = one_duals p t u h.duals k.duals same h.are_duals k.are_duals in
     let dens : d.den ≡ e.den = one_least h.duals d.den e.den h.least (rw lists k.least) in
-    let nums : d.num ≡ e.num = one_scaling d.den h.duals d.num e.num (duals_positive p t h.duals form h.are_duals) h.scaled (rw (dens, lists) k.scaled) in
+    let nums : d.num ≡ e.num = one_scaling d.den h.duals d.num e.num (duals_positive p t h.duals form h.are_duals)
+    h.scaled (rw (dens, lists) k.scaled) in
     dual_is d.den e.den d.num e.num dens nums
   where
-    dual_is : (m n : ℕ) (ks js : List ℕ) → m ≡ n → ks ≡ js → (let a : DualDef = record { den = m; num = ks } in a) ≡ record { den = n; num = js }
+    dual_is : (m n : ℕ) (ks js : List ℕ) → m ≡ n → ks ≡ js
+        → (let a : DualDef = record { den = m; num = ks } in a) ≡ record { den = n; num = js }
     dual_is m n ks js p q = rw (p, q) refl
 
 -- A variable has one value.
-one_value : (p : ProgramDef) (t u : Table) (v : ℕ) (f g : Fraction) → ((i j : ℕ) → i < height p → j < height p → (j ≡ i → ⊥) → t.basic j ≡ t.basic i → ⊥)
+one_value : (p : ProgramDef) (t u : Table) (v : ℕ) (f g : Fraction)
+    → ((i j : ℕ) → i < height p → j < height p → (j ≡ i → ⊥) → t.basic j ≡ t.basic i → ⊥)
     → IsSameTable p t u → IsValueOf (variables p) t (height p) v f → IsValueOf (variables p) u (height p) v g → f ≡ g
 one_value p t u v f g apart same h k = elim h [
   | inl here ↦ elim k [
     | inl there ↦ elim (cases_eq there.0 here.0) [
-      | inl one ↦ here.3 ∙ (same.cells here.0 (variables p) (omega (arith, here.1)) ∙ (ap (λ i. u.cell i (variables p)) (sym one) ∙ sym there.3))
+      | inl one ↦ here.3 ∙ (same.cells here.0 (variables p) (omega (arith, here.1))
+          ∙ (ap (λ i. u.cell i (variables p)) (sym one) ∙ sym there.3))
       | inr two ↦ absurd (apart here.0 there.0 here.1 there.1 two (same.basis there.0 there.1 ∙ (there.2 ∙ sym here.2)))
     ]
     | inr none ↦ absurd (none.0 here.0 here.1 (sym (same.basis here.0 here.1) ∙ here.2))
@@ -125,7 +136,8 @@ one_value p t u v f g apart same h k = elim h [
   ]
 ]
 
-one_primal : (p : ProgramDef) (t u : Table) (fs gs : List Fraction) → ((i j : ℕ) → i < height p → j < height p → (j ≡ i → ⊥) → t.basic j ≡ t.basic i → ⊥)
+one_primal : (p : ProgramDef) (t u : Table) (fs gs : List Fraction)
+    → ((i j : ℕ) → i < height p → j < height p → (j ≡ i → ⊥) → t.basic j ≡ t.basic i → ⊥)
     → IsSameTable p t u → IsPrimal p t fs → IsPrimal p u gs → fs ≡ gs
 one_primal p t u fs gs apart same h k =
     one_list fs gs (h.value_each ∙ sym k.value_each) (λ c l.
@@ -155,7 +167,8 @@ written_not_wide p t u d form same h wide =
           let within : w.0 < length h.duals = rw lists w.2 in
           let scaled : IsScaled d.den (fraction_at h.duals w.0) w.1 = rw (dens, lists) w.3 in
           let one : slice_index d.num w.0 ≡ w.1
-          = one_number d.den (slice_index d.num w.0) w.1 (fraction_at h.duals w.0) (duals_positive p t h.duals form h.are_duals w.0 within) (h.scaled.each w.0 within) scaled in
+          = one_number d.den (slice_index d.num w.0) w.1 (fraction_at h.duals w.0)
+          (duals_positive p t h.duals form h.are_duals w.0 within) (h.scaled.each w.0 within) scaled in
           too_large (slice_index d.num w.0) w.1 (2 ^ 63) one (h.small_num w.0 0 (rw h.scaled.len within)) w.4
     ]
   where
@@ -172,20 +185,24 @@ ends_not_wide p units n k value primal d accepted h wide =
       | inl step ↦
           let up : k ≤ j = no_later p j k wide.table h.table accepted wide.reached (inr step.1) h.run.reached in
           let at : j ≡ k = omega arith in
-          let same : IsSameTable p wide.table h.table = one_run p k wide.table h.table accepted (subst (λ (i : ℕ). Reached p i wide.table) at wide.reached) h.run.reached in
+          let same : IsSameTable p wide.table h.table = one_run p k wide.table h.table accepted
+          (subst (λ (i : ℕ). Reached p i wide.table) at wide.reached) h.run.reached in
           not_last p wide.table h.table step.1.entering same step.1.enters h.run.last
       | inr end ↦
-          written_not_wide p h.table wide.table d (forms p k h.table accepted h.run.reached) (one_end_table p k j h.table wide.table accepted h.run end.1) h.read_off.is_dual end.2
+          written_not_wide p h.table wide.table d (forms p k h.table accepted h.run.reached)
+          (one_end_table p k j h.table wide.table accepted h.run end.1) h.read_off.is_dual end.2
     ]
 
 pub ends_not_more : (p : ProgramDef) (units k : ℕ) (value : Fraction) (primal : List Fraction) (d : DualDef) → IsProgram p
     → EndsWithin p units k value primal d → NeedsMoreThan p units → ⊥
 ends_not_more p units k value primal d accepted h more = elim more [
   | inl none ↦ absurd (omega (arith, h.within, none))
-  | inr begins ↦ begins_not_ended p k begins.0 h.table begins.1 begins.2 accepted h.run begins.4 begins.5 (omega (arith, h.within, begins.3))
+  | inr begins ↦ begins_not_ended p k begins.0 h.table begins.1 begins.2 accepted h.run begins.4 begins.5
+      (omega (arith, h.within, begins.3))
 ]
   where
-    begins_not_ended : (q : ProgramDef) (i j : ℕ) (t u : Table) (e : ℕ) → IsProgram q → IsExchangeRun q i t → Reached q j u → IsEntering q u e → i ≤ j → ⊥
+    begins_not_ended : (q : ProgramDef) (i j : ℕ) (t u : Table) (e : ℕ) → IsProgram q → IsExchangeRun q i t
+        → Reached q j u → IsEntering q u e → i ≤ j → ⊥
     begins_not_ended q i j t u e kept run reached enters most =
         let back : j ≤ i = no_later q i j t u kept run.reached (inl run.last) reached in
         let at : j ≡ i = omega arith in
@@ -200,12 +217,15 @@ wide_not_more p units accepted wide more = elim more [
   ]
   | inr begins ↦ elim wide.wide [
     | inl step ↦
-        let most : begins.0 ≤ wide.exchanges = no_later p wide.exchanges begins.0 wide.table begins.1 accepted wide.reached (inr step.1) begins.4 in
+        let most : begins.0 ≤ wide.exchanges =
+        no_later p wide.exchanges begins.0 wide.table begins.1 accepted wide.reached (inr step.1) begins.4 in
         absurd (omega (arith, most, step.0, begins.3))
     | inr end ↦
-        let back : begins.0 ≤ wide.exchanges = no_later p wide.exchanges begins.0 wide.table begins.1 accepted wide.reached (inl end.1.last) begins.4 in
+        let back : begins.0 ≤ wide.exchanges =
+        no_later p wide.exchanges begins.0 wide.table begins.1 accepted wide.reached (inl end.1.last) begins.4 in
         let at : begins.0 ≡ wide.exchanges = omega (arith, back, end.0, begins.3) in
-        let same : IsSameTable p begins.1 wide.table = one_run p wide.exchanges begins.1 wide.table accepted (subst (λ (n : ℕ). Reached p n begins.1) at begins.4) wide.reached in
+        let same : IsSameTable p begins.1 wide.table = one_run p wide.exchanges begins.1 wide.table accepted
+        (subst (λ (n : ℕ). Reached p n begins.1) at begins.4) wide.reached in
         not_last p begins.1 wide.table begins.2 same begins.5 end.1.last
   ]
 ]

@@ -6,13 +6,15 @@ use Rattle.program_form.specs.Program.{ProgramDef, columns, height, cost, entry,
 use Rattle.exchange_runs.specs.Table.{variables, slack, first_of, first_entries, first_limit, first_number}
 use Rattle.exchange_runs.proofs.Ends.{HasSlacks}
 
-pub first_of-column : (n : ℕ) (entries : List ℕ) (own last bound v : ℕ) → v < n → first_of n entries own last bound v ≡ slice_index entries v
+pub first_of-column : (n : ℕ) (entries : List ℕ) (own last bound v : ℕ) → v < n
+    → first_of n entries own last bound v ≡ slice_index entries v
 first_of-column n entries own last bound v l = rw (lt-ltb v n l) refl
 
 pub first_of-own : (n : ℕ) (entries : List ℕ) (own last bound : ℕ) → n ≤ own → own < last → first_of n entries own last bound own ≡ 1
 first_of-own n entries own last bound h l = rw (le-ltb own n h, lt-ltb own last l, eq-eqb own own refl) refl
 
-pub first_of-other : (n : ℕ) (entries : List ℕ) (own last bound v : ℕ) → n ≤ v → v < last → (v ≡ own → ⊥) → first_of n entries own last bound v ≡ 0
+pub first_of-other : (n : ℕ) (entries : List ℕ) (own last bound v : ℕ) → n ≤ v → v < last → (v ≡ own → ⊥)
+    → first_of n entries own last bound v ≡ 0
 first_of-other n entries own last bound v h l away = rw (le-ltb v n h, lt-ltb v last l, ne_eqb v own away) refl
 
 pub first_of-limit : (n : ℕ) (entries : List ℕ) (own last bound : ℕ) → n ≤ last → first_of n entries own last bound last ≡ bound
@@ -50,7 +52,8 @@ number_at_limit p r l =
 
 pub number_at_value : (p : ProgramDef) → first_number p (height p) (variables p) ≡ 0
 number_at_value p =
-    first_of-limit (columns p) (first_entries p (height p)) (slack p (height p)) (variables p) (first_limit p (height p)) (omega arith) ∙ limit_of_objective p
+    first_of-limit (columns p) (first_entries p (height p)) (slack p (height p)) (variables p)
+    (first_limit p (height p)) (omega arith) ∙ limit_of_objective p
 
 -- The first table over ℤ.
 abbrev pub first_z : ProgramDef → ℕ → ℕ → ℤ
@@ -59,8 +62,10 @@ first_z p i v = pos (first_number p i v)
 pub has_slacks : (p : ProgramDef) → HasSlacks (height p) (columns p) (first_z p)
 has_slacks p r k h l = elim (cases_eq r k) [
   | inl here ↦
-      rw here (ap pos (first_of-own (columns p) (first_entries p k) (slack p k) (variables p) (first_limit p k) (omega arith) (omega arith)) ∙ sym (only_at-here k (pos 1)))
+      rw here (ap pos (first_of-own (columns p) (first_entries p k) (slack p k) (variables p) (first_limit p k)
+      (omega arith) (omega arith)) ∙ sym (only_at-here k (pos 1)))
   | inr away ↦
-      ap pos (first_of-other (columns p) (first_entries p r) (slack p r) (variables p) (first_limit p r) (columns p + k) (omega arith) (omega arith) (λ e. away (omega arith)))
+      ap pos (first_of-other (columns p) (first_entries p r) (slack p r) (variables p) (first_limit p r) (columns p + k)
+      (omega arith) (omega arith) (λ e. away (omega arith)))
       ∙ sym (only_at-away k (pos 1) r away)
 ]

@@ -1,5 +1,7 @@
 -- Of each value that an exchange forms it can be found out whether it has a form.
-use Rattle.std.proofs.Common.{◌≡◌, ◌⊎◌, inl, inr, ℕ, zero, suc, ◌+◌, ◌/◌, ◌^◌, ◌<◌, ◌≤◌, List, [], ◌∷◌, ◌++◌, length, get_or, add-one, ℤ, pos, ◌-ℤ◌, ◌*ℤ◌, ◌≤ℤ◌, ◌<ℤ◌, unsigned_abs, refl, ap, ◌∙◌, sym, subst, arith}
+use Rattle.std.proofs.Common.{◌≡◌, ◌⊎◌, inl, inr, ℕ, zero, suc, ◌+◌, ◌/◌, ◌^◌, ◌<◌, ◌≤◌, List, [], ◌∷◌, ◌++◌, length}
+use Rattle.std.proofs.Common.{get_or, add-one, ℤ, pos, ◌-ℤ◌, ◌*ℤ◌, ◌≤ℤ◌, ◌<ℤ◌, unsigned_abs, refl, ap, ◌∙◌, sym, subst}
+use Rattle.std.proofs.Common.{arith}
 use Rattle.std.specs.Int.{IsGcd}
 use Rattle.std.proofs.lemmas.Int.{ints}
 use Rattle.std.proofs.lemmas.Bool.{cases_lt}
@@ -22,11 +24,16 @@ value_found n d above =
     let g : (g : ℕ) × IsGcd (unsigned_abs n) (unsigned_abs d) g = gcd_exists (unsigned_abs n) (unsigned_abs d) in
     let top : ℕ = unsigned_abs n / g.0 in
     let bottom : ℕ = unsigned_abs d / g.0 in
-    let lowest : IsLowest (unsigned_abs n) (unsigned_abs d) top bottom = reduced (unsigned_abs n) (unsigned_abs d) g.0 (size_above d above) g.1 in
+    let lowest : IsLowest (unsigned_abs n) (unsigned_abs d) top bottom =
+    reduced (unsigned_abs n) (unsigned_abs d) g.0 (size_above d above) g.1 in
     elim (cases_lt top (2 ^ 63)) [
       | inl small_top ↦ elim (cases_lt bottom (2 ^ 63)) [
         | inl small_bottom ↦
-            inl (over (signed n top) (pos bottom), form_of_lowest n d top bottom lowest small_top small_bottom, record { same = value_kept n d top bottom (from_one d above) lowest })
+            inl (
+              over (signed n top) (pos bottom),
+              form_of_lowest n d top bottom lowest small_top small_bottom,
+              record { same = value_kept n d top bottom (from_one d above) lowest },
+            )
         | inr wide ↦ inr (no_form n d top bottom (from_one d above) lowest (λ both. too_large bottom (2 ^ 63) both.1 wide))
       ]
       | inr wide ↦ inr (no_form n d top bottom (from_one d above) lowest (λ both. too_large top (2 ^ 63) both.0 wide))
@@ -48,16 +55,18 @@ quotient_found a b form above = elim (value_found (a.num *ℤ b.den) (a.den *ℤ
 ]
 
 pub product_found : (a b : Fraction) → IsForm a → IsForm b → IsFound (IsProduct a b)
-product_found a b form_a form_b = elim (value_found (a.num *ℤ b.num) (a.den *ℤ b.den) (times_positive a.den b.den form_a.positive form_b.positive)) [
-  | inl there ↦ inl (there.0, there.1, record { same = there.2.same })
-  | inr none ↦ inr (λ c form_c is. none c form_c (record { same = is.same }))
-]
+product_found a b form_a form_b =
+    elim (value_found (a.num *ℤ b.num) (a.den *ℤ b.den) (times_positive a.den b.den form_a.positive form_b.positive)) [
+      | inl there ↦ inl (there.0, there.1, record { same = there.2.same })
+      | inr none ↦ inr (λ c form_c is. none c form_c (record { same = is.same }))
+    ]
 
 pub difference_found : (a b : Fraction) → IsForm a → IsForm b → IsFound (IsDifference a b)
-difference_found a b form_a form_b = elim (value_found ((a.num *ℤ b.den) -ℤ (b.num *ℤ a.den)) (a.den *ℤ b.den) (times_positive a.den b.den form_a.positive form_b.positive)) [
-  | inl there ↦ inl (there.0, there.1, record { same = there.2.same })
-  | inr none ↦ inr (λ c form_c is. none c form_c (record { same = is.same }))
-]
+difference_found a b form_a form_b = elim (value_found ((a.num *ℤ b.den) -ℤ (b.num *ℤ a.den)) (a.den *ℤ b.den)
+    (times_positive a.den b.den form_a.positive form_b.positive)) [
+      | inl there ↦ inl (there.0, there.1, record { same = there.2.same })
+      | inr none ↦ inr (λ c form_c is. none c form_c (record { same = is.same }))
+    ]
 
 pub less_found : (a f y : Fraction) → IsForm a → IsForm f → IsForm y → ((b : Fraction) × IsLess a f y b) ⊎ IsWideLess a f y
 less_found a f y form_a form_f form_y = elim (product_found f y form_f form_y) [
@@ -65,7 +74,16 @@ less_found a f y form_a form_f form_y = elim (product_found f y form_f form_y) [
   | inl product ↦ elim (difference_found a product.0 form_a product.1) [
     | inr none ↦ inr (inr (product.0, product.1, product.2, none))
     | inl left ↦
-        inl (left.0, record { product = product.0; product_form = product.1; is_product = product.2; form = left.1; is_difference = left.2 })
+        inl (
+          left.0,
+          record {
+            product = product.0;
+            product_form = product.1;
+            is_product = product.2;
+            form = left.1;
+            is_difference = left.2;
+          },
+        )
   ]
 ]
 

@@ -1,12 +1,14 @@
 -- What an exchange keeps of a table of whole numbers z over one denominator d: m rows, the objective row m, n columns and then
 -- the slacks. `first` is the table that the run starts with, over 1.
-use Rattle.std.proofs.Common.{◌≡◌, ℕ, ◌+◌, ◌<◌, ℤ, pos, ◌+ℤ◌, ◌-ℤ◌, ◌*ℤ◌, neg_ℤ, ◌≤ℤ◌, ◌<ℤ◌, inl, inr, refl, ap, ◌∙◌, sym, arith, if◌then◌else◌, nat_eq}
+use Rattle.std.proofs.Common.{◌≡◌, ℕ, ◌+◌, ◌<◌, ℤ, pos, ◌+ℤ◌, ◌-ℤ◌, ◌*ℤ◌, neg_ℤ, ◌≤ℤ◌, ◌<ℤ◌, inl, inr, refl, ap, ◌∙◌}
+use Rattle.std.proofs.Common.{sym, arith, if◌then◌else◌, nat_eq}
 use Rattle.std.proofs.lemmas.Int.{ints, by_lt_z}
 use Rattle.std.proofs.lemmas.Bool.{cases_eq, eq-eqb, ne_eqb}
 use Rattle.number_laws.proofs.Ring.{as_diff, diffs, same_diff, by_two, mul-comm, mul-neg_left}
 use Rattle.number_laws.proofs.Order.{times_nonneg, times_positive}
 use Rattle.bounded_sums.specs.WholeSums.{total_below, only_at}
-use Rattle.bounded_sums.proofs.TotalLaws.{total_below-agree, total_below-plus, total_below-mix, total_below-times, total_below-nonneg, total_below-only, only_at-here, only_at-away}
+use Rattle.bounded_sums.proofs.TotalLaws.{total_below-agree, total_below-plus, total_below-mix, total_below-times}
+use Rattle.bounded_sums.proofs.TotalLaws.{total_below-nonneg, total_below-only, only_at-here, only_at-away}
 use Rattle.exchange_runs.proofs.Signs.{weaker, turned}
 
 -- Is the row x so many times the first objective row, and each first row as many times as x has at its slack?
@@ -28,16 +30,20 @@ pub exchanged-away : (r e : ℕ) (d : ℤ) (z : ℕ → ℕ → ℤ) (i v : ℕ)
     → exchanged r e d z i v ≡ (z r e *ℤ z i v) -ℤ (z i e *ℤ z r v)
 exchanged-away r e d z i v h = rw (ne_eqb i r h) refl
 
-pub mix_agree : (m n : ℕ) (first : ℕ → ℕ → ℤ) (w u : ℤ) (x y : ℕ → ℤ) → w ≡ u → ((v : ℕ) → y v ≡ x v) → IsMix m n first w x → IsMix m n first u y
+pub mix_agree : (m n : ℕ) (first : ℕ → ℕ → ℤ) (w u : ℤ) (x y : ℕ → ℤ) → w ≡ u → ((v : ℕ) → y v ≡ x v)
+    → IsMix m n first w x → IsMix m n first u y
 mix_agree m n first w u x y e same h = record {
   mixed = λ v. same v ∙ (h.mixed v ∙ (ap (λ c. (c *ℤ first m v) +ℤ total_below m (λ r. x (n + r) *ℤ first r v)) e
-      ∙ ap (λ s. (u *ℤ first m v) +ℤ s) (total_below-agree m (λ r. x (n + r) *ℤ first r v) (λ r. y (n + r) *ℤ first r v) (λ r l. ap (λ c. c *ℤ first r v) (sym (same (n + r)))))));
+      ∙ ap (λ s. (u *ℤ first m v) +ℤ s) (total_below-agree m (λ r. x (n + r) *ℤ first r v) (λ r. y (n + r) *ℤ first r v)
+      (λ r l. ap (λ c. c *ℤ first r v) (sym (same (n + r)))))));
 }
 
 less_ring : (q w u f t a b s z : ℤ) → a ≡ (w *ℤ t) +ℤ s → b ≡ (u *ℤ t) +ℤ z
     → (q *ℤ a) -ℤ (f *ℤ b) ≡ (((q *ℤ w) -ℤ (f *ℤ u)) *ℤ t) +ℤ ((q *ℤ s) +ℤ (neg_ℤ f *ℤ z))
 less_ring q w u f t a b s z h k =
-    by_two q h (neg_ℤ f) k _ _ (rw (as_diff q, as_diff w, as_diff u, as_diff f, as_diff t, as_diff a, as_diff b, as_diff s, as_diff z) (simp diffs (same_diff _ _ _ _ (omega arith))))
+    by_two q h (neg_ℤ f) k _ _
+    (rw (as_diff q, as_diff w, as_diff u, as_diff f, as_diff t, as_diff a, as_diff b, as_diff s, as_diff z)
+    (simp diffs (same_diff _ _ _ _ (omega arith))))
 
 term_ring : (q f a b t : ℤ) → (q *ℤ (a *ℤ t)) +ℤ (neg_ℤ f *ℤ (b *ℤ t)) ≡ ((q *ℤ a) -ℤ (f *ℤ b)) *ℤ t
 term_ring q f a b t = rw (as_diff q, as_diff f, as_diff a, as_diff b, as_diff t) (simp diffs (same_diff _ _ _ _ (omega arith)))
@@ -49,7 +55,8 @@ mix_less m n first q f w u x y hx hy = record {
   mixed = λ v.
       let one : ℕ → ℤ = λ r. x (n + r) *ℤ first r v in
       let other : ℕ → ℤ = λ r. y (n + r) *ℤ first r v in
-      let sums : total_below m (λ r. ((q *ℤ x (n + r)) -ℤ (f *ℤ y (n + r))) *ℤ first r v) ≡ (q *ℤ total_below m one) +ℤ (neg_ℤ f *ℤ total_below m other)
+      let sums : total_below m (λ r. ((q *ℤ x (n + r)) -ℤ (f *ℤ y (n + r))) *ℤ first r v)
+      ≡ (q *ℤ total_below m one) +ℤ (neg_ℤ f *ℤ total_below m other)
       = total_below-agree m (λ r. ((q *ℤ x (n + r)) -ℤ (f *ℤ y (n + r))) *ℤ first r v) (λ r. (q *ℤ one r) +ℤ (neg_ℤ f *ℤ other r))
       (λ r l. sym (term_ring q f (x (n + r)) (y (n + r)) (first r v)))
       ∙ total_below-mix m q (neg_ℤ f) one other in
@@ -67,7 +74,8 @@ mix_times m n first d w x h =
     (sym (nothing_less d w w)) (λ v. nothing_less d (x v) (x v)) (mix_less m n first d (pos 0) w w x x h h)
 
 -- A row is a mix after an exchange at a row that is a mix of the first rows alone.
-pub mix_after : (m n : ℕ) (first : ℕ → ℕ → ℤ) (d w : ℤ) (z : ℕ → ℕ → ℤ) (r e i : ℕ) → (i ≡ r → ⊥) → IsMix m n first (pos 0) (z r) → IsMix m n first w (z i)
+pub mix_after : (m n : ℕ) (first : ℕ → ℕ → ℤ) (d w : ℤ) (z : ℕ → ℕ → ℤ) (r e i : ℕ) → (i ≡ r → ⊥)
+    → IsMix m n first (pos 0) (z r) → IsMix m n first w (z i)
     → IsMix m n first (z r e *ℤ w) (exchanged r e d z i)
 mix_after m n first d w z r e i away hr hi =
     mix_agree m n first ((z r e *ℤ w) -ℤ (z i e *ℤ pos 0)) (z r e *ℤ w) (λ v. (z r e *ℤ z i v) -ℤ (z i e *ℤ z r v)) (exchanged r e d z i)
@@ -98,7 +106,9 @@ read_ring : (d k gv ge zv ze q y s t : ℤ) → d *ℤ gv ≡ (k *ℤ zv) +ℤ s
     → (d *ℤ q) *ℤ gv ≡ (k *ℤ ((q *ℤ zv) -ℤ (ze *ℤ y))) +ℤ (((q *ℤ s) +ℤ (neg_ℤ y *ℤ t)) +ℤ (ge *ℤ (d *ℤ y)))
 read_ring d k gv ge zv ze q y s t h j =
     by_two q h (neg_ℤ y) j _ _
-    (rw (as_diff d, as_diff k, as_diff gv, as_diff ge, as_diff zv, as_diff ze, as_diff q, as_diff y, as_diff s, as_diff t) (simp diffs (same_diff _ _ _ _ (omega arith))))
+    (rw
+    (as_diff d, as_diff k, as_diff gv, as_diff ge, as_diff zv, as_diff ze, as_diff q, as_diff y, as_diff s, as_diff t)
+    (simp diffs (same_diff _ _ _ _ (omega arith))))
 
 -- What can be read off a table can be read off after an exchange.
 pub read_after : (m : ℕ) (d k : ℤ) (g : ℕ → ℤ) (z : ℕ → ℕ → ℤ) (basic next : ℕ → ℕ) (r e : ℕ) → r < m
@@ -125,7 +135,8 @@ read_after m d k g z basic next r e within entered stayed h = record {
             ∙ (away_ring (g (basic i)) q y (z i v) (z i e)
             ∙ (with_none (mix i) ∙ ap (λ c. mix i +ℤ c) (sym (only_at-away r (g e *ℤ (d *ℤ y)) i away)))))
       ] in
-      let sums : total_below m (λ i. g (next i) *ℤ exchanged r e d z i v) ≡ ((q *ℤ total_below m one) +ℤ (neg_ℤ y *ℤ total_below m other)) +ℤ (g e *ℤ (d *ℤ y))
+      let sums : total_below m (λ i. g (next i) *ℤ exchanged r e d z i v)
+      ≡ ((q *ℤ total_below m one) +ℤ (neg_ℤ y *ℤ total_below m other)) +ℤ (g e *ℤ (d *ℤ y))
       = total_below-agree m (λ i. g (next i) *ℤ exchanged r e d z i v) (λ i. mix i +ℤ extra i) each
       ∙ (total_below-plus m mix extra
       ∙ (ap (λ s. s +ℤ total_below m extra) (total_below-mix m q (neg_ℤ y) one other)
@@ -142,11 +153,14 @@ pub never_unbounded : (m e : ℕ) (d : ℤ) (g : ℕ → ℤ) (z : ℕ → ℕ �
 never_unbounded m e d g z basic pd above at_e h none =
     let left : pos 0 <ℤ (d *ℤ g e) = times_positive d (g e) pd at_e in
     let flipped : pos 0 ≤ℤ total_below m (λ i. g (basic i) *ℤ neg_ℤ (z i e))
-    = total_below-nonneg m (λ i. g (basic i) *ℤ neg_ℤ (z i e)) (λ i l. times_nonneg (g (basic i)) (neg_ℤ (z i e)) (above (basic i)) (turned (none i l))) in
+    = total_below-nonneg m (λ i. g (basic i) *ℤ neg_ℤ (z i e))
+    (λ i l. times_nonneg (g (basic i)) (neg_ℤ (z i e)) (above (basic i)) (turned (none i l))) in
     let minus : total_below m (λ i. g (basic i) *ℤ neg_ℤ (z i e)) ≡ neg_ℤ (pos 1) *ℤ total_below m (λ i. g (basic i) *ℤ z i e)
-    = total_below-agree m (λ i. g (basic i) *ℤ neg_ℤ (z i e)) (λ i. neg_ℤ (pos 1) *ℤ (g (basic i) *ℤ z i e)) (λ i l. minus_ring (g (basic i)) (z i e))
+    = total_below-agree m (λ i. g (basic i) *ℤ neg_ℤ (z i e)) (λ i. neg_ℤ (pos 1) *ℤ (g (basic i) *ℤ z i e))
+    (λ i l. minus_ring (g (basic i)) (z i e))
     ∙ total_below-times m (neg_ℤ (pos 1)) (λ i. g (basic i) *ℤ z i e) in
-    clash (d *ℤ g e) (z m e) (total_below m (λ i. g (basic i) *ℤ z i e)) (total_below m (λ i. g (basic i) *ℤ neg_ℤ (z i e))) left (h.read e) minus flipped
+    clash (d *ℤ g e) (z m e) (total_below m (λ i. g (basic i) *ℤ z i e))
+    (total_below m (λ i. g (basic i) *ℤ neg_ℤ (z i e))) left (h.read e) minus flipped
   where
     minus_ring : (a b : ℤ) → a *ℤ neg_ℤ b ≡ neg_ℤ (pos 1) *ℤ (a *ℤ b)
     minus_ring a b = out a b ∙ minus_one (a *ℤ b)
@@ -210,7 +224,9 @@ limits_after m d z r e w pd above within limits least i l = elim (cases_eq i r) 
   | inl here ↦ rw (here, exchanged-here r e d z w) (times_nonneg d (z r w) (weaker pd) (limits r within))
   | inr away ↦ rw (exchanged-away r e d z i w away) (by_lt_z (pos 0) (z i e)
       (λ ratio. apart _ _ (at_most (z r w) (z i e) (z i w) (z r e) (least i l ratio)))
-      (λ none. apart _ _ (across (z r e) (z i w) (z i e) (z r w) (times_nonneg (z r e) (z i w) (weaker above) (limits i l)) (times_nonneg (neg_ℤ (z i e)) (z r w) (turned none) (limits r within)))))
+      (λ none.
+      apart _ _ (across (z r e) (z i w) (z i e) (z r w) (times_nonneg (z r e) (z i w) (weaker above) (limits i l))
+      (times_nonneg (neg_ℤ (z i e)) (z r w) (turned none) (limits r within)))))
 ]
   where
     apart : (x y : ℤ) → y ≤ℤ x → pos 0 ≤ℤ (x -ℤ y)

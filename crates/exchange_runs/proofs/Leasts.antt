@@ -15,12 +15,14 @@ AreFractions IsCell = (f : Fraction) → IsCell f → pos 0 <ℤ f.den
 at_most_itself : (x : ℤ) → x ≤ℤ x
 at_most_itself x = omega (arith, ints)
 
-at_most_through : (IsCell : Fraction → Type 0) (a b c : Fraction) → AreFractions IsCell → IsCell a → IsCell b → IsCell c → IsAtMost a b → IsAtMost b c → IsAtMost a c
+at_most_through : (IsCell : Fraction → Type 0) (a b c : Fraction) → AreFractions IsCell → IsCell a → IsCell b → IsCell c
+    → IsAtMost a b → IsAtMost b c → IsAtMost a c
 at_most_through IsCell a b c are fa fb fc h k =
     record { le = chained_le a.num b.num c.num a.den b.den c.den (are a fa) (are b fb) (are c fc) h.le k.le }
 
 -- The first row with a ratio has the least so far.
-pub first_has_least : (IsCell : Fraction → Type 0) (w : ℕ) (t : Table) (e k : ℕ) (f : Fraction) → ((i : ℕ) → i < k → HasRatio t e i → ⊥) → HasRatio t e k
+pub first_has_least : (IsCell : Fraction → Type 0) (w : ℕ) (t : Table) (e k : ℕ) (f : Fraction)
+    → ((i : ℕ) → i < k → HasRatio t e i → ⊥) → HasRatio t e k
     → IsRatioOver IsCell w t e k f → IsLeastOver IsCell w t e (k + 1) k f
 first_has_least IsCell w t e k f none has is = record {
   within = omega arith;
@@ -33,7 +35,8 @@ first_has_least IsCell w t e k f none has is = record {
 }
 
 -- A row without a ratio changes nothing.
-pub least_without : (IsCell : Fraction → Type 0) (w : ℕ) (t : Table) (e k r : ℕ) (f : Fraction) → IsLeastOver IsCell w t e k r f → (HasRatio t e k → ⊥)
+pub least_without : (IsCell : Fraction → Type 0) (w : ℕ) (t : Table) (e k r : ℕ) (f : Fraction)
+    → IsLeastOver IsCell w t e k r f → (HasRatio t e k → ⊥)
     → IsLeastOver IsCell w t e (k + 1) r f
 least_without IsCell w t e k r f h none = record {
   within = omega (arith, h.within);
@@ -46,7 +49,8 @@ least_without IsCell w t e k r f h none = record {
 }
 
 -- A row whose ratio does not come before the least changes nothing.
-pub least_kept : (IsCell : Fraction → Type 0) (w : ℕ) (t : Table) (e k r : ℕ) (f g : Fraction) → IsLeastOver IsCell w t e k r f → IsRatioOver IsCell w t e k g
+pub least_kept : (IsCell : Fraction → Type 0) (w : ℕ) (t : Table) (e k r : ℕ) (f g : Fraction)
+    → IsLeastOver IsCell w t e k r f → IsRatioOver IsCell w t e k g
     → IsAtMost f g → (IsAtMost g f → t.basic r ≤ t.basic k) → IsLeastOver IsCell w t e (k + 1) r f
 least_kept IsCell w t e k r f g h is at_most tie = record {
   within = omega (arith, h.within);
@@ -59,8 +63,10 @@ least_kept IsCell w t e k r f g h is at_most tie = record {
 }
 
 -- A row whose ratio comes before the least is the least now.
-pub least_replaced : (IsCell : Fraction → Type 0) (w : ℕ) (t : Table) (e k r : ℕ) (f g : Fraction) → AreFractions IsCell → IsLeastOver IsCell w t e k r f
-    → HasRatio t e k → IsRatioOver IsCell w t e k g → IsAtMost g f → (IsAtMost f g → t.basic k ≤ t.basic r) → IsLeastOver IsCell w t e (k + 1) k g
+pub least_replaced : (IsCell : Fraction → Type 0) (w : ℕ) (t : Table) (e k r : ℕ) (f g : Fraction) → AreFractions IsCell
+    → IsLeastOver IsCell w t e k r f
+    → HasRatio t e k → IsRatioOver IsCell w t e k g → IsAtMost g f → (IsAtMost f g → t.basic k ≤ t.basic r)
+    → IsLeastOver IsCell w t e (k + 1) k g
 least_replaced IsCell w t e k r f g are h has_k is at_most tie = record {
   within = omega arith;
   has = has_k;
@@ -84,13 +90,19 @@ not_back : (x y : ℤ) → x <ℤ y → y ≤ℤ x → ⊥
 not_back x y h k = omega (arith, ints)
 
 -- One more row with a ratio: it takes the place of the least, or does not.
-least_more : (IsCell : Fraction → Type 0) (w : ℕ) (t : Table) (e k r : ℕ) (f g : Fraction) → AreFractions IsCell → IsLeastOver IsCell w t e k r f → HasRatio t e k
+least_more : (IsCell : Fraction → Type 0) (w : ℕ) (t : Table) (e k r : ℕ) (f g : Fraction) → AreFractions IsCell
+    → IsLeastOver IsCell w t e k r f → HasRatio t e k
     → IsRatioOver IsCell w t e k g → (s : ℕ) × (m : Fraction) × IsLeastOver IsCell w t e (k + 1) s m
 least_more IsCell w t e k r f g are h has is =
     by_lt_z (f.num *ℤ g.den) (g.num *ℤ f.den)
     (λ below. (r, f, least_kept IsCell w t e k r f g h is (record { le = weaker below }) (λ back. absurd (not_back _ _ below back.le))))
     (λ at_most. by_lt_z (g.num *ℤ f.den) (f.num *ℤ g.den)
-    (λ below. (k, g, least_replaced IsCell w t e k r f g are h has is (record { le = at_most }) (λ back. absurd (not_back _ _ below back.le))))
+    (λ below. (
+      k,
+      g,
+      least_replaced IsCell w t e k r f g are h has is (record { le = at_most })
+          (λ back. absurd (not_back _ _ below back.le)),
+    ))
     (λ equal. elim (cases_lt (t.basic k) (t.basic r)) [
       | inl first ↦ (k, g, least_replaced IsCell w t e k r f g are h has is (record { le = at_most }) (λ back. omega (arith, first)))
       | inr behind ↦ (r, f, least_kept IsCell w t e k r f g h is (record { le = equal }) (λ back. behind))
@@ -107,7 +119,12 @@ least_among IsCell w t e (suc k) are ratios =
     let has : HasRatio t e k = record { above = above } in
     let g : (g : Fraction) × IsRatioOver IsCell w t e k g = ratios k (omega arith) has in
     elim (least_among IsCell w t e k are (λ i l. ratios i (omega arith))) [
-      | inl none ↦ inr (k, g.0, subst (λ (n : ℕ). IsLeastOver IsCell w t e n k g.0) (add-one k) (first_has_least IsCell w t e k g.0 none has g.1))
+      | inl none ↦ inr (
+        k,
+        g.0,
+        subst (λ (n : ℕ). IsLeastOver IsCell w t e n k g.0) (add-one k)
+            (first_has_least IsCell w t e k g.0 none has g.1),
+      )
       | inr least ↦
           let more = least_more IsCell w t e k least.0 least.1 g.0 are least.2 has g.1 in
           inr (more.0, more.1, subst (λ (n : ℕ). IsLeastOver IsCell w t e n more.0 more.1) (add-one k) more.2)
@@ -120,5 +137,10 @@ least_among IsCell w t e (suc k) are ratios =
         | inr last ↦ let same : i ≡ k = omega arith in none_here (subst (λ (n : ℕ). HasRatio t e n) same has)
       ])
       | inr least ↦
-          inr (least.0, least.1, subst (λ (n : ℕ). IsLeastOver IsCell w t e n least.0 least.1) (add-one k) (least_without IsCell w t e k least.0 least.1 least.2 none_here))
+          inr (
+            least.0,
+            least.1,
+            subst (λ (n : ℕ). IsLeastOver IsCell w t e n least.0 least.1) (add-one k)
+                (least_without IsCell w t e k least.0 least.1 least.2 none_here),
+          )
     ])

@@ -1,5 +1,6 @@
 -- Steps of a search or a loop over the rows and cells of a table: what is known of the first k and of the next is known of k + 1.
-use Rattle.std.proofs.Common.{◌≡◌, inl, inr, ℕ, ◌+◌, ◌<◌, ◌≤◌, add-one, List, All, ℤ, pos, ◌-ℤ◌, ◌*ℤ◌, ◌≤ℤ◌, refl, ap, ◌∙◌, sym, subst, arith}
+use Rattle.std.proofs.Common.{◌≡◌, inl, inr, ℕ, ◌+◌, ◌<◌, ◌≤◌, add-one, List, All, ℤ, pos, ◌-ℤ◌, ◌*ℤ◌, ◌≤ℤ◌, refl, ap}
+use Rattle.std.proofs.Common.{◌∙◌, sym, subst, arith}
 use Rattle.std.proofs.lemmas.Int.{ints}
 use Rattle.std.proofs.lemmas.Bool.{cases_lt}
 use Rattle.std.proofs.lemmas.List.Elements.{All-from_get_or}
@@ -28,7 +29,8 @@ pub least_keep : (w : ℕ) (t : Table) (e k r : ℕ) (f g : Fraction) → IsLeas
 least_keep w t e k r f g h is at_most tie = least_kept IsForm w t e k r f g h is at_most tie
 
 -- A row whose ratio comes before the least is the least now.
-pub least_take : (w : ℕ) (t : Table) (e k r : ℕ) (f g : Fraction) → IsLeastOf w t e k r f → HasRatio t e k → IsRatio w t e k g → IsAtMost g f
+pub least_take : (w : ℕ) (t : Table) (e k r : ℕ) (f g : Fraction) → IsLeastOf w t e k r f → HasRatio t e k
+    → IsRatio w t e k g → IsAtMost g f
     → (IsAtMost f g → t.basic k ≤ t.basic r) → IsLeastOf w t e (k + 1) k g
 least_take w t e k r f g h has is at_most tie = least_replaced IsForm w t e k r f g (λ c form. form.positive) h has is at_most tie
 
@@ -100,7 +102,8 @@ value_more w t k v f other h = elim h [
 ]
 
 -- The duals of the last table are not below zero.
-pub duals_not_below : (p : ProgramDef) (t : Table) (duals : List Fraction) → IsLast p t → AreDuals p t duals → All (λ f. pos 0 ≤ℤ f.num) duals
+pub duals_not_below : (p : ProgramDef) (t : Table) (duals : List Fraction) → IsLast p t → AreDuals p t duals
+    → All (λ f. pos 0 ≤ℤ f.num) duals
 duals_not_below p t duals last are =
     All-from_get_or (λ f. pos 0 ≤ℤ f.num) duals (whole (pos 0)) (λ i l.
     let within : i < height p = rw (← are.dual_each) l in

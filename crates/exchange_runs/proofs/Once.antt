@@ -1,6 +1,7 @@
 -- A program has one run: each table has one entering variable, one leaving row and one next table, and a run that ends or is wide
 -- goes no further.
-use Rattle.std.proofs.Common.{◌≡◌, ◌⊎◌, inl, inr, ℕ, zero, suc, ◌+◌, ◌-◌, ◌^◌, ◌<◌, ◌≤◌, slice_index, ℤ, pos, ◌≤ℤ◌, ◌<ℤ◌, ◌∙◌, sym, subst, arith}
+use Rattle.std.proofs.Common.{◌≡◌, ◌⊎◌, inl, inr, ℕ, zero, suc, ◌+◌, ◌-◌, ◌^◌, ◌<◌, ◌≤◌, slice_index, ℤ, pos, ◌≤ℤ◌}
+use Rattle.std.proofs.Common.{◌<ℤ◌, ◌∙◌, sym, subst, arith}
 use Rattle.std.proofs.lemmas.Int.{ints}
 use Rattle.std.proofs.lemmas.Bool.{cases_lt, cases_eq, lt-ltb, le-ltb}
 use Rattle.fraction128.specs.Fraction.{Fraction, IsForm, IsAtMost}
@@ -32,16 +33,27 @@ pub first_number_small : (p : ProgramDef) (i v : ℕ) → IsProgram p → first_
 first_number_small p i v accepted =
     let entries = first_entries p i in
     elim (cases_lt v (columns p)) [
-      | inl column ↦ rw (first_of-column (columns p) entries (slack p i) (variables p) (first_limit p i) v column) (first_entry_small p i v accepted)
+      | inl column ↦ rw (first_of-column (columns p) entries (slack p i) (variables p) (first_limit p i) v column)
+          (first_entry_small p i v accepted)
       | inr behind ↦ elim (cases_lt v (variables p)) [
         | inl variable ↦ elim (cases_eq v (slack p i)) [
           | inl own ↦
-              rw (own, first_of-own (columns p) entries (slack p i) (variables p) (first_limit p i) (omega arith) (omega (arith, own, variable))) (omega arith)
-          | inr other ↦ rw (first_of-other (columns p) entries (slack p i) (variables p) (first_limit p i) v behind variable other) (omega arith)
+              rw (
+                own,
+                first_of-own (columns p) entries (slack p i) (variables p) (first_limit p i) (omega arith)
+                    (omega (arith, own, variable)),
+              ) (omega arith)
+          | inr other ↦ rw
+              (first_of-other (columns p) entries (slack p i) (variables p) (first_limit p i) v behind variable other)
+              (omega arith)
         ]
         | inr past ↦ elim (cases_eq v (variables p)) [
-          | inl at ↦ rw (at, first_of-limit (columns p) entries (slack p i) (variables p) (first_limit p i) (omega arith)) (first_limit_small p i accepted)
-          | inr beyond ↦ rw (first_of-past (columns p) entries (slack p i) (variables p) (first_limit p i) v (omega arith) (omega arith)) (omega arith)
+          | inl at ↦
+              rw (at, first_of-limit (columns p) entries (slack p i) (variables p) (first_limit p i) (omega arith))
+              (first_limit_small p i accepted)
+          | inr beyond ↦ rw
+              (first_of-past (columns p) entries (slack p i) (variables p) (first_limit p i) v (omega arith)
+              (omega arith)) (omega arith)
         ]
       ]
     ]
@@ -77,7 +89,8 @@ one_entering p t u e f same h k = elim (cases_lt e f) [
   ]
 ]
 
-ratio_same : (p : ProgramDef) (t u : Table) (e i : ℕ) (f : Fraction) → IsSameTable p t u → i ≤ height p → IsRatio (variables p) u e i f → IsRatio (variables p) t e i f
+ratio_same : (p : ProgramDef) (t u : Table) (e i : ℕ) (f : Fraction) → IsSameTable p t u → i ≤ height p
+    → IsRatio (variables p) u e i f → IsRatio (variables p) t e i f
 ratio_same p t u e i f same l h = record {
   form = h.form;
   quotient = rw (same.cells i (variables p) l, same.cells i e l) h.quotient;
@@ -87,7 +100,8 @@ has_same : (p : ProgramDef) (t u : Table) (e i : ℕ) → IsSameTable p t u → 
 has_same p t u e i same l h = record { above = rw (same.cells i e l) h.above }
 
 -- A row has one ratio.
-pub one_ratio : (w : ℕ) (t : Table) (e i : ℕ) (f g : Fraction) → IsForm (t.cell i w) → HasRatio t e i → IsRatio w t e i f → IsRatio w t e i g → f ≡ g
+pub one_ratio : (w : ℕ) (t : Table) (e i : ℕ) (f g : Fraction) → IsForm (t.cell i w) → HasRatio t e i
+    → IsRatio w t e i f → IsRatio w t e i g → f ≡ g
 one_ratio w t e i f g form has h k =
     one_quotient (t.cell i w) (t.cell i e) f g form (not_zero (t.cell i e).num has.above) h.form k.form h.quotient k.quotient
 
@@ -103,9 +117,11 @@ one_leaving p t u e r s same form apart h k =
     let of_s = h.least.least s in_s (has_same p t u e s same (omega arith) k.least.has) in
     let of_r = k.least.least r in_r (has_same p u t e r (same_back p t u same) (omega arith) h.least.has) in
     let s_is : of_s.0 ≡ k.ratio
-    = one_ratio w t e s of_s.0 k.ratio (form s w (omega arith)) (has_same p t u e s same (omega arith) k.least.has) of_s.1 (ratio_same p t u e s k.ratio same (omega arith) k.least.ratio) in
+    = one_ratio w t e s of_s.0 k.ratio (form s w (omega arith)) (has_same p t u e s same (omega arith) k.least.has)
+    of_s.1 (ratio_same p t u e s k.ratio same (omega arith) k.least.ratio) in
     let r_is : of_r.0 ≡ h.ratio
-    = one_ratio w t e r of_r.0 h.ratio (form r w (omega arith)) h.least.has (ratio_same p t u e r of_r.0 same (omega arith) of_r.1) h.least.ratio in
+    = one_ratio w t e r of_r.0 h.ratio (form r w (omega arith)) h.least.has
+    (ratio_same p t u e r of_r.0 same (omega arith) of_r.1) h.least.ratio in
     let r_at_most : IsAtMost h.ratio k.ratio = subst (λ (f : Fraction). IsAtMost h.ratio f) s_is of_s.2 in
     let s_at_most : IsAtMost k.ratio h.ratio = subst (λ (f : Fraction). IsAtMost k.ratio f) r_is of_r.2 in
     let first : t.basic r ≤ t.basic s = of_s.3 (subst (λ (f : Fraction). IsAtMost f h.ratio) (sym s_is) s_at_most) in
@@ -137,8 +153,10 @@ one_exchange p t t' u u' e r same form h k =
       cells = λ i v l. elim (cases_eq i r) [
         | inl here ↦ rw here (pivot v)
         | inr away ↦
-            one_less (t.cell i v) (t.cell i e) (u.cell r v) (u.cell i v) (u'.cell i v) (form i v l) (form i e l) (h.divided_form v) (h.taken i v l away)
-            (less_same (t.cell i v) (t.cell i e) (u.cell r v) (u'.cell i v) (t'.cell i v) (t'.cell i e) (u'.cell r v) (same.cells i v l) (same.cells i e l) (pivot v) (k.taken i v l away))
+            one_less (t.cell i v) (t.cell i e) (u.cell r v) (u.cell i v) (u'.cell i v) (form i v l) (form i e l)
+            (h.divided_form v) (h.taken i v l away)
+            (less_same (t.cell i v) (t.cell i e) (u.cell r v) (u'.cell i v) (t'.cell i v) (t'.cell i e) (u'.cell r v)
+            (same.cells i v l) (same.cells i e l) (pivot v) (k.taken i v l away))
       ];
       basis = λ i l. elim (cases_eq i r) [
         | inl here ↦ rw here (h.entered ∙ sym k.entered)
@@ -147,7 +165,8 @@ one_exchange p t t' u u' e r same form h k =
     }
 
 -- No variable is basic in two rows of a table that a run reaches.
-pub apart_in_run : (p : ProgramDef) (k : ℕ) (t : Table) → Reached p k t → (i j : ℕ) → i < height p → j < height p → (j ≡ i → ⊥) → t.basic j ≡ t.basic i → ⊥
+pub apart_in_run : (p : ProgramDef) (k : ℕ) (t : Table) → Reached p k t → (i j : ℕ) → i < height p → j < height p
+    → (j ≡ i → ⊥) → t.basic j ≡ t.basic i → ⊥
 apart_in_run p k t reached i j li lj away =
     let behind : (d : ℤ) × (z : ℕ → ℕ → ℤ) × IsShadow p t d z = shadow_reached p k t reached in
     basics_apart p t behind.0 behind.1 i j behind.2 li lj away
@@ -172,11 +191,13 @@ pub not_last : (p : ProgramDef) (t u : Table) (e : ℕ) → IsSameTable p t u �
 not_last p t u e same h last = not_both (objective p t e).num h.above (rw (same.cells (height p) e (omega arith)) (last.none e h.within))
 
 -- nor is its exchange wide
-wide_ratio : (p : ProgramDef) (t u s : Table) (e r : ℕ) → IsSameTable p t u → IsExchange p t s e r → IsWideRatio (variables p) (height p) u e → ⊥
+wide_ratio : (p : ProgramDef) (t u s : Table) (e r : ℕ) → IsSameTable p t u → IsExchange p t s e r
+    → IsWideRatio (variables p) (height p) u e → ⊥
 wide_ratio p t u s e r same h wide =
     let i : ℕ = wide.of_row in
     let of_i = h.leaves.least.least i wide.within (has_same p t u e i same (omega (arith, wide.within)) wide.has) in
-    let there : IsRatio (variables p) u e i of_i.0 = ratio_same p u t e i of_i.0 (same_back p t u same) (omega (arith, wide.within)) of_i.1 in
+    let there : IsRatio (variables p) u e i of_i.0 =
+    ratio_same p u t e i of_i.0 (same_back p t u same) (omega (arith, wide.within)) of_i.1 in
     wide.wide of_i.0 there.form there.quotient
 
 wide_quotient : (p : ProgramDef) (t u s : Table) (e r : ℕ) → IsSameTable p t u → IsExchange p t s e r → IsWideQuotient u e r → ⊥
@@ -189,23 +210,28 @@ wide_less : (a f y b : Fraction) → IsForm f → IsForm y → IsLess a f y b �
 wide_less a f y b ff fy h wide = elim wide [
   | inl product ↦ product h.product h.product_form h.is_product
   | inr difference ↦
-      let same : difference.0 ≡ h.product = one_product f y difference.0 h.product ff fy difference.1 h.product_form difference.2 h.is_product in
+      let same : difference.0 ≡ h.product =
+      one_product f y difference.0 h.product ff fy difference.1 h.product_form difference.2 h.is_product in
       difference.3 b h.form (rw same h.is_difference)
 ]
 
-wide_taking : (p : ProgramDef) (t u s : Table) (e r : ℕ) → IsSameTable p t u → ((i v : ℕ) → i ≤ height p → IsForm (t.cell i v)) → IsExchange p t s e r
+wide_taking : (p : ProgramDef) (t u s : Table) (e r : ℕ) → IsSameTable p t u
+    → ((i v : ℕ) → i ≤ height p → IsForm (t.cell i v)) → IsExchange p t s e r
     → IsWideTaking (height p) u e r → ⊥
 wide_taking p t u s e r same form h wide =
     let within : r ≤ height p = omega (arith, h.leaves.least.within) in
     let i : ℕ = wide.of_row in
     let v : ℕ = wide.at_place in
     let pivot : wide.divided v ≡ s.cell r v
-    = one_quotient (t.cell r v) (t.cell r e) (wide.divided v) (s.cell r v) (form r v within) (not_zero (t.cell r e).num h.leaves.least.has.above)
+    = one_quotient (t.cell r v) (t.cell r e) (wide.divided v) (s.cell r v) (form r v within)
+    (not_zero (t.cell r e).num h.leaves.least.has.above)
     (wide.divided_form v) (h.divided_form v) (rw (same.cells r v within, same.cells r e within) (wide.is_divided v)) (h.divided v) in
-    wide_less (t.cell i v) (t.cell i e) (s.cell r v) (s.cell i v) (form i e wide.within) (h.divided_form v) (h.taken i v wide.within wide.other)
+    wide_less (t.cell i v) (t.cell i e) (s.cell r v) (s.cell i v) (form i e wide.within) (h.divided_form v)
+    (h.taken i v wide.within wide.other)
     (rw (same.cells i v wide.within, same.cells i e wide.within, ← pivot) wide.wide)
 
-pub not_wide : (p : ProgramDef) (k : ℕ) (t u s : Table) (e r : ℕ) → IsProgram p → Reached p k t → IsSameTable p t u → IsExchange p t s e r → IsWideExchange p u → ⊥
+pub not_wide : (p : ProgramDef) (k : ℕ) (t u s : Table) (e r : ℕ) → IsProgram p → Reached p k t → IsSameTable p t u
+    → IsExchange p t s e r → IsWideExchange p u → ⊥
 not_wide p k t u s e r accepted reached same h wide =
     let form = forms p k t accepted reached in
     let entering : wide.entering ≡ e = sym (one_entering p t u e wide.entering same h.enters wide.enters) in
@@ -214,7 +240,8 @@ not_wide p k t u s e r accepted reached same h wide =
       | inr step ↦
           let leaves : IsLeaving p u e step.0 = subst (λ (n : ℕ). IsLeaving p u n step.0) entering step.1 in
           let leaving : step.0 ≡ r = sym (one_leaving p t u e r step.0 same form (apart_in_run p k t reached) h.leaves leaves) in
-          let at : IsWideStep (height p) u e r = subst (λ (n : ℕ). IsWideStep (height p) u e n) leaving (subst (λ (n : ℕ). IsWideStep (height p) u n step.0) entering step.2) in
+          let at : IsWideStep (height p) u e r = subst (λ (n : ℕ). IsWideStep (height p) u e n) leaving
+          (subst (λ (n : ℕ). IsWideStep (height p) u n step.0) entering step.2) in
           elim at [
             | inl quotient ↦ wide_quotient p t u s e r same h quotient
             | inr taking ↦ wide_taking p t u s e r same form h taking
@@ -222,7 +249,8 @@ not_wide p k t u s e r accepted reached same h wide =
     ]
 
 -- The exchange that a longer run makes after k others.
-exchange_before : (p : ProgramDef) (k n : ℕ) (u : Table) → Reached p (suc (k + n)) u → (t : Table) × (s : Table) × (e : ℕ) × (r : ℕ) × (Reached p k t) × IsExchange p t s e r
+exchange_before : (p : ProgramDef) (k n : ℕ) (u : Table) → Reached p (suc (k + n)) u
+    → (t : Table) × (s : Table) × (e : ℕ) × (r : ℕ) × (Reached p k t) × IsExchange p t s e r
 exchange_before p k zero u h =
     let at : k + zero ≡ k = omega arith in
     (h.0, u, h.1, h.2, subst (λ (n : ℕ). Reached p n h.0) at h.3, h.4)
@@ -231,7 +259,8 @@ exchange_before p k (suc n) u h =
     exchange_before p k n h.0 (subst (λ (n : ℕ). Reached p n h.0) at h.3)
 
 -- A run that ends or is wide after k exchanges makes no more.
-pub no_later : (p : ProgramDef) (k j : ℕ) (t u : Table) → IsProgram p → Reached p k t → (IsLast p t ⊎ IsWideExchange p t) → Reached p j u → j ≤ k
+pub no_later : (p : ProgramDef) (k j : ℕ) (t u : Table) → IsProgram p → Reached p k t
+    → (IsLast p t ⊎ IsWideExchange p t) → Reached p j u → j ≤ k
 no_later p k j t u accepted h ends later = elim (cases_lt k j) [
   | inr within ↦ within
   | inl past ↦

@@ -1,5 +1,7 @@
 -- The run of the worked program of seven rows, table by table.
-use Rattle.std.proofs.Common.{◌≡◌, inl, inr, ℕ, zero, suc, ◌<◌, ◌≤◌, ◌==◌, ◌&&◌, Bool, true, nat_le, nat_lt, List, [], ◌∷◌, length, slice_index, slice_index_or, ℤ, pos, negsuc, ◌*ℤ◌, unsigned_abs, lit<, ◌%◌, ◌^◌, refl, ap, ap₂, arith}
+use Rattle.std.proofs.Common.{◌≡◌, inl, inr, ℕ, zero, suc, ◌<◌, ◌≤◌, ◌==◌, ◌&&◌, Bool, true, nat_le, nat_lt, List, []}
+use Rattle.std.proofs.Common.{◌∷◌, length, slice_index, slice_index_or, ℤ, pos, negsuc, ◌*ℤ◌, unsigned_abs, lit<, ◌%◌}
+use Rattle.std.proofs.Common.{◌^◌, refl, ap, ap₂, arith}
 use Rattle.std.specs.Int.{◌∣◌}
 use Rattle.std.specs.Ordering.{int_eq}
 use Rattle.std.proofs.lemmas.Bool.{cases_lt, leb-true, ltb-true, eqb-true, and_parts}
@@ -41,14 +43,20 @@ first_starts : (p : ProgramDef) → IsStart p (first_table p)
 first_starts p = record { cells = λ i v l. refl; basis = λ i l. refl }
 
 -- Such a table is zero past its rows.
-rows_short : (rows : List (List Fraction)) (n : ℕ) → all_below (length rows) (λ i. nat_le (length (slice_index_or rows i [])) n) ≡ true → (i : ℕ) → length (slice_index_or rows i []) ≤ n
+rows_short : (rows : List (List Fraction)) (n : ℕ)
+    → all_below (length rows) (λ i. nat_le (length (slice_index_or rows i [])) n) ≡ true → (i : ℕ)
+    → length (slice_index_or rows i []) ≤ n
 rows_short rows n h i = elim (cases_lt i (length rows)) [
-  | inl within ↦ leb-true (length (slice_index_or rows i [])) n (all_below-each (length rows) (λ k. nat_le (length (slice_index_or rows k [])) n) h i within)
+  | inl within ↦ leb-true (length (slice_index_or rows i [])) n
+      (all_below-each (length rows) (λ k. nat_le (length (slice_index_or rows k [])) n) h i within)
   | inr past ↦ let none : slice_index_or rows i [] ≡ [] = get_or_past rows i [] past in rw none (omega arith)
 ]
 
-zero_past : (rows : List (List Fraction)) (basis : List ℕ) → all_below (length rows) (λ i. nat_le (length (slice_index_or rows i [])) 11) ≡ true → IsZeroPast seven_rows (list_table rows basis)
-zero_past rows basis h i v past = get_or_past (slice_index_or rows i []) v (whole (pos 0)) (omega (arith, rows_short rows 11 h i, eleven v past))
+zero_past : (rows : List (List Fraction)) (basis : List ℕ)
+    → all_below (length rows) (λ i. nat_le (length (slice_index_or rows i [])) 11) ≡ true
+    → IsZeroPast seven_rows (list_table rows basis)
+zero_past rows basis h i v past =
+    get_or_past (slice_index_or rows i []) v (whole (pos 0)) (omega (arith, rows_short rows 11 h i, eleven v past))
   where
     eleven : (k : ℕ) → 10 < k → 11 ≤ k
     eleven k l = omega arith
@@ -129,7 +137,8 @@ past_four : IsZeroPast seven_rows table_four
 past_four = zero_past rows_four (0 ∷ 3 ∷ 5 ∷ 1 ∷ 7 ∷ 2 ∷ 9 ∷ []) refl
 
 exchange_one : IsExchange seven_rows (first_table seven_rows) table_one 0 0
-exchange_one = exchange_from seven_rows (first_table seven_rows) table_one 0 0 (w 1) (zero_past_first seven_rows) past_one refl refl refl refl refl
+exchange_one = exchange_from seven_rows (first_table seven_rows) table_one 0 0 (w 1) (zero_past_first seven_rows)
+    past_one refl refl refl refl refl
 
 exchange_two : IsExchange seven_rows table_one table_two 1 3
 exchange_two = exchange_from seven_rows table_one table_two 1 3 (f (pos 1) 2) past_one past_two refl refl refl refl refl
@@ -144,27 +153,62 @@ last_table : IsLast seven_rows table_four
 last_table = last_from seven_rows table_four refl
 
 reads_one : ReadsSo seven_rows (first_table seven_rows) table_one 0 (record { entered = 0; left = 3; ratio = w 1; value = w 3 })
-reads_one = record { exchange = exchange_one; left = refl; ratio = (leaving_from seven_rows (first_table seven_rows) 0 0 (w 1) refl).ratio; value = refl }
+reads_one = record {
+  exchange = exchange_one;
+  left = refl;
+  ratio = (leaving_from seven_rows (first_table seven_rows) 0 0 (w 1) refl).ratio;
+  value = refl;
+}
 
 reads_two : ReadsSo seven_rows table_one table_two 3 (record { entered = 1; left = 6; ratio = f (pos 1) 2; value = w 4 })
-reads_two = record { exchange = exchange_two; left = refl; ratio = (leaving_from seven_rows table_one 1 3 (f (pos 1) 2) refl).ratio; value = refl }
+reads_two = record {
+  exchange = exchange_two;
+  left = refl;
+  ratio = (leaving_from seven_rows table_one 1 3 (f (pos 1) 2) refl).ratio;
+  value = refl;
+}
 
 reads_three : ReadsSo seven_rows table_two table_three 5 (record { entered = 2; left = 8; ratio = w 0; value = w 4 })
-reads_three = record { exchange = exchange_three; left = refl; ratio = (leaving_from seven_rows table_two 2 5 (w 0) refl).ratio; value = refl }
+reads_three = record {
+  exchange = exchange_three;
+  left = refl;
+  ratio = (leaving_from seven_rows table_two 2 5 (w 0) refl).ratio;
+  value = refl;
+}
 
 reads_four : ReadsSo seven_rows table_three table_four 1 (record { entered = 3; left = 4; ratio = f (pos 1) 3; value = f (pos 14) 3 })
-reads_four = record { exchange = exchange_four; left = refl; ratio = (leaving_from seven_rows table_three 3 1 (f (pos 1) 3) refl).ratio; value = refl }
+reads_four = record {
+  exchange = exchange_four;
+  left = refl;
+  ratio = (leaving_from seven_rows table_three 3 1 (f (pos 1) 3) refl).ratio;
+  value = refl;
+}
 
 pub run_reads_so : (t : Table) × (RunReadsSo seven_rows seven_rows_account t) × IsLast seven_rows t
 run_reads_so = (
   table_four,
-  (table_three, 1, (table_two, 5, (table_one, 3, (first_table seven_rows, 0, first_starts seven_rows, reads_one), reads_two), reads_three), reads_four),
+  (
+    table_three,
+    1,
+    (
+      table_two,
+      5,
+      (table_one, 3, (first_table seven_rows, 0, first_starts seven_rows, reads_one), reads_two),
+      reads_three,
+    ),
+    reads_four,
+  ),
   last_table,
 )
 
 reached_three : Reached seven_rows 3 table_three
-reached_three =
-    (table_two, 2, 5, (table_one, 1, 3, (first_table seven_rows, 0, 0, first_starts seven_rows, exchange_one), exchange_two), exchange_three)
+reached_three = (
+  table_two,
+  2,
+  5,
+  (table_one, 1, 3, (first_table seven_rows, 0, 0, first_starts seven_rows, exchange_one), exchange_two),
+  exchange_three,
+)
 
 -- What is read off the last table.
 values : (c : ℕ) → c < 3 → IsValueOf 10 table_four 7 c (fraction_at seven_rows_primal c)
@@ -198,7 +242,8 @@ least_is_three = record {
   positive = lit< tt;
   common = All-from_get_or (λ d. unsigned_abs d.den ∣ 3) duals (whole (pos 0)) (λ i l.
       dvd_of_mod-eq-zero (unsigned_abs (fraction_at duals i).den)
-      (eqb-true (3 % unsigned_abs (fraction_at duals i).den) 0 (all_below-each 7 (λ k. 3 % unsigned_abs (fraction_at duals k).den == 0) refl i l)));
+      (eqb-true (3 % unsigned_abs (fraction_at duals i).den) 0
+      (all_below-each 7 (λ k. 3 % unsigned_abs (fraction_at duals k).den == 0) refl i l)));
   least = λ k h. h 1 (whole (pos 0)) (lit< tt);
 }
 
@@ -207,7 +252,9 @@ are_scaled = record {
   len = refl;
   each = λ i l. record {
     same = (Decides-int_eq (pos (slice_index seven_rows_dual.num i) *ℤ (fraction_at duals i).den) ((fraction_at duals i).num *ℤ pos 3)).0
-        (all_below-each 7 (λ k. int_eq (pos (slice_index seven_rows_dual.num k) *ℤ (fraction_at duals k).den) ((fraction_at duals k).num *ℤ pos 3)) refl i l);
+        (all_below-each 7
+        (λ k. int_eq (pos (slice_index seven_rows_dual.num k) *ℤ (fraction_at duals k).den)
+        ((fraction_at duals k).num *ℤ pos 3)) refl i l);
   };
 }
 
@@ -226,7 +273,8 @@ ends_so = record {
       scaled = are_scaled;
       small_den = lit< tt;
       small_num = All-from_get_or (λ k. k < 2 ^ 63) seven_rows_dual.num 0 (λ i l.
-          ltb-true (slice_index seven_rows_dual.num i) 9223372036854775808 (all_below-each 7 (λ k. nat_lt (slice_index seven_rows_dual.num k) 9223372036854775808) refl i l));
+          ltb-true (slice_index seven_rows_dual.num i) 9223372036854775808
+          (all_below-each 7 (λ k. nat_lt (slice_index seven_rows_dual.num k) 9223372036854775808) refl i l));
     };
   };
 }

@@ -10,9 +10,11 @@ use Rattle.program_form.specs.Program.{ProgramDef, columns, height}
 use Rattle.exchange_runs.specs.Table.{Table, variables, IsStart, first_number}
 use Rattle.exchange_runs.specs.Exchange.{HasRatio, IsRatioOver, IsLessOver, IsExchangeOver}
 use Rattle.exchange_runs.specs.Run.{ReachedOver, Reached}
-use Rattle.exchange_runs.proofs.Shown.{Shows, shows_whole, shows_times, shows_at, shows_quotient, shows_product, shows_difference, shows_above, above_shown, shows_at_most}
+use Rattle.exchange_runs.proofs.Shown.{Shows, shows_whole, shows_times, shows_at, shows_quotient, shows_product}
+use Rattle.exchange_runs.proofs.Shown.{shows_difference, shows_above, above_shown, shows_at_most}
 use Rattle.exchange_runs.proofs.Leasts.{AreFractions}
-use Rattle.exchange_runs.proofs.Invariants.{IsMix, IsRead, exchanged, exchanged-here, exchanged-away, mix_after, mix_after_itself, mix_agree, read_after, unit_after, limits_after}
+use Rattle.exchange_runs.proofs.Invariants.{IsMix, IsRead, exchanged, exchanged-here, exchanged-away, mix_after}
+use Rattle.exchange_runs.proofs.Invariants.{mix_after_itself, mix_agree, read_after, unit_after, limits_after}
 use Rattle.exchange_runs.proofs.Ends.{start_mix, start_mix_objective, start_read, start_read_objective}
 use Rattle.exchange_runs.proofs.FirstTable.{first_z, has_slacks}
 
@@ -48,13 +50,16 @@ shadow_start p t start = record {
     not_negative n = omega (arith, ints)
 
 -- The ratio of a row is its limit's number over that of its cell at e.
-pub ratio_shows : (IsCell : Fraction → Type 0) (p : ProgramDef) (t : Table) (d : ℤ) (z : ℕ → ℕ → ℤ) (e i : ℕ) (f : Fraction) → AreFractions IsCell
+pub ratio_shows : (IsCell : Fraction → Type 0) (p : ProgramDef) (t : Table) (d : ℤ) (z : ℕ → ℕ → ℤ) (e i : ℕ)
+    (f : Fraction) → AreFractions IsCell
     → IsShadow p t d z → i ≤ height p → IsRatioOver IsCell (variables p) t e i f → Shows (z i e) (z i (variables p)) f
 ratio_shows IsCell p t d z e i f are h l is =
-    shows_quotient d (z i (variables p)) (z i e) (t.cell i (variables p)) (t.cell i e) f (h.shows i (variables p) l) (h.shows i e l) (are f is.form) is.quotient
+    shows_quotient d (z i (variables p)) (z i e) (t.cell i (variables p)) (t.cell i e) f (h.shows i (variables p) l)
+    (h.shows i e l) (are f is.form) is.quotient
 
 -- The numbers that are left of a cell when a product is taken away.
-less_shows : (IsCell : Fraction → Type 0) (d q x y c : ℤ) (a f b : Fraction) (g : Fraction) → AreFractions IsCell → Shows d x a → Shows d c f → Shows q y g
+less_shows : (IsCell : Fraction → Type 0) (d q x y c : ℤ) (a f b : Fraction) (g : Fraction) → AreFractions IsCell
+    → Shows d x a → Shows d c f → Shows q y g
     → IsLessOver IsCell a f g b → Shows (d *ℤ q) ((q *ℤ x) -ℤ (c *ℤ y)) b
 less_shows IsCell d q x y c a f b g are ha hf hg is =
     shows_difference (d *ℤ q) (q *ℤ x) (c *ℤ y) a is.product b
@@ -69,28 +74,35 @@ shadow_after IsCell p t u e r d z are x h =
     let weak : r ≤ height p = omega arith in
     let above : pos 0 <ℤ z r e = shows_above d (z r e) (t.cell r e) h.positive (h.shows r e weak) x.leaves.least.has.above in
     let pivot : (v : ℕ) → Shows (z r e) (z r v) (u.cell r v) = λ v.
-    shows_quotient d (z r v) (z r e) (t.cell r v) (t.cell r e) (u.cell r v) (h.shows r v weak) (h.shows r e weak) (are (u.cell r v) (x.divided_form v)) (x.divided v) in
+    shows_quotient d (z r v) (z r e) (t.cell r v) (t.cell r e) (u.cell r v) (h.shows r v weak) (h.shows r e weak)
+    (are (u.cell r v) (x.divided_form v)) (x.divided v) in
     record {
       positive = times_positive d (z r e) h.positive above;
       shows = λ i v l. elim (cases_eq i r) [
         | inl here ↦
-            rw here (shows_at (d *ℤ z r e) (d *ℤ z r e) (d *ℤ z r v) (exchanged r e d z r v) (u.cell r v) refl (sym (exchanged-here r e d z v))
+            rw here (shows_at (d *ℤ z r e) (d *ℤ z r e) (d *ℤ z r v) (exchanged r e d z r v) (u.cell r v) refl
+            (sym (exchanged-here r e d z v))
             (shows_times d (z r e) (z r v) (u.cell r v) (pivot v)))
         | inr away ↦
-            shows_at (d *ℤ z r e) (d *ℤ z r e) ((z r e *ℤ z i v) -ℤ (z i e *ℤ z r v)) (exchanged r e d z i v) (u.cell i v) refl (sym (exchanged-away r e d z i v away))
-            (less_shows IsCell d (z r e) (z i v) (z r v) (z i e) (t.cell i v) (t.cell i e) (u.cell i v) (u.cell r v) are (h.shows i v l) (h.shows i e l) (pivot v) (x.taken i v l away))
+            shows_at (d *ℤ z r e) (d *ℤ z r e) ((z r e *ℤ z i v) -ℤ (z i e *ℤ z r v)) (exchanged r e d z i v)
+            (u.cell i v) refl (sym (exchanged-away r e d z i v away))
+            (less_shows IsCell d (z r e) (z i v) (z r v) (z i e) (t.cell i v) (t.cell i e) (u.cell i v) (u.cell r v) are
+            (h.shows i v l) (h.shows i e l) (pivot v) (x.taken i v l away))
       ];
       mixes = λ i l. elim (cases_eq i r) [
         | inl here ↦ rw here (mix_after_itself (height p) (columns p) (first_z p) d z r e (h.mixes r within))
         | inr away ↦
-            mix_agree (height p) (columns p) (first_z p) (z r e *ℤ pos 0) (pos 0) (exchanged r e d z i) (exchanged r e d z i) (none (z r e)) (λ v. refl)
+            mix_agree (height p) (columns p) (first_z p) (z r e *ℤ pos 0) (pos 0) (exchanged r e d z i)
+            (exchanged r e d z i) (none (z r e)) (λ v. refl)
             (mix_after (height p) (columns p) (first_z p) d (pos 0) z r e i away (h.mixes r within) (h.mixes i l))
       ];
       mixes_objective =
-          mix_agree (height p) (columns p) (first_z p) (z r e *ℤ d) (d *ℤ z r e) (exchanged r e d z (height p)) (exchanged r e d z (height p)) (mul-comm (z r e) d) (λ v. refl)
+          mix_agree (height p) (columns p) (first_z p) (z r e *ℤ d) (d *ℤ z r e) (exchanged r e d z (height p))
+          (exchanged r e d z (height p)) (mul-comm (z r e) d) (λ v. refl)
           (mix_after (height p) (columns p) (first_z p) d d z r e (height p) (λ same. omega arith) (h.mixes r within) h.mixes_objective);
       reads = λ j l. read_after (height p) d (pos 0) (first_z p j) z t.basic u.basic r e within x.entered x.stayed (h.reads j l);
-      reads_objective = read_after (height p) d (pos 1) (first_z p (height p)) z t.basic u.basic r e within x.entered x.stayed h.reads_objective;
+      reads_objective = read_after (height p) d (pos 1) (first_z p (height p)) z t.basic u.basic r e within x.entered
+          x.stayed h.reads_objective;
       unit = unit_after (height p) d z t.basic u.basic r e within x.entered x.stayed h.unit;
       basics = λ i l. elim (cases_eq i r) [
         | inl here ↦ rw (here, x.entered) x.enters.within
@@ -113,8 +125,11 @@ pub shadow_over : (IsCell : Fraction → Type 0) (p : ProgramDef) (k : ℕ) (t :
     → (d : ℤ) × (z : ℕ → ℕ → ℤ) × IsShadow p t d z
 shadow_over IsCell p zero t are h = (pos 1, first_z p, shadow_start p t h)
 shadow_over IsCell p (suc k) t are h =
-    let before : (d : ℤ) × (z : ℕ → ℕ → ℤ) × IsShadow p h.0 d z = shadow_over IsCell p k h.0 are h.3 in
-    (before.0 *ℤ before.1 h.2 h.1, exchanged h.2 h.1 before.0 before.1, shadow_after IsCell p h.0 t h.1 h.2 before.0 before.1 are h.4 before.2)
+    let before : (d : ℤ) × (z : ℕ → ℕ → ℤ) × IsShadow p h.0 d z = shadow_over IsCell p k h.0 are h.3 in (
+      before.0 *ℤ before.1 h.2 h.1,
+      exchanged h.2 h.1 before.0 before.1,
+      shadow_after IsCell p h.0 t h.1 h.2 before.0 before.1 are h.4 before.2,
+    )
 
 pub shadow_reached : (p : ProgramDef) (k : ℕ) (t : Table) → Reached p k t → (d : ℤ) × (z : ℕ → ℕ → ℤ) × IsShadow p t d z
 shadow_reached p k t h = shadow_over IsForm p k t (λ f form. form.positive) h

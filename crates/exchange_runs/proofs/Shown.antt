@@ -34,7 +34,8 @@ quotient_ring : (an ad bn bd cn cd d x q : ℤ) → cn *ℤ (ad *ℤ bn) ≡ (an
     → (cn *ℤ q) *ℤ (ad *ℤ bd) ≡ (x *ℤ cd) *ℤ (ad *ℤ bd)
 quotient_ring an ad bn bd cn cd d x q h k j =
     by_three d h (neg_ℤ (cn *ℤ ad)) k (bd *ℤ cd) j _ _
-    (rw (as_diff an, as_diff ad, as_diff bn, as_diff bd, as_diff cn, as_diff cd, as_diff d, as_diff x, as_diff q) (simp diffs (same_diff _ _ _ _ (omega arith))))
+    (rw (as_diff an, as_diff ad, as_diff bn, as_diff bd, as_diff cn, as_diff cd, as_diff d, as_diff x, as_diff q)
+    (simp diffs (same_diff _ _ _ _ (omega arith))))
 
 -- x / d over q / d is x / q.
 pub shows_quotient : (d x q : ℤ) (a b c : Fraction) → Shows d x a → Shows d q b → pos 0 <ℤ c.den → IsQuotient a b c → Shows q x c
@@ -48,21 +49,26 @@ product_ring : (an ad cn cd fn fd d x b y : ℤ) → fn *ℤ (ad *ℤ cd) ≡ (a
     → (fn *ℤ (d *ℤ b)) *ℤ (ad *ℤ cd) ≡ ((x *ℤ y) *ℤ fd) *ℤ (ad *ℤ cd)
 product_ring an ad cn cd fn fd d x b y h k j =
     by_three (d *ℤ b) h ((b *ℤ cn) *ℤ fd) k ((x *ℤ ad) *ℤ fd) j _ _
-    (rw (as_diff an, as_diff ad, as_diff cn, as_diff cd, as_diff fn, as_diff fd, as_diff d, as_diff x, as_diff b, as_diff y) (simp diffs (same_diff _ _ _ _ (omega arith))))
+    (rw
+    (as_diff an, as_diff ad, as_diff cn, as_diff cd, as_diff fn, as_diff fd, as_diff d, as_diff x, as_diff b, as_diff y)
+    (simp diffs (same_diff _ _ _ _ (omega arith))))
 
 -- x / d times y / b is x y / (d b).
-pub shows_product : (d x b y : ℤ) (a c f : Fraction) → Shows d x a → Shows b y c → pos 0 <ℤ f.den → IsProduct a c f → Shows (d *ℤ b) (x *ℤ y) f
+pub shows_product : (d x b y : ℤ) (a c f : Fraction) → Shows d x a → Shows b y c → pos 0 <ℤ f.den → IsProduct a c f
+    → Shows (d *ℤ b) (x *ℤ y) f
 shows_product d x b y a c f ha hc positive h = record {
   same = cancel (f.num *ℤ (d *ℤ b)) ((x *ℤ y) *ℤ f.den) (a.den *ℤ c.den) (times_positive a.den c.den ha.positive hc.positive)
       (product_ring a.num a.den c.num c.den f.num f.den d x b y h.same ha.same hc.same);
   positive = positive;
 }
 
-difference_ring : (an ad cn cd fn fd d x y : ℤ) → fn *ℤ (ad *ℤ cd) ≡ ((an *ℤ cd) -ℤ (cn *ℤ ad)) *ℤ fd → an *ℤ d ≡ x *ℤ ad → cn *ℤ d ≡ y *ℤ cd
+difference_ring : (an ad cn cd fn fd d x y : ℤ) → fn *ℤ (ad *ℤ cd) ≡ ((an *ℤ cd) -ℤ (cn *ℤ ad)) *ℤ fd
+    → an *ℤ d ≡ x *ℤ ad → cn *ℤ d ≡ y *ℤ cd
     → (fn *ℤ d) *ℤ (ad *ℤ cd) ≡ ((x -ℤ y) *ℤ fd) *ℤ (ad *ℤ cd)
 difference_ring an ad cn cd fn fd d x y h k j =
     by_three d h (cd *ℤ fd) k (neg_ℤ (ad *ℤ fd)) j _ _
-    (rw (as_diff an, as_diff ad, as_diff cn, as_diff cd, as_diff fn, as_diff fd, as_diff d, as_diff x, as_diff y) (simp diffs (same_diff _ _ _ _ (omega arith))))
+    (rw (as_diff an, as_diff ad, as_diff cn, as_diff cd, as_diff fn, as_diff fd, as_diff d, as_diff x, as_diff y)
+    (simp diffs (same_diff _ _ _ _ (omega arith))))
 
 -- x / d less y / d is (x - y) / d.
 pub shows_difference : (d x y : ℤ) (a c f : Fraction) → Shows d x a → Shows d y c → pos 0 <ℤ f.den → IsDifference a c f → Shows d (x -ℤ y) f
@@ -103,25 +109,30 @@ shows_at_most_zero d x f pd h below =
 pub at_least_zero_shown : (d x : ℤ) (f : Fraction) → pos 0 <ℤ d → Shows d x f → pos 0 ≤ℤ x → pos 0 ≤ℤ f.num
 at_least_zero_shown d x f pd h above =
     cancel_le (pos 0) f.num d pd
-    (at_most_of _ _ _ _ (zero_times f.den ∙ sym (zero_times d)) (sym h.same) (times_le (pos 0) x f.den (not_negative f.den h.positive) above))
+    (at_most_of _ _ _ _ (zero_times f.den ∙ sym (zero_times d)) (sym h.same)
+    (times_le (pos 0) x f.den (not_negative f.den h.positive) above))
 
 at_most_left : (fn fd gd d x b : ℤ) → fn *ℤ d ≡ x *ℤ fd → (fn *ℤ gd) *ℤ (d *ℤ b) ≡ (x *ℤ b) *ℤ (fd *ℤ gd)
 at_most_left fn fd gd d x b h =
-    by_one (gd *ℤ b) h _ _ (rw (as_diff fn, as_diff fd, as_diff gd, as_diff d, as_diff x, as_diff b) (simp diffs (same_diff _ _ _ _ (omega arith))))
+    by_one (gd *ℤ b) h _ _ (rw (as_diff fn, as_diff fd, as_diff gd, as_diff d, as_diff x, as_diff b)
+    (simp diffs (same_diff _ _ _ _ (omega arith))))
 
 at_most_right : (fd gn gd d b y : ℤ) → gn *ℤ b ≡ y *ℤ gd → (gn *ℤ fd) *ℤ (d *ℤ b) ≡ (y *ℤ d) *ℤ (fd *ℤ gd)
 at_most_right fd gn gd d b y h =
-    by_one (fd *ℤ d) h _ _ (rw (as_diff fd, as_diff gn, as_diff gd, as_diff d, as_diff b, as_diff y) (simp diffs (same_diff _ _ _ _ (omega arith))))
+    by_one (fd *ℤ d) h _ _ (rw (as_diff fd, as_diff gn, as_diff gd, as_diff d, as_diff b, as_diff y)
+    (simp diffs (same_diff _ _ _ _ (omega arith))))
 
 -- x / d at most y / b is x b at most y d.
-pub shows_at_most : (d x b y : ℤ) (f g : Fraction) → pos 0 <ℤ d → pos 0 <ℤ b → Shows d x f → Shows b y g → IsAtMost f g → (x *ℤ b) ≤ℤ (y *ℤ d)
+pub shows_at_most : (d x b y : ℤ) (f g : Fraction) → pos 0 <ℤ d → pos 0 <ℤ b → Shows d x f → Shows b y g → IsAtMost f g
+    → (x *ℤ b) ≤ℤ (y *ℤ d)
 shows_at_most d x b y f g pd pb hf hg h =
     cancel_le (x *ℤ b) (y *ℤ d) (f.den *ℤ g.den) (times_positive f.den g.den hf.positive hg.positive)
     (at_most_of _ _ _ _ (at_most_left f.num f.den g.den d x b hf.same) (at_most_right f.den g.num g.den d b y hg.same)
     (times_le (f.num *ℤ g.den) (g.num *ℤ f.den) (d *ℤ b) (not_negative _ (times_positive d b pd pb)) h.le))
 
 -- And the other way round.
-pub at_most_shown : (d x b y : ℤ) (f g : Fraction) → pos 0 <ℤ d → pos 0 <ℤ b → Shows d x f → Shows b y g → (x *ℤ b) ≤ℤ (y *ℤ d) → IsAtMost f g
+pub at_most_shown : (d x b y : ℤ) (f g : Fraction) → pos 0 <ℤ d → pos 0 <ℤ b → Shows d x f → Shows b y g
+    → (x *ℤ b) ≤ℤ (y *ℤ d) → IsAtMost f g
 at_most_shown d x b y f g pd pb hf hg h = record {
   le = cancel_le (f.num *ℤ g.den) (g.num *ℤ f.den) (d *ℤ b) (times_positive d b pd pb)
       (at_most_of _ _ _ _ (sym (at_most_left f.num f.den g.den d x b hf.same)) (sym (at_most_right f.den g.num g.den d b y hg.same))

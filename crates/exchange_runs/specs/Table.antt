@@ -5,7 +5,8 @@ use Rattle.program_form.specs.Program.{ProgramDef, columns, height, row, limit}
 
 -- What stands where: a cell for each row and place, and for each row its basic variable.
 -- The places are the variables, the columns first and then a slack for each row in row order, and behind them the place of the limit.
--- Row `height p` is the objective row. Cells past the limit are zero in every table of a run, and those past the objective row count for nothing.
+-- Row `height p` is the objective row. Cells past the limit are zero in every table of a run, and those past the
+-- objective row count for nothing.
 pub record Table : Type 0 where
   pub cell : ℕ → ℕ → Fraction
   pub basic : ℕ → ℕ

@@ -6,19 +6,23 @@ use Rattle.fraction128.specs.Fraction.{Fraction, IsSame, IsSum, IsDifference, Is
 use Rattle.fraction128.specs.Gives.{Gives}
 use Rattle.fraction128.specs.declared.Wide.{Wide}
 
-pub gives_sum : (r : Result Fraction Wide) (a b : Fraction) → Gives r (IsSame (over ((a.num *ℤ b.den) +ℤ (b.num *ℤ a.den)) (a.den *ℤ b.den))) → Gives r (IsSum a b)
+pub gives_sum : (r : Result Fraction Wide) (a b : Fraction)
+    → Gives r (IsSame (over ((a.num *ℤ b.den) +ℤ (b.num *ℤ a.den)) (a.den *ℤ b.den))) → Gives r (IsSum a b)
 gives_sum (Ok f) a b h = (h.0, record { same = h.1.same })
 gives_sum (Err w) a b h = λ f form is. h f form (record { same = is.same })
 
-pub gives_difference : (r : Result Fraction Wide) (a b : Fraction) → Gives r (IsSame (over ((a.num *ℤ b.den) -ℤ (b.num *ℤ a.den)) (a.den *ℤ b.den))) → Gives r (IsDifference a b)
+pub gives_difference : (r : Result Fraction Wide) (a b : Fraction)
+    → Gives r (IsSame (over ((a.num *ℤ b.den) -ℤ (b.num *ℤ a.den)) (a.den *ℤ b.den))) → Gives r (IsDifference a b)
 gives_difference (Ok f) a b h = (h.0, record { same = h.1.same })
 gives_difference (Err w) a b h = λ f form is. h f form (record { same = is.same })
 
-pub gives_product : (r : Result Fraction Wide) (a b : Fraction) → Gives r (IsSame (over (a.num *ℤ b.num) (a.den *ℤ b.den))) → Gives r (IsProduct a b)
+pub gives_product : (r : Result Fraction Wide) (a b : Fraction)
+    → Gives r (IsSame (over (a.num *ℤ b.num) (a.den *ℤ b.den))) → Gives r (IsProduct a b)
 gives_product (Ok f) a b h = (h.0, record { same = h.1.same })
 gives_product (Err w) a b h = λ f form is. h f form (record { same = is.same })
 
-pub gives_quotient : (r : Result Fraction Wide) (a b : Fraction) → Gives r (IsSame (over (a.num *ℤ b.den) (b.num *ℤ a.den))) → Gives r (IsQuotient a b)
+pub gives_quotient : (r : Result Fraction Wide) (a b : Fraction)
+    → Gives r (IsSame (over (a.num *ℤ b.den) (b.num *ℤ a.den))) → Gives r (IsQuotient a b)
 gives_quotient (Ok f) a b h = (h.0, record { same = ap (λ z. f.num *ℤ z) (mul-comm a.den b.num) ∙ h.1.same })
 gives_quotient (Err w) a b h = λ f form is. h f form (record { same = ap (λ z. f.num *ℤ z) (mul-comm b.num a.den) ∙ is.same })
 

@@ -22,7 +22,8 @@ lesser_odd x y less is odd_x odd_y =
     ]
 
 -- one step: the lesser, and the odd part of what they differ by
-pub odd_step : (x y less most m k g : ℕ) → less ≡ min x y → most ≡ max x y → most - less ≡ m * 2 ^ k → x % 2 ≡ 1 → y % 2 ≡ 1 → IsGcd less m g → IsGcd x y g
+pub odd_step : (x y less most m k g : ℕ) → less ≡ min x y → most ≡ max x y → most - less ≡ m * 2 ^ k → x % 2 ≡ 1
+    → y % 2 ≡ 1 → IsGcd less m g → IsGcd x y g
 odd_step x y less most m k g is_less is_most gap odd_x odd_y h =
     elim (cases_lt x y) [
       | inl lt ↦
@@ -43,7 +44,8 @@ pub gcd_of_same : (x y : ℕ) → x ≡ y → IsGcd x y x
 gcd_of_same x y e = (dvd_refl x, subst (λ (n : ℕ). x ∣ n) e (dvd_refl x), λ d p q. p)
 
 -- the shared factors of 2 are put back, and the sum of it fits 64 bits
-pub gcd_put_back : (a b x y g i j least : ℕ) → 0 < a → a < 2 ^ 64 → IsOddPart a x i → IsOddPart b y j → least ≡ min i j → IsGcd x y g → IsGcd a b (g * 2 ^ least % 2 ^ 64)
+pub gcd_put_back : (a b x y g i j least : ℕ) → 0 < a → a < 2 ^ 64 → IsOddPart a x i → IsOddPart b y j → least ≡ min i j
+    → IsGcd x y g → IsGcd a b (g * 2 ^ least % 2 ^ 64)
 gcd_put_back a b x y g i j least above fits pa pb is h =
     let both : IsGcd (x * 2 ^ i) (y * 2 ^ j) (g * 2 ^ min i j) = gcd_of_odd_parts x y g i j pa.odd pb.odd h in
     let there : IsGcd a b (g * 2 ^ least) = rw (pa.whole, pb.whole, is) both in

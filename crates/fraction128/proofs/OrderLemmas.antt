@@ -1,5 +1,6 @@
 -- What the code's comparisons of cross products say of two values.
-use Rattle.std.proofs.Common.{◌⊎◌, inl, inr, ◌≡◌, ℕ, ◌<◌, max, ℤ, pos, negsuc, ◌*ℤ◌, ◌≤ℤ◌, ◌<ℤ◌, IsTrue, ap, ap₂, ◌∙◌, sym, subst, arith, ◌↔◌}
+use Rattle.std.proofs.Common.{◌⊎◌, inl, inr, ◌≡◌, ℕ, ◌<◌, max, ℤ, pos, negsuc, ◌*ℤ◌, ◌≤ℤ◌, ◌<ℤ◌, IsTrue, ap, ap₂, ◌∙◌}
+use Rattle.std.proofs.Common.{sym, subst, arith, ◌↔◌}
 use lib.Signed.{le_z}
 use borrow.Author.Differences.{true_is_le, le_out}
 use Rattle.std.specs.declared.cmp.Ordering.{Ordering}
@@ -24,7 +25,9 @@ weight-positive (pos n) h = ap pos (most n (above n h))
 weight-positive (negsuc n) h = absurd (omega (arith, ints))
 
 -- what the comparison of the cross products says of two values
-pub by_value_of : (a b : Fraction) (x y : ℤ) (r : Ordering) → IsForm a → IsForm b → x ≡ a.num *ℤ b.den → y ≡ b.num *ℤ a.den → MatchOrdering r (x <ℤ y) (x ≡ y) (y <ℤ x) → MatchOrdering r (IsBelow a b) (a ≡ b) (IsBelow b a)
+pub by_value_of : (a b : Fraction) (x y : ℤ) (r : Ordering) → IsForm a → IsForm b → x ≡ a.num *ℤ b.den
+    → y ≡ b.num *ℤ a.den → MatchOrdering r (x <ℤ y) (x ≡ y) (y <ℤ x)
+    → MatchOrdering r (IsBelow a b) (a ≡ b) (IsBelow b a)
 by_value_of a b x y Less fa fb p q h = record { lt = subst (λ (z : ℤ). z <ℤ (b.num *ℤ a.den)) p (subst (λ (z : ℤ). x <ℤ z) q h) }
 by_value_of a b x y Equal fa fb p q h = same_form a b fa fb (sym p ∙ (h ∙ q))
 by_value_of a b x y Greater fa fb p q h = record { lt = subst (λ (z : ℤ). z <ℤ (a.num *ℤ b.den)) q (subst (λ (z : ℤ). y <ℤ z) p h) }
@@ -32,10 +35,12 @@ by_value_of a b x y Greater fa fb p q h = record { lt = subst (λ (z : ℤ). z <
 -- and that it is the order by value
 pub order_of : (a b : Fraction) (r : Ordering) → IsForm a → IsForm b → r ≡ int_cmp (a.num *ℤ b.den) (b.num *ℤ a.den) → r ≡ value_cmp a b
 order_of a b r fa fb e =
-    let cross : cross_cmp a b ≡ r = ap₂ (λ u v. int_cmp (a.num *ℤ u) (b.num *ℤ v)) (weight-positive b.den fb.positive) (weight-positive a.den fa.positive) ∙ sym e in
+    let cross : cross_cmp a b ≡ r = ap₂ (λ u v. int_cmp (a.num *ℤ u) (b.num *ℤ v)) (weight-positive b.den fb.positive)
+    (weight-positive a.den fa.positive) ∙ sym e in
     by_ranked _ _ _ r (int_ranked _ _ r e)
     (λ is lt. is ∙ sym (ap (λ o. ordering_then o (parts_cmp a b)) (cross ∙ is)))
-    (λ is same. is ∙ sym (ap (λ o. ordering_then o (parts_cmp a b)) (cross ∙ is) ∙ (ap (λ f. parts_cmp a f) (sym (same_form a b fa fb same)) ∙ tied_itself parts_are_total a)))
+    (λ is same. is ∙ sym (ap (λ o. ordering_then o (parts_cmp a b)) (cross ∙ is)
+    ∙ (ap (λ f. parts_cmp a f) (sym (same_form a b fa fb same)) ∙ tied_itself parts_are_total a)))
     (λ is gt. is ∙ sym (ap (λ o. ordering_then o (parts_cmp a b)) (cross ∙ is)))
 
 -- what the test of the cross products says

@@ -1,5 +1,6 @@
 -- How large the products of two parts are.
-use Rattle.std.proofs.Common.{◌≡◌, ◌*◌, ◌<◌, ◌≤◌, ◌-◌, ◌^◌, ℤ, pos, ◌+ℤ◌, ◌-ℤ◌, ◌*ℤ◌, neg_ℤ, ◌≤ℤ◌, ◌<ℤ◌, unsigned_abs, FitsSigned, to_z, of_z, ap, ◌∙◌, sym, subst, false, arith, w64}
+use Rattle.std.proofs.Common.{◌≡◌, ◌*◌, ◌<◌, ◌≤◌, ◌-◌, ◌^◌, ℤ, pos, ◌+ℤ◌, ◌-ℤ◌, ◌*ℤ◌, neg_ℤ, ◌≤ℤ◌, ◌<ℤ◌, unsigned_abs}
+use Rattle.std.proofs.Common.{FitsSigned, to_z, of_z, ap, ◌∙◌, sym, subst, false, arith, w64}
 use Rattle.std.specs.Int.{w128}
 use Rattle.std.proofs.lemmas.Int.{ints, unsigned_abs-mul, fits_signed_from_abs, to_z-of_z, by_lt_z}
 use Rattle.std.proofs.Math.Nat.{mul-le-mul}
@@ -31,7 +32,9 @@ pub part_read : (x : ℤ) → unsigned_abs x < 2 ^ 63 → to_z w128 (of_z w128 (
 part_read x h = ap (λ z. to_z w128 (of_z w128 z)) (to_z-of_z w64 x (fits_part x h)) ∙ to_z-of_z w128 x (fits_wide x (omega arith))
 
 -- the code's product of two parts
-pub product_read : (x y : ℤ) → unsigned_abs x < 2 ^ 63 → unsigned_abs y < 2 ^ 63 → to_z w128 (of_z w128 (to_z w128 (of_z w128 (to_z w64 (of_z w64 x))) *ℤ to_z w128 (of_z w128 (to_z w64 (of_z w64 y))))) ≡ x *ℤ y
+pub product_read : (x y : ℤ) → unsigned_abs x < 2 ^ 63 → unsigned_abs y < 2 ^ 63 → to_z w128
+    (of_z w128 (to_z w128 (of_z w128 (to_z w64 (of_z w64 x))) *ℤ to_z w128 (of_z w128 (to_z w64 (of_z w64 y)))))
+    ≡ x *ℤ y
 product_read x y h k = rw (part_read x h, part_read y k) (to_z-of_z w128 (x *ℤ y) (fits_wide (x *ℤ y) (small_product x y h k)))
 
 -- a product, read as 128 bits, and sums and differences of two
@@ -41,16 +44,19 @@ wide_read x h = to_z-of_z w128 x (fits_wide x h)
 pub sum_fits : (x y : ℤ) → unsigned_abs x < 2 ^ 126 → unsigned_abs y < 2 ^ 126 → FitsSigned w128 (x +ℤ y)
 sum_fits x y h k = fits_signed_from_abs w128 (x +ℤ y) (omega (arith, ints))
 
-pub sum_read : (x y : ℤ) → unsigned_abs x < 2 ^ 126 → unsigned_abs y < 2 ^ 126 → to_z w128 (of_z w128 (to_z w128 (of_z w128 x) +ℤ to_z w128 (of_z w128 y))) ≡ x +ℤ y
+pub sum_read : (x y : ℤ) → unsigned_abs x < 2 ^ 126 → unsigned_abs y < 2 ^ 126
+    → to_z w128 (of_z w128 (to_z w128 (of_z w128 x) +ℤ to_z w128 (of_z w128 y))) ≡ x +ℤ y
 sum_read x y h k = rw (wide_read x h, wide_read y k) (to_z-of_z w128 (x +ℤ y) (sum_fits x y h k))
 
 pub difference_fits : (x y : ℤ) → unsigned_abs x < 2 ^ 126 → unsigned_abs y < 2 ^ 126 → FitsSigned w128 (x -ℤ y)
 difference_fits x y h k = fits_signed_from_abs w128 (x -ℤ y) (omega (arith, ints))
 
-pub difference_fits_read : (x y : ℤ) → unsigned_abs x < 2 ^ 126 → unsigned_abs y < 2 ^ 126 → FitsSigned w128 (to_z w128 (of_z w128 x) -ℤ to_z w128 (of_z w128 y))
+pub difference_fits_read : (x y : ℤ) → unsigned_abs x < 2 ^ 126 → unsigned_abs y < 2 ^ 126
+    → FitsSigned w128 (to_z w128 (of_z w128 x) -ℤ to_z w128 (of_z w128 y))
 difference_fits_read x y h k = rw (wide_read x h, wide_read y k) (difference_fits x y h k)
 
-pub difference_read : (x y : ℤ) → unsigned_abs x < 2 ^ 126 → unsigned_abs y < 2 ^ 126 → to_z w128 (of_z w128 (to_z w128 (of_z w128 x) -ℤ to_z w128 (of_z w128 y))) ≡ x -ℤ y
+pub difference_read : (x y : ℤ) → unsigned_abs x < 2 ^ 126 → unsigned_abs y < 2 ^ 126
+    → to_z w128 (of_z w128 (to_z w128 (of_z w128 x) -ℤ to_z w128 (of_z w128 y))) ≡ x -ℤ y
 difference_read x y h k = rw (wide_read x h, wide_read y k) (to_z-of_z w128 (x -ℤ y) (difference_fits x y h k))
 
 -- the other sign of a product

@@ -1,5 +1,6 @@
 -- What dividing by the greatest common divisor makes of a fraction.
-use Rattle.std.proofs.Common.{◌≡◌, ℕ, zero, suc, ◌*◌, ◌/◌, ◌<◌, ◌≤◌, ◌^◌, ℤ, pos, negsuc, ◌*ℤ◌, ◌≤ℤ◌, ◌<ℤ◌, unsigned_abs, ap, ◌∙◌, sym, subst, refl, arith}
+use Rattle.std.proofs.Common.{◌≡◌, ℕ, zero, suc, ◌*◌, ◌/◌, ◌<◌, ◌≤◌, ◌^◌, ℤ, pos, negsuc, ◌*ℤ◌, ◌≤ℤ◌, ◌<ℤ◌}
+use Rattle.std.proofs.Common.{unsigned_abs, ap, ◌∙◌, sym, subst, refl, arith}
 use Rattle.std.specs.Int.{IsGcd, ◌∣◌}
 use Rattle.std.proofs.lemmas.Int.{ints, unsigned_abs-mul}
 use Rattle.std.proofs.Math.Nat.{eq-one_of_dvd-one, div-mul_cancel, pos_of_dvd_of_pos, dvd-mul_right, le_of_mul-le-mul_right}
@@ -28,13 +29,15 @@ size-signed (negsuc k) zero = refl
 size-signed (negsuc k) (suc m) = refl
 
 -- lowest terms of the sizes, with the sign put back, are the value
-pub value_kept : (n d : ℤ) (top bottom : ℕ) → pos 1 ≤ℤ d → IsLowest (unsigned_abs n) (unsigned_abs d) top bottom → signed n top *ℤ d ≡ n *ℤ pos bottom
+pub value_kept : (n d : ℤ) (top bottom : ℕ) → pos 1 ≤ℤ d → IsLowest (unsigned_abs n) (unsigned_abs d) top bottom
+    → signed n top *ℤ d ≡ n *ℤ pos bottom
 value_kept (pos n) (pos d) top bottom h l = omega (arith, ints, l.same)
 value_kept (negsuc n) (pos d) zero bottom h l = omega (arith, ints, l.same)
 value_kept (negsuc n) (pos d) (suc top) bottom h l = omega (arith, ints, l.same)
 value_kept n (negsuc d) top bottom h l = absurd (omega (arith, ints))
 
-pub form_of_lowest : (n d : ℤ) (top bottom : ℕ) → IsLowest (unsigned_abs n) (unsigned_abs d) top bottom → top < 2 ^ 63 → bottom < 2 ^ 63 → IsForm (over (signed n top) (pos bottom))
+pub form_of_lowest : (n d : ℤ) (top bottom : ℕ) → IsLowest (unsigned_abs n) (unsigned_abs d) top bottom → top < 2 ^ 63
+    → bottom < 2 ^ 63 → IsForm (over (signed n top) (pos bottom))
 form_of_lowest n d top bottom l small_top small_bottom =
     let size : unsigned_abs (signed n top) ≡ top = size-signed n top in
     record {
@@ -48,11 +51,16 @@ form_of_lowest n d top bottom l small_top small_bottom =
     positive_of m h = omega (arith, ints)
 
 -- the sizes of a value: lowest terms that don't fit leave no form
-pub no_form : (n d : ℤ) (top bottom : ℕ) → pos 1 ≤ℤ d → IsLowest (unsigned_abs n) (unsigned_abs d) top bottom → ((top < 2 ^ 63) × (bottom < 2 ^ 63) → ⊥) → (f : Fraction) → IsForm f → IsSame (over n d) f → ⊥
+pub no_form : (n d : ℤ) (top bottom : ℕ) → pos 1 ≤ℤ d → IsLowest (unsigned_abs n) (unsigned_abs d) top bottom
+    → ((top < 2 ^ 63) × (bottom < 2 ^ 63) → ⊥) → (f : Fraction) → IsForm f → IsSame (over n d) f → ⊥
 no_form n d top bottom above l wide f form is =
-    let sizes : unsigned_abs f.num * unsigned_abs d ≡ unsigned_abs n * unsigned_abs f.den = sym (unsigned_abs-mul f.num d) ∙ (ap unsigned_abs is.same ∙ unsigned_abs-mul n f.den) in
-    let cross : top * unsigned_abs f.den ≡ unsigned_abs f.num * bottom = crossed _ _ _ _ _ _ (size_positive d (positive_of d above)) sizes l.same in
-    let once : (top ≡ unsigned_abs f.num) × (bottom ≡ unsigned_abs f.den) = lowest_terms_once top bottom (unsigned_abs f.num) (unsigned_abs f.den) l.positive (size_positive f.den form.positive) l.lowest form.lowest cross in
+    let sizes : unsigned_abs f.num * unsigned_abs d ≡ unsigned_abs n * unsigned_abs f.den =
+    sym (unsigned_abs-mul f.num d) ∙ (ap unsigned_abs is.same ∙ unsigned_abs-mul n f.den) in
+    let cross : top * unsigned_abs f.den ≡ unsigned_abs f.num * bottom =
+    crossed _ _ _ _ _ _ (size_positive d (positive_of d above)) sizes l.same in
+    let once : (top ≡ unsigned_abs f.num) × (bottom ≡ unsigned_abs f.den) =
+    lowest_terms_once top bottom (unsigned_abs f.num) (unsigned_abs f.den) l.positive
+    (size_positive f.den form.positive) l.lowest form.lowest cross in
     wide (rw once.0 form.small_num, rw once.1 form.small_den)
   where
     positive_of : (z : ℤ) → pos 1 ≤ℤ z → pos 0 <ℤ z
@@ -76,4 +84,5 @@ reduced_by_one a b g pb one h =
 
 -- a whole number is in lowest terms
 pub whole_is_lowest : (a b : ℕ) → b ≡ 1 → IsLowest a b a b
-whole_is_lowest a b one = record { same = refl; positive = omega arith; lowest = λ d p q. eq-one_of_dvd-one (subst (λ (n : ℕ). d ∣ n) one q) }
+whole_is_lowest a b one =
+    record { same = refl; positive = omega arith; lowest = λ d p q. eq-one_of_dvd-one (subst (λ (n : ℕ). d ∣ n) one q) }

@@ -1,10 +1,14 @@
 -- Least common denominators and numbers over them.
-use Rattle.std.proofs.Common.{◌≡◌, ℕ, zero, suc, take, get_or, add-one, take_all, ◌*◌, ◌/◌, ◌<◌, ◌≤◌, ◌^◌, inl, inr, List, [], ◌∷◌, ◌++◌, length, All, Contains, ℤ, pos, negsuc, ◌*ℤ◌, ◌≤ℤ◌, ◌<ℤ◌, unsigned_abs, Result, Ok, Err, ap, ◌∙◌, sym, subst, arith, to_z, of_z, w64}
+use Rattle.std.proofs.Common.{◌≡◌, ℕ, zero, suc, take, get_or, add-one, take_all, ◌*◌, ◌/◌, ◌<◌, ◌≤◌, ◌^◌, inl, inr}
+use Rattle.std.proofs.Common.{List, [], ◌∷◌, ◌++◌, length, All, Contains, ℤ, pos, negsuc, ◌*ℤ◌, ◌≤ℤ◌, ◌<ℤ◌}
+use Rattle.std.proofs.Common.{unsigned_abs, Result, Ok, Err, ap, ◌∙◌, sym, subst, arith, to_z, of_z, w64}
 use Rattle.std.specs.Int.{IsGcd, ◌∣◌}
 use Rattle.std.proofs.lemmas.List.{take_more}
 use Rattle.std.proofs.lemmas.Int.{ints, unsigned_abs-mul}
-use Rattle.std.proofs.lemmas.List.Elements.{All-nil, All-push, All-weaker, All-contains, All-contains_itself, Contains-append_left, Contains-push}
-use Rattle.std.proofs.Math.Nat.{dvd_antisymm, one-dvd, dvd_trans, le_of_dvd, pos_of_dvd_of_pos, dvd-mul_right, div-mul_cancel, mul-lt-mul_of_pos_right, le_of_mul-le-mul_right, mul-le-mul_left}
+use Rattle.std.proofs.lemmas.List.Elements.{All-nil, All-push, All-weaker, All-contains, All-contains_itself}
+use Rattle.std.proofs.lemmas.List.Elements.{Contains-append_left, Contains-push}
+use Rattle.std.proofs.Math.Nat.{dvd_antisymm, one-dvd, dvd_trans, le_of_dvd, pos_of_dvd_of_pos, dvd-mul_right}
+use Rattle.std.proofs.Math.Nat.{div-mul_cancel, mul-lt-mul_of_pos_right, le_of_mul-le-mul_right, mul-le-mul_left}
 use Rattle.number_laws.proofs.Divisors.{gcd_exists, common_least, common_left, common_right}
 use Rattle.fraction128.specs.Fraction.{Fraction, IsForm, whole}
 use Rattle.fraction128.specs.Scaling.{IsCommon, IsLeastCommon, IsScaled, IsWideOver, Serves, GivesCommon, fraction_at}
@@ -24,13 +28,17 @@ least_none = record {
 
 pub common_front : (fs : List Fraction) (f : Fraction) (k : ℕ) → IsCommon (fs ++ f ∷ []) k → IsCommon fs k
 common_front fs f k h =
-    All-weaker (Contains fs) (λ e. unsigned_abs e.den ∣ k) (λ e inside. All-contains (λ x. unsigned_abs x.den ∣ k) (fs ++ f ∷ []) e h (Contains-append_left fs (f ∷ []) e inside)) fs (All-contains_itself fs)
+    All-weaker (Contains fs) (λ e. unsigned_abs e.den ∣ k)
+    (λ e inside.
+    All-contains (λ x. unsigned_abs x.den ∣ k) (fs ++ f ∷ []) e h (Contains-append_left fs (f ∷ []) e inside)) fs
+    (All-contains_itself fs)
 
 pub common_last : (fs : List Fraction) (f : Fraction) (k : ℕ) → IsCommon (fs ++ f ∷ []) k → unsigned_abs f.den ∣ k
 common_last fs f k h = All-contains (λ x. unsigned_abs x.den ∣ k) (fs ++ f ∷ []) f h (Contains-push fs f)
 
 -- one more denominator
-pub least_more : (fs : List Fraction) (f : Fraction) (l g : ℕ) → pos 0 <ℤ f.den → IsGcd l (unsigned_abs f.den) g → IsLeastCommon fs l → IsLeastCommon (fs ++ f ∷ []) (l / g * unsigned_abs f.den)
+pub least_more : (fs : List Fraction) (f : Fraction) (l g : ℕ) → pos 0 <ℤ f.den → IsGcd l (unsigned_abs f.den) g
+    → IsLeastCommon fs l → IsLeastCommon (fs ++ f ∷ []) (l / g * unsigned_abs f.den)
 least_more fs f l g pd gcd h =
     let d : ℕ = unsigned_abs f.den in
     let above : 0 < d = size_positive f.den pd in
@@ -39,7 +47,9 @@ least_more fs f l g pd gcd h =
     let part_above : 0 < l / g = pos_of_dvd_of_pos part h.positive in
     record {
       positive = product_above (l / g) d part_above above;
-      common = All-push (λ e. unsigned_abs e.den ∣ l / g * d) fs f (All-weaker (λ e. unsigned_abs e.den ∣ l) (λ e. unsigned_abs e.den ∣ l / g * d) (λ e q. dvd_trans (unsigned_abs e.den) q (common_left l d g gcd)) fs h.common) (common_right l d g);
+      common = All-push (λ e. unsigned_abs e.den ∣ l / g * d) fs f
+          (All-weaker (λ e. unsigned_abs e.den ∣ l) (λ e. unsigned_abs e.den ∣ l / g * d)
+          (λ e q. dvd_trans (unsigned_abs e.den) q (common_left l d g gcd)) fs h.common) (common_right l d g);
       least = λ k q. common_least l d g k common_above gcd (h.least k (common_front fs f k q)) (common_last fs f k q);
     }
   where
@@ -47,7 +57,8 @@ least_more fs f l g pd gcd h =
     product_above a b p q = let grown : 0 * b < a * b = mul-lt-mul_of_pos_right p q in omega arith
 
 -- it never falls
-pub least_grows : (fs : List Fraction) (f : Fraction) (l : ℕ) → pos 0 <ℤ f.den → IsLeastCommon fs l → (m : ℕ) × (IsLeastCommon (fs ++ f ∷ []) m) × (l ≤ m)
+pub least_grows : (fs : List Fraction) (f : Fraction) (l : ℕ) → pos 0 <ℤ f.den → IsLeastCommon fs l
+    → (m : ℕ) × (IsLeastCommon (fs ++ f ∷ []) m) × (l ≤ m)
 least_grows fs f l pd h =
     let g : (g : ℕ) × IsGcd l (unsigned_abs f.den) g = gcd_exists l (unsigned_abs f.den) in
     let more : IsLeastCommon (fs ++ f ∷ []) (l / g.0 * unsigned_abs f.den) = least_more fs f l g.0 pd g.1 h in
@@ -65,19 +76,22 @@ gcd_above l d g f form is gcd =
     let above : 0 < unsigned_abs f.den = size_positive f.den form.positive in
     pos_of_dvd_of_pos gcd.1 (rw is above)
 
-pub common_after_ok : (r : Result ℕ Wide) (fs : List Fraction) (f : Fraction) (l d g : ℕ) → r ≡ Ok l → IsForm f → d ≡ unsigned_abs f.den → IsGcd l d g → GivesCommon r fs → IsLeastCommon (fs ++ f ∷ []) (l / g * d)
+pub common_after_ok : (r : Result ℕ Wide) (fs : List Fraction) (f : Fraction) (l d g : ℕ) → r ≡ Ok l → IsForm f
+    → d ≡ unsigned_abs f.den → IsGcd l d g → GivesCommon r fs → IsLeastCommon (fs ++ f ∷ []) (l / g * d)
 common_after_ok r fs f l d g is form same gcd h =
     let there : GivesCommon (Ok l) fs = subst (λ (s : Result ℕ Wide). GivesCommon s fs) is h in
     rw same (least_more fs f l g form.positive (subst (λ (n : ℕ). IsGcd l n g) same gcd) there.0)
 
-pub common_after_wide : (r : Result ℕ Wide) (w : Wide) (fs : List Fraction) (f : Fraction) → r ≡ Err w → IsForm f → GivesCommon r fs → (m : ℕ) × (IsLeastCommon (fs ++ f ∷ []) m) × (2 ^ 63 ≤ m)
+pub common_after_wide : (r : Result ℕ Wide) (w : Wide) (fs : List Fraction) (f : Fraction) → r ≡ Err w → IsForm f
+    → GivesCommon r fs → (m : ℕ) × (IsLeastCommon (fs ++ f ∷ []) m) × (2 ^ 63 ≤ m)
 common_after_wide r w fs f is form h =
     let there : GivesCommon (Err w) fs = subst (λ (s : Result ℕ Wide). GivesCommon s fs) is h in
     let more : (m : ℕ) × (IsLeastCommon (fs ++ f ∷ []) m) × (there.0 ≤ m) = least_grows fs f there.0 form.positive there.1 in
     (more.0, more.1, omega (arith, there.2, more.2))
 
 -- the number over a multiple of the denominator
-pub scaled_over : (l : ℕ) (f : Fraction) → IsForm f → pos 0 ≤ℤ f.num → unsigned_abs f.den ∣ l → IsScaled l f (l / unsigned_abs f.den * unsigned_abs f.num)
+pub scaled_over : (l : ℕ) (f : Fraction) → IsForm f → pos 0 ≤ℤ f.num → unsigned_abs f.den ∣ l
+    → IsScaled l f (l / unsigned_abs f.den * unsigned_abs f.num)
 scaled_over l f form h q = record { same = parts f.num f.den form.positive h q }
   where
     parts : (n d : ℤ) → pos 0 <ℤ d → pos 0 ≤ℤ n → unsigned_abs d ∣ l → pos (l / unsigned_abs d * unsigned_abs n) *ℤ d ≡ n *ℤ pos l
@@ -94,7 +108,8 @@ least_upto fs forms (suc n) h =
     let below : (l : ℕ) × IsLeastCommon (take n fs) l = least_upto fs forms n (omega arith) in
     let inside : n < length fs = omega arith in
     let next : Fraction = get_or fs n (whole (pos 0)) in
-    let more : (m : ℕ) × (IsLeastCommon (take n fs ++ next ∷ []) m) × (below.0 ≤ m) = least_grows (take n fs) next below.0 (forms n (whole (pos 0)) inside).positive below.1 in
+    let more : (m : ℕ) × (IsLeastCommon (take n fs ++ next ∷ []) m) × (below.0 ≤ m) =
+    least_grows (take n fs) next below.0 (forms n (whole (pos 0)) inside).positive below.1 in
     (more.0, subst (λ (xs : List Fraction). IsLeastCommon xs more.0) (sym (take-suc_is fs n inside)) more.1)
   where
     take-suc_is : (xs : List Fraction) (i : ℕ) → i < length xs → take (suc i) xs ≡ take i xs ++ get_or xs i (whole (pos 0)) ∷ []
@@ -122,7 +137,8 @@ none_serves fs l forms h wide m serves =
           let other : (k : ℕ) × (IsScaled m (fraction_at fs w.0) k) × (k < 2 ^ 63) = serves.each w.0 w.2 in
           let f : Fraction = fraction_at fs w.0 in
           let form : IsForm f = forms w.0 (whole (pos 0)) w.2 in
-          absurd (too_large (unsigned_abs f.den) (unsigned_abs f.num) l m w.1 other.0 (size_positive f.den form.positive) below (sizes_of f l w.1 w.3) (sizes_of f m other.0 other.1) w.4 other.2)
+          absurd (too_large (unsigned_abs f.den) (unsigned_abs f.num) l m w.1 other.0
+          (size_positive f.den form.positive) below (sizes_of f l w.1 w.3) (sizes_of f m other.0 other.1) w.4 other.2)
     ]
   where
     too_large : (d n a b k j : ℕ) → 0 < d → a ≤ b → k * d ≡ n * a → j * d ≡ n * b → 2 ^ 63 ≤ k → j < 2 ^ 63 → ⊥

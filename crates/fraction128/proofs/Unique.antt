@@ -17,8 +17,10 @@ same_parts f g p q = ap (λ n. over n f.den) p ∙ ap (λ d. over g.num d) q
 
 pub same_form : (f g : Fraction) → IsForm f → IsForm g → f.num *ℤ g.den ≡ g.num *ℤ f.den → f ≡ g
 same_form f g h k e =
-    let sizes : unsigned_abs f.num * unsigned_abs g.den ≡ unsigned_abs g.num * unsigned_abs f.den = sym (unsigned_abs-mul f.num g.den) ∙ (ap unsigned_abs e ∙ unsigned_abs-mul g.num f.den) in
-    let once : (unsigned_abs f.num ≡ unsigned_abs g.num) × (unsigned_abs f.den ≡ unsigned_abs g.den) = lowest_terms_once _ _ _ _ (size_positive f.den h.positive) (size_positive g.den k.positive) h.lowest k.lowest sizes in
+    let sizes : unsigned_abs f.num * unsigned_abs g.den ≡ unsigned_abs g.num * unsigned_abs f.den =
+    sym (unsigned_abs-mul f.num g.den) ∙ (ap unsigned_abs e ∙ unsigned_abs-mul g.num f.den) in
+    let once : (unsigned_abs f.num ≡ unsigned_abs g.num) × (unsigned_abs f.den ≡ unsigned_abs g.den) = lowest_terms_once
+    _ _ _ _ (size_positive f.den h.positive) (size_positive g.den k.positive) h.lowest k.lowest sizes in
     let dens : f.den ≡ g.den = same_positive f.den g.den h.positive k.positive once.1 in
     let nums : f.num ≡ g.num = cancel f.num g.num g.den k.positive (e ∙ ap (λ d. g.num *ℤ d) dens) in
     same_parts f g nums dens
@@ -27,7 +29,8 @@ apart_of_positive : (z : ℤ) → pos 0 <ℤ z → z ≡ pos 0 → ⊥
 apart_of_positive z h e = omega (arith, ints)
 
 -- one value n / d, for a d that isn't 0, has one form
-pub one_over : (n d : ℤ) (f g : Fraction) → (d ≡ pos 0 → ⊥) → IsForm f → IsForm g → f.num *ℤ d ≡ n *ℤ f.den → g.num *ℤ d ≡ n *ℤ g.den → f ≡ g
+pub one_over : (n d : ℤ) (f g : Fraction) → (d ≡ pos 0 → ⊥) → IsForm f → IsForm g → f.num *ℤ d ≡ n *ℤ f.den
+    → g.num *ℤ d ≡ n *ℤ g.den → f ≡ g
 one_over n d f g apart h k p q =
     let left : (f.num *ℤ g.den) *ℤ d ≡ (n *ℤ f.den) *ℤ g.den = mul-swap_last f.num g.den d ∙ ap (λ z. z *ℤ g.den) p in
     let right : (g.num *ℤ f.den) *ℤ d ≡ (n *ℤ g.den) *ℤ f.den = mul-swap_last g.num f.den d ∙ ap (λ z. z *ℤ f.den) q in

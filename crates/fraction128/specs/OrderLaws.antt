@@ -22,7 +22,9 @@ pub parts_are_total : IsTotalOrder parts_cmp
 parts_are_total = then_total (on_total (λ (f : Fraction). f.num) int_cmp_total) (on_total (λ (f : Fraction). f.den) int_cmp_total)
 
 pub value_is_total : IsTotalOrder value_cmp
-value_is_total = then_total (cross_total (λ (f : Fraction). f.num) (λ (f : Fraction). weight_of f.den) (λ f. weight_positive f.den)) parts_are_total
+value_is_total =
+    then_total (cross_total (λ (f : Fraction). f.num) (λ (f : Fraction). weight_of f.den) (λ f. weight_positive f.den))
+    parts_are_total
 
 equal_of_level : (r : Ordering) → is_eq r ≡ true → r ≡ Equal
 equal_of_level Less h = absurd (false≢true h)

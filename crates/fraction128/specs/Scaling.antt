@@ -1,5 +1,6 @@
 -- Fractions over one denominator: the least that serves them all, and the numbers that they are over it.
-use Rattle.std.specs.Prelude.{◌≡◌, ℕ, ◌<◌, ◌≤◌, ◌^◌, ◌⊎◌, List, length, All, slice_index, slice_index_or, pos, ◌*ℤ◌, unsigned_abs, Result, Ok, Err}
+use Rattle.std.specs.Prelude.{◌≡◌, ℕ, ◌<◌, ◌≤◌, ◌^◌, ◌⊎◌, List, length, All, slice_index, slice_index_or, pos, ◌*ℤ◌}
+use Rattle.std.specs.Prelude.{unsigned_abs, Result, Ok, Err}
 use Rattle.std.specs.Int.{◌∣◌}
 use Rattle.fraction128.specs.Fraction.{Fraction, whole}
 use Rattle.fraction128.specs.declared.Wide.{Wide}

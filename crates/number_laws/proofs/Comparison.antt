@@ -59,19 +59,23 @@ chained x y z u v w pu pv pw h k =
     joined a b c d e f p q r s t = omega (arith, ints)
 
 -- values num k / weight k, compared by cross products
-pub cross_total : {K : Type 0} (num weight : K → ℤ) → ((k : K) → pos 0 <ℤ weight k) → IsTotalOrder (λ a b. int_cmp (num a *ℤ weight b) (num b *ℤ weight a))
+pub cross_total : {K : Type 0} (num weight : K → ℤ) → ((k : K) → pos 0 <ℤ weight k)
+    → IsTotalOrder (λ a b. int_cmp (num a *ℤ weight b) (num b *ℤ weight a))
 cross_total num weight positive = record {
   antisymm = λ a b. int_cmp_total.antisymm (num a *ℤ weight b) (num b *ℤ weight a);
-  trans = λ a b c p q. less_of_below _ _ (chained (num a) (num b) (num c) (weight a) (weight b) (weight c) (positive a) (positive b) (positive c) (below_of_less _ _ p) (below_of_less _ _ q));
+  trans = λ a b c p q. less_of_below _ _ (chained (num a) (num b) (num c) (weight a) (weight b) (weight c) (positive a)
+      (positive b) (positive c) (below_of_less _ _ p) (below_of_less _ _ q));
   congr = λ a b c p.
       let same : num a *ℤ weight b ≡ num b *ℤ weight a = same_of_equal _ _ p in
-      let left : (num a *ℤ weight c) *ℤ weight b ≡ (num b *ℤ weight c) *ℤ weight a = mul-swap_last (num a) (weight c) (weight b) ∙ (ap (λ z. z *ℤ weight c) same ∙ mul-swap_last (num b) (weight a) (weight c)) in
+      let left : (num a *ℤ weight c) *ℤ weight b ≡ (num b *ℤ weight c) *ℤ weight a = mul-swap_last (num a) (weight c)
+      (weight b) ∙ (ap (λ z. z *ℤ weight c) same ∙ mul-swap_last (num b) (weight a) (weight c)) in
       let right : (num c *ℤ weight a) *ℤ weight b ≡ (num c *ℤ weight b) *ℤ weight a = mul-swap_last (num c) (weight a) (weight b) in
       scaled_cmp _ _ (weight b) (positive b) ∙ (ap₂ int_cmp left right ∙ sym (scaled_cmp _ _ (weight a) (positive a)));
 }
 
 -- of x / u ≤ y / v and y / v ≤ z / w follows x / u ≤ z / w
-pub chained_le : (x y z u v w : ℤ) → pos 0 <ℤ u → pos 0 <ℤ v → pos 0 <ℤ w → (x *ℤ v) ≤ℤ (y *ℤ u) → (y *ℤ w) ≤ℤ (z *ℤ v) → (x *ℤ w) ≤ℤ (z *ℤ u)
+pub chained_le : (x y z u v w : ℤ) → pos 0 <ℤ u → pos 0 <ℤ v → pos 0 <ℤ w → (x *ℤ v) ≤ℤ (y *ℤ u) → (y *ℤ w) ≤ℤ (z *ℤ v)
+    → (x *ℤ w) ≤ℤ (z *ℤ u)
 chained_le x y z u v w pu pv pw h k =
     let first : ((x *ℤ v) *ℤ w) ≤ℤ ((y *ℤ u) *ℤ w) = times_le (x *ℤ v) (y *ℤ u) w (not_below w pw) h in
     let second : ((y *ℤ w) *ℤ u) ≤ℤ ((z *ℤ v) *ℤ u) = times_le (y *ℤ w) (z *ℤ v) u (not_below u pu) k in

@@ -1,7 +1,10 @@
 -- Common divisors and common multiples of naturals: Euclid's lemma, and the least common multiple.
 use Rattle.std.proofs.Common.{◌≡◌, ℕ, zero, suc, ◌+◌, ◌*◌, ◌/◌, ◌%◌, ◌<◌, ◌≤◌, ap, ◌∙◌, sym, subst, refl, arith}
 use Rattle.std.proofs.lemmas.Nat.Gcd.{IsGcd-swap, IsGcd-from_zero, IsGcd-from_mod, same_from_IsGcd}
-use Rattle.std.proofs.Math.Nat.{dvd_refl, eq-one_of_dvd-one, dvd_antisymm, le_of_mul-le-mul_right, div-add-mod', mul-add-mod_self_right, mul-lt-mul_of_pos_right, mod-eq_of_lt, mod-lt, one-mul, dvd-mul_right, dvd-mul_left, div-mul_cancel, dvd_of_mul-dvd-mul_right, mul-dvd-mul_right, one-dvd, dvd-zero}
+use Rattle.std.proofs.Math.Nat.{dvd_refl, eq-one_of_dvd-one, dvd_antisymm, le_of_mul-le-mul_right, div-add-mod'}
+use Rattle.std.proofs.Math.Nat.{mul-add-mod_self_right, mul-lt-mul_of_pos_right, mod-eq_of_lt, mod-lt, one-mul}
+use Rattle.std.proofs.Math.Nat.{dvd-mul_right, dvd-mul_left, div-mul_cancel, dvd_of_mul-dvd-mul_right}
+use Rattle.std.proofs.Math.Nat.{mul-dvd-mul_right, one-dvd, dvd-zero}
 use Rattle.std.specs.Int.{IsGcd, ◌∣◌}
 use Rattle.number_laws.specs.Divisors.{IsCoprime}
 
@@ -19,14 +22,19 @@ gcd_times n a zero c l pc = (a, IsGcd-from_zero a 0 refl, IsGcd-from_zero (a * c
 gcd_times zero a (suc b) c l pc = absurd (omega arith)
 gcd_times (suc n) a (suc b) c l pc =
     let low : a % suc b < suc b = mod-lt a (omega arith) in
-    let back : (g : ℕ) × (IsGcd (suc b) (a % suc b) g) × (IsGcd (suc b * c) (a % suc b * c) (g * c)) = gcd_times n (suc b) (a % suc b) c (omega arith) pc in
-    (back.0, IsGcd-from_mod a (suc b) back.0 back.1, IsGcd-from_mod (a * c) (suc b * c) (back.0 * c) (rw (times_mod a (suc b) c (omega arith) pc) back.2))
+    let back : (g : ℕ) × (IsGcd (suc b) (a % suc b) g) × (IsGcd (suc b * c) (a % suc b * c) (g * c)) =
+    gcd_times n (suc b) (a % suc b) c (omega arith) pc in (
+      back.0,
+      IsGcd-from_mod a (suc b) back.0 back.1,
+      IsGcd-from_mod (a * c) (suc b * c) (back.0 * c) (rw (times_mod a (suc b) c (omega arith) pc) back.2),
+    )
 
 -- Euclid's lemma: what divides a product and has no divisor above 1 in common with one factor divides the other
 pub euclid : (d a c : ℕ) → IsGcd d a 1 → d ∣ a * c → d ∣ c
 euclid d a zero one h = dvd-zero d
 euclid d a (suc c) one h =
-    let both : (g : ℕ) × (IsGcd d a g) × (IsGcd (d * suc c) (a * suc c) (g * suc c)) = gcd_times a d a (suc c) (omega arith) (omega arith) in
+    let both : (g : ℕ) × (IsGcd d a g) × (IsGcd (d * suc c) (a * suc c) (g * suc c)) =
+    gcd_times a d a (suc c) (omega arith) (omega arith) in
     let e : both.0 ≡ 1 = same_from_IsGcd d a both.0 1 both.1 one in
     rw (e, one-mul) at (both.2.2 d (dvd-mul_right d (suc c)) h)
 

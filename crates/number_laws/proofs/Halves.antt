@@ -1,8 +1,11 @@
 -- Odd numbers, and what taking factors of 2 off does to a greatest common divisor.
-use Rattle.std.proofs.Common.{◌≡◌, ℕ, zero, suc, ◌+◌, ◌-◌, ◌*◌, ◌/◌, ◌%◌, ◌^◌, ◌<◌, ◌≤◌, ap, ◌∙◌, sym, subst, refl, arith, ◌⊎◌, inl, inr, min}
+use Rattle.std.proofs.Common.{◌≡◌, ℕ, zero, suc, ◌+◌, ◌-◌, ◌*◌, ◌/◌, ◌%◌, ◌^◌, ◌<◌, ◌≤◌, ap, ◌∙◌, sym, subst, refl}
+use Rattle.std.proofs.Common.{arith, ◌⊎◌, inl, inr, min}
 use Rattle.std.specs.Int.{IsGcd, ◌∣◌}
 use Rattle.std.proofs.lemmas.Nat.Gcd.{IsGcd-swap, same_from_IsGcd}
-use Rattle.std.proofs.Math.Nat.{dvd_refl, dvd_trans, one-dvd, le_of_dvd, mod-eq-zero_of_dvd, dvd_of_mod-eq-zero, dvd-mul_right_of_dvd, mul_comm, pow-suc, mod-lt, div-div-eq-div-mul, div-add-mod, div-one, mul_assoc}
+use Rattle.std.proofs.Math.Nat.{dvd_refl, dvd_trans, one-dvd, le_of_dvd, mod-eq-zero_of_dvd, dvd_of_mod-eq-zero}
+use Rattle.std.proofs.Math.Nat.{dvd-mul_right_of_dvd, mul_comm, pow-suc, mod-lt, div-div-eq-div-mul, div-add-mod}
+use Rattle.std.proofs.Math.Nat.{div-one, mul_assoc}
 use Rattle.std.proofs.lemmas.Nat.{pow-add}
 use Rattle.std.proofs.lemmas.Bool.{cases_lt}
 use Rattle.number_laws.proofs.Divisors.{euclid, gcd_times}
@@ -66,7 +69,8 @@ whole_power n (suc t) low =
     let power : 2 ^ suc t ≡ 2 ^ t * 2 = pow-suc 2 t in
     let halved : n / 2 ^ t / 2 ≡ n / 2 ^ suc t = div-div-eq-div-mul n (2 ^ t) 2 ∙ ap (λ m. n / m) (sym power) in
     let even : 2 * (n / 2 ^ t / 2) ≡ n / 2 ^ t = omega (arith, div-add-mod (n / 2 ^ t) 2, low t (omega arith)) in
-    before ∙ (ap (λ m. m * 2 ^ t) (sym even ∙ ap (λ m. 2 * m) halved) ∙ (regroup (n / 2 ^ suc t) (2 ^ t) ∙ ap (λ m. n / 2 ^ suc t * m) (sym power)))
+    before ∙ (ap (λ m. m * 2 ^ t) (sym even ∙ ap (λ m. 2 * m) halved)
+    ∙ (regroup (n / 2 ^ suc t) (2 ^ t) ∙ ap (λ m. n / 2 ^ suc t * m) (sym power)))
   where
     regroup : (x y : ℕ) → 2 * x * y ≡ x * (y * 2)
     regroup x y = omega arith
@@ -78,7 +82,8 @@ gcd_of_odd_parts x y g i j odd_x odd_y h =
       | inl le ↦
           let least : min i j ≡ i = omega arith in
           let rest : 2 ^ j ≡ 2 ^ (j - i) * 2 ^ i = ap (λ n. 2 ^ n) (split i j le) ∙ pow-add 2 (j - i) i in
-          let inner : IsGcd x (y * 2 ^ (j - i)) g = IsGcd-swap (y * 2 ^ (j - i)) x g (gcd_of_doubled y x g (j - i) odd_x (IsGcd-swap x y g h)) in
+          let inner : IsGcd x (y * 2 ^ (j - i)) g =
+          IsGcd-swap (y * 2 ^ (j - i)) x g (gcd_of_doubled y x g (j - i) odd_x (IsGcd-swap x y g h)) in
           rw (least, rest, ← mul_assoc) (scaled x (y * 2 ^ (j - i)) g (2 ^ i) (power_above i) inner)
       | inr le ↦
           let least : min i j ≡ j = omega arith in

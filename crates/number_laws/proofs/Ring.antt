@@ -42,7 +42,14 @@ product_same u v x y a b c d p q =
 
 pub diff-mul : (a b c d : ℕ) → diff a b *ℤ diff c d ≡ diff (a * c + b * d) (a * d + b * c)
 diff-mul a b c d =
-    same_in _ _ (omega (arith, product_is (diff a b) (diff c d), parts a b, parts c d, parts (a * c + b * d) (a * d + b * c), product_same _ _ _ _ a b c d (parts a b) (parts c d)))
+    same_in _ _ (omega (
+      arith,
+      product_is (diff a b) (diff c d),
+      parts a b,
+      parts c d,
+      parts (a * c + b * d) (a * d + b * c),
+      product_same _ _ _ _ a b c d (parts a b) (parts c d),
+    ))
 
 -- what turns an expression over differences into one difference
 pub ruleset diffs = (diff-add, diff-sub, diff-neg, diff-mul)
@@ -54,13 +61,17 @@ cancel_sum l r s t h e = omega (arith, ints)
 pub by_one : {x y : ℤ} (c : ℤ) (h : x ≡ y) (l r : ℤ) → l +ℤ (c *ℤ y) ≡ r +ℤ (c *ℤ x) → l ≡ r
 by_one {x} {y} c h l r e = cancel_sum l r _ _ (ap (λ n. c *ℤ n) h) e
 
-pub by_two : {x y u w : ℤ} (c : ℤ) (h : x ≡ y) (b : ℤ) (k : u ≡ w) (l r : ℤ) → l +ℤ ((c *ℤ y) +ℤ (b *ℤ w)) ≡ r +ℤ ((c *ℤ x) +ℤ (b *ℤ u)) → l ≡ r
+pub by_two : {x y u w : ℤ} (c : ℤ) (h : x ≡ y) (b : ℤ) (k : u ≡ w) (l r : ℤ)
+    → l +ℤ ((c *ℤ y) +ℤ (b *ℤ w)) ≡ r +ℤ ((c *ℤ x) +ℤ (b *ℤ u)) → l ≡ r
 by_two {x} {y} {u} {w} c h b k l r e =
     cancel_sum l r _ _ (ap (λ n. (c *ℤ n) +ℤ (b *ℤ u)) h ∙ ap (λ n. (c *ℤ y) +ℤ (b *ℤ n)) k) e
 
-pub by_three : {x y u w v z : ℤ} (c : ℤ) (h : x ≡ y) (b : ℤ) (k : u ≡ w) (a : ℤ) (j : v ≡ z) (l r : ℤ) → l +ℤ (((c *ℤ y) +ℤ (b *ℤ w)) +ℤ (a *ℤ z)) ≡ r +ℤ (((c *ℤ x) +ℤ (b *ℤ u)) +ℤ (a *ℤ v)) → l ≡ r
+pub by_three : {x y u w v z : ℤ} (c : ℤ) (h : x ≡ y) (b : ℤ) (k : u ≡ w) (a : ℤ) (j : v ≡ z) (l r : ℤ)
+    → l +ℤ (((c *ℤ y) +ℤ (b *ℤ w)) +ℤ (a *ℤ z)) ≡ r +ℤ (((c *ℤ x) +ℤ (b *ℤ u)) +ℤ (a *ℤ v)) → l ≡ r
 by_three {x} {y} {u} {w} {v} {z} c h b k a j l r e =
-    cancel_sum l r _ _ (ap (λ n. ((c *ℤ n) +ℤ (b *ℤ u)) +ℤ (a *ℤ v)) h ∙ (ap (λ n. ((c *ℤ y) +ℤ (b *ℤ n)) +ℤ (a *ℤ v)) k ∙ ap (λ n. ((c *ℤ y) +ℤ (b *ℤ w)) +ℤ (a *ℤ n)) j)) e
+    cancel_sum l r _ _
+    (ap (λ n. ((c *ℤ n) +ℤ (b *ℤ u)) +ℤ (a *ℤ v)) h
+    ∙ (ap (λ n. ((c *ℤ y) +ℤ (b *ℤ n)) +ℤ (a *ℤ v)) k ∙ ap (λ n. ((c *ℤ y) +ℤ (b *ℤ w)) +ℤ (a *ℤ n)) j)) e
 
 -- the laws of the ring by name
 pub mul-comm : (a b : ℤ) → a *ℤ b ≡ b *ℤ a

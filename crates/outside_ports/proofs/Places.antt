@@ -12,22 +12,28 @@ pub rest_at-file : (files : List (String Global × Vec ℕ Global)) (place at : 
     → rest_at (inputs_of files) place at ≡ drop at (get_or files place d).1.items
 rest_at-file files place at d h = rw (drop-map, drop_more files place d h) refl
 
-pub rest_at-past : (files : List (String Global × Vec ℕ Global)) (place at : ℕ) → length files ≤ place → rest_at (inputs_of files) place at ≡ []
+pub rest_at-past : (files : List (String Global × Vec ℕ Global)) (place at : ℕ) → length files ≤ place
+    → rest_at (inputs_of files) place at ≡ []
 rest_at-past files place at h = rw (drop-map, drop_all place files h) (drop-nil at)
 
 -- from a place on, the name has the bytes of that file, or those that it has further on
-pub bytes_of-drop : (files : List (String Global × Vec ℕ Global)) (name : List ℕ) (place : ℕ) (d : String Global × Vec ℕ Global) → place < length files
+pub bytes_of-drop : (files : List (String Global × Vec ℕ Global)) (name : List ℕ) (place : ℕ)
+    (d : String Global × Vec ℕ Global) → place < length files
     → bytes_of (inputs_of (drop place files)) name
-    ≡ (if bytes_eq (string_bytes (get_or files place d).0) name then Some (get_or files place d).1.items else bytes_of (inputs_of (drop (place + 1) files)) name)
+    ≡ (if bytes_eq (string_bytes (get_or files place d).0) name then Some (get_or files place d).1.items
+    else bytes_of (inputs_of (drop (place + 1) files)) name)
 bytes_of-drop files name place d h = at_drop_more (λ left. bytes_of (inputs_of left) name) files place d h
 
-pub bytes_of-drop_all : (files : List (String Global × Vec ℕ Global)) (name : List ℕ) (place : ℕ) → length files ≤ place → bytes_of (inputs_of (drop place files)) name ≡ None
+pub bytes_of-drop_all : (files : List (String Global × Vec ℕ Global)) (name : List ℕ) (place : ℕ) → length files ≤ place
+    → bytes_of (inputs_of (drop place files)) name ≡ None
 bytes_of-drop_all files name place h = at_drop_all (λ left. bytes_of (inputs_of left) name) files place h
 
 -- the file at this place has the name
-pub bytes_of-found : (files : List (String Global × Vec ℕ Global)) (name : List ℕ) (place : ℕ) (file : String Global × Vec ℕ Global) → place < length files
+pub bytes_of-found : (files : List (String Global × Vec ℕ Global)) (name : List ℕ) (place : ℕ)
+    (file : String Global × Vec ℕ Global) → place < length files
     → file ≡ get_or files place file → bytes_eq (string_bytes file.0) name ≡ true
     → bytes_of (inputs_of (drop place files)) name ≡ Some (rest_at (inputs_of files) place 0)
 bytes_of-found files name place file h is same =
-    let here : bytes_eq (string_bytes (get_or files place file).0) name ≡ true = ap (λ other. bytes_eq (string_bytes other.0) name) (sym is) ∙ same in
+    let here : bytes_eq (string_bytes (get_or files place file).0) name ≡ true =
+    ap (λ other. bytes_eq (string_bytes other.0) name) (sym is) ∙ same in
     rw (bytes_of-drop files name place file h, here, rest_at-file files place 0 file h) refl

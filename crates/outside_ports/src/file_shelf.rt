@@ -2,7 +2,8 @@ ghost use Rattle.std.specs.Prelude.{◌≡◌, ℕ, ◌+◌, ◌^◌, ◌-◌, �
 ghost use Rattle.std.specs.Io.{ReadsAtMost};
 ghost use Rattle.std.specs.IoError.{error_kind};
 ghost use Rattle.outside_ports.specs.Counts.{Rose};
-ghost use Rattle.outside_ports.specs.Openings.{fault_by, opening_answer, opened_file, faults_started, FollowsOpening, FollowsRead, faults_called};
+ghost use Rattle.outside_ports.specs.Openings.{fault_by, opening_answer, opened_file, faults_started, FollowsOpening};
+ghost use Rattle.outside_ports.specs.Openings.{FollowsRead, faults_called};
 
 use crate::shelf::{Shelf, ShelfFault};
 use std::alloc::AllocError;
@@ -65,7 +66,8 @@ impl<R: Files + Drop> Shelf for FileShelf<R> {
         ensures gives { FollowsRead R.File.remaining self.old.file self.new.file result buffer.new }
         ensures counts { self.new.faults ≡ faults_called self.old.faults result }
         ensures bound { ReadsAtMost result buffer.new }
-        ensures given { MatchResult result (λ n. self.new.given ≡ min (self.old.given + n) (2 ^ 64 - 1)) (λ _. self.new.given ≡ self.old.given) }
+        ensures given { MatchResult result (λ n. self.new.given ≡ min (self.old.given + n) (2 ^ 64 - 1))
+            (λ _. self.new.given ≡ self.old.given) }
         ensures later { self.old.faults ≤ self.new.faults }
         ensures failed { OnErr result (Rose self.old.faults self.new.faults) }
         ensures only { IfErr result (λ e. e ≡ ShelfFault.Failed) }

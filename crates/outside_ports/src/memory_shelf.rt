@@ -1,4 +1,6 @@
-ghost use Rattle.std.specs.Prelude.{◌≡◌, ℕ, ◌+◌, ◌-◌, ◌^◌, ◌<◌, ◌≤◌, ◌↔◌, ◌++◌, [], min, length, take, drop, Some, None, is_some, IsTrue, IfErr, IsOk, IfOk, IsErr, IsErrOf, OnOk, OnErr, MatchResult, MatchOption};
+ghost use Rattle.std.specs.Prelude.{◌≡◌, ℕ, ◌+◌, ◌-◌, ◌^◌, ◌<◌, ◌≤◌, ◌↔◌, ◌++◌, [], min, length, take, drop, Some};
+ghost use Rattle.std.specs.Prelude.{None, is_some, IsTrue, IfErr, IsOk, IfOk, IsErr, IsErrOf, OnOk, OnErr, MatchResult};
+ghost use Rattle.std.specs.Prelude.{MatchOption};
 ghost use Rattle.std.specs.Io.{ReadsAtMost};
 ghost use Rattle.std.specs.Io.KnownBytes.{ReadConsumes, IsAtEnd};
 ghost use Rattle.outside_ports.specs.Counts.{Rose};
@@ -42,7 +44,15 @@ impl MemShelf {
     /// calls of `start` and `read` are counted together from 1, and those whose numbers are in `failing` fail.
     pub fn new(files: Vec<(String, Vec<u8>)>, piece: usize, failing: Vec<u64>) -> MemShelf
         requires { 0 < piece }
-        ensures { result ≡ record { inputs = inputs_of files.items; piece = piece; failing = failing.items; calls = 0; faults = 0; given = 0; rest = [] } }
+        ensures { result ≡ record {
+          inputs = inputs_of files.items;
+          piece = piece;
+          failing = failing.items;
+          calls = 0;
+          faults = 0;
+          given = 0;
+          rest = [];
+        } }
     {
         let place = files.len();
         MemShelf {
@@ -90,7 +100,8 @@ impl Shelf for MemShelf {
         ensures failed { IsErrOf result ShelfFault.Failed → Rose self.old.faults self.new.faults }
         ensures gives { Unit {0} }
         ensures one_call { self.new.calls ≤ self.old.calls + 1 }
-        ensures steady { self.old.failing ≡ [] → (self.new.failing ≡ []) × (self.new.faults ≡ self.old.faults) × (IsErrOf result ShelfFault.Failed → ⊥) }
+        ensures steady { self.old.failing ≡ []
+            → (self.new.failing ≡ []) × (self.new.faults ≡ self.old.faults) × (IsErrOf result ShelfFault.Failed → ⊥) }
     {
         self.calls = self.calls.saturating_add(1);
         self.given = 0;
@@ -120,7 +131,8 @@ impl Shelf for MemShelf {
         ensures tells { is_some (Some self.new.rest) ≡ is_some (Some self.old.rest) }
         ensures bound { ReadsAtMost result buffer.new }
         ensures bytes { ReadConsumes (Some self.old.rest) (Some self.new.rest) result buffer.new }
-        ensures given { MatchResult result (λ n. self.new.given ≡ min (self.old.given + n) (2 ^ 64 - 1)) (λ _. self.new.given ≡ self.old.given) }
+        ensures given { MatchResult result (λ n. self.new.given ≡ min (self.old.given + n) (2 ^ 64 - 1))
+            (λ _. self.new.given ≡ self.old.given) }
         ensures later { self.old.faults ≤ self.new.faults }
         ensures failed { OnErr result (Rose self.old.faults self.new.faults) }
         ensures only { IfErr result (λ e. e ≡ ShelfFault.Failed) }
@@ -142,7 +154,8 @@ impl Shelf for MemShelf {
 
 /// The place of the first file of this name.
 fn place_of(files: &[(String, Vec<u8>)], name: &str) -> Option<usize>
-    ensures { MatchOption result (bytes_of (inputs_of files.now) name.now ≡ None) (λ place. bytes_of (inputs_of files.now) name.now ≡ Some (rest_at (inputs_of files.now) place 0)) }
+    ensures { MatchOption result (bytes_of (inputs_of files.now) name.now ≡ None)
+        (λ place. bytes_of (inputs_of files.now) name.now ≡ Some (rest_at (inputs_of files.now) place 0)) }
 {
     for (place, file) in files.iter().enumerate() {
         if file.0.as_str() == name {

@@ -1,4 +1,5 @@
-ghost use Rattle.std.specs.Prelude.{◌≡◌, ℕ, ◌+◌, ◌-◌, ◌<◌, ◌≤◌, ◌↔◌, [], min, length, Some, is_some, IsTrue, IfOk, IsErr, OnErr, MatchResult, ◌==◌, ◌||◌};
+ghost use Rattle.std.specs.Prelude.{◌≡◌, ℕ, ◌+◌, ◌-◌, ◌<◌, ◌≤◌, ◌↔◌, [], min, length, Some, is_some, IsTrue, IfOk};
+ghost use Rattle.std.specs.Prelude.{IsErr, OnErr, MatchResult, ◌==◌, ◌||◌};
 ghost use Rattle.std.specs.List.{list_any};
 ghost use Rattle.std.specs.Io.KnownBytes.{WriteAppends};
 ghost use Rattle.outside_ports.specs.Counts.{Rose};
@@ -41,7 +42,8 @@ impl MemSink {
         failing: Vec<u64>,
     ) -> Result<MemSink, AllocError>
         requires { 0 < piece }
-        ensures { IfOk result (λ sink. sink ≡ record { bytes = []; room = room; piece = piece; failing = failing.items; calls = 0; faults = 0 }) }
+        ensures { IfOk result (λ sink.
+            sink ≡ record { bytes = []; room = room; piece = piece; failing = failing.items; calls = 0; faults = 0 }) }
     {
         let bytes = Vec::with_capacity(alloc, room)?;
         Ok(MemSink {
@@ -85,7 +87,10 @@ impl Sink for MemSink {
         ensures later { self.old.faults ≤ self.new.faults }
         ensures failed { OnErr result (Rose self.old.faults self.new.faults) }
         ensures one_call { self.new.calls ≤ self.old.calls + 1 }
-        ensures takes { (room : ℕ) → length piece.now ≤ room → (self.old.failing ≡ []) × (length self.old.bytes + room ≤ self.old.room) → MatchResult result (λ n. ((self.new.failing ≡ []) × (length self.new.bytes + (room - n) ≤ self.new.room)) × (self.new.faults ≡ self.old.faults)) (λ _. ⊥) }
+        ensures takes { (room : ℕ) → length piece.now ≤ room
+            → (self.old.failing ≡ []) × (length self.old.bytes + room ≤ self.old.room) → MatchResult result
+            (λ n. ((self.new.failing ≡ []) × (length self.new.bytes + (room - n) ≤ self.new.room))
+            × (self.new.faults ≡ self.old.faults)) (λ _. ⊥) }
     {
         self.calls = self.calls.saturating_add(1);
         let left = self.room - self.bytes.len();

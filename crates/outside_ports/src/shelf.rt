@@ -1,4 +1,5 @@
-ghost use Rattle.std.specs.Prelude.{◌≡◌, ℕ, ◌+◌, ◌-◌, ◌^◌, ◌<◌, ◌≤◌, min, List, length, Option, is_some, IsSome, Result, IsOk, IfErr, IsErrOf, OnOk, OnErr, MatchResult};
+ghost use Rattle.std.specs.Prelude.{◌≡◌, ℕ, ◌+◌, ◌-◌, ◌^◌, ◌<◌, ◌≤◌, min, List, length, Option, is_some, IsSome};
+ghost use Rattle.std.specs.Prelude.{Result, IsOk, IfErr, IsErrOf, OnOk, OnErr, MatchResult};
 ghost use Rattle.std.specs.Io.{ReadsAtMost};
 ghost use Rattle.std.specs.Io.KnownBytes.{ReadConsumes, IsAtEnd};
 ghost use Rattle.outside_ports.specs.Counts.{Rose};
@@ -73,7 +74,8 @@ pub trait Shelf {
         ensures tells { is_some (rest self.new) ≡ is_some (rest self.old) }
         ensures bound { ReadsAtMost result buffer.new }
         ensures bytes { ReadConsumes (rest self.old) (rest self.new) result buffer.new }
-        ensures given { MatchResult result (λ n. given self.new ≡ min (given self.old + n) (2 ^ 64 - 1)) (λ _. given self.new ≡ given self.old) }
+        ensures given { MatchResult result (λ n. given self.new ≡ min (given self.old + n) (2 ^ 64 - 1))
+            (λ _. given self.new ≡ given self.old) }
         ensures later { faults self.old ≤ faults self.new }
         ensures failed { OnErr result (Rose (faults self.old) (faults self.new)) }
         ensures only { IfErr result (λ e. e ≡ ShelfFault.Failed) }

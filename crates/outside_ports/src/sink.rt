@@ -36,5 +36,6 @@ pub trait Sink {
         ensures later { faults self.old ≤ faults self.new }
         ensures failed { OnErr result (Rose (faults self.old) (faults self.new)) }
         ensures one_call { calls self.new ≤ calls self.old + 1 }
-        ensures takes { (room : ℕ) → length piece.now ≤ room → takes self.old room → MatchResult result (λ n. takes self.new (room - n) × (faults self.new ≡ faults self.old)) (λ _. ⊥) };
+        ensures takes { (room : ℕ) → length piece.now ≤ room → takes self.old room
+            → MatchResult result (λ n. takes self.new (room - n) × (faults self.new ≡ faults self.old)) (λ _. ⊥) };
 }

@@ -53,7 +53,8 @@ pub fn load<S: Shelf>(alloc: Global, shelf: &mut S, name: &str) -> Result<Vec<u8
     ensures ended { OnOk result (IsAtEnd (S.rest shelf.new)) }
     ensures size { IfOk result (λ bytes. (vec_len bytes ≡ S.given shelf.new) × (vec_len bytes ≤ GREATEST_INPUT_BYTES)) }
     ensures absent { IsErrOf result LoadFault.Absent → IsAbsent (S.names shelf.old) name.now (S.faults shelf.old) (S.faults shelf.new) }
-    ensures started { (answer : Result (Unit {0}) ShelfFault) × (mid : S) × S.start_gives shelf.old name.now answer mid × FollowsStart answer result }
+    ensures started { (answer : Result (Unit {0}) ShelfFault) × (mid : S) × S.start_gives shelf.old name.now answer mid
+        × FollowsStart answer result }
     ensures read { IsErrOf result LoadFault.Read → Rose (S.faults shelf.old) (S.faults shelf.new) }
     ensures too_long { (IsErrOf result LoadFault.TooLong) ↔ (GREATEST_INPUT_BYTES < S.given shelf.new) }
     ensures longer { IsErrOf result LoadFault.TooLong → IsLonger (S.names shelf.old) name.now GREATEST_INPUT_BYTES }
@@ -61,7 +62,8 @@ pub fn load<S: Shelf>(alloc: Global, shelf: &mut S, name: &str) -> Result<Vec<u8
     ensures tells { is_some (S.rest shelf.new) ≡ is_some (S.rest shelf.old) }
     ensures later { S.faults shelf.old ≤ S.faults shelf.new }
     ensures few_calls { S.calls shelf.new ≤ S.calls shelf.old + (GREATEST_INPUT_BYTES + 2) }
-    ensures steady { S.steady shelf.old → S.steady shelf.new × (S.faults shelf.new ≡ S.faults shelf.old) × (IsErrOf result LoadFault.Read → ⊥) }
+    ensures steady { S.steady shelf.old
+        → S.steady shelf.new × (S.faults shelf.new ≡ S.faults shelf.old) × (IsErrOf result LoadFault.Read → ⊥) }
 {
     match shelf.start(name) {
         Ok(()) => read_all(alloc, shelf),
@@ -85,7 +87,8 @@ fn read_all<S: Shelf>(alloc: Global, shelf: &mut S) -> Result<Vec<u8>, LoadFault
     ensures tells { is_some (S.rest shelf.new) ≡ is_some (S.rest shelf.old) }
     ensures later { S.faults shelf.old ≤ S.faults shelf.new }
     ensures few_calls { S.calls shelf.new ≤ S.calls shelf.old + (GREATEST_INPUT_BYTES + 1) }
-    ensures steady { S.steady shelf.old → S.steady shelf.new × (S.faults shelf.new ≡ S.faults shelf.old) × (IsErrOf result LoadFault.Read → ⊥) }
+    ensures steady { S.steady shelf.old
+        → S.steady shelf.new × (S.faults shelf.new ≡ S.faults shelf.old) × (IsErrOf result LoadFault.Read → ⊥) }
 {
     let mut bytes = Vec::new(alloc);
     let mut buffer = [0u8; 4096];
@@ -115,7 +118,8 @@ pub fn put_all<K: Sink>(sink: &mut K, text: &[u8]) -> Result<(), SinkFault>
     ensures tells { is_some (K.written sink.new) ≡ is_some (K.written sink.old) }
     ensures later { K.faults sink.old ≤ K.faults sink.new }
     ensures few_calls { K.calls sink.new ≤ K.calls sink.old + length text.now }
-    ensures takes { (room : ℕ) → length text.now ≤ room → K.takes sink.old room → IsOk result × (K.takes sink.new (room - length text.now)) × (K.faults sink.new ≡ K.faults sink.old) }
+    ensures takes { (room : ℕ) → length text.now ≤ room → K.takes sink.old room
+        → IsOk result × (K.takes sink.new (room - length text.now)) × (K.faults sink.new ≡ K.faults sink.old) }
 {
     let mut sent = 0;
     while sent < text.len() {

@@ -1,9 +1,13 @@
 -- The tests by which lists are refused as a program say what they should.
-use Rattle.std.proofs.Common.{◌≡◌, ℕ, ◌^◌, ◌<◌, ◌≤◌, List, [], length, slice_index, refl, ◌∙◌, arith, Bool, true, false, ◌&&◌, not, nat_lt, nat_le, ◌==◌, cond, Option, Some, None, ◌↔◌, inl, inr}
+use Rattle.std.proofs.Common.{◌≡◌, ℕ, ◌^◌, ◌<◌, ◌≤◌, List, [], length, slice_index, refl, ◌∙◌, arith, Bool, true, false}
+use Rattle.std.proofs.Common.{◌&&◌, not, nat_lt, nat_le, ◌==◌, cond, Option, Some, None, ◌↔◌, inl, inr}
 use Rattle.std.specs.List.{list_all}
-use Rattle.std.proofs.lemmas.Bool.{and_parts, and_from, cases_Bool, both_ways, not-false, not-true, ltb-true, ltb-false, lt-ltb, le-ltb, leb-true, le-leb, eqb-true, eq-eqb}
-use Rattle.bounded_sums.proofs.TestLaws.{any_below-some, any_below-from, any_below-none, any_below-none_from, first_below-before, first_below-passes, first_below-is}
-use Rattle.program_form.specs.Program.{ProgramDef, HasLengths, IsCovered, IsFirstUncovered, AreSmall, IsProgram, columns, height, row, entry}
+use Rattle.std.proofs.lemmas.Bool.{and_parts, and_from, cases_Bool, both_ways, not-false, not-true, ltb-true, ltb-false}
+use Rattle.std.proofs.lemmas.Bool.{lt-ltb, le-ltb, leb-true, le-leb, eqb-true, eq-eqb}
+use Rattle.bounded_sums.proofs.TestLaws.{any_below-some, any_below-from, any_below-none, any_below-none_from}
+use Rattle.bounded_sums.proofs.TestLaws.{first_below-before, first_below-passes, first_below-is}
+use Rattle.program_form.specs.Program.{ProgramDef, HasLengths, IsCovered, IsFirstUncovered, AreSmall, IsProgram}
+use Rattle.program_form.specs.Program.{columns, height, row, entry}
 use Rattle.program_form.specs.Refusals.{has_lengths, is_covered, first_uncovered, are_small, is_small, first_refusal}
 use Rattle.program_form.specs.declared.TheConstants.{MOST_NUMBER}
 use Rattle.program_form.specs.declared.program.ProgramRefusal.{ProgramRefusal}
@@ -55,7 +59,8 @@ before_first p d l =
 pub first_held : (p : ProgramDef) → first_at p < columns p → IsFirstUncovered p (first_at p)
 first_held p l = record {
   within = l;
-  none = uncovered_held p (first_at p) (not-true (is_covered p.rows (first_at p)) (first_below-passes (columns p) (λ c. not (is_covered p.rows c)) l));
+  none = uncovered_held p (first_at p)
+      (not-true (is_covered p.rows (first_at p)) (first_below-passes (columns p) (λ c. not (is_covered p.rows c)) l));
   earlier = before_first p;
 }
 
@@ -82,7 +87,9 @@ pub small_held : (p : ProgramDef) → is_small p ≡ true → AreSmall p
 small_held p h =
     let two : ((are_small p.costs && list_all are_small p.rows) ≡ true) × (are_small p.limits ≡ true)
     = and_parts (are_small p.costs && list_all are_small p.rows) (are_small p.limits) h in
-    let one : (are_small p.costs ≡ true) × (list_all are_small p.rows ≡ true) = and_parts (are_small p.costs) (list_all are_small p.rows) two.0 in record {
+    let one : (are_small p.costs ≡ true) × (list_all are_small p.rows ≡ true) =
+    and_parts (are_small p.costs) (list_all are_small p.rows) two.0 in
+    record {
       costs = all_small_at p.costs one.0;
       entries = λ r c. all_small_at (row p r) (list_all-place are_small [] p.rows refl one.1 r) c;
       limits = all_small_at p.limits two.1;
@@ -123,7 +130,8 @@ by_none true false n true h = (refl, refl, refl)
 by_none true false n false h = cc
 by_none false b n c h = cc
 
-refusal_is : (p : ProgramDef) (a b c : Bool) → has_lengths p ≡ a → nat_lt (first_at p) (columns p) ≡ b → is_small p ≡ c → first_refusal p ≡ refusal_by a b (first_at p) c
+refusal_is : (p : ProgramDef) (a b c : Bool) → has_lengths p ≡ a → nat_lt (first_at p) (columns p) ≡ b → is_small p ≡ c
+    → first_refusal p ≡ refusal_by a b (first_at p) c
 refusal_is p a b c h k m = rw (h, k, m) refl
 
 all_covered : (p : ProgramDef) → nat_lt (first_at p) (columns p) ≡ false → (c : ℕ) → c < columns p → IsCovered p c
@@ -144,11 +152,13 @@ is_program p few_columns few_rows h =
 -- Nothing refuses a program.
 pub not_refused : (p : ProgramDef) → IsProgram p → first_refusal p ≡ None
 not_refused p h =
-    refusal_is p true false true (lengths_shown p h.lengths) (le-ltb (first_at p) (columns p) (omega (arith, none_first p h.covered))) (small_shown p h.small)
+    refusal_is p true false true (lengths_shown p h.lengths)
+    (le-ltb (first_at p) (columns p) (omega (arith, none_first p h.covered))) (small_shown p h.small)
 
 pub length_exact : (p : ProgramDef) → (first_refusal p ≡ Some Length) ↔ (HasLengths p → ⊥)
 length_exact p = (
-  (λ h fits. both_ways (has_lengths p) (by_length (has_lengths p) (nat_lt (first_at p) (columns p)) (first_at p) (is_small p) h) (lengths_shown p fits)),
+  (λ h fits. both_ways (has_lengths p)
+      (by_length (has_lengths p) (nat_lt (first_at p) (columns p)) (first_at p) (is_small p) h) (lengths_shown p fits)),
   (λ unfit. elim (cases_Bool (has_lengths p)) [
     | inl fits ↦ absurd (unfit (lengths_held p fits))
     | inr fails ↦ refusal_is p false (nat_lt (first_at p) (columns p)) (is_small p) fails refl refl
@@ -170,7 +180,8 @@ uncovered_exact p c = ((λ h. held h), (λ h. shown h))
         let within : c < columns p = h.1.within in
         refusal_is p true true (is_small p) (lengths_shown p h.0) (lt-ltb (first_at p) (columns p) (omega arith)) refl ∙ rw at refl
 
-pub large_exact : (p : ProgramDef) → (first_refusal p ≡ Some Large) ↔ (HasLengths p × ((c : ℕ) → c < columns p → IsCovered p c) × (AreSmall p → ⊥))
+pub large_exact : (p : ProgramDef)
+    → (first_refusal p ≡ Some Large) ↔ (HasLengths p × ((c : ℕ) → c < columns p → IsCovered p c) × (AreSmall p → ⊥))
 large_exact p = ((λ h. held h), (λ h. shown h))
   where
     held : first_refusal p ≡ Some Large → HasLengths p × ((c : ℕ) → c < columns p → IsCovered p c) × (AreSmall p → ⊥)
@@ -182,5 +193,6 @@ large_exact p = ((λ h. held h), (λ h. shown h))
     shown : HasLengths p × ((c : ℕ) → c < columns p → IsCovered p c) × (AreSmall p → ⊥) → first_refusal p ≡ Some Large
     shown h = elim (cases_Bool (is_small p)) [
       | inl small ↦ absurd (h.2 (small_held p small))
-      | inr large ↦ refusal_is p true false false (lengths_shown p h.0) (le-ltb (first_at p) (columns p) (omega (arith, none_first p h.1))) large
+      | inr large ↦ refusal_is p true false false (lengths_shown p h.0)
+          (le-ltb (first_at p) (columns p) (omega (arith, none_first p h.1))) large
     ]

@@ -19,7 +19,8 @@ covers_worth : (m n : ℕ) (a : ℕ → ℕ → ℕ) (c ys : ℕ → ℕ) (d : �
 covers_worth m n a c ys d num h =
     rw (← sum_below-times_right n d (λ k. c k * ys k))
     (sum_below-monotone n (λ k. c k * ys k * d) (λ k. sum_below m (λ r. num r * a r k) * ys k)
-    (λ k l. rw (turn d (c k) (ys k)) (rw (mul_comm (d * c k) (ys k), mul_comm (sum_below m (λ r. num r * a r k)) (ys k)) (mul-le-mul_left (ys k) (h k l)))))
+    (λ k l. rw (turn d (c k) (ys k)) (rw (mul_comm (d * c k) (ys k), mul_comm (sum_below m (λ r. num r * a r k)) (ys k))
+    (mul-le-mul_left (ys k) (h k l)))))
 
 -- The columns' sum of rows is the rows' sum of columns.
 by_rows : (m n : ℕ) (a : ℕ → ℕ → ℕ) (ys num : ℕ → ℕ)
@@ -75,7 +76,8 @@ below_whole_part b s w num den ps pd reached passed =
 pub not_passed_bounds : (p : ProgramDef) (num den b : ℕ) → 0 < den
     → ((s : ℕ) (ys : ℕ → ℕ) → IsScaledPoint p s ys → worth p ys * den ≤ num * s) → Reaches p b → b ≤ num / den
 not_passed_bounds p num den b positive passed reach =
-    below_whole_part b reach.scale (worth p reach.point) num den reach.is_point.positive positive reach.reached (passed reach.scale reach.point reach.is_point)
+    below_whole_part b reach.scale (worth p reach.point) num den reach.is_point.positive positive reach.reached
+    (passed reach.scale reach.point reach.is_point)
 
 -- The whole part of a fraction that a point attains is reached.
 attained_whole_part : (s w num den : ℕ) → 0 < den → w * den ≡ num * s → num / den * s ≤ w

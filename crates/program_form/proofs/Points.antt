@@ -12,7 +12,10 @@ pub zero_reached : (p : ProgramDef) → Reaches p 0
 zero_reached p = record {
   scale = 1;
   point = λ c. 0;
-  is_point = record { positive = omega arith; kept = λ r l. omega (arith, sum_below-zero (columns p) (λ c. entry p r c * 0) (λ c k. omega arith)) };
+  is_point = record {
+    positive = omega arith;
+    kept = λ r l. omega (arith, sum_below-zero (columns p) (λ c. entry p r c * 0) (λ c k. omega arith));
+  };
   reached = omega arith;
 }
 
@@ -34,7 +37,8 @@ times_more x s a b h l = omega (arith, mul-le-mul_left s l)
 pub kept_by_greater : (p q : ProgramDef) (s : ℕ) (ys : ℕ → ℕ) → HasLimitsAtMost p q → IsScaledPoint p s ys → IsScaledPoint q s ys
 kept_by_greater p q s ys less point = record {
   positive = point.positive;
-  kept = λ r l. rw (← less.same_costs, ← less.same_rows) (times_more (sum_below (columns p) (λ c. entry p r c * ys c)) s (limit p r) (limit q r)
+  kept = λ r l. rw (← less.same_costs, ← less.same_rows)
+      (times_more (sum_below (columns p) (λ c. entry p r c * ys c)) s (limit p r) (limit q r)
       (point.kept r (rw less.same_rows l)) (less.limits r (rw less.same_rows l)));
 }
 
@@ -60,7 +64,8 @@ covered_dual p covered = record {
   covered = λ c l.
       let held = covered c l in
       let once : 1 * cost p c ≤ sum_below (columns p) (λ k. cost p k) * entry p held.by_row c
-      = at_least_once (cost p c) (entry p held.by_row c) (sum_below (columns p) (λ k. cost p k)) (sum_below-term (columns p) (λ k. cost p k) c l) held.above in
+      = at_least_once (cost p c) (entry p held.by_row c) (sum_below (columns p) (λ k. cost p k))
+      (sum_below-term (columns p) (λ k. cost p k) c l) held.above in
       omega (arith, once, sum_below-term (height p) (λ r. sum_below (columns p) (λ k. cost p k) * entry p r c) held.by_row held.within);
 }
 

@@ -29,7 +29,10 @@ best_covers : Covers seven_rows 3 (λ r. slice_index seven_rows_dual.num r)
 best_covers = record {
   positive = lit< tt;
   covered = λ c l. leb-true (3 * cost seven_rows c) (sum_below 7 (λ r. slice_index seven_rows_dual.num r * entry seven_rows r c))
-      (all_below-each 3 (λ c. nat_le (3 * cost seven_rows c) (sum_below 7 (λ r. slice_index seven_rows_dual.num r * entry seven_rows r c))) refl c l);
+      (all_below-each 3
+      (λ c.
+      nat_le (3 * cost seven_rows c) (sum_below 7 (λ r. slice_index seven_rows_dual.num r * entry seven_rows r c))) refl
+      c l);
 }
 
 pub best_optimum : IsOptimum seven_rows 14 3

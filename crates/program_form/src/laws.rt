@@ -3,7 +3,8 @@
 
 ghost use Rattle.std.specs.Prelude.{◌≡◌, ℕ, ◌+◌, ◌*◌, ◌/◌, ◌^◌, ◌<◌, ◌≤◌, ◌↔◌, Some, None, slice_index};
 ghost use Rattle.bounded_sums.specs.Sums.{sum_below};
-ghost use Rattle.program_form.specs.Program.{ProgramDef, HasLengths, IsCovered, IsFirstUncovered, AreSmall, IsProgram, columns, height, cost};
+ghost use Rattle.program_form.specs.Program.{ProgramDef, HasLengths, IsCovered, IsFirstUncovered, AreSmall, IsProgram};
+ghost use Rattle.program_form.specs.Program.{columns, height, cost};
 ghost use Rattle.program_form.specs.Refusals.{first_refusal};
 ghost use Rattle.program_form.specs.Points.{IsScaledPoint, worth, Reaches, IsGreatestReached};
 ghost use Rattle.program_form.specs.Optimum.{IsOptimum};
@@ -17,7 +18,8 @@ use crate::program::ProgramRefusal;
 /// with the first column that no row covers, else `Large` exactly where a number is too large.
 pub fn refusals_are_exact()
     ensures length { (p : ProgramDef) → (first_refusal p ≡ Some ProgramRefusal.Length) ↔ (HasLengths p → ⊥) }
-    ensures uncovered { (p : ProgramDef) (c : ℕ) → (first_refusal p ≡ Some (ProgramRefusal.Uncovered c)) ↔ (HasLengths p × IsFirstUncovered p c) }
+    ensures uncovered { (p : ProgramDef) (c : ℕ)
+        → (first_refusal p ≡ Some (ProgramRefusal.Uncovered c)) ↔ (HasLengths p × IsFirstUncovered p c) }
     ensures large { (p : ProgramDef)
         → (first_refusal p ≡ Some ProgramRefusal.Large)
         ↔ (HasLengths p × ((c : ℕ) → c < columns p → IsCovered p c) × (AreSmall p → ⊥)) }

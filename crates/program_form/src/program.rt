@@ -1,6 +1,7 @@
 //! Blocking programs, and the lists that are refused as one.
 
-ghost use Rattle.std.specs.Prelude.{◌≡◌, ℕ, ◌^◌, ◌<◌, ◌≤◌, Bool, true, ◌==◌, ◌&&◌, not, List, [], length, vec_len, slice_index, slice_index_or, IfOk, IfSome, Option, Some, None};
+ghost use Rattle.std.specs.Prelude.{◌≡◌, ℕ, ◌^◌, ◌<◌, ◌≤◌, Bool, true, ◌==◌, ◌&&◌, not, List, [], length, vec_len};
+ghost use Rattle.std.specs.Prelude.{slice_index, slice_index_or, IfOk, IfSome, Option, Some, None};
 ghost use Rattle.std.specs.List.{list_all};
 ghost use Rattle.bounded_sums.specs.Tests.{any_below, first_below};
 ghost use Rattle.program_form.specs.Program.{ProgramDef, IsProgram, columns, height, cost, entry, limit};

@@ -1,5 +1,6 @@
 -- What is said of a tick depends on the rows before it, and where it speaks of the tick's own row on that one, alone.
-use Rattle.std.proofs.Common.{◌≡◌, ℕ, zero, suc, ◌+◌, ◌-◌, ◌<◌, ◌≤◌, ◌==◌, ◌&&◌, ◌||◌, not, List, [], ◌∷◌, ◌++◌, length, refl, sym, ap, ◌∙◌, arith, inl, inr, leb}
+use Rattle.std.proofs.Common.{◌≡◌, ℕ, zero, suc, ◌+◌, ◌-◌, ◌<◌, ◌≤◌, ◌==◌, ◌&&◌, ◌||◌, not, List, [], ◌∷◌, ◌++◌, length}
+use Rattle.std.proofs.Common.{refl, sym, ap, ◌∙◌, arith, inl, inr, leb}
 use Rattle.std.proofs.Math.ListN.{get_or-append}
 use Rattle.std.proofs.Math.Seq.{get_or-append_seam}
 use Rattle.std.proofs.lemmas.List.Sums.{sum_by-cons}
@@ -9,9 +10,12 @@ use Rattle.bounded_sums.proofs.CountLaws.{count_below-agree}
 use Rattle.bounded_sums.proofs.TestLaws.{all_below-agree, first_below-agree, found_below-agree}
 use Rattle.sporadic_model.specs.SetDef.{task_at}
 use Rattle.schedule_model.specs.JobDef.{JobDef, JobsDef, job_of}
-use Rattle.schedule_model.specs.RowDef.{RowDef, RunDef, Trace, idle_row, row_in, ticks_of, trace_of, trace_in, running_on, holder_in, held_before, runs_in}
+use Rattle.schedule_model.specs.RowDef.{RowDef, RunDef, Trace, idle_row, row_in, ticks_of, trace_of, trace_in}
+use Rattle.schedule_model.specs.RowDef.{running_on, holder_in, held_before, runs_in}
 use Rattle.schedule_model.specs.Phase.{is_finished, is_same_request, phase_from, executed, phase_of}
-use Rattle.schedule_model.specs.Activity.{task_of, processor_of, is_pending, is_next, is_active, is_active_job_of, active_job_of, is_requester, issue_tick_of, holds_by, is_active_local, is_ready_holder, is_ready}
+use Rattle.schedule_model.specs.Activity.{task_of, processor_of, is_pending, is_next, is_active, is_active_job_of}
+use Rattle.schedule_model.specs.Activity.{active_job_of, is_requester, issue_tick_of, holds_by, is_active_local}
+use Rattle.schedule_model.specs.Activity.{is_ready_holder, is_ready}
 use Rattle.schedule_laws.specs.Agreement.{AgreeBefore}
 
 -- Schedules that agree before a tick agree before each earlier one.
@@ -33,17 +37,20 @@ pub task_agree : (v w : Trace) (n j : ℕ) → AgreeBefore v w n → task_of v j
 task_agree v w n j a = ap (λ jobs. (job_of jobs j).task) a.jobs
 
 pub processor_agree : (v w : Trace) (n j : ℕ) → AgreeBefore v w n → processor_of v j ≡ processor_of w j
-processor_agree v w n j a = ap (λ set. (task_at set (task_of v j)).processor) a.set ∙ ap (λ x. (task_at w.set x).processor) (task_agree v w n j a)
+processor_agree v w n j a = ap (λ set. (task_at set (task_of v j)).processor) a.set
+    ∙ ap (λ x. (task_at w.set x).processor) (task_agree v w n j a)
 
 -- At a tick up to n: what speaks of the rows before the tick alone.
 pub executed_agree : (v w : Trace) (n t j : ℕ) → AgreeBefore v w n → t ≤ n → executed v t j ≡ executed w t j
 unfolding executed
-executed_agree v w n t j a l = count_below-agree t (λ u. runs_in (v.row u) j) (λ u. runs_in (w.row u) j) (λ u b. ap (λ row. runs_in row j) (a.rows u (omega arith)))
+executed_agree v w n t j a l = count_below-agree t (λ u. runs_in (v.row u) j) (λ u. runs_in (w.row u) j)
+    (λ u b. ap (λ row. runs_in row j) (a.rows u (omega arith)))
 
 pub phase_agree : (v w : Trace) (n t j : ℕ) → AgreeBefore v w n → t ≤ n → phase_of v t j ≡ phase_of w t j
 unfolding phase_of
 phase_agree v w n t j a l =
-    ap (λ jobs. phase_from 0 (job_of jobs j).script (executed v t j)) a.jobs ∙ ap (phase_from 0 (job_of w.jobs j).script) (executed_agree v w n t j a l)
+    ap (λ jobs. phase_from 0 (job_of jobs j).script (executed v t j)) a.jobs
+    ∙ ap (phase_from 0 (job_of w.jobs j).script) (executed_agree v w n t j a l)
 
 pub pending_agree : (v w : Trace) (n t j : ℕ) → AgreeBefore v w n → t ≤ n → is_pending v t j ≡ is_pending w t j
 unfolding is_pending
@@ -53,7 +60,8 @@ pending_agree v w n t j a l =
 
 pub next_agree : (v w : Trace) (n t j : ℕ) → AgreeBefore v w n → t ≤ n → is_next v t j ≡ is_next w t j
 unfolding is_next
-next_agree v w n t j a l = all_below-agree j (λ e. not (task_of v e == task_of v j) || is_finished (phase_of v t e)) (λ e. not (task_of w e == task_of w j) || is_finished (phase_of w t e))
+next_agree v w n t j a l = all_below-agree j (λ e. not (task_of v e == task_of v j) || is_finished (phase_of v t e))
+    (λ e. not (task_of w e == task_of w j) || is_finished (phase_of w t e))
     (λ e b. ap (λ (jobs : List JobDef). not ((job_of jobs e).task == (job_of jobs j).task) || is_finished (phase_of v t e)) a.jobs
     ∙ ap (λ p. not (task_of w e == task_of w j) || is_finished p) (phase_agree v w n t e a l))
 
@@ -78,8 +86,10 @@ active_local_agree v w n t j a l = rw (active_agree v w n t j a l, phase_agree v
 
 pub issue_agree : (v w : Trace) (n t j : ℕ) → AgreeBefore v w n → t ≤ n → issue_tick_of v t j ≡ issue_tick_of w t j
 unfolding issue_tick_of
-issue_agree v w n t j a l = first_below-agree t (λ u. is_same_request (phase_of v u j) (phase_of v t j)) (λ u. is_same_request (phase_of w u j) (phase_of w t j))
-    (λ u b. ap (λ p. is_same_request p (phase_of v t j)) (phase_agree v w n u j a (omega arith)) ∙ ap (is_same_request (phase_of w u j)) (phase_agree v w n t j a l))
+issue_agree v w n t j a l = first_below-agree t (λ u. is_same_request (phase_of v u j) (phase_of v t j))
+    (λ u. is_same_request (phase_of w u j) (phase_of w t j))
+    (λ u b. ap (λ p. is_same_request p (phase_of v t j)) (phase_agree v w n u j a (omega arith))
+    ∙ ap (is_same_request (phase_of w u j)) (phase_agree v w n t j a l))
 
 pub held_before_agree : (v w : Trace) (n t q : ℕ) → AgreeBefore v w n → t ≤ n → held_before v t q ≡ held_before w t q
 held_before_agree v w n zero q a l = refl
@@ -122,7 +132,8 @@ row_in_begun (run ∷ runs) more t l =
       | inr past ↦ rw (le-ltb t run.ticks past) (row_in_begun runs more (t - run.ticks) (omega arith))
     ]
 
-row_in_added : (runs : List RunDef) (run : RunDef) (more : List RunDef) (t : ℕ) → ticks_of runs ≤ t → t < ticks_of runs + run.ticks → row_in (runs ++ run ∷ more) t ≡ run.row
+row_in_added : (runs : List RunDef) (run : RunDef) (more : List RunDef) (t : ℕ) → ticks_of runs ≤ t
+    → t < ticks_of runs + run.ticks → row_in (runs ++ run ∷ more) t ≡ run.row
 row_in_added [] run more t h l = let here : t < run.ticks = omega arith in rw (lt-ltb t run.ticks here) refl
 row_in_added (r ∷ runs) run more t h l =
     let total : ticks_of (r ∷ runs) ≡ r.ticks + ticks_of runs = sum_by-cons (λ s. s.ticks) r runs in
@@ -130,10 +141,12 @@ row_in_added (r ∷ runs) run more t h l =
     rw (le-ltb t r.ticks past) (row_in_added runs run more (t - r.ticks) (omega arith) (omega arith))
 
 -- A list of runs agrees with each that it begins, before its end.
-pub runs_agree : (jobs : JobsDef) (runs more : List RunDef) → AgreeBefore (trace_in jobs (runs ++ more)) (trace_in jobs runs) (ticks_of runs)
+pub runs_agree : (jobs : JobsDef) (runs more : List RunDef)
+    → AgreeBefore (trace_in jobs (runs ++ more)) (trace_in jobs runs) (ticks_of runs)
 runs_agree jobs runs more = record { set = refl; jobs = refl; rows = λ t l. row_in_begun runs more t l }
 
 -- The run that was added stands at each of its ticks.
-pub run_added : (jobs : JobsDef) (runs : List RunDef) (run : RunDef) (more : List RunDef) (t : ℕ) → ticks_of runs ≤ t → t < ticks_of runs + run.ticks
+pub run_added : (jobs : JobsDef) (runs : List RunDef) (run : RunDef) (more : List RunDef) (t : ℕ) → ticks_of runs ≤ t
+    → t < ticks_of runs + run.ticks
     → (trace_in jobs (runs ++ run ∷ more)).row t ≡ run.row
 run_added jobs runs run more t h l = row_in_added runs run more t h l

@@ -25,7 +25,8 @@ asking_unfinished : (m q : ℕ) (p : Phase) → p ≡ Asking m q → is_finished
 asking_unfinished m q p e = rw e refl
 
 -- Where the rows after u up to t keep Keep, a holder at u that is active and in its request at both ticks holds at t too.
-pub holder_kept : (w : Trace) (u t q j m : ℕ) → ((s : ℕ) → u < s → s ≤ t → KeepsKeep w s) → u ≤ t → is_active w u j ≡ true → phase_of w u j ≡ Asking m q → phase_of w t j ≡ Asking m q
+pub holder_kept : (w : Trace) (u t q j m : ℕ) → ((s : ℕ) → u < s → s ≤ t → KeepsKeep w s) → u ≤ t
+    → is_active w u j ≡ true → phase_of w u j ≡ Asking m q → phase_of w t j ≡ Asking m q
     → holder_in (w.row u) q ≡ Some j → holder_in (w.row t) q ≡ Some j
 holder_kept w u zero q j m keeps l a h g e = let same : u ≡ 0 = omega arith in rw (← same) e
 holder_kept w u (suc t) q j m keeps l a h g e = elim (cases_lt t u) [
@@ -38,7 +39,8 @@ holder_kept w u (suc t) q j m keeps l a h g e = elim (cases_lt t u) [
 ]
 
 -- In rows that keep the rules, a holder stays the holder while the request is open that it is in.
-pub shared_holder_stays : (o : Ranks) (w : Trace) (n u t q j m r : ℕ) → KeepsBefore (shared_rule o) w n → u ≤ t → t < n → phase_of w u j ≡ Asking m r → phase_of w t j ≡ Asking m q
+pub shared_holder_stays : (o : Ranks) (w : Trace) (n u t q j m r : ℕ) → KeepsBefore (shared_rule o) w n → u ≤ t → t < n
+    → phase_of w u j ≡ Asking m r → phase_of w t j ≡ Asking m q
     → holder_in (w.row u) q ≡ Some j → holder_in (w.row t) q ≡ Some j
 shared_holder_stays o w n u t q j m r keeps l b h g e =
     let grant : shared.KeepsGrant o w u = keeps u (omega arith) rule.Grant in
@@ -49,7 +51,8 @@ shared_holder_stays o w n u t q j m r keeps l b h g e =
     holder_kept w u t q j m (λ s c d. keeps s (omega arith) rule.Keep) l asks.active here g e
 
 -- The same under DPCP.
-pub dpcp_holder_stays : (w : Trace) (n u t q j m r : ℕ) → KeepsBefore dpcp_rule w n → u ≤ t → t < n → phase_of w u j ≡ Asking m r → phase_of w t j ≡ Asking m q
+pub dpcp_holder_stays : (w : Trace) (n u t q j m r : ℕ) → KeepsBefore dpcp_rule w n → u ≤ t → t < n
+    → phase_of w u j ≡ Asking m r → phase_of w t j ≡ Asking m q
     → holder_in (w.row u) q ≡ Some j → holder_in (w.row t) q ≡ Some j
 dpcp_holder_stays w n u t q j m r keeps l b h g e =
     let grant : distributed.KeepsGrant w u = keeps u (omega arith) rule.Grant in
@@ -59,24 +62,28 @@ dpcp_holder_stays w n u t q j m r keeps l b h g e =
     let here : phase_of w u j ≡ Asking m q = rw (← number) asks.phase in
     holder_kept w u t q j m (λ s c d. keeps s (omega arith) rule.Keep) l asks.active here g e
 
-not_asking_at_first : (n : ℕ) (script : List SegmentDef) (m q : ℕ) → list_all is_segment script ≡ true → is_same_request (phase_from n script 0) (Asking m q) ≡ false
+not_asking_at_first : (n : ℕ) (script : List SegmentDef) (m q : ℕ) → list_all is_segment script ≡ true
+    → is_same_request (phase_from n script 0) (Asking m q) ≡ false
 not_asking_at_first n [] m q p = rw (phase_of_none n 0) refl
 not_asking_at_first n (s ∷ script) m q p =
     let parts : (is_segment s ≡ true) × (list_all is_segment script ≡ true) = and_parts _ _ p in
     rw (phase_local n s script 0 (segment_local s parts.0)) refl
 
 -- A script begins Local, so no request is open at tick 0.
-pub not_open_at_first : (w : Trace) (j m q : ℕ) → is_script (job_of w.jobs j).script ≡ true → is_same_request (phase_of w 0 j) (Asking m q) ≡ false
+pub not_open_at_first : (w : Trace) (j m q : ℕ) → is_script (job_of w.jobs j).script ≡ true
+    → is_same_request (phase_of w 0 j) (Asking m q) ≡ false
 unfolding phase_of
 not_open_at_first w j m q lawful =
     rw (executed_none w j) (not_asking_at_first 0 (job_of w.jobs j).script m q (script_segments (job_of w.jobs j).script lawful))
 
 -- Where running jobs are active, a job in a request is active.
-pub open_active : (w : Trace) (n t j m q : ℕ) → RunsActiveBefore w n → t ≤ n → is_script (job_of w.jobs j).script ≡ true → phase_of w t j ≡ Asking m q → is_active w t j ≡ true
+pub open_active : (w : Trace) (n t j m q : ℕ) → RunsActiveBefore w n → t ≤ n → is_script (job_of w.jobs j).script ≡ true
+    → phase_of w t j ≡ Asking m q → is_active w t j ≡ true
 open_active w n t j m q active l lawful h =
     let before : LocalRun w 0 t j = local_run_before w 0 t j m q lawful (omega arith) h (not_open_at_first w j m q lawful) in
     let at : (k : ℕ) × (running_on (w.row before.tick) k ≡ Some j) = runs_where (w.row before.tick) j before.runs in
-    active_stays w before.tick t j (active before.tick at.0 j (omega (arith, before.before)) at.1) (omega (arith, before.before)) (asking_unfinished m q (phase_of w t j) h)
+    active_stays w before.tick t j (active before.tick at.0 j (omega (arith, before.before)) at.1)
+    (omega (arith, before.before)) (asking_unfinished m q (phase_of w t j) h)
 
 -- A request that is open at a later tick, with no executed Local tick since an earlier one, was open there.
 pub open_at : (w : Trace) (u v j m q : ℕ) → is_script (job_of w.jobs j).script ≡ true → u ≤ v → phase_of w v j ≡ Asking m q

@@ -22,7 +22,8 @@ issue_least w u t j h = first_below-least t (λ k. is_same_request (phase_of w k
 pub issue_no_later : (w : Trace) (u t j m q r : ℕ) → phase_of w u j ≡ Asking m q → phase_of w t j ≡ Asking m r → issue_tick_of w t j ≤ u
 issue_no_later w u t j m q r h g = issue_least w u t j (same_from (phase_of w u j) (phase_of w t j) m q r h g)
 
-issue_passes : (w : Trace) (t j : ℕ) → issue_tick_of w t j < t → is_same_request (phase_of w (issue_tick_of w t j) j) (phase_of w t j) ≡ true
+issue_passes : (w : Trace) (t j : ℕ) → issue_tick_of w t j < t
+    → is_same_request (phase_of w (issue_tick_of w t j) j) (phase_of w t j) ≡ true
 unfolding issue_tick_of
 issue_passes w t j l = first_below-passes t (λ u. is_same_request (phase_of w u j) (phase_of w t j)) l
 
@@ -42,24 +43,29 @@ pub open_since : (w : Trace) (u t j m q : ℕ) → phase_of w t j ≡ Asking m q
 open_since w u t j m q h a b = open_between w (issue_tick_of w t j) u t j m q q (open_at_issue w t j m q h) h a b
 
 -- While a request is open its issue tick stays.
-pub issue_stays : (w : Trace) (u t j m q r : ℕ) → phase_of w u j ≡ Asking m q → phase_of w t j ≡ Asking m r → u ≤ t → issue_tick_of w u j ≡ issue_tick_of w t j
+pub issue_stays : (w : Trace) (u t j m q r : ℕ) → phase_of w u j ≡ Asking m q → phase_of w t j ≡ Asking m r → u ≤ t
+    → issue_tick_of w u j ≡ issue_tick_of w t j
 issue_stays w u t j m q r h g l =
     let early : issue_tick_of w t j ≤ u = issue_no_later w u t j m q r h g in
-    let there : issue_tick_of w t j ≤ issue_tick_of w u j = issue_no_later w (issue_tick_of w u j) t j m q r (open_at_issue w u j m q h) g in
+    let there : issue_tick_of w t j ≤ issue_tick_of w u j =
+    issue_no_later w (issue_tick_of w u j) t j m q r (open_at_issue w u j m q h) g in
     let back : issue_tick_of w u j ≤ issue_tick_of w t j = issue_no_later w (issue_tick_of w t j) u j m r q (open_at_issue w t j m r g) h in
     omega arith
 
 -- From one tick to the next.
-pub issue_kept : (w : Trace) (t j : ℕ) → is_same_request (phase_of w t j) (phase_of w (suc t) j) ≡ true → issue_tick_of w (suc t) j ≡ issue_tick_of w t j
+pub issue_kept : (w : Trace) (t j : ℕ) → is_same_request (phase_of w t j) (phase_of w (suc t) j) ≡ true
+    → issue_tick_of w (suc t) j ≡ issue_tick_of w t j
 issue_kept w t j h =
     let s : SameRequest (phase_of w t j) (phase_of w (suc t) j) = same_parts (phase_of w t j) (phase_of w (suc t) j) h in
     sym (issue_stays w t (suc t) j s.number s.first s.second s.one s.two (omega arith))
 
-new_before : (w : Trace) (t j k : ℕ) → is_same_request (phase_of w t j) (phase_of w (suc t) j) ≡ false → k < suc t → is_same_request (phase_of w k j) (phase_of w (suc t) j) ≡ false
+new_before : (w : Trace) (t j k : ℕ) → is_same_request (phase_of w t j) (phase_of w (suc t) j) ≡ false → k < suc t
+    → is_same_request (phase_of w k j) (phase_of w (suc t) j) ≡ false
 new_before w t j k h l = elim (cases_Bool (is_same_request (phase_of w k j) (phase_of w (suc t) j))) [
   | inl same ↦
       let s : SameRequest (phase_of w k j) (phase_of w (suc t) j) = same_parts (phase_of w k j) (phase_of w (suc t) j) same in
-      let here : phase_of w t j ≡ Asking s.number s.first = open_between w k t (suc t) j s.number s.first s.second s.one s.two (omega arith) (omega arith) in
+      let here : phase_of w t j ≡ Asking s.number s.first =
+      open_between w k t (suc t) j s.number s.first s.second s.one s.two (omega arith) (omega arith) in
       absurd (both_ways _ h (same_from (phase_of w t j) (phase_of w (suc t) j) s.number s.first s.second here s.two))
   | inr other ↦ other
 ]
@@ -67,7 +73,8 @@ new_before w t j k h l = elim (cases_Bool (is_same_request (phase_of w k j) (pha
 -- Where a request is new, or there is none, the issue tick is the present tick.
 pub issue_new : (w : Trace) (t j : ℕ) → is_same_request (phase_of w t j) (phase_of w (suc t) j) ≡ false → issue_tick_of w (suc t) j ≡ suc t
 unfolding issue_tick_of
-issue_new w t j h = first_below-is (suc t) (λ u. is_same_request (phase_of w u j) (phase_of w (suc t) j)) (suc t) (omega arith) (λ k l. new_before w t j k h l) (λ l. absurd (omega arith))
+issue_new w t j h = first_below-is (suc t) (λ u. is_same_request (phase_of w u j) (phase_of w (suc t) j)) (suc t)
+    (omega arith) (λ k l. new_before w t j k h l) (λ l. absurd (omega arith))
 
 -- At tick 0 it is 0.
 pub issue_first : (w : Trace) (j : ℕ) → issue_tick_of w 0 j ≡ 0

@@ -14,7 +14,8 @@ pub record Delayed (w : Trace) (t j : ℕ) : Type 0 where
 -- A delayed job is active and doesn't run.
 pub delayed_is : (w : Trace) (t j : ℕ) → is_delayed w t j ≡ true → Delayed w t j
 unfolding is_delayed
-delayed_is w t j h = let parts : (is_active w t j ≡ true) × (not (runs_in (w.row t) j) ≡ true) = and_parts _ _ h in record { active = parts.0; waits = not-true _ parts.1 }
+delayed_is w t j h = let parts : (is_active w t j ≡ true) × (not (runs_in (w.row t) j) ≡ true) = and_parts _ _ h in
+    record { active = parts.0; waits = not-true _ parts.1 }
 
 -- An active job that doesn't run is delayed.
 pub delayed_from : (w : Trace) (t j : ℕ) → is_active w t j ≡ true → runs_in (w.row t) j ≡ false → is_delayed w t j ≡ true
@@ -35,7 +36,8 @@ blocked_is interferes w t j h =
     record { active = d.active; waits = d.waits; free = not-true _ parts.1 }
 
 -- An active job that doesn't run and isn't interfered with is blocked.
-pub blocked_from : (interferes : Trace → ℕ → ℕ → Bool) (w : Trace) (t j : ℕ) → is_active w t j ≡ true → runs_in (w.row t) j ≡ false → interferes w t j ≡ false → is_blocked interferes w t j ≡ true
+pub blocked_from : (interferes : Trace → ℕ → ℕ → Bool) (w : Trace) (t j : ℕ) → is_active w t j ≡ true
+    → runs_in (w.row t) j ≡ false → interferes w t j ≡ false → is_blocked interferes w t j ≡ true
 unfolding is_blocked
 blocked_from interferes w t j a h f = and_from _ _ (delayed_from w t j a h) (not_from_false _ f)
 
@@ -47,7 +49,8 @@ pub record Executing (w : Trace) (t j : ℕ) : Type 0 where
 -- A job that executes is active and runs.
 pub executing_is : (w : Trace) (t j : ℕ) → is_executing w t j ≡ true → Executing w t j
 unfolding is_executing
-executing_is w t j h = let parts : (is_active w t j ≡ true) × (runs_in (w.row t) j ≡ true) = and_parts _ _ h in record { active = parts.0; runs = parts.1 }
+executing_is w t j h = let parts : (is_active w t j ≡ true) × (runs_in (w.row t) j ≡ true) = and_parts _ _ h in
+    record { active = parts.0; runs = parts.1 }
 
 -- An active job that runs executes.
 pub executing_from : (w : Trace) (t j : ℕ) → is_active w t j ≡ true → runs_in (w.row t) j ≡ true → is_executing w t j ≡ true
@@ -66,5 +69,6 @@ higher_local_is set i h e =
     record { higher = ltb-true h i parts.0; processor = eqb-true _ _ parts.1 }
 
 -- A higher task on the same processor is a higher local one.
-pub higher_local_from : (set : SetDef) (i h : ℕ) → h < i → (task_at set h).processor ≡ (task_at set i).processor → is_higher_local set i h ≡ true
+pub higher_local_from : (set : SetDef) (i h : ℕ) → h < i → (task_at set h).processor ≡ (task_at set i).processor
+    → is_higher_local set i h ≡ true
 higher_local_from set i h l e = and_from _ _ (lt-ltb h i l) (eq-eqb _ _ e)

@@ -51,7 +51,8 @@ has_finished_stays w n m j l h = let e : phase_of w m j ≡ Finished = finished_
 pub finish_stays : (w : Trace) (n m j : ℕ) → n ≤ m → has_finished w n j ≡ true → finish_of w m j ≡ finish_of w n j
 finish_stays w n m j l h =
     let a : finish_of w m j ≤ finish_of w n j = finish_least w m (finish_of w n j) j (finished_at_finish w n j h) in
-    let b : finish_of w n j ≤ finish_of w m j = finish_least w n (finish_of w m j) j (finished_at_finish w m j (has_finished_stays w n m j l h)) in
+    let b : finish_of w n j ≤ finish_of w m j =
+    finish_least w n (finish_of w m j) j (finished_at_finish w m j (has_finished_stays w n m j l h)) in
     omega arith
 
 -- A job that is finished after a row and not before it has its finish there.
@@ -59,7 +60,8 @@ pub finish_new : (w : Trace) (n j : ℕ) → has_finished w n j ≡ false → fi
 unfolding has_finished
 finish_new w n j h = elim (cases_lt (finish_of w (suc n) j) (suc n)) [
   | inl early ↦
-      let e : phase_of w n j ≡ Finished = finished_stays w (finish_of w (suc n) j) n j (omega arith) (finished_true _ (finish_passes w (suc n) j early)) in
+      let e : phase_of w n j ≡ Finished =
+      finished_stays w (finish_of w (suc n) j) n j (omega arith) (finished_true _ (finish_passes w (suc n) j early)) in
       let x : is_finished (phase_of w n j) ≡ true = rw e refl in
       absurd (both_ways _ h x)
   | inr late ↦ omega (arith, finish_at_most w (suc n) j)
@@ -71,12 +73,14 @@ unfolding response_of
 response_at_most w n b j h = omega (arith, finish_least w n ((job_of w.jobs j).release + b) j h)
 
 -- Blocked ticks rise by one at a blocked tick, and else stay.
-pub blocking_next : (interferes : Trace → ℕ → ℕ → Bool) (w : Trace) (n j : ℕ) → blocking_of interferes w (suc n) j ≡ blocking_of interferes w n j + flag (is_blocked interferes w n j)
+pub blocking_next : (interferes : Trace → ℕ → ℕ → Bool) (w : Trace) (n j : ℕ)
+    → blocking_of interferes w (suc n) j ≡ blocking_of interferes w n j + flag (is_blocked interferes w n j)
 unfolding blocking_of
 blocking_next interferes w n j = refl
 
 -- Blocked ticks rise.
-pub blocking_up : (interferes : Trace → ℕ → ℕ → Bool) (w : Trace) (n m j : ℕ) → n ≤ m → blocking_of interferes w n j ≤ blocking_of interferes w m j
+pub blocking_up : (interferes : Trace → ℕ → ℕ → Bool) (w : Trace) (n m j : ℕ) → n ≤ m
+    → blocking_of interferes w n j ≤ blocking_of interferes w m j
 unfolding blocking_of
 blocking_up interferes w n m j l = count_below-longer n m (λ t. is_blocked interferes w t j) l
 
@@ -87,13 +91,16 @@ has_finished_agree v w n t j a l = ap is_finished (phase_agree v w n t j a l)
 
 pub finish_agree : (v w : Trace) (n t j : ℕ) → AgreeBefore v w n → t ≤ n → finish_of v t j ≡ finish_of w t j
 unfolding finish_of
-finish_agree v w n t j a l = first_below-agree t (λ u. is_finished (phase_of v u j)) (λ u. is_finished (phase_of w u j)) (λ u b. ap is_finished (phase_agree v w n u j a (omega arith)))
+finish_agree v w n t j a l = first_below-agree t (λ u. is_finished (phase_of v u j)) (λ u. is_finished (phase_of w u j))
+    (λ u b. ap is_finished (phase_agree v w n u j a (omega arith)))
 
 pub response_agree : (v w : Trace) (n t j : ℕ) → AgreeBefore v w n → t ≤ n → response_of v t j ≡ response_of w t j
 unfolding response_of
 response_agree v w n t j a l = rw (finish_agree v w n t j a l, job_agree v w n j a) refl
 
-pub blocking_agree : (interferes : Trace → ℕ → ℕ → Bool) (v w : Trace) (n t j : ℕ) → AgreeBefore v w n → t ≤ n → ((u : ℕ) → u < t → interferes v u j ≡ interferes w u j)
+pub blocking_agree : (interferes : Trace → ℕ → ℕ → Bool) (v w : Trace) (n t j : ℕ) → AgreeBefore v w n → t ≤ n
+    → ((u : ℕ) → u < t → interferes v u j ≡ interferes w u j)
     → blocking_of interferes v t j ≡ blocking_of interferes w t j
 unfolding blocking_of
-blocking_agree interferes v w n t j a l same = count_below-agree t (λ u. is_blocked interferes v u j) (λ u. is_blocked interferes w u j) (λ u b. blocked_agree interferes v w n u j a (omega arith) (same u b))
+blocking_agree interferes v w n t j a l same = count_below-agree t (λ u. is_blocked interferes v u j)
+    (λ u. is_blocked interferes w u j) (λ u b. blocked_agree interferes v w n u j a (omega arith) (same u b))

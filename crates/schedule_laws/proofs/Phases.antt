@@ -1,6 +1,7 @@
 -- The phase of a script after so many executed ticks: it moves forward along the script, and before each request
 -- stands a Local tick.
-use Rattle.std.proofs.Common.{◌≡◌, ℕ, suc, ◌+◌, ◌-◌, ◌<◌, ◌≤◌, ◌==◌, true, false, List, [], ◌∷◌, refl, sym, ◌∙◌, arith, inl, inr, Option, Some, None, nat_lt}
+use Rattle.std.proofs.Common.{◌≡◌, ℕ, suc, ◌+◌, ◌-◌, ◌<◌, ◌≤◌, ◌==◌, true, false, List, [], ◌∷◌, refl, sym, ◌∙◌, arith}
+use Rattle.std.proofs.Common.{inl, inr, Option, Some, None, nat_lt}
 use Rattle.std.specs.Option.{option_map_or}
 use Rattle.std.specs.List.{list_all}
 use Rattle.std.proofs.lemmas.Bool.{cases_lt, and_parts, lt-ltb, le-ltb, ltb-true, eq-eqb}
@@ -16,12 +17,14 @@ unfolding phase_from
 phase_local n s script d l = rw (lt-ltb d s.local l) refl
 
 -- In its request.
-pub phase_request : (n : ℕ) (s : SegmentDef) (script : List SegmentDef) (d : ℕ) → s.local ≤ d → d < segment_ticks s → phase_from n (s ∷ script) d ≡ asking n s.request
+pub phase_request : (n : ℕ) (s : SegmentDef) (script : List SegmentDef) (d : ℕ) → s.local ≤ d → d < segment_ticks s
+    → phase_from n (s ∷ script) d ≡ asking n s.request
 unfolding phase_from
 phase_request n s script d h l = rw (le-ltb d s.local h, lt-ltb d (segment_ticks s) l) refl
 
 -- Past both.
-pub phase_later : (n : ℕ) (s : SegmentDef) (script : List SegmentDef) (d : ℕ) → segment_ticks s ≤ d → phase_from n (s ∷ script) d ≡ phase_from (suc n) script (d - segment_ticks s)
+pub phase_later : (n : ℕ) (s : SegmentDef) (script : List SegmentDef) (d : ℕ) → segment_ticks s ≤ d
+    → phase_from n (s ∷ script) d ≡ phase_from (suc n) script (d - segment_ticks s)
 unfolding phase_from
 phase_later n s script d h =
     let past : s.local ≤ d = omega arith in
@@ -65,7 +68,8 @@ finished_total n (s ∷ script) d h =
     let total : total_ticks (s ∷ script) ≡ segment_ticks s + total_ticks script = sum_by-cons segment_ticks s script in
     elim (cases_lt d (segment_ticks s)) [
       | inr later ↦
-          let rest : total_ticks script ≤ d - segment_ticks s = finished_total (suc n) script (d - segment_ticks s) (sym (phase_later n s script d later) ∙ h) in
+          let rest : total_ticks script ≤ d - segment_ticks s =
+          finished_total (suc n) script (d - segment_ticks s) (sym (phase_later n s script d later) ∙ h) in
           omega arith
       | inl first ↦ elim (cases_lt d s.local) [
         | inl local ↦ let e : Local ≡ Finished = sym (phase_local n s script d local) ∙ h in absurd (cc)
@@ -90,7 +94,8 @@ asking_from n (s ∷ script) d m q h = elim (cases_lt d (segment_ticks s)) [
 ]
 
 -- The numbers of requests rise with the executed ticks.
-pub asking_forward : (n : ℕ) (script : List SegmentDef) (d e m k q r : ℕ) → d ≤ e → phase_from n script d ≡ Asking m q → phase_from n script e ≡ Asking k r → m ≤ k
+pub asking_forward : (n : ℕ) (script : List SegmentDef) (d e m k q r : ℕ) → d ≤ e → phase_from n script d ≡ Asking m q
+    → phase_from n script e ≡ Asking k r → m ≤ k
 asking_forward n [] d e m k q r l h g = let none : Finished ≡ Asking m q = sym (phase_of_none n d) ∙ h in absurd (cc)
 asking_forward n (s ∷ script) d e m k q r l h g = elim (cases_lt d (segment_ticks s)) [
   | inr later ↦ asking_forward (suc n) script (d - segment_ticks s) (e - segment_ticks s) m k q r (omega arith)
@@ -105,12 +110,14 @@ asking_forward n (s ∷ script) d e m k q r l h g = elim (cases_lt d (segment_ti
 ]
 
 -- A request stays open between two ticks of it.
-pub asking_between : (n : ℕ) (script : List SegmentDef) (c e d m q r : ℕ) → phase_from n script c ≡ Asking m q → phase_from n script d ≡ Asking m r → c ≤ e → e ≤ d
+pub asking_between : (n : ℕ) (script : List SegmentDef) (c e d m q r : ℕ) → phase_from n script c ≡ Asking m q
+    → phase_from n script d ≡ Asking m r → c ≤ e → e ≤ d
     → phase_from n script e ≡ Asking m q
 asking_between n [] c e d m q r h g a b = let x : Finished ≡ Asking m q = sym (phase_of_none n c) ∙ h in absurd (cc)
 asking_between n (s ∷ script) c e d m q r h g a b = elim (cases_lt c (segment_ticks s)) [
   | inr later ↦
-      phase_later n s script e (omega arith) ∙ asking_between (suc n) script (c - segment_ticks s) (e - segment_ticks s) (d - segment_ticks s) m q r
+      phase_later n s script e (omega arith)
+      ∙ asking_between (suc n) script (c - segment_ticks s) (e - segment_ticks s) (d - segment_ticks s) m q r
       (sym (phase_later n s script c later) ∙ h) (sym (phase_later n s script d (omega arith)) ∙ g) (omega arith) (omega arith)
   | inl first ↦ elim (cases_lt c s.local) [
     | inl local ↦ let x : Local ≡ Asking m q = sym (phase_local n s script c local) ∙ h in absurd (cc)
@@ -133,7 +140,8 @@ pub record LocalTick (n : ℕ) (script : List SegmentDef) (c d : ℕ) : Type 0 w
   pub before : tick < d
   pub local : phase_from n script tick ≡ Local
 
-first_local : (n : ℕ) (script : List SegmentDef) (c d m q : ℕ) → list_all is_segment script ≡ true → c ≤ d → c ≡ 0 → phase_from n script d ≡ Asking m q → LocalTick n script c d
+first_local : (n : ℕ) (script : List SegmentDef) (c d m q : ℕ) → list_all is_segment script ≡ true → c ≤ d → c ≡ 0
+    → phase_from n script d ≡ Asking m q → LocalTick n script c d
 first_local n [] c d m q p a z h = let x : Finished ≡ Asking m q = sym (phase_of_none n d) ∙ h in absurd (cc)
 first_local n (s ∷ script) c d m q p a z h =
     let parts : (is_segment s ≡ true) × (list_all is_segment script ≡ true) = and_parts _ _ p in
@@ -149,11 +157,13 @@ first_local n (s ∷ script) c d m q p a z h =
     ]
 
 -- A Local tick of the rest of a script is one of the whole.
-moved : (n : ℕ) (s : SegmentDef) (script : List SegmentDef) (b c d : ℕ) → LocalTick (suc n) script b (d - segment_ticks s) → c ≤ b + segment_ticks s → segment_ticks s ≤ d
+moved : (n : ℕ) (s : SegmentDef) (script : List SegmentDef) (b c d : ℕ)
+    → LocalTick (suc n) script b (d - segment_ticks s) → c ≤ b + segment_ticks s → segment_ticks s ≤ d
     → LocalTick n (s ∷ script) c d
 moved n s script b c d l a h =
     let back : (l.tick + segment_ticks s) - segment_ticks s ≡ l.tick = omega arith in
-    let later : phase_from n (s ∷ script) (l.tick + segment_ticks s) ≡ phase_from (suc n) script (l.tick + segment_ticks s - segment_ticks s) =
+    let later : phase_from n (s ∷ script) (l.tick + segment_ticks s)
+    ≡ phase_from (suc n) script (l.tick + segment_ticks s - segment_ticks s) =
     phase_later n s script (l.tick + segment_ticks s) (omega arith) in
     record {
       tick = l.tick + segment_ticks s;
@@ -163,7 +173,8 @@ moved n s script b c d l a h =
     }
 
 -- A request that is open after d ticks and was not after c has a Local tick between.
-pub local_before : (n : ℕ) (script : List SegmentDef) (c d m q : ℕ) → list_all is_segment script ≡ true → c ≤ d → phase_from n script d ≡ Asking m q
+pub local_before : (n : ℕ) (script : List SegmentDef) (c d m q : ℕ) → list_all is_segment script ≡ true → c ≤ d
+    → phase_from n script d ≡ Asking m q
     → is_same_request (phase_from n script c) (Asking m q) ≡ false → LocalTick n script c d
 local_before n [] c d m q p a h g = let x : Finished ≡ Asking m q = sym (phase_of_none n d) ∙ h in absurd (cc)
 local_before n (s ∷ script) c d m q p a h g =
@@ -186,11 +197,13 @@ local_before n (s ∷ script) c d m q p a h g =
           let there : phase_from (suc n) script (d - segment_ticks s) ≡ Asking m q = sym (phase_later n s script d later) ∙ h in
           elim (cases_lt c (segment_ticks s)) [
             | inl before ↦
-                let l : LocalTick (suc n) script 0 (d - segment_ticks s) = first_local (suc n) script 0 (d - segment_ticks s) m q parts.1 (omega arith) refl there in
+                let l : LocalTick (suc n) script 0 (d - segment_ticks s) =
+                first_local (suc n) script 0 (d - segment_ticks s) m q parts.1 (omega arith) refl there in
                 moved n s script 0 c d l (omega arith) later
             | inr after ↦
                 let l : LocalTick (suc n) script (c - segment_ticks s) (d - segment_ticks s) =
-                local_before (suc n) script (c - segment_ticks s) (d - segment_ticks s) m q parts.1 (omega arith) there (rw (← phase_later n s script c after) g) in
+                local_before (suc n) script (c - segment_ticks s) (d - segment_ticks s) m q parts.1 (omega arith) there
+                (rw (← phase_later n s script c after) g) in
                 moved n s script (c - segment_ticks s) c d l (omega arith) later
           ]
     ]

@@ -23,18 +23,22 @@ script_some (s ∷ script) h =
     omega (arith, sum_by-cons segment_ticks s script, segment_local s parts.0)
 
 -- Each earlier job of a finished job's task is finished.
-pub finished_in_order : (w : Trace) (n t p e : ℕ) → RunsActiveBefore w n → t ≤ n → is_script (job_of w.jobs p).script ≡ true → phase_of w t p ≡ Finished
+pub finished_in_order : (w : Trace) (n t p e : ℕ) → RunsActiveBefore w n → t ≤ n
+    → is_script (job_of w.jobs p).script ≡ true → phase_of w t p ≡ Finished
     → e < p → task_of w e ≡ task_of w p → phase_of w t e ≡ Finished
 finished_in_order w n t p e active l lawful h before same =
     let done : total_ticks (job_of w.jobs p).script ≤ executed w t p = finished_executed w t p h in
-    let r : RunTick w 0 t 0 p = run_tick w 0 t 0 p (omega (arith, executed_none w p)) (omega (arith, done, script_some (job_of w.jobs p).script lawful)) in
+    let r : RunTick w 0 t 0 p = run_tick w 0 t 0 p (omega (arith, executed_none w p))
+    (omega (arith, done, script_some (job_of w.jobs p).script lawful)) in
     let at : (k : ℕ) × (running_on (w.row r.tick) k ≡ Some p) = runs_where (w.row r.tick) p r.runs in
     let a : Active w r.tick p = active_is w r.tick p (active r.tick at.0 p (omega (arith, r.before)) at.1) in
     finished_stays w r.tick t e (omega (arith, r.before)) (a.next e before same)
 
 -- So a job that is released and not finished is active where the last job of its task before it is finished.
-pub active_after : (w : Trace) (n t p j : ℕ) → RunsActiveBefore w n → t ≤ n → is_script (job_of w.jobs p).script ≡ true → p < j → task_of w p ≡ task_of w j
-    → ((e : ℕ) → p < e → e < j → task_of w e ≡ task_of w j → ⊥) → (job_of w.jobs j).release ≤ t → is_finished (phase_of w t j) ≡ false → phase_of w t p ≡ Finished → is_active w t j ≡ true
+pub active_after : (w : Trace) (n t p j : ℕ) → RunsActiveBefore w n → t ≤ n → is_script (job_of w.jobs p).script ≡ true
+    → p < j → task_of w p ≡ task_of w j
+    → ((e : ℕ) → p < e → e < j → task_of w e ≡ task_of w j → ⊥) → (job_of w.jobs j).release ≤ t
+    → is_finished (phase_of w t j) ≡ false → phase_of w t p ≡ Finished → is_active w t j ≡ true
 active_after w n t p j active l lawful before same none released unfinished h =
     active_from w t j (record { released = released; unfinished = unfinished; next = λ e b c. earlier e b c }) where
       earlier : (e : ℕ) → e < j → task_of w e ≡ task_of w j → phase_of w t e ≡ Finished

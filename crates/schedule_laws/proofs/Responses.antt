@@ -19,11 +19,13 @@ use Rattle.schedule_laws.proofs.KindsOfTicks.{Executing, executing_is}
 
 -- Over n ticks: the active ones are the executing, those of interference and the blocked, together.
 pub active_ticks : (interferes : Trace → ℕ → ℕ → Bool) (w : Trace) (n j : ℕ) → ((t : ℕ) → t < n → IsOneOfThree interferes w t j)
-    → count_below n (λ t. is_active w t j) ≡ count_below n (λ t. is_executing w t j) + count_below n (λ t. interferes w t j) + blocking_of interferes w n j
+    → count_below n (λ t. is_active w t j)
+    ≡ count_below n (λ t. is_executing w t j) + count_below n (λ t. interferes w t j) + blocking_of interferes w n j
 unfolding blocking_of
 active_ticks interferes w zero j three = refl
 active_ticks interferes w (suc n) j three =
-    let last : flag (is_executing w n j) + flag (interferes w n j) + flag (is_blocked interferes w n j) ≡ flag (is_active w n j) = three n (omega arith) in
+    let last : flag (is_executing w n j) + flag (interferes w n j) + flag (is_blocked interferes w n j)
+    ≡ flag (is_active w n j) = three n (omega arith) in
     omega (arith, last, active_ticks interferes w n j (λ t l. three t (omega arith)))
 
 -- A job executes at no more ticks than it runs at.
@@ -34,7 +36,8 @@ executing_at_most w n j = count_below-monotone n (λ t. is_executing w t j) (λ 
   runs t h = let e : Executing w t j = executing_is w t j h in e.runs
 
 -- A job that isn't finished has not executed all of its script.
-pub unfinished_executed : (w : Trace) (t j : ℕ) → is_finished (phase_of w t j) ≡ false → executed w t j < total_ticks (job_of w.jobs j).script
+pub unfinished_executed : (w : Trace) (t j : ℕ) → is_finished (phase_of w t j) ≡ false
+    → executed w t j < total_ticks (job_of w.jobs j).script
 unfinished_executed w t j h = elim (cases_lt (executed w t j) (total_ticks (job_of w.jobs j).script)) [
   | inl less ↦ less
   | inr all ↦
@@ -45,25 +48,38 @@ unfinished_executed w t j h = elim (cases_lt (executed w t j) (total_ticks (job_
 
 -- Where the earlier jobs of its task are finished at a job's release r, and it isn't finished b ticks later, each of
 -- these ticks is active.
-pub active_ticks_since : (w : Trace) (r b j : ℕ) → (job_of w.jobs j).release ≡ r → ((e : ℕ) → e < j → task_of w e ≡ task_of w j → phase_of w r e ≡ Finished)
+pub active_ticks_since : (w : Trace) (r b j : ℕ) → (job_of w.jobs j).release ≡ r
+    → ((e : ℕ) → e < j → task_of w e ≡ task_of w j → phase_of w r e ≡ Finished)
     → is_finished (phase_of w (r + b) j) ≡ false → b ≤ count_below (r + b) (λ t. is_active w t j)
 active_ticks_since w r b j released earlier unfinished =
-    let split : count_below (r + b) (λ t. is_active w t j) ≡ count_below r (λ t. is_active w t j) + count_below b (λ k. is_active w (r + k) j) = count_below-split r b (λ t. is_active w t j) in
+    let split : count_below (r + b) (λ t. is_active w t j)
+    ≡ count_below r (λ t. is_active w t j) + count_below b (λ k. is_active w (r + k) j) =
+    count_below-split r b (λ t. is_active w t j) in
     let all : count_below b (λ k. is_active w (r + k) j) ≡ b = count_below-all b (λ k. is_active w (r + k) j)
-    (λ k l. active_since w r (r + k) j earlier (omega arith) (omega (arith, released)) (unfinished_before w (r + k) (r + b) j (omega arith) unfinished)) in
+    (λ k l. active_since w r (r + k) j earlier (omega arith) (omega (arith, released))
+    (unfinished_before w (r + k) (r + b) j (omega arith) unfinished)) in
     omega (arith, split, all)
 
 -- So it had more than b ticks of its script, of interference and of blocking.
-pub late_job : (interferes : Trace → ℕ → ℕ → Bool) (w : Trace) (r b j : ℕ) → ((t : ℕ) → t < r + b → IsOneOfThree interferes w t j) → (job_of w.jobs j).release ≡ r
+pub late_job : (interferes : Trace → ℕ → ℕ → Bool) (w : Trace) (r b j : ℕ)
+    → ((t : ℕ) → t < r + b → IsOneOfThree interferes w t j) → (job_of w.jobs j).release ≡ r
     → ((e : ℕ) → e < j → task_of w e ≡ task_of w j → phase_of w r e ≡ Finished) → is_finished (phase_of w (r + b) j) ≡ false
     → b < total_ticks (job_of w.jobs j).script + count_below (r + b) (λ t. interferes w t j) + blocking_of interferes w (r + b) j
 late_job interferes w r b j three released earlier unfinished =
-    omega (arith, active_ticks interferes w (r + b) j three, executing_at_most w (r + b) j, unfinished_executed w (r + b) j unfinished, active_ticks_since w r b j released earlier unfinished)
+    omega (
+      arith,
+      active_ticks interferes w (r + b) j three,
+      executing_at_most w (r + b) j,
+      unfinished_executed w (r + b) j unfinished,
+      active_ticks_since w r b j released earlier unfinished,
+    )
 
 -- Or the other way: a job whose script, interference and blocking are at most b ticks is finished b ticks after its release.
-pub finished_in_time : (interferes : Trace → ℕ → ℕ → Bool) (w : Trace) (r b j : ℕ) → ((t : ℕ) → t < r + b → IsOneOfThree interferes w t j) → (job_of w.jobs j).release ≡ r
+pub finished_in_time : (interferes : Trace → ℕ → ℕ → Bool) (w : Trace) (r b j : ℕ)
+    → ((t : ℕ) → t < r + b → IsOneOfThree interferes w t j) → (job_of w.jobs j).release ≡ r
     → ((e : ℕ) → e < j → task_of w e ≡ task_of w j → phase_of w r e ≡ Finished)
-    → total_ticks (job_of w.jobs j).script + count_below (r + b) (λ t. interferes w t j) + blocking_of interferes w (r + b) j ≤ b → is_finished (phase_of w (r + b) j) ≡ true
+    → total_ticks (job_of w.jobs j).script + count_below (r + b) (λ t. interferes w t j)
+    + blocking_of interferes w (r + b) j ≤ b → is_finished (phase_of w (r + b) j) ≡ true
 finished_in_time interferes w r b j three released earlier most = elim (cases_Bool (is_finished (phase_of w (r + b) j))) [
   | inl finished ↦ finished
   | inr unfinished ↦ absurd (omega (arith, most, late_job interferes w r b j three released earlier unfinished))

@@ -49,7 +49,8 @@ pub record ReadyHolder (w : Trace) (t j : ℕ) : Type 0 where
   pub holds : holder_in (w.row t) resource ≡ Some j
 
 -- What holds what it requests is in a request, and is the resource's holder.
-pub holds_true : (holder : ℕ → Option ℕ) (j : ℕ) (p : Phase) → holds_by holder j p ≡ true → (m : ℕ) × (q : ℕ) × (p ≡ Asking m q) × (holder q ≡ Some j)
+pub holds_true : (holder : ℕ → Option ℕ) (j : ℕ) (p : Phase) → holds_by holder j p ≡ true
+    → (m : ℕ) × (q : ℕ) × (p ≡ Asking m q) × (holder q ≡ Some j)
 holds_true holder j (Asking m q) h = (m, q, refl, job_named j (holder q) h)
 holds_true holder j Local h = absurd (cc)
 holds_true holder j Finished h = absurd (cc)
@@ -63,11 +64,13 @@ pub ready_holder_is : (w : Trace) (t j : ℕ) → is_ready_holder w t j ≡ true
 unfolding is_ready_holder
 ready_holder_is w t j h =
     let parts : (is_active w t j ≡ true) × (holds_by (holder_in (w.row t)) j (phase_of w t j) ≡ true) = and_parts _ _ h in
-    let a : (m : ℕ) × (q : ℕ) × (phase_of w t j ≡ Asking m q) × (holder_in (w.row t) q ≡ Some j) = holds_true (holder_in (w.row t)) j (phase_of w t j) parts.1 in
+    let a : (m : ℕ) × (q : ℕ) × (phase_of w t j ≡ Asking m q) × (holder_in (w.row t) q ≡ Some j) =
+    holds_true (holder_in (w.row t)) j (phase_of w t j) parts.1 in
     record { active = parts.0; number = a.0; resource = a.1; phase = a.2; holds = a.3 }
 
 -- An active job in a request that holds its resource is a ready holder.
-pub ready_holder_from : (w : Trace) (t j m q : ℕ) → is_active w t j ≡ true → phase_of w t j ≡ Asking m q → holder_in (w.row t) q ≡ Some j → is_ready_holder w t j ≡ true
+pub ready_holder_from : (w : Trace) (t j m q : ℕ) → is_active w t j ≡ true → phase_of w t j ≡ Asking m q
+    → holder_in (w.row t) q ≡ Some j → is_ready_holder w t j ≡ true
 unfolding is_ready_holder
 ready_holder_from w t j m q a e h = and_from _ _ a (holds_from (holder_in (w.row t)) j (phase_of w t j) m q e h)
 

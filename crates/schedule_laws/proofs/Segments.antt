@@ -1,5 +1,6 @@
 -- The segment whose request is open: its resource, its number, and what a lawful script says of it.
-use Rattle.std.proofs.Common.{◌≡◌, ℕ, suc, ◌+◌, ◌-◌, ◌<◌, ◌==◌, true, false, List, [], ◌∷◌, length, get_or, refl, sym, ap, ◌∙◌, arith, inl, inr, Option, Some, None, nat_lt}
+use Rattle.std.proofs.Common.{◌≡◌, ℕ, suc, ◌+◌, ◌-◌, ◌<◌, ◌==◌, true, false, List, [], ◌∷◌, length, get_or, refl, sym}
+use Rattle.std.proofs.Common.{ap, ◌∙◌, arith, inl, inr, Option, Some, None, nat_lt}
 use Rattle.std.specs.Option.{option_map_or}
 use Rattle.std.proofs.lemmas.Bool.{cases_lt, lt-ltb, ltb-true, eqb-true}
 use Rattle.bounded_sums.proofs.ListCounts.{count_by-some}
@@ -21,16 +22,19 @@ pub record RequestAt (script : List SegmentDef) (i q : ℕ) : Type 0 where
   pub asks : asks_for q (get_or script i no_segment) ≡ true
 
 -- A request that is open after d ticks is that of the segment of its number.
-pub segment_of : (n : ℕ) (script : List SegmentDef) (d m q : ℕ) → phase_from n script d ≡ Asking m q → (i : ℕ) × (m ≡ n + i) × RequestAt script i q
+pub segment_of : (n : ℕ) (script : List SegmentDef) (d m q : ℕ) → phase_from n script d ≡ Asking m q
+    → (i : ℕ) × (m ≡ n + i) × RequestAt script i q
 segment_of n [] d m q h = let x : Finished ≡ Asking m q = sym (phase_of_none n d) ∙ h in absurd (cc)
 segment_of n (s ∷ script) d m q h = elim (cases_lt d (segment_ticks s)) [
   | inr later ↦
-      let back : (i : ℕ) × (m ≡ suc n + i) × RequestAt script i q = segment_of (suc n) script (d - segment_ticks s) m q (sym (phase_later n s script d later) ∙ h) in
+      let back : (i : ℕ) × (m ≡ suc n + i) × RequestAt script i q =
+      segment_of (suc n) script (d - segment_ticks s) m q (sym (phase_later n s script d later) ∙ h) in
       (suc back.0, omega (arith, back.1), record { within = omega (arith, back.2.within); asks = back.2.asks })
   | inl first ↦ elim (cases_lt d s.local) [
     | inl local ↦ let x : Local ≡ Asking m q = sym (phase_local n s script d local) ∙ h in absurd (cc)
     | inr request ↦
-        let here : (m ≡ n) × (option_map_or (λ r. r.0 == q) s.request false ≡ true) = asking_at n m q s.request (sym (phase_request n s script d request first) ∙ h) in
+        let here : (m ≡ n) × (option_map_or (λ r. r.0 == q) s.request false ≡ true) =
+        asking_at n m q s.request (sym (phase_request n s script d request first) ∙ h) in
         (0, omega (arith, here.0), record { within = omega arith; asks = here.1 })
   ]
 ]
@@ -61,15 +65,18 @@ resource_below n q s h g =
     ltb-true q n b
 
 -- What a lawful job requests is a resource of the set, of which its task is a user.
-pub open_resource : (set : SetDef) (w : Trace) (t j m q : ℕ) → IsLawfulJob set (job_of w.jobs j) → phase_of w t j ≡ Asking m q → q < length set.resources
+pub open_resource : (set : SetDef) (w : Trace) (t j m q : ℕ) → IsLawfulJob set (job_of w.jobs j)
+    → phase_of w t j ≡ Asking m q → q < length set.resources
 open_resource set w t j m q lawful h =
     let r : RequestAt (job_of w.jobs j).script m q = open_segment w t j m q h in
     resource_below (length set.resources) q (get_or (job_of w.jobs j).script m no_segment)
     (list_all-each (is_resource_in (length set.resources)) (job_of w.jobs j).script m no_segment r.within lawful.resources) r.asks
 
 -- A lawful job's task is a user of what the job requests.
-pub open_user : (set : SetDef) (w : Trace) (t j m q : ℕ) → IsLawfulJob set (job_of w.jobs j) → phase_of w t j ≡ Asking m q → is_user set q (job_of w.jobs j).task ≡ true
+pub open_user : (set : SetDef) (w : Trace) (t j m q : ℕ) → IsLawfulJob set (job_of w.jobs j)
+    → phase_of w t j ≡ Asking m q → is_user set q (job_of w.jobs j).task ≡ true
 open_user set w t j m q lawful h =
     let r : RequestAt (job_of w.jobs j).script m q = open_segment w t j m q h in
-    let some : 0 < number_of_requests (job_of w.jobs j).script q = count_by-some (asks_for q) (job_of w.jobs j).script m no_segment r.within r.asks in
+    let some : 0 < number_of_requests (job_of w.jobs j).script q =
+    count_by-some (asks_for q) (job_of w.jobs j).script m no_segment r.within r.asks in
     lt-ltb 0 (count_of set (job_of w.jobs j).task q) (omega (arith, lawful.count q))

@@ -1,5 +1,6 @@
 -- After the same rows there is one chosen row, under any order of grants and runs.
-use Rattle.std.proofs.Common.{◌≡◌, ℕ, zero, suc, ◌<◌, ◌≤◌, true, false, List, length, refl, sym, ap, ◌∙◌, arith, inl, inr, Option, Some, None}
+use Rattle.std.proofs.Common.{◌≡◌, ℕ, zero, suc, ◌<◌, ◌≤◌, true, false, List, length, refl, sym, ap, ◌∙◌, arith, inl}
+use Rattle.std.proofs.Common.{inr, Option, Some, None}
 use Rattle.std.proofs.lemmas.Bool.{cases_Bool, cases_lt, both_ways, false_from_ne_true}
 use Rattle.std.proofs.lemmas.List.{ext_get_or}
 use Rattle.schedule_model.specs.declared.rule.Rule.TheVariants as rule
@@ -13,7 +14,8 @@ use Rattle.schedule_model.specs.Chosen.{IsSized, IsSharedChoice}
 use Rattle.schedule_laws.specs.Agreement.{AgreeBefore}
 use Rattle.schedule_laws.proofs.ActiveJobs.{one_active, Requester, requester_is, requester_listed}
 use Rattle.schedule_laws.proofs.Rows.{job_named, named_job, ready_is, ready_active, ready_listed, ready_holding}
-use Rattle.schedule_laws.proofs.Agreement.{agree_back, listed_agree, task_agree, processor_agree, phase_agree, active_agree, requester_agree, active_local_agree, held_before_agree}
+use Rattle.schedule_laws.proofs.Agreement.{agree_back, listed_agree, task_agree, processor_agree, phase_agree}
+use Rattle.schedule_laws.proofs.Agreement.{active_agree, requester_agree, active_local_agree, held_before_agree}
 use Rattle.schedule_laws.proofs.SharedAgreement.{RanksAgree, mpcp_agree, fmlp_plus_agree}
 use Rattle.schedule_laws.proofs.DpcpAgreement.{holds_agree}
 
@@ -26,17 +28,22 @@ same_named (Some j) p a b = sym (a j refl)
 -- Rows of equal lists are equal, and so are rows of one size that name the same jobs.
 row_from : (a b : RowDef) → a.running ≡ b.running → a.holders ≡ b.holders → a ≡ b
 row_from a b e f =
-    let one : a ≡ record { running = b.running; holders = a.holders } = ap (λ (r : List (Option ℕ)). record { running = r; holders = a.holders }) e in
-    let two : record { running = b.running; holders = a.holders } ≡ b = ap (λ (h : List (Option ℕ)). record { running = b.running; holders = h }) f in
+    let one : a ≡ record { running = b.running; holders = a.holders } =
+    ap (λ (r : List (Option ℕ)). record { running = r; holders = a.holders }) e in
+    let two : record { running = b.running; holders = a.holders } ≡ b =
+    ap (λ (h : List (Option ℕ)). record { running = b.running; holders = h }) f in
     one ∙ two
 
 -- Rows of one size that name the same jobs are equal.
-pub rows_same : (v w : Trace) (t : ℕ) → v.set ≡ w.set → IsSized v.set (v.row t) → IsSized w.set (w.row t) → ((k : ℕ) → running_on (v.row t) k ≡ running_on (w.row t) k)
+pub rows_same : (v w : Trace) (t : ℕ) → v.set ≡ w.set → IsSized v.set (v.row t) → IsSized w.set (w.row t)
+    → ((k : ℕ) → running_on (v.row t) k ≡ running_on (w.row t) k)
     → ((q : ℕ) → holder_in (v.row t) q ≡ holder_in (w.row t) q) → v.row t ≡ w.row t
 rows_same v w t set a b running holders =
     row_from (v.row t) (w.row t)
-    (ext_get_or None (v.row t).running (w.row t).running (a.processors ∙ ap (λ s. s.processors) set ∙ sym b.processors) (λ i l. running (suc i)))
-    (ext_get_or None (v.row t).holders (w.row t).holders (a.resources ∙ ap (λ (s : SetDef). length s.resources) set ∙ sym b.resources) (λ i l. holders i))
+    (ext_get_or None (v.row t).running (w.row t).running (a.processors ∙ ap (λ s. s.processors) set ∙ sym b.processors)
+    (λ i l. running (suc i)))
+    (ext_get_or None (v.row t).holders (w.row t).holders
+    (a.resources ∙ ap (λ (s : SetDef). length s.resources) set ∙ sym b.resources) (λ i l. holders i))
 
 -- Does an order of grants and runs give the same numbers, whichever schedule is named first?
 ranks_back : (o : Ranks) (v w : Trace) (t : ℕ) → RanksAgree o v w t → RanksAgree o w v t
@@ -46,7 +53,8 @@ listed_on : (v w : Trace) (n i : ℕ) → AgreeBefore v w n → i < length v.job
 listed_on v w n i a l = omega (arith, l, listed_agree v w n a)
 
 -- Two new holders are of one task, and so are one job.
-one_new_holder : (o : Ranks) (v w : Trace) (t q i j : ℕ) → AgreeBefore v w t → RanksAgree o v w t → IsSharedChoice o v t → IsSharedChoice o w t → holder_in (v.row t) q ≡ Some j → holder_in (w.row t) q ≡ Some i
+one_new_holder : (o : Ranks) (v w : Trace) (t q i j : ℕ) → AgreeBefore v w t → RanksAgree o v w t → IsSharedChoice o v t
+    → IsSharedChoice o w t → holder_in (v.row t) q ≡ Some j → holder_in (w.row t) q ≡ Some i
     → (held_before v t q ≡ Some j → ⊥) → (held_before w t q ≡ Some i → ⊥) → i ≡ j
 one_new_holder o v w t q i j a ranks c d e f new_v new_w =
     let grant_v : KeepsGrant o v t = c.keeps rule.Grant in
@@ -65,7 +73,8 @@ one_new_holder o v w t q i j a ranks c d e f new_v new_w =
     let rj : Requester w t q j = requester_is w t q j jw in
     one_active w t i j ri.active rj.active (omega (arith, high, low, task_agree v w t i a, task_agree v w t j a))
 
-holder_same : (o : Ranks) (v w : Trace) (t q j : ℕ) → AgreeBefore v w t → RanksAgree o v w t → IsSharedChoice o v t → IsSharedChoice o w t → holder_in (v.row t) q ≡ Some j → holder_in (w.row t) q ≡ Some j
+holder_same : (o : Ranks) (v w : Trace) (t q j : ℕ) → AgreeBefore v w t → RanksAgree o v w t → IsSharedChoice o v t
+    → IsSharedChoice o w t → holder_in (v.row t) q ≡ Some j → holder_in (w.row t) q ≡ Some j
 holder_same o v w t q j a ranks c d e = go (holder_in (w.row t) q) refl where
   asks_v : is_requester v t q j ≡ true
   asks_v = let g : KeepsGrant o v t = c.keeps rule.Grant in g.requests q j e
@@ -80,18 +89,21 @@ holder_same o v w t q j a ranks c d e = go (holder_in (w.row t) q) refl where
   kept_v i f h =
       let keep : KeepsKeep v t = c.keeps rule.Keep in
       let grant : KeepsGrant o w t = d.keeps rule.Grant in
-      let x : holder_in (v.row t) q ≡ Some i = keep q i (held_before_agree v w t t q a (omega arith) ∙ h) (requester_agree v w t t q i a (omega arith) ∙ grant.requests q i f) in
+      let x : holder_in (v.row t) q ≡ Some i = keep q i (held_before_agree v w t t q a (omega arith) ∙ h)
+      (requester_agree v w t t q i a (omega arith) ∙ grant.requests q i f) in
       let y : Some i ≡ Some j = sym x ∙ e in
       cc
 
   is_kept_v : (i : ℕ) → holder_in (w.row t) q ≡ Some i → (held_before v t q ≡ Some j → ⊥) → i ≡ j
   is_kept_v i f new_v = elim (cases_Bool (is_job i (held_before w t q))) [
     | inl kept ↦ kept_v i f (job_named i (held_before w t q) kept)
-    | inr new ↦ one_new_holder o v w t q i j a ranks c d e f new_v (λ h. both_ways (is_job i (held_before w t q)) new (named_job i (held_before w t q) h))
+    | inr new ↦ one_new_holder o v w t q i j a ranks c d e f new_v
+        (λ h. both_ways (is_job i (held_before w t q)) new (named_job i (held_before w t q) h))
   ]
 
   go : (p : Option ℕ) → holder_in (w.row t) q ≡ p → holder_in (w.row t) q ≡ Some j
-  go None f = let g : KeepsGrant o w t = d.keeps rule.Grant in absurd (both_ways (is_requester w t q j) (g.free q f j (requester_listed w t q j asks_w)) asks_w)
+  go None f = let g : KeepsGrant o w t = d.keeps rule.Grant in
+      absurd (both_ways (is_requester w t q j) (g.free q f j (requester_listed w t q j asks_w)) asks_w)
   go (Some i) f = elim (cases_Bool (is_job j (held_before v t q))) [
     | inl kept ↦ kept_w (job_named j (held_before v t q) kept)
     | inr new ↦
@@ -100,17 +112,24 @@ holder_same o v w t q j a ranks c d e = go (holder_in (w.row t) q) refl where
   ]
 
 -- Where holders agree, so do ready holders and ready jobs.
-pub ready_holder_by : (v w : Trace) (t j : ℕ) → AgreeBefore v w t → ((q : ℕ) → holder_in (v.row t) q ≡ holder_in (w.row t) q) → is_ready_holder v t j ≡ is_ready_holder w t j
+pub ready_holder_by : (v w : Trace) (t j : ℕ) → AgreeBefore v w t
+    → ((q : ℕ) → holder_in (v.row t) q ≡ holder_in (w.row t) q) → is_ready_holder v t j ≡ is_ready_holder w t j
 unfolding is_ready_holder
 ready_holder_by v w t j a h =
-    rw (active_agree v w t t j a (omega arith), holds_agree (holder_in (v.row t)) (holder_in (w.row t)) j h (phase_of v t j), phase_agree v w t t j a (omega arith)) refl
+    rw (
+      active_agree v w t t j a (omega arith),
+      holds_agree (holder_in (v.row t)) (holder_in (w.row t)) j h (phase_of v t j),
+      phase_agree v w t t j a (omega arith),
+    ) refl
 
-ready_by : (v w : Trace) (t j : ℕ) → AgreeBefore v w t → ((q : ℕ) → holder_in (v.row t) q ≡ holder_in (w.row t) q) → is_ready v t j ≡ is_ready w t j
+ready_by : (v w : Trace) (t j : ℕ) → AgreeBefore v w t → ((q : ℕ) → holder_in (v.row t) q ≡ holder_in (w.row t) q)
+    → is_ready v t j ≡ is_ready w t j
 unfolding is_ready
 ready_by v w t j a h = rw (active_local_agree v w t t j a (omega arith), ready_holder_by v w t j a h) refl
 
 -- Two running holders of one processor go equally first, are of one task, and so are one job.
-one_running_holder : (o : Ranks) (v w : Trace) (t k r s : ℕ) → AgreeBefore v w t → RanksAgree o v w t → ((q : ℕ) → holder_in (v.row t) q ≡ holder_in (w.row t) q) → IsSharedChoice o v t → IsSharedChoice o w t
+one_running_holder : (o : Ranks) (v w : Trace) (t k r s : ℕ) → AgreeBefore v w t → RanksAgree o v w t
+    → ((q : ℕ) → holder_in (v.row t) q ≡ holder_in (w.row t) q) → IsSharedChoice o v t → IsSharedChoice o w t
     → running_on (v.row t) k ≡ Some r → running_on (w.row t) k ≡ Some s → is_ready_holder v t r ≡ true → s ≡ r
 one_running_holder o v w t k r s a ranks h c d e f rv =
     let run_v : KeepsRun v t = c.keeps rule.Run in
@@ -132,7 +151,8 @@ one_running_holder o v w t k r s a ranks h c d e f rv =
     let tie_w : o.run w t r ≡ o.run w t s = omega (arith, low, high, ranks.run r, ranks.run s) in
     let one : task_of v r ≤ task_of v s = c.runs k r e rv s s_listed s_at sv tie_v in
     let two : task_of w s ≤ task_of w r = d.runs k s f sw r r_listed r_at rw_ tie_w in
-    one_active w t s r (ready_active w t s (ready_holding w t s sw)) (ready_active w t r (ready_holding w t r rw_)) (omega (arith, one, two, task_agree v w t r a, task_agree v w t s a))
+    one_active w t s r (ready_active w t s (ready_holding w t s sw)) (ready_active w t r (ready_holding w t r rw_))
+    (omega (arith, one, two, task_agree v w t r a, task_agree v w t s a))
 
 only_local : (w : Trace) (t j : ℕ) → is_ready w t j ≡ true → is_ready_holder w t j ≡ false → is_active_local w t j ≡ true
 only_local w t j h none = elim (ready_is w t j h) [
@@ -141,7 +161,8 @@ only_local w t j h none = elim (ready_is w t j h) [
 ]
 
 -- Two running jobs of one processor without ready holders are of its highest Local task, and so are one job.
-one_running_local : (o : Ranks) (v w : Trace) (t k r s : ℕ) → AgreeBefore v w t → ((q : ℕ) → holder_in (v.row t) q ≡ holder_in (w.row t) q) → IsSharedChoice o v t → IsSharedChoice o w t
+one_running_local : (o : Ranks) (v w : Trace) (t k r s : ℕ) → AgreeBefore v w t
+    → ((q : ℕ) → holder_in (v.row t) q ≡ holder_in (w.row t) q) → IsSharedChoice o v t → IsSharedChoice o w t
     → running_on (v.row t) k ≡ Some r → running_on (w.row t) k ≡ Some s → is_ready_holder v t r ≡ false → s ≡ r
 one_running_local o v w t k r s a h c d e f rv =
     let run_v : KeepsRun v t = c.keeps rule.Run in
@@ -160,11 +181,16 @@ one_running_local o v w t k r s a h c d e f rv =
     let s_listed : s < length w.jobs = ready_listed w t s s_ready in
     let r_local : is_active_local v t r ≡ true = only_local v t r r_ready rv in
     let s_local : is_active_local w t s ≡ true = only_local w t s s_ready (none_w s s_listed (sym (run_w.column k s f))) in
-    let one : task_of v r ≤ task_of v s = priority_v.locals k r e none_v s (omega (arith, s_listed, listed_agree v w t a)) s_at (active_local_agree v w t t s a (omega arith) ∙ s_local) in
-    let two : task_of w s ≤ task_of w r = priority_w.locals k s f none_w r r_listed r_at (sym (active_local_agree v w t t r a (omega arith)) ∙ r_local) in
-    one_active w t s r (ready_active w t s s_ready) (sym (active_agree v w t t r a (omega arith)) ∙ ready_active v t r r_ready) (omega (arith, one, two, task_agree v w t r a, task_agree v w t s a))
+    let one : task_of v r ≤ task_of v s = priority_v.locals k r e none_v s
+    (omega (arith, s_listed, listed_agree v w t a)) s_at (active_local_agree v w t t s a (omega arith) ∙ s_local) in
+    let two : task_of w s ≤ task_of w r =
+    priority_w.locals k s f none_w r r_listed r_at (sym (active_local_agree v w t t r a (omega arith)) ∙ r_local) in
+    one_active w t s r (ready_active w t s s_ready)
+    (sym (active_agree v w t t r a (omega arith)) ∙ ready_active v t r r_ready)
+    (omega (arith, one, two, task_agree v w t r a, task_agree v w t s a))
 
-running_same : (o : Ranks) (v w : Trace) (t k r : ℕ) → AgreeBefore v w t → RanksAgree o v w t → ((q : ℕ) → holder_in (v.row t) q ≡ holder_in (w.row t) q) → IsSharedChoice o v t → IsSharedChoice o w t
+running_same : (o : Ranks) (v w : Trace) (t k r : ℕ) → AgreeBefore v w t → RanksAgree o v w t
+    → ((q : ℕ) → holder_in (v.row t) q ≡ holder_in (w.row t) q) → IsSharedChoice o v t → IsSharedChoice o w t
     → running_on (v.row t) k ≡ Some r → running_on (w.row t) k ≡ Some r
 running_same o v w t k r a ranks h c d e = go (running_on (w.row t) k) refl where
   ready_w : is_ready w t r ≡ true
@@ -174,20 +200,23 @@ running_same o v w t k r a ranks h c d e = go (running_on (w.row t) k) refl wher
   at_w = let run : KeepsRun v t = c.keeps rule.Run in sym (run.column k r e ∙ processor_agree v w t r a)
 
   go : (p : Option ℕ) → running_on (w.row t) k ≡ p → running_on (w.row t) k ≡ Some r
-  go None f = let idle : KeepsIdle w t = d.keeps rule.Idle in absurd (both_ways (is_ready w t r) (idle k f r (ready_listed w t r ready_w) at_w) ready_w)
+  go None f = let idle : KeepsIdle w t = d.keeps rule.Idle in
+      absurd (both_ways (is_ready w t r) (idle k f r (ready_listed w t r ready_w) at_w) ready_w)
   go (Some s) f = elim (cases_Bool (is_ready_holder v t r)) [
     | inl holds ↦ f ∙ ap (λ i. Some i) (one_running_holder o v w t k r s a ranks h c d e f holds)
     | inr local ↦ f ∙ ap (λ i. Some i) (one_running_local o v w t k r s a h c d e f local)
   ]
 
 -- Two chosen rows after the same rows are equal.
-pub shared_choice_one : (o : Ranks) (v w : Trace) (t : ℕ) → AgreeBefore v w t → RanksAgree o v w t → IsSharedChoice o v t → IsSharedChoice o w t → v.row t ≡ w.row t
+pub shared_choice_one : (o : Ranks) (v w : Trace) (t : ℕ) → AgreeBefore v w t → RanksAgree o v w t
+    → IsSharedChoice o v t → IsSharedChoice o w t → v.row t ≡ w.row t
 shared_choice_one o v w t a ranks c d = rows_same v w t a.set c.sized d.sized running holders where
   back : AgreeBefore w v t
   back = agree_back v w t a
 
   holders : (q : ℕ) → holder_in (v.row t) q ≡ holder_in (w.row t) q
-  holders q = same_named (holder_in (v.row t) q) (holder_in (w.row t) q) (λ j e. holder_same o v w t q j a ranks c d e) (λ j e. holder_same o w v t q j back (ranks_back o v w t ranks) d c e)
+  holders q = same_named (holder_in (v.row t) q) (holder_in (w.row t) q) (λ j e. holder_same o v w t q j a ranks c d e)
+      (λ j e. holder_same o w v t q j back (ranks_back o v w t ranks) d c e)
 
   running : (k : ℕ) → running_on (v.row t) k ≡ running_on (w.row t) k
   running k = same_named (running_on (v.row t) k) (running_on (w.row t) k) (λ r e. running_same o v w t k r a ranks holders c d e)
@@ -198,11 +227,13 @@ pub mpcp_choice_one : (v w : Trace) (t : ℕ) → AgreeBefore v w t → IsShared
 mpcp_choice_one v w t a c d = shared_choice_one mpcp v w t a (mpcp_agree v w t t a (omega arith)) c d
 
 -- So under FMLP+.
-pub fmlp_plus_choice_one : (v w : Trace) (t : ℕ) → AgreeBefore v w t → IsSharedChoice fmlp_plus v t → IsSharedChoice fmlp_plus w t → v.row t ≡ w.row t
+pub fmlp_plus_choice_one : (v w : Trace) (t : ℕ) → AgreeBefore v w t → IsSharedChoice fmlp_plus v t
+    → IsSharedChoice fmlp_plus w t → v.row t ≡ w.row t
 fmlp_plus_choice_one v w t a c d = shared_choice_one fmlp_plus v w t a (fmlp_plus_agree v w t t a (omega arith)) c d
 
 -- Where there is one chosen row after the same rows, two schedules of chosen rows are one.
-pub schedules_one : (chosen : Trace → ℕ → Type 0) (v w : Trace) (n : ℕ) → ((t : ℕ) → AgreeBefore v w t → chosen v t → chosen w t → v.row t ≡ w.row t) → v.set ≡ w.set → v.jobs ≡ w.jobs
+pub schedules_one : (chosen : Trace → ℕ → Type 0) (v w : Trace) (n : ℕ)
+    → ((t : ℕ) → AgreeBefore v w t → chosen v t → chosen w t → v.row t ≡ w.row t) → v.set ≡ w.set → v.jobs ≡ w.jobs
     → ((t : ℕ) → t < n → chosen v t) → ((t : ℕ) → t < n → chosen w t) → AgreeBefore v w n
 schedules_one chosen v w zero one set jobs c d = record { set = set; jobs = jobs; rows = λ t l. absurd (omega arith) }
 schedules_one chosen v w (suc n) one set jobs c d =

@@ -19,30 +19,57 @@ pub record Spaced (jobs : JobsDef) (x n c : ℕ) (p : ℕ → Bool) : Type 0 whe
   pub last_passes : p last ≡ true
   pub apart : (job_of jobs.jobs first).release + c * (task_at jobs.set x).period ≤ (job_of jobs.jobs last).release
 
-spaced_step : (jobs : JobsDef) (x n c : ℕ) (p : ℕ → Bool) → AreLawfulJobs jobs → ((j : ℕ) → p j ≡ true → (job_of jobs.jobs j).task ≡ x) → n < length jobs.jobs → p n ≡ true
+spaced_step : (jobs : JobsDef) (x n c : ℕ) (p : ℕ → Bool) → AreLawfulJobs jobs
+    → ((j : ℕ) → p j ≡ true → (job_of jobs.jobs j).task ≡ x) → n < length jobs.jobs → p n ≡ true
     → Spaced jobs x n c p → Spaced jobs x (suc n) (suc c) p
 spaced_step jobs x n c p lawful of l h s =
     let same : (job_of jobs.jobs s.last).task ≡ x = of s.last s.last_passes in
-    let gap : (job_of jobs.jobs s.last).release + (task_at jobs.set (job_of jobs.jobs s.last).task).period ≤ (job_of jobs.jobs n).release = lawful.apart s.last n s.below l (same ∙ sym (of n h)) in
+    let gap : (job_of jobs.jobs s.last).release + (task_at jobs.set (job_of jobs.jobs s.last).task).period
+    ≤ (job_of jobs.jobs n).release = lawful.apart s.last n s.below l (same ∙ sym (of n h)) in
     let step : (job_of jobs.jobs s.last).release + (task_at jobs.set x).period ≤ (job_of jobs.jobs n).release = rw same at gap in
-    let more : suc c * (task_at jobs.set x).period ≡ c * (task_at jobs.set x).period + (task_at jobs.set x).period = suc-mul c (task_at jobs.set x).period in
-    record { first = s.first; last = n; below = omega arith; first_passes = s.first_passes; last_passes = h; apart = omega (arith, s.apart, step, more) }
+    let more : suc c * (task_at jobs.set x).period ≡ c * (task_at jobs.set x).period + (task_at jobs.set x).period =
+    suc-mul c (task_at jobs.set x).period in
+    record {
+      first = s.first;
+      last = n;
+      below = omega arith;
+      first_passes = s.first_passes;
+      last_passes = h;
+      apart = omega (arith, s.apart, step, more);
+    }
 
-spaced_here : (jobs : JobsDef) (x n c : ℕ) (p : ℕ → Bool) → AreLawfulJobs jobs → ((j : ℕ) → p j ≡ true → (job_of jobs.jobs j).task ≡ x) → n < length jobs.jobs → p n ≡ true
+spaced_here : (jobs : JobsDef) (x n c : ℕ) (p : ℕ → Bool) → AreLawfulJobs jobs
+    → ((j : ℕ) → p j ≡ true → (job_of jobs.jobs j).task ≡ x) → n < length jobs.jobs → p n ≡ true
     → count_below (suc n) p ≡ suc c → ((d : ℕ) → count_below n p ≡ suc d → Spaced jobs x n d p) → Spaced jobs x (suc n) c p
-spaced_here jobs x n zero p lawful of l passes e back = record { first = n; last = n; below = omega arith; first_passes = passes; last_passes = passes; apart = omega arith }
+spaced_here jobs x n zero p lawful of l passes e back = record {
+  first = n;
+  last = n;
+  below = omega arith;
+  first_passes = passes;
+  last_passes = passes;
+  apart = omega arith;
+}
 spaced_here jobs x n (suc d) p lawful of l passes e back =
     let one : flag (p n) ≡ 1 = flag-of_true (p n) passes in
     spaced_step jobs x n d p lawful of l passes (back d (omega arith))
 
 -- Of suc c jobs of one task the last is released at least c periods after the first.
-pub spaced : (jobs : JobsDef) (x n c : ℕ) (p : ℕ → Bool) → AreLawfulJobs jobs → ((j : ℕ) → p j ≡ true → (job_of jobs.jobs j).task ≡ x) → n ≤ length jobs.jobs → count_below n p ≡ suc c → Spaced jobs x n c p
+pub spaced : (jobs : JobsDef) (x n c : ℕ) (p : ℕ → Bool) → AreLawfulJobs jobs
+    → ((j : ℕ) → p j ≡ true → (job_of jobs.jobs j).task ≡ x) → n ≤ length jobs.jobs → count_below n p ≡ suc c
+    → Spaced jobs x n c p
 spaced jobs x zero c p lawful of l e = absurd (omega arith)
 spaced jobs x (suc n) c p lawful of l e = elim (cases_Bool (p n)) [
   | inr fails ↦
       let none : flag (p n) ≡ 0 = flag-of_false (p n) fails in
       let s : Spaced jobs x n c p = spaced jobs x n c p lawful of (omega arith) (omega arith) in
-      record { first = s.first; last = s.last; below = omega (arith, s.below); first_passes = s.first_passes; last_passes = s.last_passes; apart = s.apart }
+      record {
+        first = s.first;
+        last = s.last;
+        below = omega (arith, s.below);
+        first_passes = s.first_passes;
+        last_passes = s.last_passes;
+        apart = s.apart;
+      }
   | inl passes ↦ spaced_here jobs x n c p lawful of l passes e (λ d g. spaced jobs x n d p lawful of (omega arith) g)
 ]
 
@@ -57,7 +84,8 @@ few c n period window some less most = elim (cases_lt c n) [
   product (suc c) (suc n) period l = omega (arith, suc-mul c period, suc-mul n period, product c n period (omega arith))
 
 -- Of one task at most so many jobs pass that are released before r + window, and less than bound before r at most.
-pub released_within : (jobs : JobsDef) (x n r window bound : ℕ) (p : ℕ → Bool) → AreLawfulJobs jobs → 0 < (task_at jobs.set x).period → n ≤ length jobs.jobs → ((j : ℕ) → p j ≡ true → (job_of jobs.jobs j).task ≡ x)
+pub released_within : (jobs : JobsDef) (x n r window bound : ℕ) (p : ℕ → Bool) → AreLawfulJobs jobs
+    → 0 < (task_at jobs.set x).period → n ≤ length jobs.jobs → ((j : ℕ) → p j ≡ true → (job_of jobs.jobs j).task ≡ x)
     → ((j : ℕ) → p j ≡ true → r < (job_of jobs.jobs j).release + bound) → ((j : ℕ) → p j ≡ true → (job_of jobs.jobs j).release < r + window)
     → count_below n p ≤ jobs_within window bound (task_at jobs.set x).period
 released_within jobs x n r window bound p lawful some l of after before = go (count_below n p) refl where
@@ -65,7 +93,11 @@ released_within jobs x n r window bound p lawful some l of after before = go (co
   go zero e = omega arith
   go (suc c) e =
       let s : Spaced jobs x n c p = spaced jobs x n c p lawful of l e in
-      let times : (window + bound ≤ div_ceil (window + bound) (task_at jobs.set x).period * (task_at jobs.set x).period) × _ = div_ceil_times (window + bound) (task_at jobs.set x).period some in
-      let less : c * (task_at jobs.set x).period < window + bound = omega (arith, s.apart, after s.first s.first_passes, before s.last s.last_passes) in
-      let most : suc c ≤ div_ceil (window + bound) (task_at jobs.set x).period = few c (div_ceil (window + bound) (task_at jobs.set x).period) (task_at jobs.set x).period (window + bound) some less times.0 in
+      let times : (window + bound ≤ div_ceil (window + bound) (task_at jobs.set x).period * (task_at jobs.set x).period)
+      × _ = div_ceil_times (window + bound) (task_at jobs.set x).period some in
+      let less : c * (task_at jobs.set x).period < window + bound =
+      omega (arith, s.apart, after s.first s.first_passes, before s.last s.last_passes) in
+      let most : suc c ≤ div_ceil (window + bound) (task_at jobs.set x).period =
+      few c (div_ceil (window + bound) (task_at jobs.set x).period) (task_at jobs.set x).period (window + bound) some
+      less times.0 in
       omega arith

@@ -9,7 +9,8 @@ use Rattle.schedule_model.specs.ProtocolLaws.{IsSoundRow}
 use Rattle.schedule_laws.specs.Agreement.{RunsActiveBefore}
 
 -- A sound row of the set's sizes can be taken.
-pub sound_taken : (interferes : Trace → ℕ → ℕ → Bool) (w : Trace) (t : ℕ) → IsSized w.set (w.row t) → IsSoundRow interferes w t → CanBeTaken w t
+pub sound_taken : (interferes : Trace → ℕ → ℕ → Bool) (w : Trace) (t : ℕ) → IsSized w.set (w.row t)
+    → IsSoundRow interferes w t → CanBeTaken w t
 sound_taken interferes w t sized sound = record {
   fits = record { sized = sized; running = sound.running_listed; holders = sound.holders_listed };
   active = sound.active;
@@ -34,28 +35,34 @@ place_below n (Some j) h = lt-ltb j n (h j refl)
 
 below_named : (n : ℕ) (places : List (Option ℕ)) → ((c j : ℕ) → get_or places c None ≡ Some j → j < n) → names_below n places ≡ true
 below_named n [] h = refl
-below_named n (o ∷ places) h = and_from (is_below n o) (names_below n places) (place_below n o (λ j e. h 0 j e)) (below_named n places (λ c j e. h (suc c) j e))
+below_named n (o ∷ places) h = and_from (is_below n o) (names_below n places) (place_below n o (λ j e. h 0 j e))
+    (below_named n places (λ c j e. h (suc c) j e))
 
 -- The test that a row fits the sizes and the jobs says that it does.
-pub fits_jobs_from : (w : Trace) (t : ℕ) → fits_row w.set.processors (length w.set.resources) (length w.jobs) (w.row t) ≡ true → FitsJobs w t
+pub fits_jobs_from : (w : Trace) (t : ℕ)
+    → fits_row w.set.processors (length w.set.resources) (length w.jobs) (w.row t) ≡ true → FitsJobs w t
 fits_jobs_from w t h = record {
   sized = record { processors = eqb-true _ _ sizes.0; resources = eqb-true _ _ sizes.1 };
   running = on;
   holders = λ q j e. named_below (length w.jobs) (w.row t).holders q j names.1 e;
 } where
   sizes : ((length (w.row t).running == w.set.processors) ≡ true) × ((length (w.row t).holders == length w.set.resources) ≡ true)
-  sizes = and_parts _ _ (and_parts (is_sized w.set.processors (length w.set.resources) (w.row t)) (names_jobs (length w.jobs) (w.row t)) h).0
+  sizes = and_parts _ _ (and_parts (is_sized w.set.processors (length w.set.resources) (w.row t))
+      (names_jobs (length w.jobs) (w.row t)) h).0
 
   names : (names_below (length w.jobs) (w.row t).running ≡ true) × (names_below (length w.jobs) (w.row t).holders ≡ true)
-  names = and_parts _ _ (and_parts (is_sized w.set.processors (length w.set.resources) (w.row t)) (names_jobs (length w.jobs) (w.row t)) h).1
+  names = and_parts _ _ (and_parts (is_sized w.set.processors (length w.set.resources) (w.row t))
+      (names_jobs (length w.jobs) (w.row t)) h).1
 
   on : (k j : ℕ) → running_on (w.row t) k ≡ Some j → j < length w.jobs
   on zero j e = absurd (cc)
   on (suc c) j e = named_below (length w.jobs) (w.row t).running c j names.0 e
 
 -- And a row that does passes it.
-pub fits_jobs_passes : (w : Trace) (t : ℕ) → FitsJobs w t → fits_row w.set.processors (length w.set.resources) (length w.jobs) (w.row t) ≡ true
+pub fits_jobs_passes : (w : Trace) (t : ℕ) → FitsJobs w t
+    → fits_row w.set.processors (length w.set.resources) (length w.jobs) (w.row t) ≡ true
 fits_jobs_passes w t fits =
     and_from (is_sized w.set.processors (length w.set.resources) (w.row t)) (names_jobs (length w.jobs) (w.row t))
     (and_from _ _ (eq-eqb _ _ fits.sized.processors) (eq-eqb _ _ fits.sized.resources))
-    (and_from _ _ (below_named (length w.jobs) (w.row t).running (λ c j e. fits.running (suc c) j e)) (below_named (length w.jobs) (w.row t).holders fits.holders))
+    (and_from _ _ (below_named (length w.jobs) (w.row t).running (λ c j e. fits.running (suc c) j e))
+    (below_named (length w.jobs) (w.row t).holders fits.holders))

@@ -11,7 +11,8 @@ use Rattle.schedule_model.specs.LawfulJobs.{is_segment, is_script}
 use Rattle.schedule_model.specs.Phase.{Phase, is_local, is_finished, is_asking, is_same_request, phase_from, executed, phase_of}
 use Rattle.schedule_model.specs.Phase.Phase.{Local, Asking, Finished}
 use Rattle.schedule_laws.specs.LocalRuns.{LocalRun}
-use Rattle.schedule_laws.proofs.Phases.{phase_of_none, finished_from, finished_total, asking_between, asking_forward, LocalTick, local_before}
+use Rattle.schedule_laws.proofs.Phases.{phase_of_none, finished_from, finished_total, asking_between, asking_forward}
+use Rattle.schedule_laws.proofs.Phases.{LocalTick, local_before}
 
 -- Executed ticks begin with none, rise by one where the job runs, and else stay.
 pub executed_none : (w : Trace) (j : ℕ) → executed w 0 j ≡ 0
@@ -126,7 +127,8 @@ pub record SameRequest (p s : Phase) : Type 0 where
 
 -- Phases of the same request are both requests of one number.
 pub same_parts : (p s : Phase) → is_same_request p s ≡ true → SameRequest p s
-same_parts (Asking n q) (Asking m r) h = record { number = n; first = q; second = r; one = refl; two = ap (λ k. Asking k r) (sym (eqb-true n m h)) }
+same_parts (Asking n q) (Asking m r) h =
+    record { number = n; first = q; second = r; one = refl; two = ap (λ k. Asking k r) (sym (eqb-true n m h)) }
 same_parts (Asking n q) Local h = absurd (cc)
 same_parts (Asking n q) Finished h = absurd (cc)
 same_parts Local s h = absurd (cc)
@@ -135,7 +137,8 @@ same_parts Finished s h = absurd (cc)
 -- The numbers of requests rise from tick to tick.
 pub requests_rise : (w : Trace) (u t j m n q r : ℕ) → phase_of w u j ≡ Asking m q → phase_of w t j ≡ Asking n r → u ≤ t → m ≤ n
 unfolding phase_of
-requests_rise w u t j m n q r h g l = asking_forward 0 (job_of w.jobs j).script (executed w u j) (executed w t j) m n q r (executed_up w u t j l) h g
+requests_rise w u t j m n q r h g l =
+    asking_forward 0 (job_of w.jobs j).script (executed w u j) (executed w t j) m n q r (executed_up w u t j l) h g
 
 -- A finished job stays finished.
 pub finished_stays : (w : Trace) (u t j : ℕ) → u ≤ t → phase_of w u j ≡ Finished → phase_of w t j ≡ Finished
@@ -174,20 +177,25 @@ finished_past w t j h = let e : job_of w.jobs j ≡ no_job = get_or_past w.jobs 
 pub unfinished_listed : (w : Trace) (t j : ℕ) → is_finished (phase_of w t j) ≡ false → j < length w.jobs
 unfinished_listed w t j h = elim (cases_lt j (length w.jobs)) [
   | inl l ↦ l
-  | inr past ↦ let e : phase_of w t j ≡ Finished = finished_past w t j past in let x : is_finished (phase_of w t j) ≡ true = rw e refl in absurd (cc)
+  | inr past ↦ let e : phase_of w t j ≡ Finished = finished_past w t j past in
+      let x : is_finished (phase_of w t j) ≡ true = rw e refl in absurd (cc)
 ]
 
 -- A request stays open between two ticks of it.
-pub open_between : (w : Trace) (u t v j m q r : ℕ) → phase_of w u j ≡ Asking m q → phase_of w v j ≡ Asking m r → u ≤ t → t ≤ v → phase_of w t j ≡ Asking m q
+pub open_between : (w : Trace) (u t v j m q r : ℕ) → phase_of w u j ≡ Asking m q → phase_of w v j ≡ Asking m r → u ≤ t
+    → t ≤ v → phase_of w t j ≡ Asking m q
 unfolding phase_of
 open_between w u t v j m q r h g a b =
-    asking_between 0 (job_of w.jobs j).script (executed w u j) (executed w t j) (executed w v j) m q r h g (executed_up w u t j a) (executed_up w t v j b)
+    asking_between 0 (job_of w.jobs j).script (executed w u j) (executed w t j) (executed w v j) m q r h g
+    (executed_up w u t j a) (executed_up w t v j b)
 
 -- One request is of one resource.
 pub one_resource : (w : Trace) (u v j m q r : ℕ) → phase_of w u j ≡ Asking m q → phase_of w v j ≡ Asking m r → q ≡ r
 one_resource w u v j m q r h g = elim (cases_lt v u) [
-  | inl before ↦ let e : phase_of w u j ≡ Asking m r = open_between w v u u j m r q g h (omega arith) (omega arith) in let x : Asking m q ≡ Asking m r = sym h ∙ e in cc
-  | inr after ↦ let e : phase_of w v j ≡ Asking m q = open_between w u v v j m q r h g after (omega arith) in let x : Asking m q ≡ Asking m r = sym e ∙ g in cc
+  | inl before ↦ let e : phase_of w u j ≡ Asking m r = open_between w v u u j m r q g h (omega arith) (omega arith) in
+      let x : Asking m q ≡ Asking m r = sym h ∙ e in cc
+  | inr after ↦ let e : phase_of w v j ≡ Asking m q = open_between w u v v j m q r h g after (omega arith) in
+      let x : Asking m q ≡ Asking m r = sym e ∙ g in cc
 ]
 
 -- The segments of a script.

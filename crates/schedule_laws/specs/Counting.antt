@@ -1,5 +1,6 @@
 -- How many ticks does a job spend in which kind of phase, and how many requests has it begun?
-use Rattle.std.specs.Prelude.{◌≡◌, refl, ℕ, suc, ◌+◌, ◌-◌, ◌==◌, ◌&&◌, Bool, false, nat_lt, if◌then◌else◌, List, [], ◌∷◌, Some, None, is_some, count_by}
+use Rattle.std.specs.Prelude.{◌≡◌, refl, ℕ, suc, ◌+◌, ◌-◌, ◌==◌, ◌&&◌, Bool, false, nat_lt, if◌then◌else◌, List, []}
+use Rattle.std.specs.Prelude.{◌∷◌, Some, None, is_some, count_by}
 use Rattle.bounded_sums.specs.Sums.{flag, only_if}
 use Rattle.bounded_sums.specs.Tests.{count_below}
 use Rattle.schedule_model.specs.JobDef.{SegmentDef, job_of, request_ticks, segment_ticks}
@@ -33,7 +34,8 @@ requests_in script = count_by (λ s. is_some s.request) script
 abbrev pub begun_after : List SegmentDef → ℕ → ℕ
 begun_after [] d = 0
 begun_after (s ∷ script) d =
-    if nat_lt d s.local then 0 else (if nat_lt d (segment_ticks s) then 1 else flag (is_some s.request) + begun_after script (d - segment_ticks s))
+    if nat_lt d s.local then 0
+    else (if nat_lt d (segment_ticks s) then 1 else flag (is_some s.request) + begun_after script (d - segment_ticks s))
 
 -- How many requests has job j begun at tick t?
 unfoldable pub requests_begun : Trace → ℕ → ℕ → ℕ
@@ -49,5 +51,6 @@ example_local = refl
 pub example_request : ticks_where (is_request 0 4) 0 example ≡ 2
 example_request = refl
 
-pub example_begun : begun_after example 0 ∷ begun_after example 1 ∷ begun_after example 2 ∷ begun_after example 3 ∷ begun_after example 6 ∷ [] ≡ 0 ∷ 1 ∷ 1 ∷ 1 ∷ 1 ∷ []
+pub example_begun : begun_after example 0 ∷ begun_after example 1 ∷ begun_after example 2 ∷ begun_after example 3
+    ∷ begun_after example 6 ∷ [] ≡ 0 ∷ 1 ∷ 1 ∷ 1 ∷ 1 ∷ []
 example_begun = refl

@@ -54,7 +54,8 @@ pub fn running_jobs_are_active<P: BlockingProtocol>()
 pub fn jobs_end_in_time<P: BlockingProtocol>()
     ensures { (p : P) (w : Trace) (r b j : ℕ) → P.suits p w.set → KeepsBefore (P.keeps p) w (r + b)
         → (job_of w.jobs j).release ≡ r → ((e : ℕ) → e < j → task_of w e ≡ task_of w j → phase_of w r e ≡ Finished)
-        → total_ticks (job_of w.jobs j).script + count_below (r + b) (λ t. P.interferes p w t j) + blocking_of (P.interferes p) w (r + b) j ≤ b
+        → total_ticks (job_of w.jobs j).script + count_below (r + b) (λ t. P.interferes p w t j)
+        + blocking_of (P.interferes p) w (r + b) j ≤ b
         → is_finished (phase_of w (r + b) j) ≡ true }
 {}
 

@@ -1,5 +1,6 @@
 -- Each rule of DPCP as a test that computes, for the worked examples: where the test passes, the rule is kept.
-use Rattle.std.proofs.Common.{◌≡◌, ℕ, ◌<◌, ◌≤◌, ◌==◌, ◌&&◌, ◌||◌, not, Bool, true, false, length, refl, ap, sym, ◌∙◌, Option, Some, None, is_some, leb}
+use Rattle.std.proofs.Common.{◌≡◌, ℕ, ◌<◌, ◌≤◌, ◌==◌, ◌&&◌, ◌||◌, not, Bool, true, false, length, refl, ap, sym, ◌∙◌}
+use Rattle.std.proofs.Common.{Option, Some, None, is_some, leb}
 use Rattle.std.specs.Option.{option_map_or}
 use Rattle.std.proofs.lemmas.Bool.{and_parts, leb-true, eqb-true}
 use Rattle.bounded_sums.specs.Tests.{all_below}
@@ -11,8 +12,10 @@ use Rattle.schedule_model.specs.RowDef.{Trace, is_job, running_on, holder_in, he
 use Rattle.schedule_model.specs.Phase.{Phase, is_local, is_asking, phase_of}
 use Rattle.schedule_model.specs.Phase.Phase.{Local, Asking, Finished}
 use Rattle.schedule_model.specs.Activity.{task_of, processor_of, is_active, is_requester, is_active_local}
-use Rattle.schedule_model.specs.DpcpRules.{home_of, is_at, has_request_at, has_requests, holds_at, is_granted, KeepsRun, KeepsGrant, KeepsIdle, RunsFirstHolder, KeepsPriority}
-use Rattle.schedule_model.proofs.RuleTests.{each_place, each_running, place_named, running_named, is_job-true, then_true, or_other, not_true, passes_keep, keep_from}
+use Rattle.schedule_model.specs.DpcpRules.{home_of, is_at, has_request_at, has_requests, holds_at, is_granted, KeepsRun}
+use Rattle.schedule_model.specs.DpcpRules.{KeepsGrant, KeepsIdle, RunsFirstHolder, KeepsPriority}
+use Rattle.schedule_model.proofs.RuleTests.{each_place, each_running, place_named, running_named, is_job-true}
+use Rattle.schedule_model.proofs.RuleTests.{then_true, or_other, not_true, passes_keep, keep_from}
 
 -- Run.
 abbrev pub is_in_place : Trace → ℕ → ℕ → ℕ → Phase → Bool
@@ -31,12 +34,14 @@ local_place w t k j Local h l = eqb-true _ _ h
 local_place w t k j (Asking n q) h l = absurd (cc)
 local_place w t k j Finished h l = absurd (cc)
 
-request_place : (w : Trace) (t k j q : ℕ) (phase : Phase) → is_in_place w t k j phase ≡ true → is_asking q phase ≡ true → (k ≡ home_of w q) × (holder_in (w.row t) q ≡ Some j)
+request_place : (w : Trace) (t k j q : ℕ) (phase : Phase) → is_in_place w t k j phase ≡ true → is_asking q phase ≡ true
+    → (k ≡ home_of w q) × (holder_in (w.row t) q ≡ Some j)
 request_place w t k j q Local h a = absurd (cc)
 request_place w t k j q Finished h a = absurd (cc)
 request_place w t k j q (Asking n r) h a =
     let same : r ≡ q = eqb-true _ _ a in
-    let parts : ((k == home_of w r) ≡ true) × (is_job j (holder_in (w.row t) r) ≡ true) = and_parts (k == home_of w r) (is_job j (holder_in (w.row t) r)) h in
+    let parts : ((k == home_of w r) ≡ true) × (is_job j (holder_in (w.row t) r) ≡ true) =
+    and_parts (k == home_of w r) (is_job j (holder_in (w.row t) r)) h in
     (eqb-true _ _ parts.0 ∙ ap (home_of w) same, ap (λ p. holder_in (w.row t) p) (sym same) ∙ is_job-true j (holder_in (w.row t) r) parts.1)
 
 pub run_from : (w : Trace) (t : ℕ) → passes_run w t ≡ true → KeepsRun w t
@@ -60,26 +65,33 @@ is_given w t j Finished = true
 abbrev pub passes_grant : Trace → ℕ → Bool
 passes_grant w t = each_place (w.row t).holders (may_hold w t) && all_below (length w.jobs) (λ j. is_given w t j (phase_of w t j))
 
-given_asked : (w : Trace) (t q j : ℕ) (phase : Phase) → is_given w t j phase ≡ true → is_asking q phase ≡ true → is_granted w t (home_of w q) j ≡ true → holder_in (w.row t) q ≡ Some j
+given_asked : (w : Trace) (t q j : ℕ) (phase : Phase) → is_given w t j phase ≡ true → is_asking q phase ≡ true
+    → is_granted w t (home_of w q) j ≡ true → holder_in (w.row t) q ≡ Some j
 given_asked w t q j Local h a g = absurd (cc)
 given_asked w t q j Finished h a g = absurd (cc)
 given_asked w t q j (Asking n r) h a g =
     let same : r ≡ q = eqb-true _ _ a in
     let granted : is_granted w t (home_of w r) j ≡ true = ap (λ p. is_granted w t (home_of w p) j) same ∙ g in
-    ap (λ p. holder_in (w.row t) p) (sym same) ∙ is_job-true j (holder_in (w.row t) r) (then_true (is_granted w t (home_of w r) j) (is_job j (holder_in (w.row t) r)) h granted)
+    ap (λ p. holder_in (w.row t) p) (sym same) ∙ is_job-true j (holder_in (w.row t) r)
+    (then_true (is_granted w t (home_of w r) j) (is_job j (holder_in (w.row t) r)) h granted)
 
 pub grant_from : (w : Trace) (t : ℕ) → passes_grant w t ≡ true → KeepsGrant w t
 unfolding is_requester
 grant_from w t h = record {
   requests = λ q j e. (may q j e).0;
-  new = λ q j e other. or_other (is_job j (held_before w t q)) (is_granted w t (home_of w q) j) (may q j e).1 (not_true (is_job j (held_before w t q)) (λ k. other (is_job-true j (held_before w t q) k)));
-  granted = λ q j l r g. given_asked w t q j (phase_of w t j) (all_below-each (length w.jobs) (λ i. is_given w t i (phase_of w t i)) parts.1 j l) (and_parts (is_active w t j) (is_asking q (phase_of w t j)) r).1 g;
+  new = λ q j e other. or_other (is_job j (held_before w t q)) (is_granted w t (home_of w q) j) (may q j e).1
+      (not_true (is_job j (held_before w t q)) (λ k. other (is_job-true j (held_before w t q) k)));
+  granted = λ q j l r g. given_asked w t q j (phase_of w t j)
+      (all_below-each (length w.jobs) (λ i. is_given w t i (phase_of w t i)) parts.1 j l)
+      (and_parts (is_active w t j) (is_asking q (phase_of w t j)) r).1 g;
 } where
   parts : (each_place (w.row t).holders (may_hold w t) ≡ true) × (all_below (length w.jobs) (λ j. is_given w t j (phase_of w t j)) ≡ true)
   parts = and_parts (each_place (w.row t).holders (may_hold w t)) (all_below (length w.jobs) (λ j. is_given w t j (phase_of w t j))) h
 
-  may : (q j : ℕ) → holder_in (w.row t) q ≡ Some j → (is_requester w t q j ≡ true) × ((is_job j (held_before w t q) || is_granted w t (home_of w q) j) ≡ true)
-  may q j e = and_parts (is_requester w t q j) (is_job j (held_before w t q) || is_granted w t (home_of w q) j) (place_named (w.row t).holders (may_hold w t) parts.0 q j e)
+  may : (q j : ℕ) → holder_in (w.row t) q ≡ Some j
+      → (is_requester w t q j ≡ true) × ((is_job j (held_before w t q) || is_granted w t (home_of w q) j) ≡ true)
+  may q j e = and_parts (is_requester w t q j) (is_job j (held_before w t q) || is_granted w t (home_of w q) j)
+      (place_named (w.row t).holders (may_hold w t) parts.0 q j e)
 
 -- What is told of the home of each request is told of a processor that has a request.
 abbrev pub tells_home : Trace → (ℕ → Bool) → Phase → Bool
@@ -99,15 +111,20 @@ request_told : (w : Trace) (t k : ℕ) (p : ℕ → Bool) → each_request w t p
 unfolding has_requests has_request_at
 request_told w t k p h some =
     let found = any_below-some (length w.jobs) (λ i. is_active w t i && is_at w k (phase_of w t i)) some in
-    let parts : (is_active w t found.0 ≡ true) × (is_at w k (phase_of w t found.0) ≡ true) = and_parts (is_active w t found.0) (is_at w k (phase_of w t found.0)) found.2 in
-    told_at w p k (phase_of w t found.0) (then_true (is_active w t found.0) (tells_home w p (phase_of w t found.0)) (all_below-each (length w.jobs) (λ i. not (is_active w t i) || tells_home w p (phase_of w t i)) h found.0 found.1) parts.0) parts.1
+    let parts : (is_active w t found.0 ≡ true) × (is_at w k (phase_of w t found.0) ≡ true) =
+    and_parts (is_active w t found.0) (is_at w k (phase_of w t found.0)) found.2 in
+    told_at w p k (phase_of w t found.0)
+    (then_true (is_active w t found.0) (tells_home w p (phase_of w t found.0))
+    (all_below-each (length w.jobs) (λ i. not (is_active w t i) || tells_home w p (phase_of w t i)) h found.0 found.1)
+    parts.0) parts.1
 
 -- Idle.
 abbrev pub is_busy : Trace → ℕ → ℕ → Bool
 is_busy w t k = is_some (running_on (w.row t) k)
 
 abbrev pub passes_idle : Trace → ℕ → Bool
-passes_idle w t = each_request w t (is_busy w t) && all_below (length w.jobs) (λ i. not (is_active_local w t i) || is_busy w t (processor_of w i))
+passes_idle w t = each_request w t (is_busy w t)
+    && all_below (length w.jobs) (λ i. not (is_active_local w t i) || is_busy w t (processor_of w i))
 
 idle_busy : (w : Trace) (t k : ℕ) → running_on (w.row t) k ≡ None → is_busy w t k ≡ true → ⊥
 idle_busy w t k none busy = let wrong : is_some {T = ℕ} None ≡ true = rw none at busy in cc
@@ -115,10 +132,15 @@ idle_busy w t k none busy = let wrong : is_some {T = ℕ} None ≡ true = rw non
 pub idle_from : (w : Trace) (t : ℕ) → passes_idle w t ≡ true → KeepsIdle w t
 idle_from w t h = record {
   requests = λ k none. not_true (has_requests w t k) (λ some. idle_busy w t k none (request_told w t k (is_busy w t) parts.0 some));
-  locals = λ k none i l e. not_true (is_active_local w t i) (λ local. idle_busy w t k none (ap (is_busy w t) (sym e) ∙ then_true (is_active_local w t i) (is_busy w t (processor_of w i)) (all_below-each (length w.jobs) (λ x. not (is_active_local w t x) || is_busy w t (processor_of w x)) parts.1 i l) local));
+  locals = λ k none i l e. not_true (is_active_local w t i) (λ local. idle_busy w t k none
+      (ap (is_busy w t) (sym e) ∙ then_true (is_active_local w t i) (is_busy w t (processor_of w i))
+      (all_below-each (length w.jobs) (λ x. not (is_active_local w t x) || is_busy w t (processor_of w x)) parts.1 i l)
+      local));
 } where
-  parts : (each_request w t (is_busy w t) ≡ true) × (all_below (length w.jobs) (λ i. not (is_active_local w t i) || is_busy w t (processor_of w i)) ≡ true)
-  parts = and_parts (each_request w t (is_busy w t)) (all_below (length w.jobs) (λ i. not (is_active_local w t i) || is_busy w t (processor_of w i))) h
+  parts : (each_request w t (is_busy w t) ≡ true)
+      × (all_below (length w.jobs) (λ i. not (is_active_local w t i) || is_busy w t (processor_of w i)) ≡ true)
+  parts = and_parts (each_request w t (is_busy w t))
+      (all_below (length w.jobs) (λ i. not (is_active_local w t i) || is_busy w t (processor_of w i))) h
 
 -- Priority.
 abbrev pub is_first_holder : Trace → ℕ → ℕ → ℕ → Bool
@@ -131,17 +153,23 @@ abbrev pub yields_to_higher : Trace → ℕ → ℕ → ℕ → Bool
 yields_to_higher w t i r = leb (task_of w r) (task_of w i) || has_requests w t (processor_of w i)
 
 abbrev pub passes_priority : Trace → ℕ → Bool
-passes_priority w t = each_request w t (runs_first_holder w t) && all_below (length w.jobs) (λ i. not (is_active_local w t i) || option_map_or (yields_to_higher w t i) (running_on (w.row t) (processor_of w i)) true)
+passes_priority w t = each_request w t (runs_first_holder w t) && all_below (length w.jobs) (λ i. not
+    (is_active_local w t i) || option_map_or (yields_to_higher w t i) (running_on (w.row t) (processor_of w i)) true)
 
-first_holder_of : (w : Trace) (t k : ℕ) (o : Option ℕ) → running_on (w.row t) k ≡ o → option_map_or (is_first_holder w t k) o false ≡ true → RunsFirstHolder w t k
+first_holder_of : (w : Trace) (t k : ℕ) (o : Option ℕ) → running_on (w.row t) k ≡ o
+    → option_map_or (is_first_holder w t k) o false ≡ true → RunsFirstHolder w t k
 first_holder_of w t k None e h = absurd (cc)
 first_holder_of w t k (Some r) e h =
-    let parts : (holds_at w t k r ≡ true) × (all_below (length w.jobs) (λ i. not (holds_at w t k i) || leb (task_of w r) (task_of w i)) ≡ true) = and_parts (holds_at w t k r) (all_below (length w.jobs) (λ i. not (holds_at w t k i) || leb (task_of w r) (task_of w i))) h in
+    let parts : (holds_at w t k r ≡ true)
+    × (all_below (length w.jobs) (λ i. not (holds_at w t k i) || leb (task_of w r) (task_of w i)) ≡ true) = and_parts
+    (holds_at w t k r) (all_below (length w.jobs) (λ i. not (holds_at w t k i) || leb (task_of w r) (task_of w i))) h in
     record {
       runner = r;
       runs = e;
       holds = parts.0;
-      first = λ i l held. leb-true _ _ (then_true (holds_at w t k i) (leb (task_of w r) (task_of w i)) (all_below-each (length w.jobs) (λ x. not (holds_at w t k x) || leb (task_of w r) (task_of w x)) parts.1 i l) held);
+      first = λ i l held. leb-true _ _ (then_true (holds_at w t k i) (leb (task_of w r) (task_of w i))
+          (all_below-each (length w.jobs) (λ x. not (holds_at w t k x) || leb (task_of w r) (task_of w x)) parts.1 i l)
+          held);
     }
 
 pub priority_from : (w : Trace) (t : ℕ) → passes_priority w t ≡ true → KeepsPriority w t
@@ -149,17 +177,30 @@ priority_from w t h = record {
   requests = λ k some. first_holder_of w t k (running_on (w.row t) k) refl (request_told w t k (runs_first_holder w t) parts.0 some);
   locals = λ k r e none i l p local. locals k r e none i l p local;
 } where
-  parts : (each_request w t (runs_first_holder w t) ≡ true) × (all_below (length w.jobs) (λ i. not (is_active_local w t i) || option_map_or (yields_to_higher w t i) (running_on (w.row t) (processor_of w i)) true) ≡ true)
-  parts = and_parts (each_request w t (runs_first_holder w t)) (all_below (length w.jobs) (λ i. not (is_active_local w t i) || option_map_or (yields_to_higher w t i) (running_on (w.row t) (processor_of w i)) true)) h
+  parts : (each_request w t (runs_first_holder w t) ≡ true)
+      × (all_below (length w.jobs) (λ i. not (is_active_local w t i)
+      || option_map_or (yields_to_higher w t i) (running_on (w.row t) (processor_of w i)) true) ≡ true)
+  parts = and_parts (each_request w t (runs_first_holder w t))
+      (all_below (length w.jobs) (λ i. not (is_active_local w t i)
+      || option_map_or (yields_to_higher w t i) (running_on (w.row t) (processor_of w i)) true)) h
 
   runner : (p : ℕ → Bool) (o : Option ℕ) (r : ℕ) → option_map_or p o true ≡ true → o ≡ Some r → p r ≡ true
   runner p o r here e = rw e at here
 
-  locals : (k r : ℕ) → running_on (w.row t) k ≡ Some r → has_requests w t k ≡ false → (i : ℕ) → i < length w.jobs → processor_of w i ≡ k → is_active_local w t i ≡ true → task_of w r ≤ task_of w i
+  locals : (k r : ℕ) → running_on (w.row t) k ≡ Some r → has_requests w t k ≡ false → (i : ℕ) → i < length w.jobs
+      → processor_of w i ≡ k → is_active_local w t i ≡ true → task_of w r ≤ task_of w i
   locals k r e none i l p local =
-      let here : option_map_or (yields_to_higher w t i) (running_on (w.row t) (processor_of w i)) true ≡ true = then_true (is_active_local w t i) (option_map_or (yields_to_higher w t i) (running_on (w.row t) (processor_of w i)) true) (all_below-each (length w.jobs) (λ x. not (is_active_local w t x) || option_map_or (yields_to_higher w t x) (running_on (w.row t) (processor_of w x)) true) parts.1 i l) local in
-      let either : (has_requests w t (processor_of w i) || leb (task_of w r) (task_of w i)) ≡ true = swap (leb (task_of w r) (task_of w i)) (has_requests w t (processor_of w i)) (runner (yields_to_higher w t i) (running_on (w.row t) (processor_of w i)) r here (ap (λ x. running_on (w.row t) x) p ∙ e)) in
-      leb-true _ _ (or_other (has_requests w t (processor_of w i)) (leb (task_of w r) (task_of w i)) either (ap (has_requests w t) p ∙ none)) where
+      let here : option_map_or (yields_to_higher w t i) (running_on (w.row t) (processor_of w i)) true ≡ true =
+      then_true (is_active_local w t i)
+      (option_map_or (yields_to_higher w t i) (running_on (w.row t) (processor_of w i)) true)
+      (all_below-each (length w.jobs)
+      (λ x. not (is_active_local w t x)
+      || option_map_or (yields_to_higher w t x) (running_on (w.row t) (processor_of w x)) true) parts.1 i l) local in
+      let either : (has_requests w t (processor_of w i) || leb (task_of w r) (task_of w i)) ≡ true =
+      swap (leb (task_of w r) (task_of w i)) (has_requests w t (processor_of w i)) (runner (yields_to_higher w t i)
+      (running_on (w.row t) (processor_of w i)) r here (ap (λ x. running_on (w.row t) x) p ∙ e)) in
+      leb-true _ _ (or_other (has_requests w t (processor_of w i)) (leb (task_of w r) (task_of w i)) either
+      (ap (has_requests w t) p ∙ none)) where
         swap : (a b : Bool) → (a || b) ≡ true → (b || a) ≡ true
         swap true true x = refl
         swap true false x = refl

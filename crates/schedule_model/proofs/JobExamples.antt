@@ -7,7 +7,8 @@ use Rattle.schedule_model.specs.JobLists.{IsJobList}
 use Rattle.schedule_model.specs.RowDef.{runs_in}
 use Rattle.schedule_model.specs.Phase.{phase_from, executed, phase_of}
 use Rattle.schedule_model.specs.Activity.{is_pending, is_next, is_active, is_active_job_of, active_job_of}
-use Rattle.schedule_model.specs.BlockedTicks.{is_delayed, runs_higher, runs_higher_local, is_shared_interference, is_dpcp_interference, is_interferer}
+use Rattle.schedule_model.specs.BlockedTicks.{is_delayed, runs_higher, runs_higher_local, is_shared_interference}
+use Rattle.schedule_model.specs.BlockedTicks.{is_dpcp_interference, is_interferer}
 use Rattle.schedule_model.specs.TakenRows.{CanBeTaken}
 use Rattle.schedule_model.proofs.WorkedFiles.{task, local_only, job, trace_a, trace_twice, trace_one, trace_unrun}
 
@@ -51,7 +52,8 @@ pub far_unlisted : IsJobList far_jobs → ⊥
 far_unlisted listed = let late : 1000000001 ≤ 1000000000 = listed.release 1 (omega arith) in omega arith
 
 -- At tick 0 each task's first job is active; at tick 3 the second task's only one is, and at tick 4 it is finished.
-pub active_jobs_of_a : active_job_of trace_a 0 0 ∷ active_job_of trace_a 0 1 ∷ active_job_of trace_a 3 1 ∷ active_job_of trace_a 4 1 ∷ [] ≡ Some 0 ∷ Some 1 ∷ Some 1 ∷ None ∷ []
+pub active_jobs_of_a : active_job_of trace_a 0 0 ∷ active_job_of trace_a 0 1 ∷ active_job_of trace_a 3 1
+    ∷ active_job_of trace_a 4 1 ∷ [] ≡ Some 0 ∷ Some 1 ∷ Some 1 ∷ None ∷ []
 unfolding phase_of phase_from executed runs_in is_pending is_next is_active is_active_job_of active_job_of
 active_jobs_of_a = refl
 
@@ -62,9 +64,11 @@ next_active = refl
 
 -- At tick 1 the higher job's request runs: under shared memory it makes the tick interference for the lower job, and
 -- under DPCP it doesn't. At tick 0, where it is Local, it does under both. No job does so for itself.
-pub interferers_of_one : is_interferer is_shared_interference trace_one 1 1 0 ∷ is_interferer is_dpcp_interference trace_one 1 1 0 ∷ is_interferer is_dpcp_interference trace_one 0 1 0
+pub interferers_of_one : is_interferer is_shared_interference trace_one 1 1 0
+    ∷ is_interferer is_dpcp_interference trace_one 1 1 0 ∷ is_interferer is_dpcp_interference trace_one 0 1 0
     ∷ is_interferer is_shared_interference trace_one 0 1 1 ∷ [] ≡ true ∷ false ∷ true ∷ false ∷ []
-unfolding phase_of phase_from executed runs_in is_pending is_next is_active is_delayed runs_higher runs_higher_local is_shared_interference is_dpcp_interference is_interferer
+unfolding phase_of phase_from executed runs_in is_pending is_next is_active is_delayed runs_higher runs_higher_local
+    is_shared_interference is_dpcp_interference is_interferer
 interferers_of_one = refl
 
 -- A row in which a job stands in two columns can't be taken.

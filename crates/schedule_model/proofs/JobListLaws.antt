@@ -1,5 +1,7 @@
 -- What a list of jobs keeps when a job is pushed.
-use Rattle.std.proofs.Common.{◌≡◌, ℕ, ◌<◌, ◌≤◌, ◌+◌, ◌&&◌, ◌||◌, not, Bool, true, false, cond, List, [], ◌∷◌, ◌++◌, length, refl, ap, sym, subst, ◌∙◌, arith, inl, inr, Option, Some, None, leb, ltb, length-append}
+use Rattle.std.proofs.Common.{◌≡◌, ℕ, ◌<◌, ◌≤◌, ◌+◌, ◌&&◌, ◌||◌, not, Bool, true, false, cond, List, [], ◌∷◌, ◌++◌}
+use Rattle.std.proofs.Common.{length, refl, ap, sym, subst, ◌∙◌, arith, inl, inr, Option, Some, None, leb, ltb}
+use Rattle.std.proofs.Common.{length-append}
 use Rattle.std.specs.Option.{option_map_or}
 use Rattle.std.specs.List.{list_all}
 use Rattle.std.proofs.lemmas.Bool.{and_parts, ltb-false, leb-true, leb-false, cases_lt}
@@ -12,7 +14,8 @@ use Rattle.sporadic_model.specs.SetDef.{SetDef, task_at}
 use Rattle.sporadic_model.specs.Users.{count_of}
 use Rattle.schedule_model.specs.JobDef.{JobDef, JobsDef, job_of, total_ticks, local_ticks, number_of_requests}
 use Rattle.schedule_model.specs.LawfulJobs.{is_length_kept, are_resources_in, IsLawfulJob, AreLawfulJobs}
-use Rattle.schedule_model.specs.JobLists.{is_listed_script, is_within_budget, last_release, is_too_close, is_too_many, segment_count, first_refusal, with_job, IsJobList}
+use Rattle.schedule_model.specs.JobLists.{is_listed_script, is_within_budget, last_release, is_too_close, is_too_many}
+use Rattle.schedule_model.specs.JobLists.{segment_count, first_refusal, with_job, IsJobList}
 use Rattle.schedule_model.specs.declared.limits.TheConstants.{MOST_JOBS, MOST_SEGMENTS}
 use Rattle.sporadic_model.specs.declared.limits.TheConstants.{MOST_TICKS}
 use Rattle.schedule_model.specs.declared.refusal.JobRefusal.TheVariants as refusal
@@ -26,7 +29,9 @@ pub record IsFree (jobs : JobsDef) (job : JobDef) : Type 0 where
   pub apart : is_too_close jobs job ≡ false
   pub room : is_too_many jobs.jobs job ≡ false
 
-none_due : (a b c d : Bool) → cond (not a) (Some refusal.Script) (cond (not b) (Some refusal.OverBudget) (cond c (Some refusal.TooClose) (cond d (Some refusal.TooMany) None))) ≡ None
+none_due : (a b c d : Bool) → cond (not a) (Some refusal.Script)
+    (cond (not b) (Some refusal.OverBudget) (cond c (Some refusal.TooClose) (cond d (Some refusal.TooMany) None)))
+    ≡ None
     → (a ≡ true) × (b ≡ true) × (c ≡ false) × (d ≡ false)
 none_due false b c d h = absurd (cc)
 none_due true false c d h = absurd (cc)
@@ -36,7 +41,9 @@ none_due true true false false h = (refl, refl, refl, refl)
 
 pub accepted_from : (jobs : JobsDef) (job : JobDef) → first_refusal jobs job ≡ None → IsFree jobs job
 accepted_from jobs job h =
-    let parts : (is_listed_script job.script ≡ true) × (is_within_budget jobs.set job ≡ true) × (is_too_close jobs job ≡ false) × (is_too_many jobs.jobs job ≡ false) = none_due (is_listed_script job.script) (is_within_budget jobs.set job) (is_too_close jobs job) (is_too_many jobs.jobs job) h in
+    let parts : (is_listed_script job.script ≡ true) × (is_within_budget jobs.set job ≡ true)
+    × (is_too_close jobs job ≡ false) × (is_too_many jobs.jobs job ≡ false) = none_due (is_listed_script job.script)
+    (is_within_budget jobs.set job) (is_too_close jobs job) (is_too_many jobs.jobs job) h in
     record { script = parts.0; budget = parts.1; apart = parts.2; room = parts.3 }
 
 -- What staying within the budget says.
@@ -59,11 +66,13 @@ within_from set job h =
     record {
       cost = leb-true _ _ one.0;
       local = leb-true _ _ two.0;
-      count = λ q l. leb-true _ _ (all_below-each (length set.resources) (λ p. leb (number_of_requests job.script p) (count_of set job.task p)) three.0 q l);
+      count = λ q l. leb-true _ _ (all_below-each (length set.resources)
+          (λ p. leb (number_of_requests job.script p) (count_of set job.task p)) three.0 q l);
       lengths = three.1;
     }
 
-lawful_from : (jobs : JobsDef) (job : JobDef) → job.task < length jobs.set.tasks → are_resources_in (length jobs.set.resources) job.script ≡ true → IsFree jobs job → IsLawfulJob jobs.set job
+lawful_from : (jobs : JobsDef) (job : JobDef) → job.task < length jobs.set.tasks
+    → are_resources_in (length jobs.set.resources) job.script ≡ true → IsFree jobs job → IsLawfulJob jobs.set job
 lawful_from jobs job task resources accepted =
     let within = within_from jobs.set job accepted.budget in
     record {
@@ -74,7 +83,9 @@ lawful_from jobs job task resources accepted =
       local = within.local;
       count = λ q. elim (cases_lt q (length jobs.set.resources)) [
         | inl l ↦ within.count q l
-        | inr past ↦ let none : number_of_requests job.script q ≡ 0 = number_of_requests-past (length jobs.set.resources) q job.script past resources in omega arith
+        | inr past ↦ let none : number_of_requests job.script q ≡ 0 =
+            number_of_requests-past (length jobs.set.resources) q job.script past resources in
+            omega arith
       ];
       lengths = within.lengths;
     }
@@ -92,20 +103,26 @@ pub apart_from : (jobs : JobsDef) (job : JobDef) → is_too_close jobs job ≡ f
 unfolding is_too_close
 apart_from jobs job h =
     let period : ℕ = (task_at jobs.set job.task).period in
-    let parts : (option_map_or (λ r. ltb job.release (r + period)) (last_release jobs.jobs job.task) false ≡ false) × (ltb MOST_TICKS job.release ≡ false) = or_none (option_map_or (λ r. ltb job.release (r + period)) (last_release jobs.jobs job.task) false) (ltb MOST_TICKS job.release) h in
+    let parts : (option_map_or (λ r. ltb job.release (r + period)) (last_release jobs.jobs job.task) false ≡ false)
+    × (ltb MOST_TICKS job.release ≡ false) =
+    or_none (option_map_or (λ r. ltb job.release (r + period)) (last_release jobs.jobs job.task) false)
+    (ltb MOST_TICKS job.release) h in
     record {
       last = λ r e. let late : ltb job.release (r + period) ≡ false = rw e at parts.0 in ltb-false _ _ late;
       release = ltb-false _ _ parts.1;
     }
 
 -- A job that is released a period after the last one of its task is a period after each of them.
-after_each : (jobs : JobsDef) (job : JobDef) (a : ℕ) → AreLawfulJobs jobs → IsApart jobs job → a < length jobs.jobs → (job_of jobs.jobs a).task ≡ job.task
+after_each : (jobs : JobsDef) (job : JobDef) (a : ℕ) → AreLawfulJobs jobs → IsApart jobs job → a < length jobs.jobs
+    → (job_of jobs.jobs a).task ≡ job.task
     → (job_of jobs.jobs a).release + (task_at jobs.set job.task).period ≤ job.release
 after_each jobs job a lawful apart l same = go (last_release jobs.jobs job.task) refl where
-  beside : (r : ℕ) → last_release jobs.jobs job.task ≡ Some r → IsLastAt jobs.jobs job.task r → (job_of jobs.jobs a).release + (task_at jobs.set job.task).period ≤ job.release
+  beside : (r : ℕ) → last_release jobs.jobs job.task ≡ Some r → IsLastAt jobs.jobs job.task r
+      → (job_of jobs.jobs a).release + (task_at jobs.set job.task).period ≤ job.release
   beside r e last = elim (cases_lt a last.place) [
     | inl before ↦
-        let pair : (job_of jobs.jobs a).release + (task_at jobs.set (job_of jobs.jobs a).task).period ≤ (job_of jobs.jobs last.place).release = lawful.apart a last.place before last.within (same ∙ sym last.task) in
+        let pair : (job_of jobs.jobs a).release + (task_at jobs.set (job_of jobs.jobs a).task).period
+        ≤ (job_of jobs.jobs last.place).release = lawful.apart a last.place before last.within (same ∙ sym last.task) in
         omega (arith, apart.last r e, last.release)
     | inr after ↦ elim (cases_lt last.place a) [
       | inl past ↦ absurd (last.after a past l same)
@@ -116,7 +133,8 @@ after_each jobs job a lawful apart l same = go (last_release jobs.jobs job.task)
     ]
   ]
 
-  go : (o : Option ℕ) → last_release jobs.jobs job.task ≡ o → (job_of jobs.jobs a).release + (task_at jobs.set job.task).period ≤ job.release
+  go : (o : Option ℕ) → last_release jobs.jobs job.task ≡ o
+      → (job_of jobs.jobs a).release + (task_at jobs.set job.task).period ≤ job.release
   go None e = absurd (last_release-none jobs.jobs job.task a e l same)
   go (Some r) e = beside r e (last_release-at jobs.jobs job.task r e)
 
@@ -128,7 +146,8 @@ pub new_job : (jobs : List JobDef) (job : JobDef) → job_of (jobs ++ job ∷ []
 new_job jobs job = get_or-append_seam jobs job [] (record { task = 0; release = 0; script = [] })
 
 -- What holds of each job of a list, and of one more, holds of each job of the list with that one at its end.
-each_more : (P : JobDef → Type 0) (jobs : List JobDef) (job : JobDef) → ((j : ℕ) → j < length jobs → P (job_of jobs j)) → P job → (j : ℕ) → j < length (jobs ++ job ∷ []) → P (job_of (jobs ++ job ∷ []) j)
+each_more : (P : JobDef → Type 0) (jobs : List JobDef) (job : JobDef) → ((j : ℕ) → j < length jobs → P (job_of jobs j))
+    → P job → (j : ℕ) → j < length (jobs ++ job ∷ []) → P (job_of (jobs ++ job ∷ []) j)
 each_more P jobs job old new j l = elim (cases_lt j (length jobs)) [
   | inl below ↦ subst P (sym (old_job jobs job j below)) (old j below)
   | inr past ↦
@@ -141,8 +160,10 @@ segments_more jobs job = sum_by-append (λ (j : JobDef). length j.script) jobs (
 
 -- Any two jobs of one task are a period apart, the new one among them.
 apart_more : (jobs : JobsDef) (job : JobDef) → AreLawfulJobs jobs → IsApart jobs job
-    → (a b : ℕ) → a < b → b < length (jobs.jobs ++ job ∷ []) → (job_of (jobs.jobs ++ job ∷ []) a).task ≡ (job_of (jobs.jobs ++ job ∷ []) b).task
-    → (job_of (jobs.jobs ++ job ∷ []) a).release + (task_at jobs.set (job_of (jobs.jobs ++ job ∷ []) a).task).period ≤ (job_of (jobs.jobs ++ job ∷ []) b).release
+    → (a b : ℕ) → a < b → b < length (jobs.jobs ++ job ∷ [])
+    → (job_of (jobs.jobs ++ job ∷ []) a).task ≡ (job_of (jobs.jobs ++ job ∷ []) b).task
+    → (job_of (jobs.jobs ++ job ∷ []) a).release + (task_at jobs.set (job_of (jobs.jobs ++ job ∷ []) a).task).period
+    ≤ (job_of (jobs.jobs ++ job ∷ []) b).release
 apart_more jobs job lawful apart a b l w = elim (cases_lt b (length jobs.jobs)) [
   | inl below ↦ rw (old_job jobs.jobs job a (omega arith), old_job jobs.jobs job b below) (λ same. lawful.apart a b l below same)
   | inr past ↦
@@ -153,7 +174,8 @@ apart_more jobs job lawful apart a b l w = elim (cases_lt b (length jobs.jobs)) 
 ]
 
 -- The list stays lawful with the job at its end.
-pub lawful_more : (jobs : JobsDef) (job : JobDef) → AreLawfulJobs jobs → job.task < length jobs.set.tasks → are_resources_in (length jobs.set.resources) job.script ≡ true
+pub lawful_more : (jobs : JobsDef) (job : JobDef) → AreLawfulJobs jobs → job.task < length jobs.set.tasks
+    → are_resources_in (length jobs.set.resources) job.script ≡ true
     → first_refusal jobs job ≡ None → AreLawfulJobs (with_job jobs job)
 lawful_more jobs job lawful task resources none =
     let accepted = accepted_from jobs job none in
@@ -168,7 +190,10 @@ unfolding is_too_many
 listed_more jobs job listed none =
     let accepted = accepted_from jobs job none in
     let apart = apart_from jobs job accepted.apart in
-    let room : (leb MOST_JOBS (length jobs.jobs) ≡ false) × (ltb MOST_SEGMENTS (segment_count jobs.jobs + length job.script) ≡ false) = or_none (leb MOST_JOBS (length jobs.jobs)) (ltb MOST_SEGMENTS (segment_count jobs.jobs + length job.script)) accepted.room in
+    let room : (leb MOST_JOBS (length jobs.jobs) ≡ false)
+    × (ltb MOST_SEGMENTS (segment_count jobs.jobs + length job.script) ≡ false) =
+    or_none (leb MOST_JOBS (length jobs.jobs)) (ltb MOST_SEGMENTS (segment_count jobs.jobs + length job.script))
+    accepted.room in
     let fewer : length jobs.jobs < MOST_JOBS = leb-false _ _ room.0 in
     let shorter : segment_count jobs.jobs + length job.script ≤ MOST_SEGMENTS = ltb-false _ _ room.1 in
     record {

@@ -26,9 +26,12 @@ pub record AllPass (p : Rule → Bool) : Type 0 where
 
 all_pass : (p : Rule → Bool) → each_rule p ≡ true → AllPass p
 all_pass p h =
-    let one : (p rule.Run ≡ true) × ((p rule.Keep && (p rule.Grant && (p rule.Idle && p rule.Priority))) ≡ true) = and_parts (p rule.Run) (p rule.Keep && (p rule.Grant && (p rule.Idle && p rule.Priority))) h in
-    let two : (p rule.Keep ≡ true) × ((p rule.Grant && (p rule.Idle && p rule.Priority)) ≡ true) = and_parts (p rule.Keep) (p rule.Grant && (p rule.Idle && p rule.Priority)) one.1 in
-    let three : (p rule.Grant ≡ true) × ((p rule.Idle && p rule.Priority) ≡ true) = and_parts (p rule.Grant) (p rule.Idle && p rule.Priority) two.1 in
+    let one : (p rule.Run ≡ true) × ((p rule.Keep && (p rule.Grant && (p rule.Idle && p rule.Priority))) ≡ true) =
+    and_parts (p rule.Run) (p rule.Keep && (p rule.Grant && (p rule.Idle && p rule.Priority))) h in
+    let two : (p rule.Keep ≡ true) × ((p rule.Grant && (p rule.Idle && p rule.Priority)) ≡ true) =
+    and_parts (p rule.Keep) (p rule.Grant && (p rule.Idle && p rule.Priority)) one.1 in
+    let three : (p rule.Grant ≡ true) × ((p rule.Idle && p rule.Priority) ≡ true) =
+    and_parts (p rule.Grant) (p rule.Idle && p rule.Priority) two.1 in
     let four : (p rule.Idle ≡ true) × (p rule.Priority ≡ true) = and_parts (p rule.Idle) (p rule.Priority) three.1 in
     record { run = one.0; keep = two.0; grant = three.0; idle = four.0; priority = four.1 }
 
@@ -51,13 +54,15 @@ keeps_from keeps w p sound n h t l r = sound t r (each_rule-passes (p t) (all_be
 pub breaks_from : (keeps : Rule → Trace → ℕ → Type 0) (w : Trace) (p : ℕ → Rule → Bool) → ((t : ℕ) (r : Rule) → p t r ≡ true → keeps r w t)
     → (t : ℕ) (r : Rule) → each_earlier r (p t) ≡ true → (keeps r w t → ⊥) → Breaks keeps w t r
 breaks_from keeps w p sound t r h broken = record {
-  earlier = λ s l. sound t s (or_other (leb (rule_number r) (rule_number s)) (p t s) (each_rule-passes (λ x. leb (rule_number r) (rule_number x) || p t x) h s) (lt-leb _ _ l));
+  earlier = λ s l. sound t s (or_other (leb (rule_number r) (rule_number s)) (p t s)
+      (each_rule-passes (λ x. leb (rule_number r) (rule_number x) || p t x) h s) (lt-leb _ _ l));
   broken = broken;
 }
 
 -- Where the rows before tick t pass, and t is the first to break a rule.
 pub first_from : (keeps : Rule → Trace → ℕ → Type 0) (w : Trace) (p : ℕ → Rule → Bool) → ((t : ℕ) (r : Rule) → p t r ≡ true → keeps r w t)
-    → (n t : ℕ) (r : Rule) → t < n → all_below t (λ u. each_rule (p u)) ≡ true → each_earlier r (p t) ≡ true → (keeps r w t → ⊥) → IsFirstUnlawful keeps w n t r
+    → (n t : ℕ) (r : Rule) → t < n → all_below t (λ u. each_rule (p u)) ≡ true → each_earlier r (p t) ≡ true
+    → (keeps r w t → ⊥) → IsFirstUnlawful keeps w n t r
 first_from keeps w p sound n t r l h e broken = record {
   within = l;
   before = keeps_from keeps w p sound t h;

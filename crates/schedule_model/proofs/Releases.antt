@@ -1,5 +1,6 @@
 -- The last release of a task: which job has it, and what it says of the jobs before.
-use Rattle.std.proofs.Common.{◌≡◌, ℕ, zero, suc, ◌<◌, ◌==◌, true, cond, List, [], ◌∷◌, map, length, drop, get_or, refl, ◌∙◌, arith, inl, inr, Option, Some, None}
+use Rattle.std.proofs.Common.{◌≡◌, ℕ, zero, suc, ◌<◌, ◌==◌, true, cond, List, [], ◌∷◌, map, length, drop, get_or, refl}
+use Rattle.std.proofs.Common.{◌∙◌, arith, inl, inr, Option, Some, None}
 use Rattle.std.specs.Option.{option_or}
 use Rattle.std.proofs.lemmas.Bool.{cases_Bool, eqb-true, eq-eqb}
 use Rattle.schedule_model.specs.JobDef.{JobDef, job_of}
@@ -7,7 +8,8 @@ use Rattle.schedule_model.specs.JobLists.{last_release}
 use Rattle.schedule_model.specs.Seen.{job_seen}
 use Rattle.schedule_model.specs.declared.job.Job.{Job}
 
-last_release-here : (job : JobDef) (jobs : List JobDef) (x : ℕ) → last_release jobs x ≡ None → (job.task == x) ≡ true → last_release (job ∷ jobs) x ≡ Some job.release
+last_release-here : (job : JobDef) (jobs : List JobDef) (x : ℕ) → last_release jobs x ≡ None → (job.task == x) ≡ true
+    → last_release (job ∷ jobs) x ≡ Some job.release
 last_release-here job jobs x none same = rw (none, same) refl
 
 -- The job at a place is the last one of its task, and was released at r.
@@ -28,18 +30,23 @@ not_here job x h e = let same : (job.task == x) ≡ true = eq-eqb _ _ e in let g
 -- Where a task has no last release, no job is of it.
 pub last_release-none : (jobs : List JobDef) (x c : ℕ) → last_release jobs x ≡ None → c < length jobs → (job_of jobs c).task ≡ x → ⊥
 last_release-none [] x c h l e = omega arith
-last_release-none (job ∷ jobs) x zero h l e = not_here job x (option_or-none (last_release jobs x) (cond (job.task == x) (Some job.release) None) h).1 e
-last_release-none (job ∷ jobs) x (suc c) h l e = last_release-none jobs x c (option_or-none (last_release jobs x) (cond (job.task == x) (Some job.release) None) h).0 (omega arith) e
+last_release-none (job ∷ jobs) x zero h l e =
+    not_here job x (option_or-none (last_release jobs x) (cond (job.task == x) (Some job.release) None) h).1 e
+last_release-none (job ∷ jobs) x (suc c) h l e = last_release-none jobs x c
+    (option_or-none (last_release jobs x) (cond (job.task == x) (Some job.release) None) h).0 (omega arith) e
 
-here_after : (job : JobDef) (jobs : List JobDef) (x c : ℕ) → last_release jobs x ≡ None → zero < c → c < length (job ∷ jobs) → (job_of (job ∷ jobs) c).task ≡ x → ⊥
+here_after : (job : JobDef) (jobs : List JobDef) (x c : ℕ) → last_release jobs x ≡ None → zero < c
+    → c < length (job ∷ jobs) → (job_of (job ∷ jobs) c).task ≡ x → ⊥
 here_after job jobs x zero none l h e = omega arith
 here_after job jobs x (suc c) none l h e = last_release-none jobs x c none (omega arith) e
 
-later_after : (job : JobDef) (jobs : List JobDef) (x r c : ℕ) → (last : IsLastAt jobs x r) → suc last.place < c → c < length (job ∷ jobs) → (job_of (job ∷ jobs) c).task ≡ x → ⊥
+later_after : (job : JobDef) (jobs : List JobDef) (x r c : ℕ) → (last : IsLastAt jobs x r) → suc last.place < c
+    → c < length (job ∷ jobs) → (job_of (job ∷ jobs) c).task ≡ x → ⊥
 later_after job jobs x r zero last l h e = omega arith
 later_after job jobs x r (suc c) last l h e = last.after c (omega arith) (omega arith) e
 
-found_here : (job : JobDef) (jobs : List JobDef) (x r : ℕ) → last_release jobs x ≡ None → cond (job.task == x) (Some job.release) None ≡ Some r → IsLastAt (job ∷ jobs) x r
+found_here : (job : JobDef) (jobs : List JobDef) (x r : ℕ) → last_release jobs x ≡ None
+    → cond (job.task == x) (Some job.release) None ≡ Some r → IsLastAt (job ∷ jobs) x r
 found_here job jobs x r none h = elim (cases_Bool (job.task == x)) [
   | inl same ↦
       let e : job.task ≡ x = eqb-true _ _ same in
@@ -57,7 +64,8 @@ found_later job jobs x r last = record {
   after = λ c l b e. later_after job jobs x r c last l b e;
 }
 
-last_of_tail : (job : JobDef) (jobs : List JobDef) (x r : ℕ) → ((s : ℕ) → last_release jobs x ≡ Some s → IsLastAt jobs x s) → (o : Option ℕ) → last_release jobs x ≡ o
+last_of_tail : (job : JobDef) (jobs : List JobDef) (x r : ℕ)
+    → ((s : ℕ) → last_release jobs x ≡ Some s → IsLastAt jobs x s) → (o : Option ℕ) → last_release jobs x ≡ o
     → option_or o (cond (job.task == x) (Some job.release) None) ≡ Some r → IsLastAt (job ∷ jobs) x r
 last_of_tail job jobs x r tail None e g = found_here job jobs x r e g
 last_of_tail job jobs x r tail (Some s) e g = found_later job jobs x r (tail r (e ∙ g))
@@ -68,7 +76,8 @@ last_release-at [] x r h = absurd (cc)
 last_release-at (job ∷ jobs) x r h = last_of_tail job jobs x r (λ s e. last_release-at jobs x s e) (last_release jobs x) refl h
 
 -- A job of the task behind which no job is of it has the task's last release.
-pub last_release-found : (jobs : List Job) (n x : ℕ) (d : Job) → n < length jobs → last_release (map job_seen (drop (suc n) jobs)) x ≡ None → ((get_or jobs n d).task.0 == x) ≡ true
+pub last_release-found : (jobs : List Job) (n x : ℕ) (d : Job) → n < length jobs
+    → last_release (map job_seen (drop (suc n) jobs)) x ≡ None → ((get_or jobs n d).task.0 == x) ≡ true
     → last_release (map job_seen jobs) x ≡ Some (get_or jobs n d).release
 last_release-found [] n x d l none same = absurd (omega arith)
 last_release-found (job ∷ jobs) zero x d l none same = last_release-here (job_seen job) (map job_seen jobs) x none same

@@ -6,7 +6,15 @@ use Rattle.schedule_model.specs.RowDef.{RunDef, Trace, trace_in}
 
 -- A task of this name (one byte), processor, period and cost, with one request entry for each resource and length.
 abbrev pub task : ℕ → ℕ → ℕ → ℕ → List RequestDef → TaskDef
-task name processor period cost requests = record { name = name ∷ []; processor = processor; period = period; deadline = period; cost = cost; local = cost; requests = requests }
+task name processor period cost requests = record {
+  name = name ∷ [];
+  processor = processor;
+  period = period;
+  deadline = period;
+  cost = cost;
+  local = cost;
+  requests = requests;
+}
 
 -- One request of the resource of this name, for so many ticks.
 abbrev pub once : ℕ → ℕ → RequestDef
@@ -37,7 +45,10 @@ set_a = record {
 }
 
 abbrev pub jobs_a : JobsDef
-jobs_a = record { set = set_a; jobs = job 0 0 (then_request 1 0 1 ∷ local_only 1 ∷ []) ∷ job 1 0 (then_request 1 0 2 ∷ local_only 1 ∷ []) ∷ [] }
+jobs_a = record {
+  set = set_a;
+  jobs = job 0 0 (then_request 1 0 1 ∷ local_only 1 ∷ []) ∷ job 1 0 (then_request 1 0 2 ∷ local_only 1 ∷ []) ∷ [];
+}
 
 abbrev pub rows_a : List RunDef
 rows_a =
@@ -121,7 +132,10 @@ set_boost = record {
 
 -- At tick 2 both task 2's job (number 1) and task 3's (number 2) are ready holders on processor 1.
 abbrev pub jobs_boost : JobsDef
-jobs_boost = record { set = set_boost; jobs = job 1 0 (then_request 1 1 1 ∷ []) ∷ job 2 1 (then_request 1 0 1 ∷ []) ∷ job 3 0 (then_request 1 1 1 ∷ []) ∷ [] }
+jobs_boost = record {
+  set = set_boost;
+  jobs = job 1 0 (then_request 1 1 1 ∷ []) ∷ job 2 1 (then_request 1 0 1 ∷ []) ∷ job 3 0 (then_request 1 1 1 ∷ []) ∷ [];
+}
 
 abbrev pub trace_boost : ℕ → Trace
 trace_boost j = trace_in jobs_boost (
@@ -132,10 +146,17 @@ trace_boost j = trace_in jobs_boost (
 
 -- One processor, which is also the home of the resource that the higher task requests.
 abbrev pub set_one : SetDef
-set_one = record { processors = 1; resources = resource 113 (Some 1) ∷ []; tasks = task 49 1 10 2 (once 113 1 ∷ []) ∷ task 50 1 10 1 [] ∷ [] }
+set_one = record {
+  processors = 1;
+  resources = resource 113 (Some 1) ∷ [];
+  tasks = task 49 1 10 2 (once 113 1 ∷ []) ∷ task 50 1 10 1 [] ∷ [];
+}
 
 abbrev pub jobs_one : JobsDef
-jobs_one = record { set = set_one; jobs = job 0 0 (then_request 1 0 1 ∷ []) ∷ job 1 0 (local_only 1 ∷ []) ∷ job 1 10 (local_only 1 ∷ []) ∷ [] }
+jobs_one = record {
+  set = set_one;
+  jobs = job 0 0 (then_request 1 0 1 ∷ []) ∷ job 1 0 (local_only 1 ∷ []) ∷ job 1 10 (local_only 1 ∷ []) ∷ [];
+}
 
 abbrev pub trace_one : Trace
 trace_one = trace_in jobs_one (run 1 (Some 0 ∷ []) (None ∷ []) ∷ run 1 (Some 0 ∷ []) (Some 0 ∷ []) ∷ run 1 (Some 1 ∷ []) (None ∷ []) ∷ [])
@@ -153,7 +174,10 @@ set_home = record {
 }
 
 abbrev pub jobs_home : JobsDef
-jobs_home = record { set = set_home; jobs = job 0 1 (then_request 1 1 1 ∷ local_only 1 ∷ []) ∷ job 1 0 (then_request 1 0 2 ∷ local_only 1 ∷ []) ∷ [] }
+jobs_home = record {
+  set = set_home;
+  jobs = job 0 1 (then_request 1 1 1 ∷ local_only 1 ∷ []) ∷ job 1 0 (then_request 1 0 2 ∷ local_only 1 ∷ []) ∷ [];
+}
 
 abbrev pub rows_home : List RunDef
 rows_home =

@@ -21,7 +21,9 @@ runs_higher w t j = option_map_or (λ r. is_higher_local w.set (task_of w j) (ta
 
 -- Does j's processor run a Local job of a higher task of that processor?
 unfoldable pub runs_higher_local : Trace → ℕ → ℕ → Bool
-runs_higher_local w t j = option_map_or (λ r. is_higher_local w.set (task_of w j) (task_of w r) && is_local (phase_of w t r)) (running_on (w.row t) (processor_of w j)) false
+runs_higher_local w t j =
+    option_map_or (λ r. is_higher_local w.set (task_of w j) (task_of w r) && is_local (phase_of w t r))
+    (running_on (w.row t) (processor_of w j)) false
 
 -- Is tick t interference for job j? Under shared memory any higher job of its processor interferes; under
 -- DPCP only a Local one, for a request there serves its resource.

@@ -22,7 +22,8 @@ pub record IsSharedChoice (o : Ranks) (w : Trace) (t : ℕ) : Type 0 where
   pub grants : (q j : ℕ) → holder_in (w.row t) q ≡ Some j → held_before w t q ≢ Some j
       → (i : ℕ) → i < length w.jobs → is_requester w t q i ≡ true → o.grant w t i ≡ o.grant w t j → task_of w j ≤ task_of w i
   pub runs : (k r : ℕ) → running_on (w.row t) k ≡ Some r → is_ready_holder w t r ≡ true
-      → (i : ℕ) → i < length w.jobs → processor_of w i ≡ k → is_ready_holder w t i ≡ true → o.run w t i ≡ o.run w t r → task_of w r ≤ task_of w i
+      → (i : ℕ) → i < length w.jobs → processor_of w i ≡ k → is_ready_holder w t i ≡ true → o.run w t i ≡ o.run w t r
+      → task_of w r ≤ task_of w i
 
 -- The rules of DPCP leave one row.
 pub record IsDpcpChoice (w : Trace) (t : ℕ) : Type 0 where

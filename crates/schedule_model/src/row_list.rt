@@ -2,7 +2,8 @@ ghost use Rattle.std.specs.Prelude.{◌≡◌, ℕ, ◌<◌, ◌≤◌, IsTrue, 
 ghost use Rattle.std.specs.List.{list_all};
 ghost use Rattle.schedule_model.specs.JobDef.{JobsDef};
 ghost use Rattle.schedule_model.specs.RowDef.{ticks_of};
-ghost use Rattle.schedule_model.specs.Fitting.{RunJudged, IsRowList, IsMadeFor, rows_for, is_sized, names_below, names_jobs, is_below, is_fitting, first_refusal, fits_row};
+ghost use Rattle.schedule_model.specs.Fitting.{RunJudged, IsRowList, IsMadeFor, rows_for, is_sized, names_below};
+ghost use Rattle.schedule_model.specs.Fitting.{names_jobs, is_below, is_fitting, first_refusal, fits_row};
 ghost use Rattle.schedule_model.specs.Seen.{row_seen, run_seen, place_seen};
 
 use crate::job::JobId;

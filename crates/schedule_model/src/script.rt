@@ -116,7 +116,8 @@ fn number_of_requests(script: &[Segment], q: ResourceId) -> usize
 /// Does the script request each resource at most as often as a job of the task may?
 fn keeps_counts(set: &TaskSet, x: TaskId, script: &[Segment]) -> bool
     requires { x.0 < length set.now.tasks }
-    ensures { result ≡ all_below (length set.now.resources) (λ q. nat_le (number_of_requests (map segment_seen script.now) q) (count_of set.now x.0 q)) }
+    ensures { result ≡ all_below (length set.now.resources)
+        (λ q. nat_le (number_of_requests (map segment_seen script.now) q) (count_of set.now x.0 q)) }
 {
     for q in 0..set.resources() {
         let count = number_of_requests(script, ResourceId(q)) as u64;

@@ -1,5 +1,6 @@
 -- A list of nonzero cells while each value is divided.
-use Rattle.std.proofs.Common.{◌≡◌, ◌≢◌, inl, inr, ℕ, ◌+◌, ◌<◌, ◌≤◌, List, length, set, ℤ, pos, ◌*ℤ◌, ◌<ℤ◌, refl, sym, ap, ◌∙◌, arith, get_or-set_same, get_or-set_other, length-set}
+use Rattle.std.proofs.Common.{◌≡◌, ◌≢◌, inl, inr, ℕ, ◌+◌, ◌<◌, ◌≤◌, List, length, set, ℤ, pos, ◌*ℤ◌, ◌<ℤ◌, refl, sym}
+use Rattle.std.proofs.Common.{ap, ◌∙◌, arith, get_or-set_same, get_or-set_other, length-set}
 use Rattle.std.proofs.lemmas.Int.{ints}
 use Rattle.std.proofs.lemmas.Bool.{cases_eq}
 use Rattle.number_laws.proofs.Order.{times_apart}
@@ -19,7 +20,8 @@ pub record AreDividedTo (i : ℕ) (before now : List Entry) (by : Fraction) : Ty
   pub quotients : (k : ℕ) → k < i → IsQuotient (entry_at before k).value by (entry_at now k).value
   pub rest : (k : ℕ) → i ≤ k → entry_at now k ≡ entry_at before k
 
-pub divided_more : (i : ℕ) (before now : List Entry) (by f : Fraction) (v : ℕ) → i < length now → AreDividedTo i before now by → v ≡ (entry_at now i).variable
+pub divided_more : (i : ℕ) (before now : List Entry) (by f : Fraction) (v : ℕ) → i < length now
+    → AreDividedTo i before now by → v ≡ (entry_at now i).variable
     → IsForm f → IsQuotient (entry_at now i).value by f → AreDividedTo (i + 1) before (set now i (record { variable = v; value = f })) by
 divided_more i before now by f v l h own form is =
     let e : Entry = record { variable = v; value = f } in
@@ -53,16 +55,19 @@ quotient_apart a b c hb hc some is none =
     nothing : (z : ℤ) → pos 0 *ℤ z ≡ pos 0
     nothing z = omega (arith, ints)
 
-pub divided_sparse : (i : ℕ) (before now : List Entry) (by : Fraction) → length before ≤ i → AreSparse before → IsForm by → AreDividedTo i before now by → AreSparse now
+pub divided_sparse : (i : ℕ) (before now : List Entry) (by : Fraction) → length before ≤ i → AreSparse before
+    → IsForm by → AreDividedTo i before now by → AreSparse now
 divided_sparse i before now by end h form is = record {
   rise = λ m j l lj. rw (is.variables m, is.variables j) (h.rise m j l (omega (arith, is.as_many)));
   forms = λ k l. is.forms k (omega (arith, is.as_many));
   nonzero = λ k l.
       let within : k < length before = omega (arith, is.as_many) in
-      quotient_apart (entry_at before k).value by (entry_at now k).value form (is.forms k (omega arith)) (h.nonzero k within) (is.quotients k (omega arith));
+      quotient_apart (entry_at before k).value by (entry_at now k).value form (is.forms k (omega arith))
+      (h.nonzero k within) (is.quotients k (omega arith));
 }
 
-pub divided_whole : (i : ℕ) (before now : List Entry) (by : Fraction) → length before ≤ i → AreSparse before → IsForm by → AreDividedTo i before now by → AreDivided before by now
+pub divided_whole : (i : ℕ) (before now : List Entry) (by : Fraction) → length before ≤ i → AreSparse before → IsForm by
+    → AreDividedTo i before now by → AreDivided before by now
 divided_whole i before now by end h form is =
     let sparse : AreSparse now = divided_sparse i before now by end h form is in
     record {
@@ -72,7 +77,10 @@ divided_whole i before now by end h form is =
       quotient = λ v. elim (found_or_none before v) [
         | inl there ↦
             let within : there.0 < length now = omega (arith, is.as_many, there.1) in
-            rw (listed_entry before there.0 v h.rise there.1 there.2, listed_entry now there.0 v sparse.rise within (is.variables there.0 ∙ there.2))
+            rw (
+              listed_entry before there.0 v h.rise there.1 there.2,
+              listed_entry now there.0 v sparse.rise within (is.variables there.0 ∙ there.2),
+            )
             (is.quotients there.0 (omega (arith, there.1)))
         | inr none ↦
             rw (listed_none before v none, listed_none now v (λ k l q. none k (omega (arith, is.as_many)) (sym (is.variables k) ∙ q)))
@@ -81,8 +89,10 @@ divided_whole i before now by end h form is =
     }
 
 -- a quotient that has no form is one of the list
-pub wide_divided : (i : ℕ) (before now : List Entry) (by : Fraction) (e : Entry) → AreSparse before → i < length before → AreDividedTo i before now by → entry_at now i ≡ e
-    → HasNoForm (IsQuotient e.value by) → (v : ℕ) × ((end : ℕ) → AreBelow end before → v < end) × HasNoForm (IsQuotient (listed_at before v) by)
+pub wide_divided : (i : ℕ) (before now : List Entry) (by : Fraction) (e : Entry) → AreSparse before → i < length before
+    → AreDividedTo i before now by → entry_at now i ≡ e
+    → HasNoForm (IsQuotient e.value by)
+    → (v : ℕ) × ((end : ℕ) → AreBelow end before → v < end) × HasNoForm (IsQuotient (listed_at before v) by)
 wide_divided i before now by e h l is own wide = (
   (entry_at before i).variable,
   λ end low. low i l,

@@ -1,5 +1,6 @@
 -- What is read off the last table, and the first table's parts.
-use Rattle.std.proofs.Common.{◌≡◌, ◌≢◌, inl, inr, ℕ, ◌<◌, ◌≤◌, ◌+◌, ◌^◌, List, [], ◌∷◌, ◌++◌, length, Err, pos, refl, sym, ◌∙◌, ap, arith, set, slice_index, slice_index_or, get_or-set_same, get_or-set_other}
+use Rattle.std.proofs.Common.{◌≡◌, ◌≢◌, inl, inr, ℕ, ◌<◌, ◌≤◌, ◌+◌, ◌^◌, List, [], ◌∷◌, ◌++◌, length, Err, pos, refl}
+use Rattle.std.proofs.Common.{sym, ◌∙◌, ap, arith, set, slice_index, slice_index_or, get_or-set_same, get_or-set_other}
 use Rattle.std.proofs.lemmas.Bool.{cases_eq, cases_lt}
 use Rattle.std.proofs.lemmas.Int.{ints}
 use Rattle.std.proofs.lemmas.List.{get_or_at, get_or_append_left}
@@ -35,7 +36,8 @@ whole_apart n f is some none = some (zero_of n (sym (ap (λ (g : Fraction). g.nu
     zero_of m q = omega (arith, ints)
 
 -- one variable more, whose number is zero
-pub numbers_zero : (p : ProgramDef) (i k n : ℕ) (entries : List Entry) → AreFirstEntries p i k entries → n ≡ first_number p i k → n ≡ 0 → AreFirstEntries p i (k + 1) entries
+pub numbers_zero : (p : ProgramDef) (i k n : ℕ) (entries : List Entry) → AreFirstEntries p i k entries
+    → n ≡ first_number p i k → n ≡ 0 → AreFirstEntries p i (k + 1) entries
 numbers_zero p i k n entries h is none = record {
   sparse = h.sparse;
   below = below_up k entries h.below;
@@ -46,7 +48,8 @@ numbers_zero p i k n entries h is none = record {
 }
 
 -- one variable more, whose number isn't
-pub numbers_more : (p : ProgramDef) (i k n : ℕ) (entries : List Entry) (f : Fraction) → AreFirstEntries p i k entries → n ≡ first_number p i k → f ≡ whole (pos n)
+pub numbers_more : (p : ProgramDef) (i k n : ℕ) (entries : List Entry) (f : Fraction) → AreFirstEntries p i k entries
+    → n ≡ first_number p i k → f ≡ whole (pos n)
     → n ≢ 0 → n < 2 ^ 63 → AreFirstEntries p i (k + 1) (entries ++ record { variable = k; value = f } ∷ [])
 numbers_more p i k n entries f h is own some small =
     let e : Entry = record { variable = k; value = f } in
@@ -68,7 +71,8 @@ no_number : (p : ProgramDef) (i v : ℕ) → columns p ≤ v → v < variables p
 no_number p i v h l away = first_of-other (columns p) (first_entries p i) (slack p i) (variables p) (first_limit p i) v h l away
 
 -- the objective row has no slack
-pub entries_of_costs : (p : ProgramDef) (i : ℕ) (entries : List Entry) → height p ≤ i → AreFirstEntries p i (columns p) entries → AreFirstEntries p i (variables p) entries
+pub entries_of_costs : (p : ProgramDef) (i : ℕ) (entries : List Entry) → height p ≤ i
+    → AreFirstEntries p i (columns p) entries → AreFirstEntries p i (variables p) entries
 entries_of_costs p i entries l h = record {
   sparse = h.sparse;
   below = λ k lk. let b : (entry_at entries k).variable < columns p = h.below k lk in omega arith;
@@ -79,14 +83,17 @@ entries_of_costs p i entries l h = record {
 }
 
 -- and each other row has its own
-pub entries_of_row_done : (p : ProgramDef) (i : ℕ) (entries : List Entry) (f : Fraction) → i < height p → f ≡ whole (pos 1) → AreFirstEntries p i (columns p) entries
+pub entries_of_row_done : (p : ProgramDef) (i : ℕ) (entries : List Entry) (f : Fraction) → i < height p
+    → f ≡ whole (pos 1) → AreFirstEntries p i (columns p) entries
     → AreFirstEntries p i (variables p) (entries ++ record { variable = columns p + i; value = f } ∷ [])
 entries_of_row_done p i entries f l own h =
     let e : Entry = record { variable = columns p + i; value = f } in
-    let low : AreBelow (columns p + i) entries = λ k lk. (let b : (entry_at entries k).variable < columns p = h.below k lk in omega arith) in
+    let low : AreBelow (columns p + i) entries =
+    λ k lk. (let b : (entry_at entries k).variable < columns p = h.below k lk in omega arith) in
     record {
       sparse = sparse_push entries e h.sparse low (rw own (form_of_whole 1 (omega arith))) (whole_apart 1 f own (λ q. omega arith));
-      below = below_push entries e (variables p) (λ k lk. let b : (entry_at entries k).variable < columns p = h.below k lk in omega arith) (omega arith);
+      below = below_push entries e (variables p)
+          (λ k lk. let b : (entry_at entries k).variable < columns p = h.below k lk in omega arith) (omega arith);
       numbers = λ v lv. elim (cases_eq v (columns p + i)) [
         | inl here ↦
             rw (
@@ -104,7 +111,8 @@ entries_of_row_done p i entries f l own h =
     }
 
 -- a row of the first table, place by place
-pub first_row_is : (p : ProgramDef) (i : ℕ) (entries : List Entry) (bound : Fraction) → AreFirstEntries p i (variables p) entries → bound ≡ whole (pos (first_limit p i))
+pub first_row_is : (p : ProgramDef) (i : ℕ) (entries : List Entry) (bound : Fraction)
+    → AreFirstEntries p i (variables p) entries → bound ≡ whole (pos (first_limit p i))
     → IsFirstRow p i (record { entries = entries; place = variables p; limit = bound })
 first_row_is p i entries bound h is =
     let row : RowDef = record { entries = entries; place = variables p; limit = bound } in
@@ -112,7 +120,11 @@ first_row_is p i entries bound h is =
       fits = refl;
       numbers = λ v. elim (cases_eq (variables p) v) [
         | inl here ↦
-            rw (cell_limit row v here, ← here, first_of-limit (columns p) (first_entries p i) (slack p i) (variables p) (first_limit p i) (omega arith)) is
+            rw (
+              cell_limit row v here,
+              ← here,
+              first_of-limit (columns p) (first_entries p i) (slack p i) (variables p) (first_limit p i) (omega arith),
+            ) is
         | inr away ↦ elim (cases_lt v (variables p)) [
           | inl inside ↦ rw (cell_listed row v away) (h.numbers v inside)
           | inr past ↦
@@ -126,7 +138,8 @@ first_row_is p i entries bound h is =
       ];
     }
 
-pub rows_more : (p : ProgramDef) (rows : List RowDef) (row : RowDef) (n : ℕ) → length rows ≡ n → ((i : ℕ) → i < n → IsFirstRow p i (row_of rows i))
+pub rows_more : (p : ProgramDef) (rows : List RowDef) (row : RowDef) (n : ℕ) → length rows ≡ n
+    → ((i : ℕ) → i < n → IsFirstRow p i (row_of rows i))
     → IsFirstRow p n row → (i : ℕ) → i < n + 1 → IsFirstRow p i (row_of (rows ++ row ∷ []) i)
 rows_more p rows row n len h here i l = elim (cases_eq i n) [
   | inl at ↦ rw (at, get_or_at rows row [] no_row n len) here
@@ -134,7 +147,8 @@ rows_more p rows row n len h here i l = elim (cases_eq i n) [
 ]
 
 -- a limit written at its column
-pub value_written : (place : ℕ) (t : Table) (k column v : ℕ) (values : List Fraction) (f : Fraction) → column < length values → t.basic k ≡ column → f ≡ t.cell k place
+pub value_written : (place : ℕ) (t : Table) (k column v : ℕ) (values : List Fraction) (f : Fraction)
+    → column < length values → t.basic k ≡ column → f ≡ t.cell k place
     → v < length values → ((c : ℕ) → c < length values → IsValueOf place t k c (fraction_at values c))
     → IsValueOf place t (k + 1) v (fraction_at (set values column f) v)
 value_written place t k column v values f within own is l h = elim (cases_eq v column) [
@@ -145,6 +159,7 @@ value_written place t k column v values f within own is l h = elim (cases_eq v c
 ]
 
 -- the objective row that was read is the table's
-pub objective_read : (rows : List RowDef) (basis : List ℕ) (h i : ℕ) (row : RowDef) → i ≡ h → i < length rows → row ≡ slice_index_or rows i row
+pub objective_read : (rows : List RowDef) (basis : List ℕ) (h i : ℕ) (row : RowDef) → i ≡ h → i < length rows
+    → row ≡ slice_index_or rows i row
     → (v : ℕ) → (table_of rows basis).cell h v ≡ cell_at row v
 objective_read rows basis h i row at l is v = rw (← at) (ap (λ (r : RowDef). cell_at r v) (row_read rows i row l is))

@@ -1,5 +1,6 @@
 -- What a list of nonzero cells has at each variable.
-use Rattle.std.proofs.Common.{◌≡◌, ◌≢◌, inl, inr, ℕ, zero, suc, ◌+◌, ◌<◌, ◌≤◌, ◌⊎◌, List, [], ◌∷◌, ◌++◌, length, slice_index_or, pos, ◌≤ℤ◌, refl, sym, ◌∙◌, arith}
+use Rattle.std.proofs.Common.{◌≡◌, ◌≢◌, inl, inr, ℕ, zero, suc, ◌+◌, ◌<◌, ◌≤◌, ◌⊎◌, List, [], ◌∷◌, ◌++◌, length}
+use Rattle.std.proofs.Common.{slice_index_or, pos, ◌≤ℤ◌, refl, sym, ◌∙◌, arith}
 use Rattle.std.proofs.lemmas.Bool.{cases_eq, cases_lt, eq-eqb, ne_eqb}
 use Rattle.std.proofs.lemmas.List.{get_or_at, get_or_read, get_or_default, get_or_append_left, length_push}
 use Rattle.std.proofs.lemmas.Int.{ints}
@@ -17,7 +18,8 @@ listed-here e es v is = rw (eq-eqb e.variable v is) refl
 listed-on : (e : Entry) (es : List Entry) (v : ℕ) → e.variable ≢ v → listed_at (e ∷ es) v ≡ listed_at es v
 listed-on e es v away = rw (ne_eqb e.variable v away) refl
 
-rises-on : (e : Entry) (es : List Entry) → ((i j : ℕ) → i < j → j < length (e ∷ es) → (entry_at (e ∷ es) i).variable < (entry_at (e ∷ es) j).variable)
+rises-on : (e : Entry) (es : List Entry)
+    → ((i j : ℕ) → i < j → j < length (e ∷ es) → (entry_at (e ∷ es) i).variable < (entry_at (e ∷ es) j).variable)
     → (i j : ℕ) → i < j → j < length es → (entry_at es i).variable < (entry_at es j).variable
 rises-on e es h i j l k = h (suc i) (suc j) (omega arith) (omega arith)
 
@@ -62,7 +64,8 @@ form_listed es v h = elim (found_or_none es v) [
   | inr none ↦ rw (listed_none es v none) form_of_zero
 ]
 
-pub split_none : (es : List Entry) (count v : ℕ) → AreSparse es → IsSplit es count v → (count < length es → (entry_at es count).variable ≢ v)
+pub split_none : (es : List Entry) (count v : ℕ) → AreSparse es → IsSplit es count v
+    → (count < length es → (entry_at es count).variable ≢ v)
     → listed_at es v ≡ whole (pos 0)
 split_none es count v h split away = listed_none es v (λ k l q. elim (cases_lt k count) [
   | inl earlier ↦ let b : (entry_at es k).variable < v = split.before k earlier in omega arith
@@ -76,7 +79,8 @@ split_none es count v h split away = listed_none es v (λ k l q. elim (cases_lt 
 ])
 
 -- the split at a variable further on, with none between
-pub split_up : (es : List Entry) (count w v : ℕ) → AreSparse es → IsSplit es count w → w ≤ v → (count < length es → v ≤ (entry_at es count).variable)
+pub split_up : (es : List Entry) (count w v : ℕ) → AreSparse es → IsSplit es count w → w ≤ v
+    → (count < length es → v ≤ (entry_at es count).variable)
     → IsSplit es count v
 split_up es count w v h split l next = record {
   within = split.within;
@@ -91,10 +95,12 @@ split_up es count w v h split l next = record {
 }
 
 -- before the first entry behind a split nothing is listed
-pub split_gap : (es : List Entry) (count w v u : ℕ) → AreSparse es → IsSplit es count w → w ≤ u → u < v → (count < length es → v ≤ (entry_at es count).variable)
+pub split_gap : (es : List Entry) (count w v u : ℕ) → AreSparse es → IsSplit es count w → w ≤ u → u < v
+    → (count < length es → v ≤ (entry_at es count).variable)
     → listed_at es u ≡ whole (pos 0)
 split_gap es count w v u h split lw lu next =
-    let up : IsSplit es count u = split_up es count w u h split lw (λ l. let n : v ≤ (entry_at es count).variable = next l in omega arith) in
+    let up : IsSplit es count u =
+    split_up es count w u h split lw (λ l. let n : v ≤ (entry_at es count).variable = next l in omega arith) in
     split_none es count u h up (λ l q. let n : v ≤ (entry_at es count).variable = next l in omega arith)
 
 -- one entry more
@@ -128,10 +134,12 @@ below_push es e end below l k lk = elim (cases_lt k (length es)) [
 pub below_up : (end : ℕ) (es : List Entry) → AreBelow end es → AreBelow (end + 1) es
 below_up end es below k l = let b : (entry_at es k).variable < end = below k l in omega arith
 
-pub sparse_push : (es : List Entry) (e : Entry) → AreSparse es → AreBelow e.variable es → IsForm e.value → e.value.num ≢ pos 0 → AreSparse (es ++ e ∷ [])
+pub sparse_push : (es : List Entry) (e : Entry) → AreSparse es → AreBelow e.variable es → IsForm e.value
+    → e.value.num ≢ pos 0 → AreSparse (es ++ e ∷ [])
 sparse_push es e h below form apart = record {
   rise = λ i j l lj. elim (cases_lt j (length es)) [
-    | inl earlier ↦ let first : i < length es = omega arith in rw (push_earlier es e i first, push_earlier es e j earlier) (h.rise i j l earlier)
+    | inl earlier ↦ let first : i < length es = omega arith in
+        rw (push_earlier es e i first, push_earlier es e j earlier) (h.rise i j l earlier)
     | inr last ↦
         let here : j ≡ length es = omega (arith, length_push es e) in
         let first : i < length es = omega arith in
@@ -162,14 +170,16 @@ pub entry_same : (es : List Entry) (k : ℕ) (e : Entry) → k < length es → e
 entry_same es k e l = get_or_default es k nothing e l
 
 -- the variables up to one that is below v are below v
-pub below_through : (es : List Entry) (m v : ℕ) → AreSparse es → m < length es → (entry_at es m).variable < v → (k : ℕ) → k < m + 1 → (entry_at es k).variable < v
+pub below_through : (es : List Entry) (m v : ℕ) → AreSparse es → m < length es → (entry_at es m).variable < v → (k : ℕ)
+    → k < m + 1 → (entry_at es k).variable < v
 below_through es m v h l b k lk = elim (cases_eq k m) [
   | inl here ↦ rw here b
   | inr earlier ↦ let first : (entry_at es k).variable < (entry_at es m).variable = h.rise k m (omega arith) l in omega arith
 ]
 
 -- and those from one on that isn't below v aren't
-pub behind_from : (es : List Entry) (m v : ℕ) → AreSparse es → m < length es → v ≤ (entry_at es m).variable → (k : ℕ) → m ≤ k → k < length es
+pub behind_from : (es : List Entry) (m v : ℕ) → AreSparse es → m < length es → v ≤ (entry_at es m).variable → (k : ℕ)
+    → m ≤ k → k < length es
     → v ≤ (entry_at es k).variable
 behind_from es m v h l b k lk inside = elim (cases_eq k m) [
   | inl here ↦ rw here b
@@ -180,18 +190,21 @@ nothing_above : pos 0 ≤ℤ pos 0
 nothing_above = omega (arith, ints)
 
 -- the first entry above zero is that of the first variable
-pub first_listed : (es : List Entry) (k : ℕ) → AreSparse es → k < length es → ((i : ℕ) → i < k → (entry_at es i).value.num ≤ℤ pos 0) → (v : ℕ) → v < (entry_at es k).variable
+pub first_listed : (es : List Entry) (k : ℕ) → AreSparse es → k < length es
+    → ((i : ℕ) → i < k → (entry_at es i).value.num ≤ℤ pos 0) → (v : ℕ) → v < (entry_at es k).variable
     → (listed_at es v).num ≤ℤ pos 0
 first_listed es k h l none v lv = elim (found_or_none es v) [
   | inl there ↦ elim (cases_lt there.0 k) [
     | inl earlier ↦ rw (listed_entry es there.0 v h.rise there.1 there.2) (none there.0 earlier)
-    | inr later ↦ let behind : (entry_at es k).variable ≤ (entry_at es there.0).variable = behind_from es k (entry_at es k).variable h l (omega arith) there.0 later there.1 in
+    | inr later ↦ let behind : (entry_at es k).variable ≤ (entry_at es there.0).variable =
+        behind_from es k (entry_at es k).variable h l (omega arith) there.0 later there.1 in
         let is : (entry_at es there.0).variable ≡ v = there.2 in absurd (omega arith)
   ]
   | inr away ↦ rw (listed_none es v away) nothing_above
 ]
 
-pub none_listed : (es : List Entry) → AreSparse es → ((i : ℕ) → i < length es → (entry_at es i).value.num ≤ℤ pos 0) → (v : ℕ) → (listed_at es v).num ≤ℤ pos 0
+pub none_listed : (es : List Entry) → AreSparse es → ((i : ℕ) → i < length es → (entry_at es i).value.num ≤ℤ pos 0)
+    → (v : ℕ) → (listed_at es v).num ≤ℤ pos 0
 none_listed es h none v = elim (found_or_none es v) [
   | inl there ↦ rw (listed_entry es there.0 v h.rise there.1 there.2) (none there.0 there.1)
   | inr away ↦ rw (listed_none es v away) nothing_above

@@ -1,5 +1,6 @@
 -- Two lists of nonzero cells while one times f is taken from the other, variable by variable.
-use Rattle.std.proofs.Common.{◌≡◌, ◌≢◌, inl, inr, ℕ, ◌+◌, ◌<◌, ◌≤◌, ◌⊎◌, min, List, ◌∷◌, [], ◌++◌, length, ℤ, pos, ◌*ℤ◌, refl, sym, ap, subst, arith}
+use Rattle.std.proofs.Common.{◌≡◌, ◌≢◌, inl, inr, ℕ, ◌+◌, ◌<◌, ◌≤◌, ◌⊎◌, min, List, ◌∷◌, [], ◌++◌, length, ℤ, pos, ◌*ℤ◌}
+use Rattle.std.proofs.Common.{refl, sym, ap, subst, arith}
 use Rattle.std.proofs.lemmas.Int.{ints}
 use Rattle.std.proofs.lemmas.Bool.{cases_eq, cases_lt}
 use Rattle.std.proofs.lemmas.List.{get_or_default, get_or_past}
@@ -30,7 +31,8 @@ pub record IsNext (entries pivot : List Entry) (end i j from v : ℕ) : Type 0 w
   pub in_pivot : j < length pivot → v ≤ (entry_at pivot j).variable
 
 pub variable_within : (es : List Entry) (k end : ℕ) → k < length es → variable_or es k end ≡ (entry_at es k).variable
-variable_within es k end l = ap (λ (e : Entry). e.variable) (get_or_default es k (record { variable = end; value = whole (pos 0) }) nothing l)
+variable_within es k end l =
+    ap (λ (e : Entry). e.variable) (get_or_default es k (record { variable = end; value = whole (pos 0) }) nothing l)
 
 pub variable_past : (es : List Entry) (k end : ℕ) → length es ≤ k → variable_or es k end ≡ end
 variable_past es k end l = ap (λ (e : Entry). e.variable) (get_or_past es k (record { variable = end; value = whole (pos 0) }) l)
@@ -47,8 +49,10 @@ variable_most es k end v l inside = rw (variable_within es k end inside) at l
 variable_below : (es : List Entry) (k end : ℕ) → AreBelow end es → k < length es → variable_or es k end < end
 variable_below es k end below inside = rw (variable_within es k end inside) (below k inside)
 
-pub next_is : (entries pivot left : List Entry) (f : Fraction) (end i j from : ℕ) → AreTakenBelow entries pivot left f end i j from → AreBelow end entries → AreBelow end pivot
-    → (i < length entries) ⊎ (j < length pivot) → IsNext entries pivot end i j from (min (variable_or entries i end) (variable_or pivot j end))
+pub next_is : (entries pivot left : List Entry) (f : Fraction) (end i j from : ℕ)
+    → AreTakenBelow entries pivot left f end i j from → AreBelow end entries → AreBelow end pivot
+    → (i < length entries) ⊎ (j < length pivot)
+    → IsNext entries pivot end i j from (min (variable_or entries i end) (variable_or pivot j end))
 next_is entries pivot left f end i j from h low_row low_pivot more =
     let first : from ≤ variable_or entries i end = variable_from entries i from end h.within h.row in
     let second : from ≤ variable_or pivot j end = variable_from pivot j from end h.within h.other in
@@ -62,15 +66,20 @@ next_is entries pivot left f end i j from h low_row low_pivot more =
       in_pivot = λ inside. variable_most pivot j end _ (omega arith) inside;
     }
 
-pub next_at : (entries pivot left : List Entry) (f : Fraction) (end i j from v : ℕ) → AreTakenBelow entries pivot left f end i j from → AreBelow end entries → AreBelow end pivot
-    → (i < length entries) ⊎ (j < length pivot) → v ≡ min (variable_or entries i end) (variable_or pivot j end) → IsNext entries pivot end i j from v
-next_at entries pivot left f end i j from v h low_row low_pivot more is = rw is (next_is entries pivot left f end i j from h low_row low_pivot more)
+pub next_at : (entries pivot left : List Entry) (f : Fraction) (end i j from v : ℕ)
+    → AreTakenBelow entries pivot left f end i j from → AreBelow end entries → AreBelow end pivot
+    → (i < length entries) ⊎ (j < length pivot) → v ≡ min (variable_or entries i end) (variable_or pivot j end)
+    → IsNext entries pivot end i j from v
+next_at entries pivot left f end i j from v h low_row low_pivot more is =
+    rw is (next_is entries pivot left f end i j from h low_row low_pivot more)
 
-pub row_split : (entries pivot left : List Entry) (f : Fraction) (end i j from v : ℕ) → AreSparse entries → AreTakenBelow entries pivot left f end i j from
+pub row_split : (entries pivot left : List Entry) (f : Fraction) (end i j from v : ℕ) → AreSparse entries
+    → AreTakenBelow entries pivot left f end i j from
     → IsNext entries pivot end i j from v → IsSplit entries i v
 row_split entries pivot left f end i j from v sparse h next = split_up entries i from v sparse h.row next.order next.in_row
 
-pub pivot_split : (entries pivot left : List Entry) (f : Fraction) (end i j from v : ℕ) → AreSparse pivot → AreTakenBelow entries pivot left f end i j from
+pub pivot_split : (entries pivot left : List Entry) (f : Fraction) (end i j from v : ℕ) → AreSparse pivot
+    → AreTakenBelow entries pivot left f end i j from
     → IsNext entries pivot end i j from v → IsSplit pivot j v
 pivot_split entries pivot left f end i j from v sparse h next = split_up pivot j from v sparse h.other next.order next.in_pivot
 
@@ -95,13 +104,18 @@ less_before : (entries pivot left : List Entry) (f : Fraction) (end i j from v u
 less_before entries pivot left f end i j from v u row other h next l = elim (cases_lt u from) [
   | inl done ↦ h.each u done
   | inr gap ↦
-      rw (split_gap entries i from v u row h.row gap l next.in_row, split_gap pivot j from v u other h.other gap l next.in_pivot, listed_past left from u h.below gap)
+      rw (
+        split_gap entries i from v u row h.row gap l next.in_row,
+        split_gap pivot j from v u other h.other gap l next.in_pivot,
+        listed_past left from u h.below gap,
+      )
       (less_nothing f)
 ]
 
 -- a variable more, whose cell is zero
 pub taken_zero : (entries pivot left : List Entry) (f b : Fraction) (end i j from v i' j' : ℕ) → AreSparse entries → AreSparse pivot
-    → AreTakenBelow entries pivot left f end i j from → IsNext entries pivot end i j from v → IsSplit entries i' (v + 1) → IsSplit pivot j' (v + 1)
+    → AreTakenBelow entries pivot left f end i j from → IsNext entries pivot end i j from v → IsSplit entries i' (v + 1)
+    → IsSplit pivot j' (v + 1)
     → IsLess (listed_at entries v) f (listed_at pivot v) b → b.num ≡ pos 0 → AreTakenBelow entries pivot left f end i' j' (v + 1)
 taken_zero entries pivot left f b end i j from v i' j' row other h next split_row split_pivot is none = record {
   within = omega (arith, next.within);
@@ -119,7 +133,8 @@ taken_zero entries pivot left f b end i j from v i' j' row other h next split_ro
 
 -- a variable more, whose cell isn't
 pub taken_entry : (entries pivot left : List Entry) (f b : Fraction) (end i j from v i' j' : ℕ) → AreSparse entries → AreSparse pivot
-    → AreTakenBelow entries pivot left f end i j from → IsNext entries pivot end i j from v → IsSplit entries i' (v + 1) → IsSplit pivot j' (v + 1)
+    → AreTakenBelow entries pivot left f end i j from → IsNext entries pivot end i j from v → IsSplit entries i' (v + 1)
+    → IsSplit pivot j' (v + 1)
     → IsLess (listed_at entries v) f (listed_at pivot v) b → b.num ≢ pos 0
     → AreTakenBelow entries pivot (left ++ record { variable = v; value = b } ∷ []) f end i' j' (v + 1)
 taken_entry entries pivot left f b end i j from v i' j' row other h next split_row split_pivot is some =

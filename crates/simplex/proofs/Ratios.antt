@@ -31,7 +31,8 @@ no_more place t e i None so_far not = λ k l above. elim (cases_eq k i) [
 no_more place t e i (Some best) so_far not = least_skip place t e i best.0 best.1 so_far not
 
 -- a ratio, and that there is one, at the cells that were read
-pub ratio_read : (place : ℕ) (t : Table) (e i : ℕ) (a b f : Fraction) → a ≡ t.cell i place → b ≡ t.cell i e → IsForm f → IsQuotient a b f → IsRatio place t e i f
+pub ratio_read : (place : ℕ) (t : Table) (e i : ℕ) (a b f : Fraction) → a ≡ t.cell i place → b ≡ t.cell i e → IsForm f
+    → IsQuotient a b f → IsRatio place t e i f
 ratio_read place t e i a b f p q form h = record {
   form = form;
   quotient = subst (λ (y : Fraction). IsQuotient (t.cell i place) y f) q (subst (λ (x : Fraction). IsQuotient x b f) p h);
@@ -41,12 +42,14 @@ pub has_read : (t : Table) (e i : ℕ) (b : Fraction) → b ≡ t.cell i e → p
 has_read t e i b q h = record { above = subst (λ (y : Fraction). pos 0 <ℤ y.num) q h }
 
 -- the least so far is of a row so far
-pub so_far_within : (place : ℕ) (t : Table) (e k : ℕ) (best : Option (ℕ × Fraction)) → IsLeastSoFar place t e k best → IfSome best (λ b. b.0 < k)
+pub so_far_within : (place : ℕ) (t : Table) (e k : ℕ) (best : Option (ℕ × Fraction)) → IsLeastSoFar place t e k best
+    → IfSome best (λ b. b.0 < k)
 so_far_within place t e k None h = tt
 so_far_within place t e k (Some best) h = h.within
 
 -- a ratio that has no form, at the cells that were read
-pub wide_ratio : (place : ℕ) (t : Table) (e i k : ℕ) (a b : Fraction) → a ≡ t.cell i place → b ≡ t.cell i e → i < k → HasRatio t e i → HasNoForm (IsQuotient a b)
+pub wide_ratio : (place : ℕ) (t : Table) (e i k : ℕ) (a b : Fraction) → a ≡ t.cell i place → b ≡ t.cell i e → i < k
+    → HasRatio t e i → HasNoForm (IsQuotient a b)
     → IsWideRatio place k t e
 wide_ratio place t e i k a b p q l has h = record {
   of_row = i;

@@ -10,7 +10,8 @@ use Rattle.exchange_runs.specs.Table.{Table}
 use Rattle.exchange_runs.specs.Exchange.{IsEntering, IsLast}
 use Rattle.exchange_runs.specs.Run.{Reached}
 use Rattle.exchange_runs.specs.Feasible.{IsOptimumValue, IsPointWorth}
-use Rattle.exchange_runs.proofs.Finals.{ends_at_optimum, ends_at_point, ends_with_dual, ends_equal, ends_greatest, ends_not_wide, ends_not_more, wide_not_more}
+use Rattle.exchange_runs.proofs.Finals.{ends_at_optimum, ends_at_point, ends_with_dual, ends_equal, ends_greatest}
+use Rattle.exchange_runs.proofs.Finals.{ends_not_wide, ends_not_more, wide_not_more}
 use Rattle.simplex.specs.Rows.{RowDef}
 use Rattle.simplex.specs.Tables.{table_of}
 use Rattle.simplex.specs.Exchanges.{Steps}
@@ -20,8 +21,10 @@ use Rattle.simplex.specs.declared.Solved.{Solved}
 use Rattle.simplex.specs.declared.SolveStop.{SolveStop}
 use Rattle.simplex.specs.declared.SolveStop.TheVariants.{Memory, Wide, Units}
 
-pub solve_stop : (stop : SolveStop) (p : ProgramDef) (units k e : ℕ) (rows : List RowDef) (basis : List ℕ) (rows' : List RowDef) (basis' : List ℕ)
-    → k + 1 < units → Reached p k (table_of rows basis) → IsEntering p (table_of rows basis) e → Steps (Err stop) p e rows basis rows' basis' → Solves (Err stop) p units
+pub solve_stop : (stop : SolveStop) (p : ProgramDef) (units k e : ℕ) (rows : List RowDef) (basis : List ℕ)
+    (rows' : List RowDef) (basis' : List ℕ)
+    → k + 1 < units → Reached p k (table_of rows basis) → IsEntering p (table_of rows basis) e
+    → Steps (Err stop) p e rows basis rows' basis' → Solves (Err stop) p units
 solve_stop Memory p units k e rows basis rows' basis' l reached enters h = tt
 solve_stop Wide p units k e rows basis rows' basis' l reached enters h = record {
   exchanges = k;
@@ -32,7 +35,8 @@ solve_stop Wide p units k e rows basis rows' basis' l reached enters h = record 
 solve_stop Units p units k e rows basis rows' basis' l reached enters h = absurd h
 
 -- the end of the run is the end of the solving
-pub finished : (r : Result Solved SolveStop) (p : ProgramDef) (units k : ℕ) (t : Table) → k < units → Reached p k t → IsLast p t → Finishes r p t k → Solves r p units
+pub finished : (r : Result Solved SolveStop) (p : ProgramDef) (units k : ℕ) (t : Table) → k < units → Reached p k t
+    → IsLast p t → Finishes r p t k → Solves r p units
 finished (Ok s) p units k t l reached last h = rw h.0 (record {
   table = t;
   run = record { reached = reached; last = last };
@@ -64,11 +68,13 @@ pub solved_optimum : (r : Result Solved SolveStop) (p : ProgramDef) (units : ℕ
 solved_optimum (Ok s) p units h = ends_at_optimum p units s.exchanges s.value s.primal.items (dual_seen s.dual) h
 solved_optimum (Err stop) p units h = tt
 
-pub solved_primal : (r : Result Solved SolveStop) (p : ProgramDef) (units : ℕ) → Solves r p units → IfOk r (λ s. IsPointWorth p s.primal.items s.value)
+pub solved_primal : (r : Result Solved SolveStop) (p : ProgramDef) (units : ℕ) → Solves r p units
+    → IfOk r (λ s. IsPointWorth p s.primal.items s.value)
 solved_primal (Ok s) p units h = ends_at_point p units s.exchanges s.value s.primal.items (dual_seen s.dual) h
 solved_primal (Err stop) p units h = tt
 
-pub solved_dual : (r : Result Solved SolveStop) (p : ProgramDef) (units : ℕ) → Solves r p units → IfOk r (λ s. IsOptimalDual p (dual_seen s.dual))
+pub solved_dual : (r : Result Solved SolveStop) (p : ProgramDef) (units : ℕ) → Solves r p units
+    → IfOk r (λ s. IsOptimalDual p (dual_seen s.dual))
 solved_dual (Ok s) p units h = ends_with_dual p units s.exchanges s.value s.primal.items (dual_seen s.dual) h
 solved_dual (Err stop) p units h = tt
 

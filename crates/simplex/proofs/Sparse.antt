@@ -27,7 +27,8 @@ forms_of row h v = elim (cases_eq row.place v) [
   | inr away ↦ rw (cell_listed row v away) (form_listed row.entries v h.sparse)
 ]
 
-pub divided_row : (row : RowDef) (by limit : Fraction) (entries : List Entry) → IsSparseRow row → AreDivided row.entries by entries → IsForm limit → IsQuotient row.limit by limit
+pub divided_row : (row : RowDef) (by limit : Fraction) (entries : List Entry) → IsSparseRow row
+    → AreDivided row.entries by entries → IsForm limit → IsQuotient row.limit by limit
     → IsDividedRow row by (record { entries = entries; place = row.place; limit = limit })
 divided_row row by limit entries h all form is =
     let divided : RowDef = record { entries = entries; place = row.place; limit = limit } in
@@ -48,11 +49,14 @@ wide_listed row by v l h = (v, rw (cell_listed row v (λ q. omega arith)) h)
 pub wide_limit : (row : RowDef) (by : Fraction) → HasNoForm (IsQuotient row.limit by) → (u : ℕ) × HasNoForm (IsQuotient (cell_at row u) by)
 wide_limit row by h = (row.place, rw (cell_limit row row.place refl) h)
 
-pub left_limit_stop : (row pivot : RowDef) (f : Fraction) → places row ≡ places pivot → IsWideLess row.limit f pivot.limit → LeavesRow (Err Wide) row f pivot
+pub left_limit_stop : (row pivot : RowDef) (f : Fraction) → places row ≡ places pivot
+    → IsWideLess row.limit f pivot.limit → LeavesRow (Err Wide) row f pivot
 left_limit_stop row pivot f even h = (row.place, rw (cell_limit row row.place refl, cell_limit pivot row.place (omega arith)) h)
 
-pub left_stop : (stop : SolveStop) (row pivot : RowDef) (f : Fraction) → places row ≡ places pivot → TakesAway (Err stop) row.place row.entries f pivot.entries
+pub left_stop : (stop : SolveStop) (row pivot : RowDef) (f : Fraction) → places row ≡ places pivot
+    → TakesAway (Err stop) row.place row.entries f pivot.entries
     → LeavesRow (Err stop) row f pivot
 left_stop Memory row pivot f even h = tt
-left_stop Wide row pivot f even h = (h.0, rw (cell_listed row h.0 (λ q. omega (arith, h.1)), cell_listed pivot h.0 (λ q. omega (arith, h.1))) h.2)
+left_stop Wide row pivot f even h =
+    (h.0, rw (cell_listed row h.0 (λ q. omega (arith, h.1)), cell_listed pivot h.0 (λ q. omega (arith, h.1))) h.2)
 left_stop Units row pivot f even h = h

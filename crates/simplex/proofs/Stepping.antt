@@ -1,5 +1,6 @@
 -- An exchange of the rows, as one of the table.
-use Rattle.std.proofs.Common.{◌≢◌, inl, inr, ℕ, ◌<◌, ℤ, pos, ◌<ℤ◌, length, List, set, Err, ◌∙◌, arith, get_or-set_same, get_or-set_other, length-set}
+use Rattle.std.proofs.Common.{◌≢◌, inl, inr, ℕ, ◌<◌, ℤ, pos, ◌<ℤ◌, length, List, set, Err, ◌∙◌, arith, get_or-set_same}
+use Rattle.std.proofs.Common.{get_or-set_other, length-set}
 use Rattle.std.proofs.lemmas.Bool.{cases_eq}
 use Rattle.std.proofs.lemmas.Int.{ints}
 use Rattle.fraction128.specs.Fraction.{Fraction}
@@ -13,12 +14,14 @@ use Rattle.simplex.specs.declared.SolveStop.{SolveStop}
 use Rattle.simplex.specs.declared.SolveStop.TheVariants.{Memory, Wide, Units}
 
 pub step_stop : (stop : SolveStop) (p : ProgramDef) (e r : ℕ) (rows : List RowDef) (basis : List ℕ) (rows' : List RowDef) (basis' : List ℕ)
-    → HasSize p rows basis → IsLeaving p (table_of rows basis) e r → ExchangesIn (Err stop) rows rows' e r → Steps (Err stop) p e rows basis rows' basis'
+    → HasSize p rows basis → IsLeaving p (table_of rows basis) e r → ExchangesIn (Err stop) rows rows' e r
+    → Steps (Err stop) p e rows basis rows' basis'
 step_stop Memory p e r rows basis rows' basis' size leaves h = tt
 step_stop Wide p e r rows basis rows' basis' size leaves h = inr (r, leaves, h (height p) basis size.row_each)
 step_stop Units p e r rows basis rows' basis' size leaves h = h
 
-pub step_done : (p : ProgramDef) (e r : ℕ) (rows rows' : List RowDef) (basis : List ℕ) → HasSize p rows basis → IsEntering p (table_of rows basis) e
+pub step_done : (p : ProgramDef) (e r : ℕ) (rows rows' : List RowDef) (basis : List ℕ) → HasSize p rows basis
+    → IsEntering p (table_of rows basis) e
     → IsLeaving p (table_of rows basis) e r → AreExchanged rows rows' e r
     → (HasSize p rows' (set basis r e)) × ((k : ℕ) × IsExchange p (table_of rows basis) (table_of rows' (set basis r e)) e k)
 step_done p e r rows rows' basis size enters leaves h =
@@ -46,7 +49,8 @@ step_done p e r rows rows' basis size enters leaves h =
     )
 
 -- the cell of the leaving row in the column isn't zero
-pub pivot_apart : (rows : List RowDef) (basis : List ℕ) (column : List Fraction) (e r : ℕ) → IsColumn rows e column → r < length rows → HasRatio (table_of rows basis) e r
+pub pivot_apart : (rows : List RowDef) (basis : List ℕ) (column : List Fraction) (e r : ℕ) → IsColumn rows e column
+    → r < length rows → HasRatio (table_of rows basis) e r
     → (fraction_at column r).num ≢ pos 0
 pivot_apart rows basis column e r is l has = rw (is.each r l) (apart (cell_at (row_of rows r) e).num has.above)
   where

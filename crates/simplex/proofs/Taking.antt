@@ -1,5 +1,6 @@
 -- The rows while the pivot row is taken from them.
-use Rattle.std.proofs.Common.{◌≡◌, ◌≢◌, ℕ, ◌<◌, ◌≤◌, ◌+◌, inl, inr, List, length, pos, Err, set, refl, ◌∙◌, arith, get_or-set_same, get_or-set_other, length-set}
+use Rattle.std.proofs.Common.{◌≡◌, ◌≢◌, ℕ, ◌<◌, ◌≤◌, ◌+◌, inl, inr, List, length, pos, Err, set, refl, ◌∙◌, arith}
+use Rattle.std.proofs.Common.{get_or-set_same, get_or-set_other, length-set}
 use Rattle.std.proofs.lemmas.Bool.{cases_eq}
 use Rattle.fraction128.specs.Fraction.{Fraction}
 use Rattle.fraction128.specs.Scaling.{fraction_at}
@@ -21,7 +22,8 @@ pub record AreTakenTo (k : ℕ) (before now : List RowDef) (column : List Fracti
   pub rest : (i : ℕ) → k ≤ i → row_of now i ≡ row_of before i
 
 -- one row more, from which it is taken
-pub taken_more : (k : ℕ) (before now : List RowDef) (column : List Fraction) (r : ℕ) (pivot left : RowDef) → k < length now → AreTakenTo k before now column r pivot
+pub taken_more : (k : ℕ) (before now : List RowDef) (column : List Fraction) (r : ℕ) (pivot left : RowDef)
+    → k < length now → AreTakenTo k before now column r pivot
     → IsLeftRow (row_of before k) (fraction_at column k) pivot left → AreTakenTo (k + 1) before (set now k left) column r pivot
 taken_more k before now column r pivot left l h is = record {
   as_many = length-set now k left ∙ h.as_many;
@@ -33,20 +35,26 @@ taken_more k before now column r pivot left l h is = record {
 }
 
 -- one row more, which stays since its cell in the column is zero
-pub taken_same : (k : ℕ) (before now : List RowDef) (column : List Fraction) (r : ℕ) (pivot : RowDef) → AreTakenTo k before now column r pivot
+pub taken_same : (k : ℕ) (before now : List RowDef) (column : List Fraction) (r : ℕ) (pivot : RowDef)
+    → AreTakenTo k before now column r pivot
     → HasForms (row_of before k) → (fraction_at column k).num ≡ pos 0 → AreTakenTo (k + 1) before now column r pivot
 taken_same k before now column r pivot h forms none = record {
   as_many = h.as_many;
   taken = λ i li ai. elim (cases_eq i k) [
     | inl here ↦ rw (here, h.rest k (omega arith))
-        (record { as_many = refl; each = λ v. less_of_zero (cell_at (row_of before k) v) (fraction_at column k) (cell_at pivot v) none (forms v) })
+        (record {
+          as_many = refl;
+          each =
+              λ v. less_of_zero (cell_at (row_of before k) v) (fraction_at column k) (cell_at pivot v) none (forms v);
+        })
     | inr other ↦ h.taken i (omega arith) ai
   ];
   rest = λ i li. h.rest i (omega arith);
 }
 
 -- row r is passed over
-pub taken_past : (k : ℕ) (before now : List RowDef) (column : List Fraction) (r : ℕ) (pivot : RowDef) → k ≡ r → AreTakenTo k before now column r pivot
+pub taken_past : (k : ℕ) (before now : List RowDef) (column : List Fraction) (r : ℕ) (pivot : RowDef) → k ≡ r
+    → AreTakenTo k before now column r pivot
     → AreTakenTo (k + 1) before now column r pivot
 taken_past k before now column r pivot here h = record {
   as_many = h.as_many;
@@ -55,13 +63,16 @@ taken_past k before now column r pivot here h = record {
 }
 
 -- what is left of a row that was read
-pub left_read : (before : List RowDef) (k : ℕ) (column : List Fraction) (pivot row left : RowDef) (f : Fraction) → row_of before k ≡ row → fraction_at column k ≡ f
+pub left_read : (before : List RowDef) (k : ℕ) (column : List Fraction) (pivot row left : RowDef) (f : Fraction)
+    → row_of before k ≡ row → fraction_at column k ≡ f
     → IsLeftRow row f pivot left → IsLeftRow (row_of before k) (fraction_at column k) pivot left
 left_read before k column pivot row left f is at h = rw (is, at) h
 
 -- the stop of a row is that of all
-pub takes_stop : (stop : SolveStop) (before now : List RowDef) (column : List Fraction) (r k : ℕ) (pivot row left : RowDef) (f : Fraction) → k < length before → k ≢ r
-    → row_of before k ≡ row → fraction_at column k ≡ f → TakesRow (Err stop) row f pivot left → TakesAll (Err stop) before now column r pivot
+pub takes_stop : (stop : SolveStop) (before now : List RowDef) (column : List Fraction) (r k : ℕ)
+    (pivot row left : RowDef) (f : Fraction) → k < length before → k ≢ r
+    → row_of before k ≡ row → fraction_at column k ≡ f → TakesRow (Err stop) row f pivot left
+    → TakesAll (Err stop) before now column r pivot
 takes_stop Memory before now column r k pivot row left f l apart is at h = tt
 takes_stop Wide before now column r k pivot row left f l apart is at h = (k, h.0, l, apart, rw (is, at) h.1)
 takes_stop Units before now column r k pivot row left f l apart is at h = h
@@ -71,7 +82,8 @@ pub put_aside : (before : List RowDef) (r i : ℕ) (row : RowDef) → i ≢ r �
 put_aside before r i row other = get_or-set_other before r i row no_row other
 
 -- its place is taken by the row without variables
-pub forms_aside : (before : List RowDef) (r i : ℕ) → ((k : ℕ) → k < length before → HasForms (row_of before k)) → i < length (set before r no_row)
+pub forms_aside : (before : List RowDef) (r i : ℕ) → ((k : ℕ) → k < length before → HasForms (row_of before k))
+    → i < length (set before r no_row)
     → HasForms (row_of (set before r no_row) i)
 forms_aside before r i forms l = elim (cases_eq i r) [
   | inl here ↦ rw (here, get_or-set_same before r no_row no_row (omega (arith, length-set before r no_row))) (forms_of no_row no_row_sparse)
@@ -82,7 +94,8 @@ forms_aside before r i forms l = elim (cases_eq i r) [
     no_row_sparse = record { sparse = sparse_none; below = λ k lk. absurd (omega arith); limit_form = form_of_zero }
 
 -- the stop of the taking is that of the exchange
-pub exchange_stop : (stop : SolveStop) (before mid after : List RowDef) (column : List Fraction) (e r : ℕ) (pivot row : RowDef) → r < length before
+pub exchange_stop : (stop : SolveStop) (before mid after : List RowDef) (column : List Fraction) (e r : ℕ)
+    (pivot row : RowDef) → r < length before
     → IsColumn before e column → IsDividedRow (row_of before r) (fraction_at column r) pivot
     → TakesAll (Err stop) (set before r row) mid column r pivot → ExchangesIn (Err stop) before after e r
 exchange_stop Memory before mid after column e r pivot row l is divided h = tt
@@ -105,7 +118,8 @@ pub exchanged : (before mid : List RowDef) (column : List Fraction) (e r : ℕ) 
     → IsColumn before e column → IsDividedRow (row_of before r) (fraction_at column r) pivot
     → AreTaken (set before r row) mid column r pivot → AreExchanged before (set mid r pivot) e r
 exchanged before mid column e r pivot row l is divided h =
-    let here : row_of (set mid r pivot) r ≡ pivot = get_or-set_same mid r pivot no_row (omega (arith, h.as_many, length-set before r row)) in
+    let here : row_of (set mid r pivot) r ≡ pivot =
+    get_or-set_same mid r pivot no_row (omega (arith, h.as_many, length-set before r row)) in
     record {
       as_many = length-set mid r pivot ∙ (h.as_many ∙ length-set before r row);
       divided = rw (here, ← is.each r l) divided;

@@ -27,7 +27,8 @@ pub record AreDivided (entries : List Entry) (by : Fraction) (divided : List Ent
 -- Each value divided, or Wide exactly where a quotient has no form.
 abbrev pub DividesAll : Result (Unit {0}) Wide → List Entry → Fraction → List Entry → Type 0
 DividesAll (Ok u) entries by divided = AreDivided entries by divided
-DividesAll (Err w) entries by divided = (v : ℕ) × ((end : ℕ) → AreBelow end entries → v < end) × HasNoForm (IsQuotient (listed_at entries v) by)
+DividesAll (Err w) entries by divided =
+    (v : ℕ) × ((end : ℕ) → AreBelow end entries → v < end) × HasNoForm (IsQuotient (listed_at entries v) by)
 
 -- Is `left` what is left of a list when f times another is taken away, at every variable?
 pub record AreLeft (end : ℕ) (entries : List Entry) (f : Fraction) (pivot left : List Entry) : Type 0 where

@@ -1,5 +1,6 @@
 -- Lists of nonzero cells, each at its variable.
-use Rattle.std.specs.Prelude.{◌≡◌, ◌≢◌, ℕ, ◌<◌, ◌≤◌, ◌==◌, if◌then◌else◌, List, [], ◌∷◌, length, slice_index_or, Option, Some, None, Bool, true, false, pos, ◌≤ℤ◌, ◌<ℤ◌}
+use Rattle.std.specs.Prelude.{◌≡◌, ◌≢◌, ℕ, ◌<◌, ◌≤◌, ◌==◌, if◌then◌else◌, List, [], ◌∷◌, length, slice_index_or, Option}
+use Rattle.std.specs.Prelude.{Some, None, Bool, true, false, pos, ◌≤ℤ◌, ◌<ℤ◌}
 use Rattle.fraction128.specs.Fraction.{Fraction, IsForm, whole}
 use Rattle.simplex.specs.declared.entries.Entry.{Entry}
 

@@ -42,7 +42,8 @@ ExchangesIn (Err Units) before after e r = ⊥
 
 -- The next table, or Wide exactly where the exchange is.
 abbrev pub Steps : Result (Unit {0}) SolveStop → ProgramDef → ℕ → List RowDef → List ℕ → List RowDef → List ℕ → Type 0
-Steps (Ok u) p e rows basis rows' basis' = (HasSize p rows' basis') × ((r : ℕ) × IsExchange p (table_of rows basis) (table_of rows' basis') e r)
+Steps (Ok u) p e rows basis rows' basis' =
+    (HasSize p rows' basis') × ((r : ℕ) × IsExchange p (table_of rows basis) (table_of rows' basis') e r)
 Steps (Err Memory) p e rows basis rows' basis' = Unit {0}
 Steps (Err Wide) p e rows basis rows' basis' =
     (IsWideRatio (variables p) (height p) (table_of rows basis) e)

@@ -98,7 +98,8 @@ pub fn solve(alloc: Global, program: &Program, units: u64) -> Result<Solved, Sol
     ensures primal { IfOk result (λ s. IsPointWorth program.now s.primal.items s.value) }
     ensures dual { IfOk result (λ s. IsOptimalDual program.now (dual_seen s.dual)) }
     ensures equal { IfOk result (λ s. IsScaled s.dual.den s.value (dual_total program.now (λ r. slice_index s.dual.num.items r))) }
-    ensures greatest { IfOk result (λ s. IsGreatestReached program.now (dual_value program.now s.dual.den (λ r. slice_index s.dual.num.items r))) }
+    ensures greatest { IfOk result
+        (λ s. IsGreatestReached program.now (dual_value program.now s.dual.den (λ r. slice_index s.dual.num.items r))) }
 {
     run(alloc, program, units)
 }

@@ -1,5 +1,6 @@
 -- What follows from a set's being accepted, in the words of the field.
-use Rattle.std.proofs.Common.{◌≡◌, ◌≢◌, ℕ, ◌<◌, ◌≤◌, Bool, true, false, cond, not, List, [], ◌∷◌, length, arith, Option, Some, None, suc, subst, nat_lt, ◌&&◌, ◌==◌, ◌⊎◌, inl, inr, sym, IfSome}
+use Rattle.std.proofs.Common.{◌≡◌, ◌≢◌, ℕ, ◌<◌, ◌≤◌, Bool, true, false, cond, not, List, [], ◌∷◌, length, arith, Option}
+use Rattle.std.proofs.Common.{Some, None, suc, subst, nat_lt, ◌&&◌, ◌==◌, ◌⊎◌, inl, inr, sym, IfSome}
 use Rattle.std.specs.List.{find, slice_index_or}
 use Rattle.std.specs.Option.{option_map}
 use Rattle.std.specs.Str.{bytes_eq}
@@ -9,7 +10,9 @@ use Rattle.std.proofs.lemmas.List.Quantifiers.{position-Some}
 use Rattle.std.proofs.lemmas.Slice.Eq.{bytes_eq-Decides}
 use Rattle.sporadic_model.specs.SetDef.{SetDef, RequestDef, task_at, resource_at, no_task, no_resource, no_request}
 use Rattle.sporadic_model.specs.Users.{numbers, count_of, is_user, is_remote_user, ceiling_of, task_with_name, resource_with_name}
-use Rattle.sporadic_model.specs.Accepted.{IsAccepted, SetSizes, TaskNumbers, RequestNumbers, EntryNumbers, AreNamed, AreEntries, AreHomes, IsHighestUser, HasNoUser, IsHighestRemoteUser, HasNoRemoteUser}
+use Rattle.sporadic_model.specs.Accepted.{IsAccepted, SetSizes, TaskNumbers, RequestNumbers, EntryNumbers, AreNamed}
+use Rattle.sporadic_model.specs.Accepted.{AreEntries, AreHomes, IsHighestUser, HasNoUser, IsHighestRemoteUser}
+use Rattle.sporadic_model.specs.Accepted.{HasNoRemoteUser}
 use Rattle.sporadic_model.proofs.Finding.{first_of_range, none_in_range}
 
 pub found_or : {A : Type 0} (b : Bool) (x e : A) (o : Option A) → cond b (Some x) o ≡ Some e → (x ≡ e) ⊎ (o ≡ Some e)
@@ -20,7 +23,8 @@ pub zero_of : (n : ℕ) → nat_lt 0 n ≡ false → n ≡ 0
 zero_of n h = grind (arith, nat_tests)
 
 -- The element found is one of some number.
-pub found_at : {A : Type 0} (p : A → Bool) (xs : List A) (d e : A) → find p xs ≡ Some e → (k : ℕ) × (k < length xs) × (slice_index_or xs k d ≡ e)
+pub found_at : {A : Type 0} (p : A → Bool) (xs : List A) (d e : A) → find p xs ≡ Some e
+    → (k : ℕ) × (k < length xs) × (slice_index_or xs k d ≡ e)
 found_at p [] d e h = absurd (cc)
 found_at p (x ∷ xs) d e h =
     elim (found_or (p x) x e (find p xs) h) [
@@ -33,7 +37,8 @@ pub numbers_of_accepted : (set : SetDef) (x : ℕ) → IsAccepted set → x < le
 unfolding IsAccepted
 numbers_of_accepted set x h = h.numbers x
 
-pub requests_of_accepted : (set : SetDef) (x j : ℕ) → IsAccepted set → x < length set.tasks → j < length (task_at set x).requests → RequestNumbers set x j
+pub requests_of_accepted : (set : SetDef) (x j : ℕ) → IsAccepted set → x < length set.tasks
+    → j < length (task_at set x).requests → RequestNumbers set x j
 unfolding IsAccepted
 requests_of_accepted set x j h = h.requests x j
 
@@ -54,7 +59,8 @@ unfolding IsAccepted
 homes_of_accepted set h = h.homes
 
 -- The numbers of each entry that is found among a task's are in their ranges.
-pub entry_of_accepted : (set : SetDef) (x : ℕ) (p : RequestDef → Bool) (e : RequestDef) → IsAccepted set → x < length set.tasks → find p (task_at set x).requests ≡ Some e → EntryNumbers set x e
+pub entry_of_accepted : (set : SetDef) (x : ℕ) (p : RequestDef → Bool) (e : RequestDef) → IsAccepted set
+    → x < length set.tasks → find p (task_at set x).requests ≡ Some e → EntryNumbers set x e
 entry_of_accepted set x p e h i found =
     let place = found_at p (task_at set x).requests no_request e found in
     subst (EntryNumbers set x) place.2 (requests_of_accepted set x place.0 h i place.1)
@@ -63,22 +69,32 @@ entry_of_accepted set x p e h i found =
 pub highest_user : (set : SetDef) (q x : ℕ) → ceiling_of set q ≡ Some x → IsHighestUser set q x
 highest_user set q x e =
     let first = first_of_range (is_user set q) 0 (length set.tasks) x e in
-    record { task = omega arith; user = ltb-true 0 (count_of set x q) first.passes; highest = λ y h. zero_of (count_of set y q) (first.before y (omega arith) h) }
+    record {
+      task = omega arith;
+      user = ltb-true 0 (count_of set x q) first.passes;
+      highest = λ y h. zero_of (count_of set y q) (first.before y (omega arith) h);
+    }
 
 pub no_user : (set : SetDef) (q : ℕ) → ceiling_of set q ≡ None → HasNoUser set q
-no_user set q e = λ x h. let none = none_in_range (is_user set q) 0 (length set.tasks) e x (omega arith) (omega arith) in zero_of (count_of set x q) none
+no_user set q e =
+    λ x h. let none = none_in_range (is_user set q) 0 (length set.tasks) e x (omega arith) (omega arith) in
+    zero_of (count_of set x q) none
 
-pub numbers_of_found : {B : Type 0} (set : SetDef) (x : ℕ) (p : RequestDef → Bool) (seen : B → RequestDef) (o : Option B) → IsAccepted set → x < length set.tasks → option_map seen o ≡ find p (task_at set x).requests → IfSome o (λ b. EntryNumbers set x (seen b))
+pub numbers_of_found : {B : Type 0} (set : SetDef) (x : ℕ) (p : RequestDef → Bool) (seen : B → RequestDef)
+    (o : Option B) → IsAccepted set → x < length set.tasks → option_map seen o ≡ find p (task_at set x).requests
+    → IfSome o (λ b. EntryNumbers set x (seen b))
 numbers_of_found set x p seen None h i e = tt
 numbers_of_found set x p seen (Some b) h i e = entry_of_accepted set x p (seen b) h i (sym e)
 
 -- The task, the resource, found by its name has it.
-pub named_task : (set : SetDef) (name : List ℕ) (x : ℕ) → task_with_name set name ≡ Some x → (x < length set.tasks) × ((task_at set x).name ≡ name)
+pub named_task : (set : SetDef) (name : List ℕ) (x : ℕ) → task_with_name set name ≡ Some x
+    → (x < length set.tasks) × ((task_at set x).name ≡ name)
 named_task set name x e =
     let found = position-Some (λ t. bytes_eq t.name name) set.tasks x no_task e in
     (found.0, (bytes_eq-Decides (task_at set x).name name).0 found.1)
 
-pub named_resource : (set : SetDef) (name : List ℕ) (q : ℕ) → resource_with_name set name ≡ Some q → (q < length set.resources) × ((resource_at set q).name ≡ name)
+pub named_resource : (set : SetDef) (name : List ℕ) (q : ℕ) → resource_with_name set name ≡ Some q
+    → (q < length set.resources) × ((resource_at set q).name ≡ name)
 named_resource set name q e =
     let found = position-Some (λ r. bytes_eq r.name name) set.resources q no_resource e in
     (found.0, (bytes_eq-Decides (resource_at set q).name name).0 found.1)
@@ -99,7 +115,8 @@ pub remote_false : (n p k : ℕ) → (nat_lt 0 n && not (p == k)) ≡ false → 
 remote_false n p k h apart = grind (arith, nat_tests)
 
 -- The same of the users that aren't on processor k.
-pub highest_remote_user : (set : SetDef) (q k x : ℕ) → find (is_remote_user set q k) (numbers (length set.tasks)) ≡ Some x → IsHighestRemoteUser set q k x
+pub highest_remote_user : (set : SetDef) (q k x : ℕ)
+    → find (is_remote_user set q k) (numbers (length set.tasks)) ≡ Some x → IsHighestRemoteUser set q k x
 highest_remote_user set q k x e =
     let first = first_of_range (is_remote_user set q k) 0 (length set.tasks) x e in
     let here = remote_true (count_of set x q) (task_at set x).processor k first.passes in

@@ -1,5 +1,6 @@
 -- A list as contracts see it, `map f xs`, beside the list of the parts.
-use Rattle.std.proofs.Common.{◌≡◌, ℕ, zero, suc, ◌+◌, ◌<◌, cond, Option, Some, None, true, false, not, Bool, List, [], ◌∷◌, map, length, take, refl, ap, arith, ◌||◌}
+use Rattle.std.proofs.Common.{◌≡◌, ℕ, zero, suc, ◌+◌, ◌<◌, cond, Option, Some, None, true, false, not, Bool, List, []}
+use Rattle.std.proofs.Common.{◌∷◌, map, length, take, refl, ap, arith, ◌||◌}
 use Rattle.std.specs.List.{list_any, position_or_len, position, find, slice_index_or}
 use Rattle.std.specs.Option.{option_map}
 
@@ -16,12 +17,14 @@ take-map f zero xs = refl
 take-map f (suc n) [] = refl
 take-map f (suc n) (x ∷ xs) = ap (λ l. f x ∷ l) (take-map f n xs)
 
-pub element-map : {A B : Type 0} (f : A → B) → (xs : List A) (i : ℕ) (d : A) (e : B) → i < length xs → slice_index_or (map f xs) i e ≡ f (slice_index_or xs i d)
+pub element-map : {A B : Type 0} (f : A → B) → (xs : List A) (i : ℕ) (d : A) (e : B) → i < length xs
+    → slice_index_or (map f xs) i e ≡ f (slice_index_or xs i d)
 element-map f [] i d e h = absurd (omega arith)
 element-map f (x ∷ xs) zero d e h = refl
 element-map f (x ∷ xs) (suc i) d e h = element-map f xs i d e (omega arith)
 
-pub option_map-twice : {A B C : Type 0} (g : B → C) (f : A → B) → (o : Option A) → option_map g (option_map f o) ≡ option_map (λ x. g (f x)) o
+pub option_map-twice : {A B C : Type 0} (g : B → C) (f : A → B) → (o : Option A)
+    → option_map g (option_map f o) ≡ option_map (λ x. g (f x)) o
 option_map-twice g f None = refl
 option_map-twice g f (Some x) = refl
 
@@ -31,7 +34,8 @@ find-map f p (x ∷ xs) =
     elim (p (f x)) as (λ b. cond b (Some (f x)) (find p (map f xs)) ≡ option_map f (cond b (Some x) (find (λ y. p (f y)) xs)))
     [ true ↦ refl | false ↦ find-map f p xs ]
 
-pub position_or_len-map : {A B : Type 0} (f : A → B) (p : B → Bool) → (xs : List A) → position_or_len p (map f xs) ≡ position_or_len (λ x. p (f x)) xs
+pub position_or_len-map : {A B : Type 0} (f : A → B) (p : B → Bool) → (xs : List A)
+    → position_or_len p (map f xs) ≡ position_or_len (λ x. p (f x)) xs
 position_or_len-map f p [] = refl
 position_or_len-map f p (x ∷ xs) = ap (λ n. cond (not (p (f x))) (1 + n) 0) (position_or_len-map f p xs)
 

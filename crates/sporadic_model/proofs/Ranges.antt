@@ -1,5 +1,6 @@
 -- Where no refusal of a task set is due, all stands in its range; and where all does, none is due.
-use Rattle.std.proofs.Common.{◌≡◌, ◌≢◌, ℕ, ◌<◌, ◌≤◌, Bool, true, false, not, List, [], ◌∷◌, map, length, take, refl, arith, Some, None, suc, nat_lt, ◌&&◌, ◌||◌, ◌==◌, lit<, IsTrue, ◌⊎◌, inl, inr}
+use Rattle.std.proofs.Common.{◌≡◌, ◌≢◌, ℕ, ◌<◌, ◌≤◌, Bool, true, false, not, List, [], ◌∷◌, map, length, take, refl}
+use Rattle.std.proofs.Common.{arith, Some, None, suc, nat_lt, ◌&&◌, ◌||◌, ◌==◌, lit<, IsTrue, ◌⊎◌, inl, inr}
 use Rattle.std.specs.List.{find, slice_index_or, list_any}
 use Rattle.std.specs.Int.{is_in_range}
 use Rattle.std.specs.Str.{bytes_eq}
@@ -10,9 +11,11 @@ use Rattle.std.proofs.lemmas.Slice.Eq.{bytes_eq-Decides}
 use Rattle.sporadic_model.specs.SetDef.{SetDef, task_at, resource_at, request_at, request_count, no_task, no_resource, no_request}
 use Rattle.sporadic_model.specs.Names.{is_name}
 use Rattle.sporadic_model.specs.Users.{numbers}
-use Rattle.sporadic_model.specs.Refusals.{is_due, size_refusals, at_tasks, at_resources, at_requests, name_refusals, number_refusals, request_refusals, has_resource_named, first_refusal}
+use Rattle.sporadic_model.specs.Refusals.{is_due, size_refusals, at_tasks, at_resources, at_requests, name_refusals}
+use Rattle.sporadic_model.specs.Refusals.{number_refusals, request_refusals, has_resource_named, first_refusal}
 use Rattle.sporadic_model.specs.Accepted.{IsAccepted, SetSizes, TaskNumbers, RequestNumbers, AreNamed, AreEntries, AreHomes}
-use Rattle.sporadic_model.specs.declared.limits.TheConstants.{MOST_PROCESSORS, MOST_TASKS, MOST_RESOURCES, MOST_REQUESTS, MOST_TICKS, MOST_COUNT}
+use Rattle.sporadic_model.specs.declared.limits.TheConstants.{MOST_PROCESSORS, MOST_TASKS, MOST_RESOURCES}
+use Rattle.sporadic_model.specs.declared.limits.TheConstants.{MOST_REQUESTS, MOST_TICKS, MOST_COUNT}
 use Rattle.sporadic_model.specs.declared.refusal.Place.TheVariants as place
 use Rattle.sporadic_model.specs.declared.refusal.ModelRefusal.{ModelRefusal}
 use Rattle.sporadic_model.specs.declared.refusal.ModelRefusal.TheVariants as refusal
@@ -34,13 +37,16 @@ none_due set h =
     let d = none_of_both (is_due set) (request_refusals set) _ c.back in
     record { sizes = a.front; names = b.front; numbers = c.front; requests = d.front; homes = d.back }
 
-pub not_at_task : (set : SetDef) (f : ℕ → ModelRefusal) (x : ℕ) → x < length set.tasks → find (is_due set) (at_tasks set f) ≡ None → is_due set (f x) ≡ false
+pub not_at_task : (set : SetDef) (f : ℕ → ModelRefusal) (x : ℕ) → x < length set.tasks
+    → find (is_due set) (at_tasks set f) ≡ None → is_due set (f x) ≡ false
 not_at_task set f x h none = none_at (is_due set) f 0 (length set.tasks) x x (omega arith) h none
 
-pub not_at_resource : (set : SetDef) (f : ℕ → ModelRefusal) (q : ℕ) → q < length set.resources → find (is_due set) (at_resources set f) ≡ None → is_due set (f q) ≡ false
+pub not_at_resource : (set : SetDef) (f : ℕ → ModelRefusal) (q : ℕ) → q < length set.resources
+    → find (is_due set) (at_resources set f) ≡ None → is_due set (f q) ≡ false
 not_at_resource set f q h none = none_at (is_due set) f 0 (length set.resources) q q (omega arith) h none
 
-pub not_at_request : (set : SetDef) (f : ℕ → ℕ → ModelRefusal) (x j : ℕ) → x < length set.tasks → j < length (task_at set x).requests → find (is_due set) (at_requests set f) ≡ None → is_due set (f x j) ≡ false
+pub not_at_request : (set : SetDef) (f : ℕ → ℕ → ModelRefusal) (x j : ℕ) → x < length set.tasks
+    → j < length (task_at set x).requests → find (is_due set) (at_requests set f) ≡ None → is_due set (f x j) ≡ false
 not_at_request set f x j h i none =
     none_at (is_due set) (f x) 0 (length (task_at set x).requests) j j (omega arith) i
     (none_in_at (is_due set) (λ y. map (f y) (numbers (length (task_at set y).requests))) 0 (length set.tasks) x x (omega arith) h none)
@@ -65,23 +71,38 @@ numbers_of_free set x h i =
     let b = none_of_both (is_due set) (at_tasks set (λ y. refusal.Period (record { 0 = y }))) _ a.back in
     let c = none_of_both (is_due set) (at_tasks set (λ y. refusal.Deadline (record { 0 = y }))) _ b.back in
     let d = none_of_both (is_due set) (at_tasks set (λ y. refusal.Cost (record { 0 = y }))) _ c.back in
-    let processor = between 1 set.processors (task_at set x).processor (not_at_task set (λ y. refusal.Processor (record { 0 = y })) x i a.front) in
+    let processor = between 1 set.processors (task_at set x).processor
+    (not_at_task set (λ y. refusal.Processor (record { 0 = y })) x i a.front) in
     let period = between 1 MOST_TICKS (task_at set x).period (not_at_task set (λ y. refusal.Period (record { 0 = y })) x i b.front) in
-    let deadline = between 1 (task_at set x).period (task_at set x).deadline (not_at_task set (λ y. refusal.Deadline (record { 0 = y })) x i c.front) in
-    let cost = between 1 (task_at set x).deadline (task_at set x).cost (not_at_task set (λ y. refusal.Cost (record { 0 = y })) x i d.front) in
+    let deadline = between 1 (task_at set x).period (task_at set x).deadline
+    (not_at_task set (λ y. refusal.Deadline (record { 0 = y })) x i c.front) in
+    let cost = between 1 (task_at set x).deadline (task_at set x).cost
+    (not_at_task set (λ y. refusal.Cost (record { 0 = y })) x i d.front) in
     let local = between 1 (task_at set x).cost (task_at set x).local (not_at_task set (λ y. refusal.Local (record { 0 = y })) x i d.back) in
-    record { processor_from = processor.from; processor_to = processor.to; local_from = local.from; local_to = local.to; cost_from = cost.from; cost_to = cost.to; deadline_to = deadline.to; period_to = period.to }
+    record {
+      processor_from = processor.from;
+      processor_to = processor.to;
+      local_from = local.from;
+      local_to = local.to;
+      cost_from = cost.from;
+      cost_to = cost.to;
+      deadline_to = deadline.to;
+      period_to = period.to;
+    }
 
 -- The numbers of each request entry are in their ranges.
-pub requests_of_free : (set : SetDef) (x j : ℕ) → first_refusal set ≡ None → x < length set.tasks → j < length (task_at set x).requests → RequestNumbers set x j
+pub requests_of_free : (set : SetDef) (x j : ℕ) → first_refusal set ≡ None → x < length set.tasks
+    → j < length (task_at set x).requests → RequestNumbers set x j
 unfolding is_due
 requests_of_free set x j h i k =
     let n = (none_due set h).requests in
     let a = none_of_both (is_due set) (at_requests set (λ y l. refusal.Resource (place.Request y l))) _ n in
     let b = none_of_both (is_due set) (at_requests set (λ y l. refusal.TwiceRequest (place.Request y l))) _ a.back in
     let c = none_of_both (is_due set) (at_requests set (λ y l. refusal.Count (place.Request y l))) _ b.back in
-    let count = between 1 MOST_COUNT (request_at set x j).count (not_at_request set (λ y l. refusal.Count (place.Request y l)) x j i k c.front) in
-    let length = length_between (request_at set x j).length (task_at set x).cost (not_at_request set (λ y l. refusal.Length (place.Request y l)) x j i k c.back) in
+    let count = between 1 MOST_COUNT (request_at set x j).count
+    (not_at_request set (λ y l. refusal.Count (place.Request y l)) x j i k c.front) in
+    let length = length_between (request_at set x j).length (task_at set x).cost
+    (not_at_request set (λ y l. refusal.Length (place.Request y l)) x j i k c.back) in
     record { count_from = count.from; count_to = count.to; length_from = length.0; length_to = length.1 }
 
 pub at_most : (most n : ℕ) → nat_lt most n ≡ false → n ≤ most
@@ -107,18 +128,22 @@ sizes_of_free set h =
     }
 
 -- The home of a resource of an set for which no refusal is due, where it has one, is a processor of the set.
-pub home_of_free : (set : SetDef) (q k : ℕ) → first_refusal set ≡ None → q < length set.resources → (resource_at set q).home ≡ Some k → IsBetween 1 set.processors k
+pub home_of_free : (set : SetDef) (q k : ℕ) → first_refusal set ≡ None → q < length set.resources
+    → (resource_at set q).home ≡ Some k → IsBetween 1 set.processors k
 unfolding is_due
 home_of_free set q k h i e =
     let fact = not_at_resource set (λ y. refusal.Home (record { 0 = y })) q i (none_due set h).homes in
     between 1 set.processors k (rw e at fact)
 
 -- An element whose name no earlier one has differs in name from each earlier one.
-pub differs : {A : Type 0} (name : A → List ℕ) (xs : List A) (i j : ℕ) (d : A) → i < j → j < length xs → list_any (λ e. bytes_eq (name e) (name (slice_index_or xs j d))) (take j xs) ≡ false → name (slice_index_or xs i d) ≢ name (slice_index_or xs j d)
+pub differs : {A : Type 0} (name : A → List ℕ) (xs : List A) (i j : ℕ) (d : A) → i < j → j < length xs
+    → list_any (λ e. bytes_eq (name e) (name (slice_index_or xs j d))) (take j xs) ≡ false
+    → name (slice_index_or xs i d) ≢ name (slice_index_or xs j d)
 differs {A} name xs i j d h k none same =
     let test : A → Bool = λ e. bytes_eq (name e) (name (slice_index_or xs j d)) in
     let within : i < length (take j xs) = rw (length-take j xs) (omega arith) in
-    let passes : test (slice_index_or (take j xs) i d) ≡ true = rw (get_or-take j xs i d h) ((bytes_eq-Decides (name (slice_index_or xs i d)) (name (slice_index_or xs j d))).1 same) in
+    let passes : test (slice_index_or (take j xs) i d) ≡ true = rw (get_or-take j xs i d h)
+    ((bytes_eq-Decides (name (slice_index_or xs i d)) (name (slice_index_or xs j d))).1 same) in
     let there : list_any test (take j xs) ≡ true = list_any_at test (take j xs) i d within passes in
     cc
 
@@ -127,7 +152,8 @@ passes_or true b h = inl refl
 passes_or false b h = inr h
 
 -- Where some element passes, one of some number does.
-pub passing : {A : Type 0} (p : A → Bool) (xs : List A) (d : A) → list_any p xs ≡ true → (k : ℕ) × (k < length xs) × (p (slice_index_or xs k d) ≡ true)
+pub passing : {A : Type 0} (p : A → Bool) (xs : List A) (d : A) → list_any p xs ≡ true
+    → (k : ℕ) × (k < length xs) × (p (slice_index_or xs k d) ≡ true)
 passing p [] d h = absurd (cc)
 passing p (x ∷ xs) d h =
     elim (passes_or (p x) (list_any p xs) h) [
@@ -148,10 +174,13 @@ names_of_free set h =
     let b = none_of_both (is_due set) (at_tasks set (λ x. refusal.Name (place.Task x))) _ a.back in
     let c = none_of_both (is_due set) (at_resources set (λ q. refusal.TwiceName (place.Resource q))) _ b.back in
     record {
-      resource_names = λ q i. truth (is_name (resource_at set q).name) (not_at_resource set (λ r. refusal.Name (place.Resource r)) q i a.front);
+      resource_names = λ q i. truth (is_name (resource_at set q).name)
+          (not_at_resource set (λ r. refusal.Name (place.Resource r)) q i a.front);
       task_names = λ x i. truth (is_name (task_at set x).name) (not_at_task set (λ y. refusal.Name (place.Task y)) x i b.front);
-      resources_apart = λ p q i k. differs (λ r. r.name) set.resources p q no_resource i k (not_at_resource set (λ r. refusal.TwiceName (place.Resource r)) q k c.front);
-      tasks_apart = λ x y i k. differs (λ t. t.name) set.tasks x y no_task i k (not_at_task set (λ z. refusal.TwiceName (place.Task z)) y k c.back);
+      resources_apart = λ p q i k. differs (λ r. r.name) set.resources p q no_resource i k
+          (not_at_resource set (λ r. refusal.TwiceName (place.Resource r)) q k c.front);
+      tasks_apart = λ x y i k. differs (λ t. t.name) set.tasks x y no_task i k
+          (not_at_task set (λ z. refusal.TwiceName (place.Task z)) y k c.back);
     }
 
 -- Each entry of an set for which no refusal is due names a resource of the set, and no two of a task the same one.
@@ -164,9 +193,12 @@ entries_of_free set x h i =
     record {
       known = λ j k.
           let name : List ℕ = (request_at set x j).resource in
-          let r = passing (λ r. bytes_eq r.name name) set.resources no_resource (truth (has_resource_named set.resources name) (not_at_request set (λ y l. refusal.Resource (place.Request y l)) x j i k a.front)) in
+          let r =
+          passing (λ r. bytes_eq r.name name) set.resources no_resource (truth (has_resource_named set.resources name)
+          (not_at_request set (λ y l. refusal.Resource (place.Request y l)) x j i k a.front)) in
           (r.0, r.1, (bytes_eq-Decides (resource_at set r.0).name name).0 r.2);
-      apart = λ j l k m. differs (λ e. e.resource) (task_at set x).requests j l no_request k m (not_at_request set (λ y o. refusal.TwiceRequest (place.Request y o)) x l i m b.front);
+      apart = λ j l k m. differs (λ e. e.resource) (task_at set x).requests j l no_request k m
+          (not_at_request set (λ y o. refusal.TwiceRequest (place.Request y o)) x l i m b.front);
     }
 
 -- Each given home of an set for which no refusal is due is one of its processors.

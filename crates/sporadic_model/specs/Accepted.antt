@@ -4,7 +4,8 @@ use Rattle.std.specs.Prelude.{◌≡◌, ◌≢◌, ℕ, ◌<◌, ◌≤◌, ◌
 use Rattle.sporadic_model.specs.SetDef.{SetDef, RequestDef, task_at, resource_at, request_at, request_count}
 use Rattle.sporadic_model.specs.Names.{is_name}
 use Rattle.sporadic_model.specs.Users.{count_of}
-use Rattle.sporadic_model.specs.declared.limits.TheConstants.{MOST_PROCESSORS, MOST_TASKS, MOST_RESOURCES, MOST_REQUESTS, MOST_TICKS, MOST_COUNT}
+use Rattle.sporadic_model.specs.declared.limits.TheConstants.{MOST_PROCESSORS, MOST_TASKS, MOST_RESOURCES}
+use Rattle.sporadic_model.specs.declared.limits.TheConstants.{MOST_REQUESTS, MOST_TICKS, MOST_COUNT}
 
 -- The sizes of the set are in their ranges.
 pub record SetSizes (set : SetDef) : Type 0 where
@@ -49,7 +50,8 @@ pub record AreNamed (set : SetDef) : Type 0 where
 
 -- Each entry of task x names a resource of the set, and no two of its entries the same one.
 pub record AreEntries (set : SetDef) (x : ℕ) : Type 0 where
-  pub known : (j : ℕ) → j < length (task_at set x).requests → (q : ℕ) × (q < length set.resources) × ((resource_at set q).name ≡ (request_at set x j).resource)
+  pub known : (j : ℕ) → j < length (task_at set x).requests
+      → (q : ℕ) × (q < length set.resources) × ((resource_at set q).name ≡ (request_at set x j).resource)
   pub apart : (i j : ℕ) → i < j → j < length (task_at set x).requests → (request_at set x i).resource ≢ (request_at set x j).resource
 
 -- A given home is a processor of the set.

@@ -1,5 +1,6 @@
 -- When is each refusal due, and in which order are they tried?
-use Rattle.std.specs.Prelude.{◌≡◌, ℕ, ◌==◌, ◌&&◌, not, Bool, false, nat_lt, List, [], ◌∷◌, ◌++◌, length, map, take, Option, Some, Result, Ok, Err, find}
+use Rattle.std.specs.Prelude.{◌≡◌, ℕ, ◌==◌, ◌&&◌, not, Bool, false, nat_lt, List, [], ◌∷◌, ◌++◌, length, map, take}
+use Rattle.std.specs.Prelude.{Option, Some, Result, Ok, Err, find}
 use Rattle.std.specs.List.{flat_map, list_any}
 use Rattle.std.specs.Option.{option_map_or}
 use Rattle.std.specs.Int.{is_in_range}
@@ -8,7 +9,8 @@ use Rattle.sporadic_model.specs.SetDef.{SetDef, TaskDef, RequestDef, ResourceDef
 use Rattle.sporadic_model.specs.Names.{is_name}
 use Rattle.sporadic_model.specs.Users.{numbers}
 use Rattle.sporadic_model.specs.Accepted.{IsAccepted}
-use Rattle.sporadic_model.specs.declared.limits.TheConstants.{MOST_PROCESSORS, MOST_TASKS, MOST_RESOURCES, MOST_REQUESTS, MOST_TICKS, MOST_COUNT}
+use Rattle.sporadic_model.specs.declared.limits.TheConstants.{MOST_PROCESSORS, MOST_TASKS, MOST_RESOURCES}
+use Rattle.sporadic_model.specs.declared.limits.TheConstants.{MOST_REQUESTS, MOST_TICKS, MOST_COUNT}
 use Rattle.sporadic_model.specs.declared.refusal.Place.TheVariants as place
 use Rattle.sporadic_model.specs.declared.refusal.SizeOf.TheVariants as size
 use Rattle.sporadic_model.specs.declared.refusal.ModelRefusal.{ModelRefusal}
@@ -46,7 +48,8 @@ is_due set (refusal.Local x) = not (is_in_range 1 (task_at set x.0).cost (task_a
 is_due set (refusal.Resource (place.Request x j)) = not (has_resource_named set.resources (request_at set x j).resource)
 is_due set (refusal.TwiceRequest (place.Request x j)) = has_entry_for (take j (task_at set x).requests) (request_at set x j).resource
 is_due set (refusal.Count (place.Request x j)) = not (is_in_range 1 MOST_COUNT (request_at set x j).count)
-is_due set (refusal.Length (place.Request x j)) = not (nat_lt 0 (request_at set x j).length && nat_lt (request_at set x j).length (task_at set x).cost)
+is_due set (refusal.Length (place.Request x j)) =
+    not (nat_lt 0 (request_at set x j).length && nat_lt (request_at set x j).length (task_at set x).cost)
 is_due set (refusal.Home q) = option_map_or (λ k. not (is_in_range 1 set.processors k)) (resource_at set q.0).home false
 is_due set _ = false
 
@@ -62,7 +65,8 @@ at_requests set refusal_at = flat_map (λ x. map (refusal_at x) (numbers (length
 
 -- The refusals in the order in which they are tried.
 unfoldable pub size_refusals : List ModelRefusal
-size_refusals = refusal.NoTask ∷ refusal.Size size.Processors ∷ refusal.Size size.Tasks ∷ refusal.Size size.Resources ∷ refusal.Size size.Requests ∷ []
+size_refusals = refusal.NoTask ∷ refusal.Size size.Processors ∷ refusal.Size size.Tasks ∷ refusal.Size size.Resources
+    ∷ refusal.Size size.Requests ∷ []
 
 abbrev pub name_refusals : SetDef → List ModelRefusal
 name_refusals set =

@@ -13,7 +13,15 @@ abbrev pub resource_seen : ResourcePart → ResourceDef
 resource_seen r = record { name = string_bytes r.name; home = r.home }
 
 abbrev pub task_seen : TaskPart → TaskDef
-task_seen t = record { name = string_bytes t.name; processor = t.processor; period = t.period; deadline = t.deadline; cost = t.cost; local = t.local; requests = map request_seen t.requests.items }
+task_seen t = record {
+  name = string_bytes t.name;
+  processor = t.processor;
+  period = t.period;
+  deadline = t.deadline;
+  cost = t.cost;
+  local = t.local;
+  requests = map request_seen t.requests.items;
+}
 
 abbrev pub parts_seen : Parts → SetDef
 parts_seen p = record { processors = p.processors; resources = map resource_seen p.resources.items; tasks = map task_seen p.tasks.items }

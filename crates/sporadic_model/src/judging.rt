@@ -6,7 +6,9 @@ ghost use Rattle.sporadic_model.specs.Seen.{parts_seen, task_seen};
 ghost use Rattle.sporadic_model.specs.Users.{numbers};
 ghost use Rattle.sporadic_model.specs.Accepted.{FitsIds};
 ghost use Rattle.sporadic_model.specs.Faults.{resource_refusal, task_refusal, request_refusal};
-ghost use Rattle.sporadic_model.specs.Refusals.{is_due, at_resources, at_tasks, at_requests, size_refusals, name_refusals, number_refusals, request_refusals, first_refusal as first_due};
+ghost use Rattle.sporadic_model.specs.Refusals.{is_due, at_resources, at_tasks, at_requests, size_refusals};
+ghost use Rattle.sporadic_model.specs.Refusals.{name_refusals, number_refusals, request_refusals};
+ghost use Rattle.sporadic_model.specs.Refusals.{first_refusal as first_due};
 
 use crate::ids::{ResourceId, TaskId};
 use crate::limits::{
@@ -177,7 +179,8 @@ fn first_at_entries(parts: &Parts, fault: RequestFault, x: usize) -> Option<Mode
     requires task { x < length parts.now.tasks.items }
     requires id { x < 2 ^ 32 }
     requires entries { length (task_at (parts_seen parts.now) x).requests < 2 ^ 32 }
-    ensures { result ≡ find (is_due (parts_seen parts.now)) (map (request_refusal fault x) (numbers (length (task_at (parts_seen parts.now) x).requests))) }
+    ensures { result ≡ find (is_due (parts_seen parts.now))
+        (map (request_refusal fault x) (numbers (length (task_at (parts_seen parts.now) x).requests))) }
 {
     for j in 0..task_part(&parts.tasks, x).requests.len() {
         if is_due_at_request(parts, fault, x, j) {

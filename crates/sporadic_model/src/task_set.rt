@@ -1,10 +1,13 @@
 ghost use Rattle.std.specs.Prelude.{◌≡◌, ℕ, ◌<◌, ◌≤◌, length, IfOk, IfErr, IfSome, IfNone, IsTrue, option_map, find};
 ghost use Rattle.sporadic_model.specs.SetDef.{task_at, resource_at, is_higher_local};
-ghost use Rattle.sporadic_model.specs.Users.{numbers, entry_of, count_of, length_of, is_remote_user, ceiling_of, remote_ceiling_of, task_with_name, resource_with_name};
+ghost use Rattle.sporadic_model.specs.Users.{numbers, entry_of, count_of, length_of, is_remote_user, ceiling_of};
+ghost use Rattle.sporadic_model.specs.Users.{remote_ceiling_of, task_with_name, resource_with_name};
 ghost use Rattle.sporadic_model.specs.Seen.{parts_seen, task_seen, resource_seen, request_seen};
 ghost use Rattle.sporadic_model.specs.Refusals.{Judged};
 ghost use Rattle.sporadic_model.specs.Demands.{IsDemand};
-ghost use Rattle.sporadic_model.specs.Accepted.{IsAccepted, TaskNumbers, RequestNumbers, EntryNumbers, SetSizes, AreNamed, AreHomes, AreEntries, IsHighestUser, HasNoUser, IsHighestRemoteUser, HasNoRemoteUser, IsBoost};
+ghost use Rattle.sporadic_model.specs.Accepted.{IsAccepted, TaskNumbers, RequestNumbers, EntryNumbers, SetSizes};
+ghost use Rattle.sporadic_model.specs.Accepted.{AreNamed, AreHomes, AreEntries, IsHighestUser, HasNoUser};
+ghost use Rattle.sporadic_model.specs.Accepted.{IsHighestRemoteUser, HasNoRemoteUser, IsBoost};
 
 use crate::demands::{Demand, ceiling_at, ceilings_of, demand_at, demands_of};
 use crate::ids::{ResourceId, TaskId};

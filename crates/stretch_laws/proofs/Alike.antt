@@ -1,6 +1,7 @@
 -- Ticks of a steady stretch are alike: the same jobs are active, in the same phases, and after the first tick the row's holders
 -- are those of the row before.
-use Rattle.std.proofs.Common.{◌≡◌, ℕ, zero, suc, ◌+◌, ◌-◌, ◌<◌, ◌≤◌, ◌==◌, ◌&&◌, ◌||◌, not, false, length, refl, sym, ap, ◌∙◌, arith, inl, inr, Option, Some, None, leb}
+use Rattle.std.proofs.Common.{◌≡◌, ℕ, zero, suc, ◌+◌, ◌-◌, ◌<◌, ◌≤◌, ◌==◌, ◌&&◌, ◌||◌, not, false, length, refl, sym}
+use Rattle.std.proofs.Common.{ap, ◌∙◌, arith, inl, inr, Option, Some, None, leb}
 use Rattle.std.specs.Option.{option_map_or}
 use Rattle.std.proofs.lemmas.Bool.{cases_lt, cases_Bool, le-leb, lt-leb}
 use Rattle.std.proofs.lemmas.List.{get_or_past}
@@ -10,8 +11,10 @@ use Rattle.sporadic_model.specs.SetDef.{is_higher_local}
 use Rattle.schedule_model.specs.JobDef.{no_job, job_of}
 use Rattle.schedule_model.specs.RowDef.{Trace, running_on, holder_in, held_before, runs_in}
 use Rattle.schedule_model.specs.Phase.{is_local, is_finished, executed, phase_of}
-use Rattle.schedule_model.specs.Activity.{task_of, processor_of, is_pending, is_next, is_active, is_requester, is_active_local, is_ready_holder, is_ready}
-use Rattle.schedule_model.specs.BlockedTicks.{is_delayed, runs_higher, runs_higher_local, is_shared_interference, is_dpcp_interference, is_blocked}
+use Rattle.schedule_model.specs.Activity.{task_of, processor_of, is_pending, is_next, is_active, is_requester}
+use Rattle.schedule_model.specs.Activity.{is_active_local, is_ready_holder, is_ready}
+use Rattle.schedule_model.specs.BlockedTicks.{is_delayed, runs_higher, runs_higher_local, is_shared_interference}
+use Rattle.schedule_model.specs.BlockedTicks.{is_dpcp_interference, is_blocked}
 use Rattle.schedule_laws.proofs.Ticks.{executed_waits, phase_same}
 use Rattle.stretch_laws.specs.Steady.{IsSteady}
 
@@ -38,7 +41,8 @@ phase_through w t n i j steady l = elim (cases_Bool (runs_in (w.row t) j)) [
   | inr waits ↦ phase_same w (t + i) t j (waits_through w t n j i steady waits l)
 ]
 
-released_through : (w : Trace) (t n i j : ℕ) → IsSteady w t n → i < n → leb (job_of w.jobs j).release (t + i) ≡ leb (job_of w.jobs j).release t
+released_through : (w : Trace) (t n i j : ℕ) → IsSteady w t n → i < n
+    → leb (job_of w.jobs j).release (t + i) ≡ leb (job_of w.jobs j).release t
 released_through w t n i j steady l = elim (cases_lt t (job_of w.jobs j).release) [
   | inr early ↦
       let there : (job_of w.jobs j).release ≤ t + i = omega (arith, early) in
@@ -48,7 +52,9 @@ released_through w t n i j steady l = elim (cases_lt t (job_of w.jobs j).release
   listed : t < (job_of w.jobs j).release → j < length w.jobs
   listed coming = elim (cases_lt j (length w.jobs)) [
     | inl there ↦ there
-    | inr past ↦ let none : (job_of w.jobs j).release ≡ 0 = ap (λ job. job.release) (get_or_past w.jobs j no_job past) in absurd (omega (arith, none, coming))
+    | inr past ↦
+        let none : (job_of w.jobs j).release ≡ 0 = ap (λ job. job.release) (get_or_past w.jobs j no_job past) in
+        absurd (omega (arith, none, coming))
   ]
 
   later : t < (job_of w.jobs j).release → t + i < (job_of w.jobs j).release
@@ -56,7 +62,8 @@ released_through w t n i j steady l = elim (cases_lt t (job_of w.jobs j).release
     | inl behind ↦ behind
     | inr passed ↦
         let same : (job_of w.jobs j).release ≡ t + ((job_of w.jobs j).release - t) = omega (arith, coming) in
-        absurd (steady.releases ((job_of w.jobs j).release - t) j (omega (arith, coming)) (omega (arith, coming, passed, l)) (listed coming) same)
+        absurd (steady.releases ((job_of w.jobs j).release - t) j (omega (arith, coming))
+        (omega (arith, coming, passed, l)) (listed coming) same)
   ]
 
 held_through : (w : Trace) (t n i q : ℕ) → IsSteady w t n → 0 < i → i < n → held_before w (t + i) q ≡ holder_in (w.row t) q
@@ -79,10 +86,15 @@ alike_through w t n i steady some l = record {
 pub active_alike : (w : Trace) (t u j : ℕ) → IsAlike w t u → is_active w u j ≡ is_active w t j
 unfolding is_active is_pending is_next
 active_alike w t u j a =
-    ap (λ b. (b && not (is_finished (phase_of w u j))) && all_below j (λ e. not (task_of w e == task_of w j) || is_finished (phase_of w u e))) (a.released j)
-    ∙ ap (λ p. (leb (job_of w.jobs j).release t && not (is_finished p)) && all_below j (λ e. not (task_of w e == task_of w j) || is_finished (phase_of w u e))) (a.phase j)
+    ap
+    (λ b. (b && not (is_finished (phase_of w u j)))
+    && all_below j (λ e. not (task_of w e == task_of w j) || is_finished (phase_of w u e))) (a.released j)
+    ∙ ap
+    (λ p. (leb (job_of w.jobs j).release t && not (is_finished p))
+    && all_below j (λ e. not (task_of w e == task_of w j) || is_finished (phase_of w u e))) (a.phase j)
     ∙ ap (λ b. (leb (job_of w.jobs j).release t && not (is_finished (phase_of w t j))) && b)
-    (all_below-agree j (λ e. not (task_of w e == task_of w j) || is_finished (phase_of w u e)) (λ e. not (task_of w e == task_of w j) || is_finished (phase_of w t e))
+    (all_below-agree j (λ e. not (task_of w e == task_of w j) || is_finished (phase_of w u e))
+    (λ e. not (task_of w e == task_of w j) || is_finished (phase_of w t e))
     (λ e b. ap (λ p. not (task_of w e == task_of w j) || is_finished p) (a.phase e)))
 
 pub requester_alike : (w : Trace) (t u q j : ℕ) → IsAlike w t u → is_requester w u q j ≡ is_requester w t q j
@@ -119,18 +131,25 @@ shared_interference_alike w t u j a = rw (delayed_alike w t u j a, a.row) refl
 dpcp_interference_alike : (w : Trace) (t u j : ℕ) → IsAlike w t u → is_dpcp_interference w u j ≡ is_dpcp_interference w t j
 unfolding is_dpcp_interference runs_higher_local
 dpcp_interference_alike w t u j a =
-    ap (λ b. b && option_map_or (λ r. is_higher_local w.set (task_of w j) (task_of w r) && is_local (phase_of w u r)) (running_on (w.row u) (processor_of w j)) false) (delayed_alike w t u j a)
-    ∙ ap (λ row. is_delayed w t j && option_map_or (λ r. is_higher_local w.set (task_of w j) (task_of w r) && is_local (phase_of w u r)) (running_on row (processor_of w j)) false) a.row
+    ap
+    (λ b. b && option_map_or (λ r. is_higher_local w.set (task_of w j) (task_of w r) && is_local (phase_of w u r))
+    (running_on (w.row u) (processor_of w j)) false) (delayed_alike w t u j a)
+    ∙ ap
+    (λ row. is_delayed w t j
+    && option_map_or (λ r. is_higher_local w.set (task_of w j) (task_of w r) && is_local (phase_of w u r))
+    (running_on row (processor_of w j)) false) a.row
     ∙ ap (λ b. is_delayed w t j && b) (go (running_on (w.row t) (processor_of w j))) where
       go : (o : Option ℕ) → option_map_or (λ r. is_higher_local w.set (task_of w j) (task_of w r) && is_local (phase_of w u r)) o false
           ≡ option_map_or (λ r. is_higher_local w.set (task_of w j) (task_of w r) && is_local (phase_of w t r)) o false
       go None = refl
       go (Some r) = ap (λ p. is_higher_local w.set (task_of w j) (task_of w r) && is_local p) (a.phase r)
 
-pub shared_blocked_alike : (w : Trace) (t u j : ℕ) → IsAlike w t u → is_blocked is_shared_interference w u j ≡ is_blocked is_shared_interference w t j
+pub shared_blocked_alike : (w : Trace) (t u j : ℕ) → IsAlike w t u
+    → is_blocked is_shared_interference w u j ≡ is_blocked is_shared_interference w t j
 unfolding is_blocked
 shared_blocked_alike w t u j a = rw (delayed_alike w t u j a, shared_interference_alike w t u j a) refl
 
-pub dpcp_blocked_alike : (w : Trace) (t u j : ℕ) → IsAlike w t u → is_blocked is_dpcp_interference w u j ≡ is_blocked is_dpcp_interference w t j
+pub dpcp_blocked_alike : (w : Trace) (t u j : ℕ) → IsAlike w t u
+    → is_blocked is_dpcp_interference w u j ≡ is_blocked is_dpcp_interference w t j
 unfolding is_blocked
 dpcp_blocked_alike w t u j a = rw (delayed_alike w t u j a, dpcp_interference_alike w t u j a) refl

@@ -1,8 +1,10 @@
 -- Under DPCP a lawful row stays as lawful through a steady stretch: the first request that waits at a processor is granted at
 -- the stretch's first tick, or something kept there bars it; so what waits from then on is barred by what is held.
-use Rattle.std.proofs.Common.{◌≡◌, ℕ, zero, suc, ◌+◌, ◌<◌, ◌≤◌, ◌==◌, ◌&&◌, ◌||◌, not, Bool, true, false, length, refl, sym, ap, ◌∙◌, subst, arith, inl, inr, Option, Some, None, nat_le, unwrap_or}
+use Rattle.std.proofs.Common.{◌≡◌, ℕ, zero, suc, ◌+◌, ◌<◌, ◌≤◌, ◌==◌, ◌&&◌, ◌||◌, not, Bool, true, false, length, refl}
+use Rattle.std.proofs.Common.{sym, ap, ◌∙◌, subst, arith, inl, inr, Option, Some, None, nat_le, unwrap_or}
 use Rattle.std.specs.Option.{option_map_or}
-use Rattle.std.proofs.lemmas.Bool.{cases_lt, cases_Bool, both_ways, and_parts, and_from, eq-eqb, eqb-true, le-leb, leb-true, ltb-true, not-true, not_from_false, false_from_ne_true}
+use Rattle.std.proofs.lemmas.Bool.{cases_lt, cases_Bool, both_ways, and_parts, and_from, eq-eqb, eqb-true, le-leb}
+use Rattle.std.proofs.lemmas.Bool.{leb-true, ltb-true, not-true, not_from_false, false_from_ne_true}
 use Rattle.bounded_sums.specs.Tests.{all_below, any_below}
 use Rattle.bounded_sums.proofs.TestLaws.{all_below-from, any_below-from, any_below-some, any_below-agree}
 use Rattle.sporadic_model.specs.SetDef.{SetDef}
@@ -19,7 +21,9 @@ use Rattle.schedule_model.specs.Phase.Phase.{Local, Asking, Finished}
 use Rattle.schedule_model.specs.Activity.{task_of, is_active, is_requester, holds_by}
 use Rattle.schedule_model.specs.BlockedTicks.{is_dpcp_interference}
 use Rattle.schedule_model.specs.SharedRules.{KeepsKeep}
-use Rattle.schedule_model.specs.DpcpRules.{home_of, ceiling_rank, is_at, has_request_at, has_requests, holds_at, is_kept, waits_at, is_first_waiting, is_barred, is_granted, KeepsRun, KeepsGrant, KeepsIdle, RunsFirstHolder, KeepsPriority}
+use Rattle.schedule_model.specs.DpcpRules.{home_of, ceiling_rank, is_at, has_request_at, has_requests, holds_at}
+use Rattle.schedule_model.specs.DpcpRules.{is_kept, waits_at, is_first_waiting, is_barred, is_granted, KeepsRun}
+use Rattle.schedule_model.specs.DpcpRules.{KeepsGrant, KeepsIdle, RunsFirstHolder, KeepsPriority}
 use Rattle.schedule_model.specs.Protocols.{dpcp_rule}
 use Rattle.schedule_model.specs.Keeping.{KeepsRow}
 use Rattle.schedule_model.specs.Chosen.{IsDpcpChoice}
@@ -27,7 +31,8 @@ use Rattle.schedule_laws.proofs.ActiveJobs.{Requester, requester_is, requester_f
 use Rattle.schedule_laws.proofs.Rows.{job_named, named_job}
 use Rattle.schedule_laws.proofs.Segments.{open_resource, open_user}
 use Rattle.stretch_laws.specs.Steady.{IsAsLawful, StaysLawful}
-use Rattle.stretch_laws.proofs.Alike.{IsAlike, alike_through, active_alike, requester_alike, active_local_alike, running_alike, holder_alike, dpcp_blocked_alike}
+use Rattle.stretch_laws.proofs.Alike.{IsAlike, alike_through, active_alike, requester_alike, active_local_alike}
+use Rattle.stretch_laws.proofs.Alike.{running_alike, holder_alike, dpcp_blocked_alike}
 use Rattle.stretch_laws.proofs.SharedStretches.{keep_again, sized_again}
 
 -- At a tick that is alike the same requests are at each processor, and hold there.
@@ -37,14 +42,16 @@ request_at_alike w t u k j a = rw (active_alike w t u j a, a.phase j) refl
 
 has_requests_alike : (w : Trace) (t u k : ℕ) → IsAlike w t u → has_requests w u k ≡ has_requests w t k
 unfolding has_requests
-has_requests_alike w t u k a = any_below-agree (length w.jobs) (has_request_at w u k) (has_request_at w t k) (λ j l. request_at_alike w t u k j a)
+has_requests_alike w t u k a =
+    any_below-agree (length w.jobs) (has_request_at w u k) (has_request_at w t k) (λ j l. request_at_alike w t u k j a)
 
 holds_at_alike : (w : Trace) (t u k j : ℕ) → IsAlike w t u → holds_at w u k j ≡ holds_at w t k j
 unfolding holds_at
 holds_at_alike w t u k j a = rw (request_at_alike w t u k j a, a.phase j, a.row) refl
 
 -- The user of a resource is no higher than its ceiling.
-pub ceiling_low : (set : SetDef) (q x : ℕ) → is_user set q x ≡ true → x < length set.tasks → unwrap_or (ceiling_of set q) (length set.tasks) ≤ x
+pub ceiling_low : (set : SetDef) (q x : ℕ) → is_user set q x ≡ true → x < length set.tasks
+    → unwrap_or (ceiling_of set q) (length set.tasks) ≤ x
 ceiling_low set q x user l = go (ceiling_of set q) refl where
   some : 0 < count_of set x q
   some = ltb-true 0 (count_of set x q) user
@@ -90,7 +97,12 @@ least_of (suc n) p key j l h = elim (cases_Bool (any_below n p)) [
       let old : Least n p key = least_of n p key one.0 one.1 one.2 in
       elim (cases_Bool (p n)) [
         | inl here ↦ least_more n p key here old
-        | inr fails ↦ record { place = old.place; within = omega (arith, old.within); passes = old.passes; least = λ i b g. before i b g old fails }
+        | inr fails ↦ record {
+          place = old.place;
+          within = omega (arith, old.within);
+          passes = old.passes;
+          least = λ i b g. before i b g old fails;
+        }
       ]
   | inr none ↦ record { place = n; within = omega arith; passes = last none; least = λ i b g. only i b g none }
 ] where
@@ -125,19 +137,31 @@ unfolding is_barred
 bars_of w t k x h =
     let one : (q : ℕ) × (q < length w.set.resources) × (((home_of w q == k) && (is_kept w t q && nat_le (ceiling_rank w q) x)) ≡ true) =
     any_below-some (length w.set.resources) (λ q. (home_of w q == k) && (is_kept w t q && nat_le (ceiling_rank w q) x)) h in
-    let parts : ((home_of w one.0 == k) ≡ true) × ((is_kept w t one.0 && nat_le (ceiling_rank w one.0) x) ≡ true) = and_parts (home_of w one.0 == k) (is_kept w t one.0 && nat_le (ceiling_rank w one.0) x) one.2 in
-    let both : (is_kept w t one.0 ≡ true) × (nat_le (ceiling_rank w one.0) x ≡ true) = and_parts (is_kept w t one.0) (nat_le (ceiling_rank w one.0) x) parts.1 in
-    record { resource = one.0; within = one.1; home = eqb-true (home_of w one.0) k parts.0; kept = both.0; ceiling = leb-true (ceiling_rank w one.0) x both.1 }
+    let parts : ((home_of w one.0 == k) ≡ true) × ((is_kept w t one.0 && nat_le (ceiling_rank w one.0) x) ≡ true) =
+    and_parts (home_of w one.0 == k) (is_kept w t one.0 && nat_le (ceiling_rank w one.0) x) one.2 in
+    let both : (is_kept w t one.0 ≡ true) × (nat_le (ceiling_rank w one.0) x ≡ true) =
+    and_parts (is_kept w t one.0) (nat_le (ceiling_rank w one.0) x) parts.1 in
+    record {
+      resource = one.0;
+      within = one.1;
+      home = eqb-true (home_of w one.0) k parts.0;
+      kept = both.0;
+      ceiling = leb-true (ceiling_rank w one.0) x both.1;
+    }
 
 barred_by : (w : Trace) (t k x : ℕ) → Bars w t k x → is_barred w t k x ≡ true
 unfolding is_barred
 barred_by w t k x bar =
-    any_below-from (length w.set.resources) (λ q. (home_of w q == k) && (is_kept w t q && nat_le (ceiling_rank w q) x)) bar.resource bar.within
-    (and_from (home_of w bar.resource == k) (is_kept w t bar.resource && nat_le (ceiling_rank w bar.resource) x) (eq-eqb (home_of w bar.resource) k bar.home)
-    (and_from (is_kept w t bar.resource) (nat_le (ceiling_rank w bar.resource) x) bar.kept (le-leb (ceiling_rank w bar.resource) x bar.ceiling)))
+    any_below-from (length w.set.resources) (λ q. (home_of w q == k) && (is_kept w t q && nat_le (ceiling_rank w q) x))
+    bar.resource bar.within
+    (and_from (home_of w bar.resource == k) (is_kept w t bar.resource && nat_le (ceiling_rank w bar.resource) x)
+    (eq-eqb (home_of w bar.resource) k bar.home)
+    (and_from (is_kept w t bar.resource) (nat_le (ceiling_rank w bar.resource) x) bar.kept
+    (le-leb (ceiling_rank w bar.resource) x bar.ceiling)))
 
 -- What is held at the first tick is kept at a tick that is alike.
-kept_of_held : (w : Trace) (t u q y : ℕ) → IsAlike w t u → holder_in (w.row t) q ≡ Some y → is_requester w t q y ≡ true → is_kept w u q ≡ true
+kept_of_held : (w : Trace) (t u q y : ℕ) → IsAlike w t u → holder_in (w.row t) q ≡ Some y → is_requester w t q y ≡ true
+    → is_kept w u q ≡ true
 unfolding is_kept
 kept_of_held w t u q y a e asks =
     ap (λ o. option_map_or (λ j. is_requester w u q j) o false) (a.held q ∙ e) ∙ requester_alike w t u q y a ∙ asks
@@ -165,16 +189,22 @@ request_at_is w t k j h = go (phase_of w t j) refl where
   go : (p : Phase) → phase_of w t j ≡ p → RequestAt w t k j
   go Local e = let x : false ≡ true = sym (ap (is_at w k) e) ∙ parts.1 in absurd (cc)
   go Finished e = let x : false ≡ true = sym (ap (is_at w k) e) ∙ parts.1 in absurd (cc)
-  go (Asking m q) e = record { resource = q; asks = requester_from w t q j m parts.0 e; home = eqb-true (home_of w q) k (sym (ap (is_at w k) e) ∙ parts.1) }
+  go (Asking m q) e = record {
+    resource = q;
+    asks = requester_from w t q j m parts.0 e;
+    home = eqb-true (home_of w q) k (sym (ap (is_at w k) e) ∙ parts.1);
+  }
 
 request_at_from : (w : Trace) (t q j : ℕ) → is_requester w t q j ≡ true → has_request_at w t (home_of w q) j ≡ true
 unfolding has_request_at
 request_at_from w t q j asks =
     let r : Requester w t q j = requester_is w t q j asks in
-    and_from (is_active w t j) (is_at w (home_of w q) (phase_of w t j)) r.active (ap (is_at w (home_of w q)) r.phase ∙ eq-eqb (home_of w q) (home_of w q) refl)
+    and_from (is_active w t j) (is_at w (home_of w q) (phase_of w t j)) r.active
+    (ap (is_at w (home_of w q)) r.phase ∙ eq-eqb (home_of w q) (home_of w q) refl)
 
 -- A requester that doesn't hold at a row that keeps Keep waits there.
-waits_there : (w : Trace) (t q j : ℕ) → KeepsKeep w t → is_requester w t q j ≡ true → (holder_in (w.row t) q ≡ Some j → ⊥) → waits_at w t (home_of w q) j ≡ true
+waits_there : (w : Trace) (t q j : ℕ) → KeepsKeep w t → is_requester w t q j ≡ true
+    → (holder_in (w.row t) q ≡ Some j → ⊥) → waits_at w t (home_of w q) j ≡ true
 unfolding waits_at
 waits_there w t q j keep asks free =
     and_from (has_request_at w t (home_of w q) j) (not (holds_by (held_before w t) j (phase_of w t j))) (request_at_from w t q j asks)
@@ -206,44 +236,72 @@ unfolding is_granted is_first_waiting waits_at
 bars_later w t u k lawful a keep grant one = elim (cases_Bool (is_barred w t k (task_of w one.place))) [
   | inl barred ↦
       let bar : Bars w t k (task_of w one.place) = bars_of w t k (task_of w one.place) barred in
-      record { resource = bar.resource; within = bar.within; home = bar.home; kept = kept_again w t u bar.resource a keep bar.kept; ceiling = bar.ceiling }
+      record {
+        resource = bar.resource;
+        within = bar.within;
+        home = bar.home;
+        kept = kept_again w t u bar.resource a keep bar.kept;
+        ceiling = bar.ceiling;
+      }
   | inr free ↦
       let known : Asked w r.resource one.place = asked_of w t r.resource one.place lawful r.asks in
-      record { resource = r.resource; within = known.within; home = r.home; kept = kept_of_held w t u r.resource one.place a (taken free) r.asks; ceiling = known.ceiling }
+      record {
+        resource = r.resource;
+        within = known.within;
+        home = r.home;
+        kept = kept_of_held w t u r.resource one.place a (taken free) r.asks;
+        ceiling = known.ceiling;
+      }
 ] where
   r : RequestAt w t k one.place
-  r = request_at_is w t k one.place (and_parts (has_request_at w t k one.place) (not (holds_by (held_before w t) one.place (phase_of w t one.place))) one.passes).0
+  r = request_at_is w t k one.place (and_parts (has_request_at w t k one.place)
+      (not (holds_by (held_before w t) one.place (phase_of w t one.place))) one.passes).0
 
   passes : (i : ℕ) → i < length w.jobs → (not (waits_at w t k i) || nat_le (task_of w one.place) (task_of w i)) ≡ true
   passes i l = elim (cases_Bool (waits_at w t k i)) [
-    | inl waits ↦ let low : nat_le (task_of w one.place) (task_of w i) ≡ true = le-leb (task_of w one.place) (task_of w i) (one.least i l waits) in rw (waits, low) refl
+    | inl waits ↦ let low : nat_le (task_of w one.place) (task_of w i) ≡ true =
+        le-leb (task_of w one.place) (task_of w i) (one.least i l waits) in
+        rw (waits, low) refl
     | inr idle ↦ rw idle refl
   ]
 
   taken : is_barred w t k (task_of w one.place) ≡ false → holder_in (w.row t) r.resource ≡ Some one.place
   taken free =
       let granted : is_granted w t k one.place ≡ true =
-      and_from (waits_at w t k one.place && all_below (length w.jobs) (λ i. not (waits_at w t k i) || nat_le (task_of w one.place) (task_of w i))) (not (is_barred w t k (task_of w one.place)))
-      (and_from (waits_at w t k one.place) (all_below (length w.jobs) (λ i. not (waits_at w t k i) || nat_le (task_of w one.place) (task_of w i))) one.passes
+      and_from
+      (waits_at w t k one.place
+      && all_below (length w.jobs) (λ i. not (waits_at w t k i) || nat_le (task_of w one.place) (task_of w i)))
+      (not (is_barred w t k (task_of w one.place)))
+      (and_from (waits_at w t k one.place)
+      (all_below (length w.jobs) (λ i. not (waits_at w t k i) || nat_le (task_of w one.place) (task_of w i))) one.passes
       (all_below-from (length w.jobs) (λ i. not (waits_at w t k i) || nat_le (task_of w one.place) (task_of w i)) passes))
       (not_from_false (is_barred w t k (task_of w one.place)) free) in
       let there : is_granted w t (home_of w r.resource) one.place ≡ true = ap (λ h. is_granted w t h one.place) r.home ∙ granted in
       grant.granted r.resource one.place one.within r.asks there
 
 -- So no request that is granted at a later tick waits there.
-never_granted : (w : Trace) (t u q j : ℕ) → AreLawfulJobs (jobs_of w) → IsAlike w t u → KeepsKeep w t → KeepsGrant w t → is_requester w t q j ≡ true
+never_granted : (w : Trace) (t u q j : ℕ) → AreLawfulJobs (jobs_of w) → IsAlike w t u → KeepsKeep w t → KeepsGrant w t
+    → is_requester w t q j ≡ true
     → (holder_in (w.row t) q ≡ Some j → ⊥) → is_granted w u (home_of w q) j ≡ true → ⊥
 unfolding is_granted
 never_granted w t u q j lawful a keep grant asks free granted =
     let waits : waits_at w t (home_of w q) j ≡ true = waits_there w t q j keep asks free in
     let listed : j < length w.jobs = requester_listed w t q j asks in
-    let one : Least (length w.jobs) (waits_at w t (home_of w q)) (task_of w) = least_of (length w.jobs) (waits_at w t (home_of w q)) (task_of w) j listed waits in
+    let one : Least (length w.jobs) (waits_at w t (home_of w q)) (task_of w) =
+    least_of (length w.jobs) (waits_at w t (home_of w q)) (task_of w) j listed waits in
     let bar : Bars w u (home_of w q) (task_of w one.place) = bars_later w t u (home_of w q) lawful a keep grant one in
     let barred : is_barred w u (home_of w q) (task_of w j) ≡ true =
     barred_by w u (home_of w q) (task_of w j)
-    (record { resource = bar.resource; within = bar.within; home = bar.home; kept = bar.kept; ceiling = omega (arith, bar.ceiling, one.least j listed waits) }) in
+    (record {
+      resource = bar.resource;
+      within = bar.within;
+      home = bar.home;
+      kept = bar.kept;
+      ceiling = omega (arith, bar.ceiling, one.least j listed waits);
+    }) in
     let free_of_bars : is_barred w u (home_of w q) (task_of w j) ≡ false =
-    not-true (is_barred w u (home_of w q) (task_of w j)) (and_parts (is_first_waiting w u (home_of w q) j) (not (is_barred w u (home_of w q) (task_of w j))) granted).1 in
+    not-true (is_barred w u (home_of w q) (task_of w j))
+    (and_parts (is_first_waiting w u (home_of w q) j) (not (is_barred w u (home_of w q) (task_of w j))) granted).1 in
     both_ways (is_barred w u (home_of w q) (task_of w j)) free_of_bars barred
 
 -- Each rule.
@@ -253,9 +311,11 @@ run_again w t u a run = record {
   local = λ k j e h. run.local k j (sym (running_alike w t u k a) ∙ e) (sym (ap is_local (a.phase j)) ∙ h);
   request = λ k j q e h. request k j q e h;
 } where
-  request : (k j q : ℕ) → running_on (w.row u) k ≡ Some j → is_asking q (phase_of w u j) ≡ true → (k ≡ home_of w q) × (holder_in (w.row u) q ≡ Some j)
+  request : (k j q : ℕ) → running_on (w.row u) k ≡ Some j → is_asking q (phase_of w u j) ≡ true
+      → (k ≡ home_of w q) × (holder_in (w.row u) q ≡ Some j)
   request k j q e h =
-      let both : (k ≡ home_of w q) × (holder_in (w.row t) q ≡ Some j) = run.request k j q (sym (running_alike w t u k a) ∙ e) (sym (ap (is_asking q) (a.phase j)) ∙ h) in
+      let both : (k ≡ home_of w q) × (holder_in (w.row t) q ≡ Some j) =
+      run.request k j q (sym (running_alike w t u k a) ∙ e) (sym (ap (is_asking q) (a.phase j)) ∙ h) in
       (both.0, holder_alike w t u q a ∙ both.1)
 
 grant_again : (w : Trace) (t u : ℕ) → AreLawfulJobs (jobs_of w) → IsAlike w t u → KeepsKeep w t → KeepsGrant w t → KeepsGrant w u
@@ -289,7 +349,8 @@ first_holder_again w t u k a f = record {
 priority_again : (w : Trace) (t u : ℕ) → IsAlike w t u → KeepsPriority w t → KeepsPriority w u
 priority_again w t u a priority = record {
   requests = λ k h. first_holder_again w t u k a (priority.requests k (sym (has_requests_alike w t u k a) ∙ h));
-  locals = λ k r e none i b c h. priority.locals k r (sym (running_alike w t u k a) ∙ e) (sym (has_requests_alike w t u k a) ∙ none) i b c (sym (active_local_alike w t u i a) ∙ h);
+  locals = λ k r e none i b c h. priority.locals k r (sym (running_alike w t u k a) ∙ e)
+      (sym (has_requests_alike w t u k a) ∙ none) i b c (sym (active_local_alike w t u i a) ∙ h);
 }
 
 row_again : (w : Trace) (t u : ℕ) → AreLawfulJobs (jobs_of w) → IsAlike w t u → KeepsRow dpcp_rule w t → KeepsRow dpcp_rule w u

@@ -16,7 +16,8 @@ use Rattle.schedule_model.specs.Chosen.{IsSized, IsSharedChoice}
 use Rattle.schedule_laws.proofs.Issues.{issue_stays}
 use Rattle.schedule_laws.proofs.Rows.{ReadyHolder, ready_holder_is}
 use Rattle.stretch_laws.specs.Steady.{IsAsLawful, StaysLawful}
-use Rattle.stretch_laws.proofs.Alike.{IsAlike, alike_through, requester_alike, active_local_alike, ready_holder_alike, ready_alike, running_alike, holder_alike, shared_blocked_alike}
+use Rattle.stretch_laws.proofs.Alike.{IsAlike, alike_through, requester_alike, active_local_alike, ready_holder_alike}
+use Rattle.stretch_laws.proofs.Alike.{ready_alike, running_alike, holder_alike, shared_blocked_alike}
 
 -- Does an order run a job that stays in its request by the same number?
 abbrev pub RunsAlike : Ranks → Type 0
@@ -58,14 +59,19 @@ idle_again w t u a idle k e i b c = ready_alike w t u i a ∙ idle k (sym (runni
 priority_again : (o : Ranks) (w : Trace) (t u : ℕ) → RunsAlike o → IsAlike w t u → KeepsPriority o w t → KeepsPriority o w u
 priority_again o w t u ranks a priority = record {
   holders = λ k r e i b c h. holders k r e i b c h;
-  locals = λ k r e none i b c h. priority.locals k r (sym (running_alike w t u k a) ∙ e) (λ x d f. sym (ready_holder_alike w t u x a) ∙ none x d f) i b c
+  locals = λ k r e none i b c h. priority.locals k r (sym (running_alike w t u k a) ∙ e)
+      (λ x d f. sym (ready_holder_alike w t u x a) ∙ none x d f) i b c
       (sym (active_local_alike w t u i a) ∙ h);
 } where
-  holders : (k r : ℕ) → running_on (w.row u) k ≡ Some r → (i : ℕ) → i < length w.jobs → processor_of w i ≡ k → is_ready_holder w u i ≡ true → (is_ready_holder w u r ≡ true) × (o.run w u r ≤ o.run w u i)
+  holders : (k r : ℕ) → running_on (w.row u) k ≡ Some r → (i : ℕ) → i < length w.jobs → processor_of w i ≡ k
+      → is_ready_holder w u i ≡ true → (is_ready_holder w u r ≡ true) × (o.run w u r ≤ o.run w u i)
   holders k r e i b c h =
       let ready : is_ready_holder w t i ≡ true = sym (ready_holder_alike w t u i a) ∙ h in
-      let both : (is_ready_holder w t r ≡ true) × (o.run w t r ≤ o.run w t i) = priority.holders k r (sym (running_alike w t u k a) ∙ e) i b c ready in
-      (ready_holder_alike w t u r a ∙ both.0, omega (arith, both.1, run_of_holder o w t u r ranks a both.0, run_of_holder o w t u i ranks a ready))
+      let both : (is_ready_holder w t r ≡ true) × (o.run w t r ≤ o.run w t i) =
+      priority.holders k r (sym (running_alike w t u k a) ∙ e) i b c ready in (
+        ready_holder_alike w t u r a ∙ both.0,
+        omega (arith, both.1, run_of_holder o w t u r ranks a both.0, run_of_holder o w t u i ranks a ready),
+      )
 
 row_again : (o : Ranks) (w : Trace) (t u : ℕ) → RunsAlike o → IsAlike w t u → KeepsRow (shared_rule o) w t → KeepsRow (shared_rule o) w u
 row_again o w t u ranks a keeps rule.Run = run_again w t u a (keeps rule.Run)
@@ -85,7 +91,8 @@ choice_again o w t u ranks a chosen = record {
   grants = λ q j e new i b r same. absurd (new (a.held q ∙ sym (holder_alike w t u q a) ∙ e));
   runs = λ k r e h i b c g same. runs k r e h i b c g same;
 } where
-  runs : (k r : ℕ) → running_on (w.row u) k ≡ Some r → is_ready_holder w u r ≡ true → (i : ℕ) → i < length w.jobs → processor_of w i ≡ k → is_ready_holder w u i ≡ true → o.run w u i ≡ o.run w u r → task_of w r ≤ task_of w i
+  runs : (k r : ℕ) → running_on (w.row u) k ≡ Some r → is_ready_holder w u r ≡ true → (i : ℕ) → i < length w.jobs
+      → processor_of w i ≡ k → is_ready_holder w u i ≡ true → o.run w u i ≡ o.run w u r → task_of w r ≤ task_of w i
   runs k r e h i b c g same =
       let ready : is_ready_holder w t r ≡ true = sym (ready_holder_alike w t u r a) ∙ h in
       let other : is_ready_holder w t i ≡ true = sym (ready_holder_alike w t u i a) ∙ g in

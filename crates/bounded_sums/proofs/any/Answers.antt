@@ -5,4 +5,5 @@ use Rattle.bounded_sums.proofs.any.Goals as goal
 pub returns-then-mark : goal.returns-then-mark
 returns-then-mark c =
     let passes : slice_index_or c.args.marks.now c.loop-mark.mark-index false ≡ true = search rules in
-    sym (any_below-from (length c.args.marks.now) (λ k. slice_index_or c.args.marks.now k false) c.loop-mark.mark-index c.loop-mark-test.true passes)
+    sym (any_below-from (length c.args.marks.now) (λ k. slice_index_or c.args.marks.now k false) c.loop-mark.mark-index
+    c.loop-mark-test.true passes)

@@ -5,7 +5,8 @@ use Rattle.bounded_sums.proofs.first.Goals as goal
 pub returns-then-mark : goal.returns-then-mark
 returns-then-mark c =
     let passes : slice_index_or c.args.marks.now c.loop-place.place false ≡ true = search rules in
-    sym (first_below-is (length c.args.marks.now) (λ k. slice_index_or c.args.marks.now k false) c.loop-place.place (omega arith) c.loop-place.invariant (λ l. passes))
+    sym (first_below-is (length c.args.marks.now) (λ k. slice_index_or c.args.marks.now k false) c.loop-place.place
+    (omega arith) c.loop-place.invariant (λ l. passes))
 
 pub returns : goal.returns
 returns c =

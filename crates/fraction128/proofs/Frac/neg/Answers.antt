@@ -4,4 +4,7 @@ use Rattle.fraction128.proofs.Frac.neg.Goals as goal
 
 pub of_parts-requires : goal.of_parts-requires
 of_parts-requires c =
-    rw (negated_part_read c.self.inside.num c.self.invariant.small_num, own_part_read c.self.inside.den c.self.invariant.small_den) (form_of_negated c.self.inside.num c.self.inside.den c.self.invariant)
+    rw (
+      negated_part_read c.self.inside.num c.self.invariant.small_num,
+      own_part_read c.self.inside.den c.self.invariant.small_den,
+    ) (form_of_negated c.self.inside.num c.self.inside.den c.self.invariant)

@@ -7,7 +7,8 @@ loop-x-preserved c =
     record {
       x_odd = lesser_odd c.loop-x.x c.loop-x.y c.min-less.result c.min-less.ensures odds.x_odd odds.y_odd;
       y_odd = c.odd_part-y.ensures.odd;
-      kept = λ g h. odds.kept g (odd_step c.loop-x.x c.loop-x.y c.min-less.result c.max.result c.odd_part-y.result _ g c.min-less.ensures c.max.ensures c.odd_part-y.ensures.whole odds.x_odd odds.y_odd h);
+      kept = λ g h. odds.kept g (odd_step c.loop-x.x c.loop-x.y c.min-less.result c.max.result c.odd_part-y.result _ g
+          c.min-less.ensures c.max.ensures c.odd_part-y.ensures.whole odds.x_odd odds.y_odd h);
     }
 
 pub returns : goal.returns

@@ -13,5 +13,7 @@ pub returns-else-number-gt-MOST : goal.returns-else-number-gt-MOST
 returns-else-number-gt-MOST c =
     let form = c.den.ensures.form in
     let den = den_read c.args.value c.den.result form c.den.ensures.value in
-    let num = num_read c.args.value c.num.result form c.num.ensures.value in
-    (rw (den, num) (scaled_over c.args.den c.args.value form c.requires.not_below c.requires.multiple), omega (arith, c.if-number-gt-MOST.false))
+    let num = num_read c.args.value c.num.result form c.num.ensures.value in (
+      rw (den, num) (scaled_over c.args.den c.args.value form c.requires.not_below c.requires.multiple),
+      omega (arith, c.if-number-gt-MOST.false),
+    )

@@ -4,17 +4,25 @@ use Rattle.fraction128.proofs.scaling.with_denominator.Goals as goal
 
 pub nonzero_div-multiple : goal.nonzero_div-multiple
 nonzero_div-multiple c =
-    gcd_above _ _ c.gcd.result c.args.value c.den-den.ensures.form (den_read c.args.value c.den-den.result c.den-den.ensures.form c.den-den.ensures.value) c.gcd.ensures
+    gcd_above _ _ c.gcd.result c.args.value c.den-den.ensures.form
+    (den_read c.args.value c.den-den.result c.den-den.ensures.form c.den-den.ensures.value) c.gcd.ensures
 
 pub returns-then-multiple-gt-MOST : goal.returns-then-multiple-gt-MOST
 returns-then-multiple-gt-MOST c fs h =
-    let form = c.den-den.ensures.form in
-    (_, common_after_ok c.args.common fs c.args.value _ _ c.gcd.result c.in-Ok.is form (den_read c.args.value c.den-den.result form c.den-den.ensures.value) c.gcd.ensures h, c.if-multiple-gt-MOST.true)
+    let form = c.den-den.ensures.form in (
+      _,
+      common_after_ok c.args.common fs c.args.value _ _ c.gcd.result c.in-Ok.is form
+          (den_read c.args.value c.den-den.result form c.den-den.ensures.value) c.gcd.ensures h,
+      c.if-multiple-gt-MOST.true,
+    )
 
 pub returns-else-multiple-gt-MOST : goal.returns-else-multiple-gt-MOST
 returns-else-multiple-gt-MOST c fs h =
-    let form = c.den-den.ensures.form in
-    (common_after_ok c.args.common fs c.args.value _ _ c.gcd.result c.in-Ok.is form (den_read c.args.value c.den-den.result form c.den-den.ensures.value) c.gcd.ensures h, omega (arith, c.if-multiple-gt-MOST.false))
+    let form = c.den-den.ensures.form in (
+      common_after_ok c.args.common fs c.args.value _ _ c.gcd.result c.in-Ok.is form
+          (den_read c.args.value c.den-den.result form c.den-den.ensures.value) c.gcd.ensures h,
+      omega (arith, c.if-multiple-gt-MOST.false),
+    )
 
 pub returns-in-Err : goal.returns-in-Err
 returns-in-Err c fs h =

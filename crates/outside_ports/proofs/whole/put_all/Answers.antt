@@ -10,7 +10,8 @@ loop-sent-preserved g c = record {
   calls = omega (arith, c.in-Ok.ensures.some, c.in-Ok.ensures.one_call);
   takes = λ room fits held.
       let before = c.loop-sent.invariant.takes room fits held in
-      let piece : length (take (length c.args.text.now - c.loop-sent.sent) (drop c.loop-sent.sent c.args.text.now)) ≤ room - c.loop-sent.sent =
+      let piece : length (take (length c.args.text.now - c.loop-sent.sent) (drop c.loop-sent.sent c.args.text.now))
+      ≤ room - c.loop-sent.sent =
       omega (arith, length-rest c.args.text.now c.loop-sent.sent, fits) in
       let after = c.in-Ok.ensures.takes (room - c.loop-sent.sent) piece before.0 in
       (subst (g.K.Sink.takes c.write.new.self) (sub_sub _ _ _) after.0, after.1 ∙ before.1);

@@ -10,7 +10,8 @@ invariant-loop-sent g l = record {
   tells : is_some (g.K.Sink.written l.sink) ≡ is_some (g.K.Sink.written l.initial.sink);
   later : g.K.Sink.faults l.initial.sink ≤ g.K.Sink.faults l.sink;
   calls : g.K.Sink.calls l.sink ≤ g.K.Sink.calls l.initial.sink + l.sent;
-  takes : (room : ℕ) → length l.text ≤ room → g.K.Sink.takes l.initial.sink room → g.K.Sink.takes l.sink (room - l.sent) × (g.K.Sink.faults l.sink ≡ g.K.Sink.faults l.initial.sink);
+  takes : (room : ℕ) → length l.text ≤ room → g.K.Sink.takes l.initial.sink room
+      → g.K.Sink.takes l.sink (room - l.sent) × (g.K.Sink.faults l.sink ≡ g.K.Sink.faults l.initial.sink);
   appended : Appends (g.K.Sink.written l.initial.sink) (g.K.Sink.written l.sink) (take l.sent l.text);
 }
 

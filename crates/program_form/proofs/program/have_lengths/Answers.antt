@@ -6,6 +6,7 @@ use Rattle.program_form.proofs.program.have_lengths.Goals as goal
 pub returns-then-limits-rows : goal.returns-then-limits-rows
 returns-then-limits-rows c =
     let same : (length c.args.limits.now == length (rows_seen c.args.rows.now)) ≡ true
-    = eq-eqb (length c.args.limits.now) (length (rows_seen c.args.rows.now)) (c.if-limits-rows.true ∙ sym (length-map (λ row. row.items) c.args.rows.now)) in
+    = eq-eqb (length c.args.limits.now) (length (rows_seen c.args.rows.now))
+    (c.if-limits-rows.true ∙ sym (length-map (λ row. row.items) c.args.rows.now)) in
     let seen = list_all-map (λ row. row.items) (λ row. length row == length c.args.costs.now) c.args.rows.now in
     rw (same, seen) c.have_width.ensures

@@ -8,5 +8,6 @@ pub returns-then-entry_at-gt0 : goal.returns-then-entry_at-gt0
 returns-then-entry_at-gt0 c =
     let within : c.loop-row.row < length (rows_seen c.args.rows.now) = omega (arith, length-map (λ row. row.items) c.args.rows.now) in
     let above : 0 < slice_index (slice_index_or (rows_seen c.args.rows.now) c.loop-row.row []) c.args.column = omega arith in
-    sym (any_below-from (length (rows_seen c.args.rows.now)) (λ r. nat_lt 0 (slice_index (slice_index_or (rows_seen c.args.rows.now) r []) c.args.column))
+    sym (any_below-from (length (rows_seen c.args.rows.now))
+    (λ r. nat_lt 0 (slice_index (slice_index_or (rows_seen c.args.rows.now) r []) c.args.column))
     c.loop-row.row within (lt-ltb 0 (slice_index (slice_index_or (rows_seen c.args.rows.now) c.loop-row.row []) c.args.column) above))

@@ -1,6 +1,7 @@
 use Rattle.schedule_laws.proofs.SharedAgreement.{mpcp_rules_read, fmlp_plus_rules_read, mpcp_choice_reads, fmlp_plus_choice_reads}
 use Rattle.schedule_laws.proofs.DpcpAgreement.{dpcp_rules_read, dpcp_choice_reads}
-use Rattle.schedule_laws.proofs.TickAgreement.{executing_agree, shared_interference_agree, dpcp_interference_agree, blocked_reads, interferer_reads, taken_reads}
+use Rattle.schedule_laws.proofs.TickAgreement.{executing_agree, shared_interference_agree, dpcp_interference_agree}
+use Rattle.schedule_laws.proofs.TickAgreement.{blocked_reads, interferer_reads, taken_reads}
 use Rattle.schedule_laws.proofs.agreement_laws.rules_depend_on_earlier_rows.Goals as goal
 
 pub returns-clause-mpcp : goal.returns-clause-mpcp

@@ -1,4 +1,5 @@
-use Rattle.schedule_laws.proofs.Agreement.{executed_agree, phase_agree, pending_agree, active_agree, active_job_agree, requester_agree, issue_agree, held_before_agree, ready_agree}
+use Rattle.schedule_laws.proofs.Agreement.{executed_agree, phase_agree, pending_agree, active_agree, active_job_agree}
+use Rattle.schedule_laws.proofs.Agreement.{requester_agree, issue_agree, held_before_agree, ready_agree}
 use Rattle.schedule_laws.proofs.agreement_laws.ticks_depend_on_earlier_rows.Goals as goal
 
 pub returns-clause-executed : goal.returns-clause-executed

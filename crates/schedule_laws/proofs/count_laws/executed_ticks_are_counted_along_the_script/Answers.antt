@@ -1,4 +1,5 @@
-use Rattle.schedule_laws.proofs.Counts.{executed_in_at_most, executed_in_finished, local_at_most, asking_at_most, request_at_most, executed_within}
+use Rattle.schedule_laws.proofs.Counts.{executed_in_at_most, executed_in_finished, local_at_most, asking_at_most}
+use Rattle.schedule_laws.proofs.Counts.{request_at_most, executed_within}
 use Rattle.schedule_laws.proofs.count_laws.executed_ticks_are_counted_along_the_script.Goals as goal
 
 pub returns-clause-most : goal.returns-clause-most

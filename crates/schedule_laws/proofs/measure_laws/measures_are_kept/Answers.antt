@@ -9,7 +9,8 @@ use Rattle.schedule_laws.proofs.measure_laws.measures_are_kept.Goals as goal
 new_at : (w : Trace) (n j : ℕ) → has_finished w n j ≡ false → finish_of w (n + 1) j ≡ n + 1
 new_at w n j = rw add-one (finish_new w n j)
 
-blocking_at : (interferes : Trace → ℕ → ℕ → Bool) (w : Trace) (n j : ℕ) → blocking_of interferes w (n + 1) j ≡ blocking_of interferes w n j + flag (is_blocked interferes w n j)
+blocking_at : (interferes : Trace → ℕ → ℕ → Bool) (w : Trace) (n j : ℕ)
+    → blocking_of interferes w (n + 1) j ≡ blocking_of interferes w n j + flag (is_blocked interferes w n j)
 blocking_at interferes w n j = rw add-one (blocking_next interferes w n j)
 
 pub returns-clause-finished : goal.returns-clause-finished

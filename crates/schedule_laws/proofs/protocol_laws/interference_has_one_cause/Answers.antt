@@ -1,5 +1,6 @@
 use Rattle.schedule_model.specs.BlockedTicks.{is_shared_interference, is_dpcp_interference}
-use Rattle.schedule_laws.proofs.Interferers.{interferer_is, interferer_one, shared_interferer, shared_interferer_higher, dpcp_interferer, dpcp_interferer_higher}
+use Rattle.schedule_laws.proofs.Interferers.{interferer_is, interferer_one, shared_interferer, shared_interferer_higher}
+use Rattle.schedule_laws.proofs.Interferers.{dpcp_interferer, dpcp_interferer_higher}
 use Rattle.schedule_laws.proofs.protocol_laws.interference_has_one_cause.Goals as goal
 
 pub returns-clause-shared : goal.returns-clause-shared

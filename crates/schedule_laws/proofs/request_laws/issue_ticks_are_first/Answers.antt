@@ -5,7 +5,8 @@ use Rattle.schedule_model.specs.Activity.{issue_tick_of}
 use Rattle.schedule_laws.proofs.Issues.{issue_at_most, issue_least, open_since, issue_kept, issue_new}
 use Rattle.schedule_laws.proofs.request_laws.issue_ticks_are_first.Goals as goal
 
-stays_at : (w : Trace) (t j : ℕ) → is_same_request (phase_of w t j) (phase_of w (t + 1) j) ≡ true → issue_tick_of w (t + 1) j ≡ issue_tick_of w t j
+stays_at : (w : Trace) (t j : ℕ) → is_same_request (phase_of w t j) (phase_of w (t + 1) j) ≡ true
+    → issue_tick_of w (t + 1) j ≡ issue_tick_of w t j
 stays_at w t j = rw add-one (issue_kept w t j)
 
 new_at : (w : Trace) (t j : ℕ) → is_same_request (phase_of w t j) (phase_of w (t + 1) j) ≡ false → issue_tick_of w (t + 1) j ≡ t + 1

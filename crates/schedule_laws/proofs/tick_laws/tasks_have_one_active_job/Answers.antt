@@ -1,4 +1,5 @@
-use Rattle.schedule_laws.proofs.ActiveJobs.{active_listed, one_active, active_stays, active_job_is, active_job_from, active_job_none, active_job_missing}
+use Rattle.schedule_laws.proofs.ActiveJobs.{active_listed, one_active, active_stays, active_job_is, active_job_from}
+use Rattle.schedule_laws.proofs.ActiveJobs.{active_job_none, active_job_missing}
 use Rattle.schedule_laws.proofs.tick_laws.tasks_have_one_active_job.Goals as goal
 
 pub returns-clause-listed : goal.returns-clause-listed

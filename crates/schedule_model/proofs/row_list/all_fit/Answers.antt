@@ -6,4 +6,5 @@ use Rattle.schedule_model.specs.Seen.{run_seen}
 use Rattle.schedule_model.proofs.row_list.all_fit.Goals as goal
 
 pub returns : goal.returns
-returns c = c.each_fits.ensures ∙ sym (list_all-map (λ (run : RunDef). fits_row c.args.processors c.args.resources c.args.jobs run.row) run_seen c.args.runs.now)
+returns c = c.each_fits.ensures ∙ sym (list_all-map
+    (λ (run : RunDef). fits_row c.args.processors c.args.resources c.args.jobs run.row) run_seen c.args.runs.now)

@@ -8,8 +8,11 @@ returns-then-is_empty c =
 
 pub returns-then-not-are_segments : goal.returns-then-not-are_segments
 returns-then-not-are_segments c =
-    sym (is_listed_script-from c.args.script.now false false _ (sym c.is_empty.ensures ∙ c.if-is_empty.false) (sym c.are_segments.ensures ∙ c.if-not-are_segments.true) refl)
+    sym (is_listed_script-from c.args.script.now false false _ (sym c.is_empty.ensures ∙ c.if-is_empty.false)
+    (sym c.are_segments.ensures ∙ c.if-not-are_segments.true) refl)
 
 pub returns : goal.returns
 returns c =
-    sym (is_listed_script-from c.args.script.now false true c.are_requests.result (sym c.is_empty.ensures ∙ c.if-is_empty.false) (sym c.are_segments.ensures ∙ c.if-not-are_segments.false) (sym c.are_requests.ensures))
+    sym (is_listed_script-from c.args.script.now false true c.are_requests.result
+    (sym c.is_empty.ensures ∙ c.if-is_empty.false) (sym c.are_segments.ensures ∙ c.if-not-are_segments.false)
+    (sym c.are_requests.ensures))

@@ -8,5 +8,9 @@ use Rattle.schedule_model.proofs.script.keeps_counts.Goals as goal
 
 pub returns-then-count : goal.returns-then-count
 returns-then-count c =
-    let more : count_of c.args.set.now c.args.x.0 c.loop-q.q < number_of_requests (map segment_seen c.args.script.now) c.loop-q.q = omega (arith, c.count.ensures.value, c.number_of_requests-count.ensures) in
-    sym (all_below-fails_from (length c.args.set.now.resources) (λ (q : ℕ). leb (number_of_requests (map segment_seen c.args.script.now) q) (count_of c.args.set.now c.args.x.0 q)) c.loop-q.q (omega arith) (lt-leb _ _ more))
+    let more : count_of c.args.set.now c.args.x.0 c.loop-q.q
+    < number_of_requests (map segment_seen c.args.script.now) c.loop-q.q =
+    omega (arith, c.count.ensures.value, c.number_of_requests-count.ensures) in
+    sym (all_below-fails_from (length c.args.set.now.resources)
+    (λ (q : ℕ). leb (number_of_requests (map segment_seen c.args.script.now) q) (count_of c.args.set.now c.args.x.0 q))
+    c.loop-q.q (omega arith) (lt-leb _ _ more))

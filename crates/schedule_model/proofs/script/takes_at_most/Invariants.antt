@@ -5,4 +5,5 @@ use Rattle.schedule_model.proofs.script.takes_at_most.Given as goal
 
 -- What the segments from here on take, beside what is left, is as much as all take, beside the most.
 abbrev pub invariant-loop-segment : goal.invariant-loop-segment
-invariant-loop-segment l = total_ticks (map segment_seen (drop l.segment-index l.script)) + l.most ≡ total_ticks (map segment_seen l.script) + l.left
+invariant-loop-segment l = total_ticks (map segment_seen (drop l.segment-index l.script)) + l.most
+    ≡ total_ticks (map segment_seen l.script) + l.left

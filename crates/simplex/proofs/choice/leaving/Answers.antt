@@ -11,7 +11,8 @@ use Rattle.simplex.proofs.choice.leaving.Goals.{then-is_above_zero+in_ok-ratio, 
 
 pub chosen-requires-clause-earlier : goal.chosen-requires-clause-earlier
 chosen-requires-clause-earlier c =
-    so_far_within c.args.place (table_of c.args.rows.now c.args.basis.now) c.requires.read.0 c.loop-i.i c.loop-i.best (c.loop-i.invariant c.requires.read.0 c.requires.read.1)
+    so_far_within c.args.place (table_of c.args.rows.now c.args.basis.now) c.requires.read.0 c.loop-i.i c.loop-i.best
+    (c.loop-i.invariant c.requires.read.0 c.requires.read.1)
 
 pub returns-in_err-ratio-clause-least : goal.returns-in_err-ratio-clause-least
 returns-in_err-ratio-clause-least c e column =
@@ -20,10 +21,12 @@ returns-in_err-ratio-clause-least c e column =
     let in_column : c.loop-i.i < length c.args.column.now = omega (arith, c.requires.column) in
     let t : Table = table_of c.args.rows.now c.args.basis.now in
     let cell : c.index-column-i.result ≡ t.cell c.loop-i.i e
-    = sym (fraction_read c.args.column.now c.loop-i.i c.index-column-i.result in_column c.index-column-i.is) ∙ column.each c.loop-i.i within in
+    = sym (fraction_read c.args.column.now c.loop-i.i c.index-column-i.result in_column c.index-column-i.is)
+    ∙ column.each c.loop-i.i within in
     let bound : c.cell.result ≡ t.cell c.loop-i.i c.args.place
     = c.cell.ensures.value
-    ∙ ap (λ (row : RowDef). cell_at row c.args.place) (sym (row_read c.args.rows.now c.loop-i.i c.index-rows-i.result within c.index-rows-i.is)) in
+    ∙ ap (λ (row : RowDef). cell_at row c.args.place)
+    (sym (row_read c.args.rows.now c.loop-i.i c.index-rows-i.result within c.index-rows-i.is)) in
     rw stop.1
     (wide_ratio c.args.place t e c.loop-i.i (length c.args.basis.now) c.cell.result c.index-column-i.result bound cell c.loop-i-test.true
     (has_read t e c.loop-i.i c.index-column-i.result cell (c.if-is_above_zero.ensures.0 refl)) c.in_err-ratio.ensures)
@@ -34,16 +37,19 @@ loop-i-preserved c e column =
     let in_column : c.loop-i.i < length c.args.column.now = omega (arith, c.requires.column) in
     let t : Table = table_of c.args.rows.now c.args.basis.now in
     let cell : c.index-column-i.result ≡ t.cell c.loop-i.i e
-    = sym (fraction_read c.args.column.now c.loop-i.i c.index-column-i.result in_column c.index-column-i.is) ∙ column.each c.loop-i.i within in
+    = sym (fraction_read c.args.column.now c.loop-i.i c.index-column-i.result in_column c.index-column-i.is)
+    ∙ column.each c.loop-i.i within in
     elim c.if-is_above_zero.branch [
       | then-is_above_zero+in_ok-ratio w ↦
           let bound : w.cell.result ≡ t.cell c.loop-i.i c.args.place
           = w.cell.ensures.value
-          ∙ ap (λ (row : RowDef). cell_at row c.args.place) (sym (row_read c.args.rows.now c.loop-i.i w.index-rows-i.result within w.index-rows-i.is)) in
+          ∙ ap (λ (row : RowDef). cell_at row c.args.place)
+          (sym (row_read c.args.rows.now c.loop-i.i w.index-rows-i.result within w.index-rows-i.is)) in
           rw w.best-is
           (w.chosen.ensures t c.args.place e (λ k. refl) (c.loop-i.invariant e column)
           (has_read t e c.loop-i.i c.index-column-i.result cell (w.if-is_above_zero.ensures.0 refl))
-          (ratio_read c.args.place t e c.loop-i.i w.cell.result c.index-column-i.result w.in_ok-ratio.ratio bound cell w.in_ok-ratio.ensures.0 w.in_ok-ratio.ensures.1))
+          (ratio_read c.args.place t e c.loop-i.i w.cell.result c.index-column-i.result w.in_ok-ratio.ratio bound cell
+          w.in_ok-ratio.ensures.0 w.in_ok-ratio.ensures.1))
       | else-is_above_zero w ↦
           rw w.best-is
           (no_more c.args.place t e c.loop-i.i c.loop-i.best (c.loop-i.invariant e column)
@@ -59,4 +65,5 @@ pub returns-clause-within : goal.returns-clause-within
 returns-clause-within c =
     let end : c.loop-i.i ≡ length c.args.basis.now = omega (arith, c.loop-i-test.false) in
     rw (← end)
-    (so_far_within c.args.place (table_of c.args.rows.now c.args.basis.now) c.requires.read.0 c.loop-i.i c.loop-i.best (c.loop-i.invariant c.requires.read.0 c.requires.read.1))
+    (so_far_within c.args.place (table_of c.args.rows.now c.args.basis.now) c.requires.read.0 c.loop-i.i c.loop-i.best
+    (c.loop-i.invariant c.requires.read.0 c.requires.read.1))

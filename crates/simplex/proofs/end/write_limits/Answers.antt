@@ -18,9 +18,11 @@ loop-i-preserved c v l =
           let here : v < length c.loop-i.values = rw (w.values-is, length-set c.loop-i.values (t.basic c.loop-i.i) w.cell.result) at l in
           let is : w.cell.result ≡ t.cell c.loop-i.i c.args.place
           = w.cell.ensures.value
-          ∙ ap (λ (row : RowDef). cell_at row c.args.place) (sym (row_read c.args.rows.now c.loop-i.i w.index-rows-i.result within w.index-rows-i.is)) in
+          ∙ ap (λ (row : RowDef). cell_at row c.args.place)
+          (sym (row_read c.args.rows.now c.loop-i.i w.index-rows-i.result within w.index-rows-i.is)) in
           rw w.values-is
-          (value_written c.args.place t c.loop-i.i (t.basic c.loop-i.i) v c.loop-i.values w.cell.result w.if-column-values.true refl is here c.loop-i.invariant)
+          (value_written c.args.place t c.loop-i.i (t.basic c.loop-i.i) v c.loop-i.values w.cell.result
+          w.if-column-values.true refl is here c.loop-i.invariant)
       | else-column-values w ↦
           let here : v < length c.loop-i.values = rw w.values-is at l in
           let other : t.basic c.loop-i.i ≢ v = omega (arith, w.if-column-values.false) in

@@ -8,7 +8,9 @@ loop-low-preserved-then-entries-middle c =
     let inv = c.loop-low.invariant in
     let within : c.loop-low.low + (c.loop-low.high - c.loop-low.low) / 2 < length c.args.entries.now = omega (arith, inv.within) in
     let below : (entry_at c.args.entries.now (c.loop-low.low + (c.loop-low.high - c.loop-low.low) / 2)).variable < c.args.v
-    = rw (entry_same c.args.entries.now (c.loop-low.low + (c.loop-low.high - c.loop-low.low) / 2) c.index-entries-middle.result within) c.if-entries-middle.true in
+    = rw
+    (entry_same c.args.entries.now (c.loop-low.low + (c.loop-low.high - c.loop-low.low) / 2)
+    c.index-entries-middle.result within) c.if-entries-middle.true in
     record {
       order = omega arith;
       within = inv.within;

@@ -17,9 +17,11 @@ pub loop-i-preserved : goal.loop-i-preserved
 loop-i-preserved c =
     let within : c.loop-i.i < length c.loop-i.entries = omega (arith, c.loop-i.invariant.as_many, c.loop-i-test.true) in
     let read = entry_same c.loop-i.entries c.loop-i.i c.index-entries-i.result within in
-    divided_more c.loop-i.i c.args.entries.now c.loop-i.entries c.args.by c.in_ok-value.value _ within c.loop-i.invariant (ap (λ (e : Entry). e.variable) (sym read))
+    divided_more c.loop-i.i c.args.entries.now c.loop-i.entries c.args.by c.in_ok-value.value _ within
+    c.loop-i.invariant (ap (λ (e : Entry). e.variable) (sym read))
     c.in_ok-value.ensures.0 (rw (entry_same c.loop-i.entries c.loop-i.i c.index-entries-i-in-loop-i.result within) c.in_ok-value.ensures.1)
 
 pub returns : goal.returns
 returns c =
-    divided_whole c.loop-i.i c.args.entries.now c.loop-i.entries c.args.by (omega (arith, c.loop-i-test.false)) c.requires.sparse c.requires.form c.loop-i.invariant
+    divided_whole c.loop-i.i c.args.entries.now c.loop-i.entries c.args.by (omega (arith, c.loop-i-test.false))
+    c.requires.sparse c.requires.form c.loop-i.invariant

@@ -7,7 +7,8 @@ use Rattle.exchange_runs.specs.Exchange.{IsLess}
 use Rattle.simplex.proofs.entries.taken_product.Goals as goal
 
 -- from zero a product leaves itself with the other sign
-from_zero : (a f y product : Fraction) → a.num ≡ pos 0 → IsForm product → IsProduct f y product → IsLess a f y (over (neg_ℤ product.num) product.den)
+from_zero : (a f y product : Fraction) → a.num ≡ pos 0 → IsForm product → IsProduct f y product
+    → IsLess a f y (over (neg_ℤ product.num) product.den)
 from_zero a f y product none form is = record {
   product = product;
   product_form = form;

@@ -8,7 +8,8 @@ use Rattle.simplex.proofs.Taking.{exchange_stop, exchanged, forms_aside}
 use Rattle.simplex.proofs.exchange.exchange.Goals as goal
 
 pub take_all-requires-clause-forms : goal.take_all-requires-clause-forms
-take_all-requires-clause-forms c = rw (c.replace-row.ensures.after, c.empty.ensures) (λ i. forms_aside c.args.rows.now c.args.r i c.requires.forms)
+take_all-requires-clause-forms c =
+    rw (c.replace-row.ensures.after, c.empty.ensures) (λ i. forms_aside c.args.rows.now c.args.r i c.requires.forms)
 
 pub returns-in_err-take_all : goal.returns-in_err-take_all
 returns-in_err-take_all c e column =
@@ -22,7 +23,8 @@ returns-in_err-take_all c e column =
     )
     c.in_ok-pivot.ensures in
     rw (stop.1, stop.2)
-    (exchange_stop c.in_err-take_all.field-0.0 c.args.rows.now c.take_all.new.rows c.take_all.new.rows c.args.column.now e c.args.r c.in_ok-pivot.pivot
+    (exchange_stop c.in_err-take_all.field-0.0 c.args.rows.now c.take_all.new.rows c.take_all.new.rows c.args.column.now
+    e c.args.r c.in_ok-pivot.pivot
     c.replace-row.new.dest c.requires.row column divided c.in_err-take_all.ensures)
 
 pub returns : goal.returns
@@ -35,4 +37,5 @@ returns c e column =
       ← c.replace-row.ensures.value,
     )
     c.in_ok-pivot.ensures in
-    exchanged c.args.rows.now c.take_all.new.rows c.args.column.now e c.args.r c.in_ok-pivot.pivot c.replace-row.new.dest c.requires.row column divided c.in_ok-take_all.ensures
+    exchanged c.args.rows.now c.take_all.new.rows c.args.column.now e c.args.r c.in_ok-pivot.pivot
+    c.replace-row.new.dest c.requires.row column divided c.in_ok-take_all.ensures

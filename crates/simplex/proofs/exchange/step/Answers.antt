@@ -19,14 +19,16 @@ returns-in_err-exchange c =
     let chosen = rw c.in-Ok-Some.field-0-is at (c.in-Ok-Some.ensures.least c.args.e c.read_column.ensures) in
     let least = rw (c.columns.ensures.value, c.rows.ensures.value, c.requires.size.basic_each) at chosen in
     rw (stop.1, stop.2)
-    (step_stop c.in_err-exchange.field-0.0 c.args.program.now c.args.e c.in-Ok-Some.r c.args.rows.now c.args.basis.now c.exchange.new.rows c.args.basis.now
+    (step_stop c.in_err-exchange.field-0.0 c.args.program.now c.args.e c.in-Ok-Some.r c.args.rows.now c.args.basis.now
+    c.exchange.new.rows c.args.basis.now
     c.requires.size (record { ratio = c.in-Ok-Some.field-0-0-1; least = least }) (c.in_err-exchange.ensures c.args.e c.read_column.ensures))
 
 pub returns : goal.returns
 returns c =
     let chosen = rw c.in-Ok-Some.field-0-is at (c.in-Ok-Some.ensures.least c.args.e c.read_column.ensures) in
     let least = rw (c.columns.ensures.value, c.rows.ensures.value, c.requires.size.basic_each) at chosen in
-    step_done c.args.program.now c.args.e c.in-Ok-Some.r c.args.rows.now c.exchange.new.rows c.args.basis.now c.requires.size c.requires.enters
+    step_done c.args.program.now c.args.e c.in-Ok-Some.r c.args.rows.now c.exchange.new.rows c.args.basis.now
+    c.requires.size c.requires.enters
     (record { ratio = c.in-Ok-Some.field-0-0-1; least = least }) (c.in_ok-exchange.ensures c.args.e c.read_column.ensures)
 
 pub exchange-requires-clause-row : goal.exchange-requires-clause-row
@@ -42,7 +44,8 @@ exchange-requires-clause-even c i l =
 
 pub exchange-requires-clause-forms : goal.exchange-requires-clause-forms
 exchange-requires-clause-forms c i l v =
-    forms c.args.program.now c.requires.reached.0 (table_of c.args.rows.now c.args.basis.now) c.rows.ensures.program c.requires.reached.1 i v
+    forms c.args.program.now c.requires.reached.0 (table_of c.args.rows.now c.args.basis.now) c.rows.ensures.program
+    c.requires.reached.1 i v
     (omega (arith, l, c.requires.size.row_each))
 
 pub exchange-requires-clause-pivot : goal.exchange-requires-clause-pivot

@@ -13,8 +13,12 @@ loop-j-preserved c =
     let set : SetDef = parts_seen c.args.parts.now in
     let task : task_seen c.task_part.result.now ≡ task_at set c.args.x =
     c.task_part.ensures ∙ ap (λ l. slice_index_or (map task_seen l) c.args.x no_task) c.deref.ensures.value in
-    let seen : length (task_at set c.args.x).requests ≡ length (map request_seen c.task_part.result.now.requests.items) = sym (ap (λ t. length t.requests) task) in
-    let parts : length (map request_seen c.task_part.result.now.requests.items) ≡ length c.task_part.result.now.requests.items = length-map request_seen c.task_part.result.now.requests.items in
+    let seen : length (task_at set c.args.x).requests
+    ≡ length (map request_seen c.task_part.result.now.requests.items) = sym (ap (λ t. length t.requests) task) in
+    let parts : length (map request_seen c.task_part.result.now.requests.items)
+    ≡ length c.task_part.result.now.requests.items = length-map request_seen c.task_part.result.now.requests.items in
     let within : c.loop-j.j < length (task_at set c.args.x).requests = omega arith in
-    let fails : is_due set (request_refusal c.args.fault c.args.x c.loop-j.j) ≡ false = sym c.is_due_at_request.ensures ∙ c.if-is_due_at_request.false in
-    sym (find_later (is_due set) (request_refusal c.args.fault c.args.x) c.loop-j.j (length (task_at set c.args.x).requests) within fails) ∙ c.loop-j.invariant
+    let fails : is_due set (request_refusal c.args.fault c.args.x c.loop-j.j) ≡ false =
+    sym c.is_due_at_request.ensures ∙ c.if-is_due_at_request.false in
+    sym (find_later (is_due set) (request_refusal c.args.fault c.args.x) c.loop-j.j
+    (length (task_at set c.args.x).requests) within fails) ∙ c.loop-j.invariant

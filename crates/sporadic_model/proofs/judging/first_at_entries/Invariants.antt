@@ -9,5 +9,6 @@ use Rattle.sporadic_model.proofs.judging.first_at_entries.Given as goal
 
 abbrev pub invariant-loop-j : goal.invariant-loop-j
 invariant-loop-j l =
-    find (is_due (parts_seen l.parts)) (map (request_refusal l.fault l.x) (range_with_len l.j (length (task_at (parts_seen l.parts) l.x).requests - l.j)))
+    find (is_due (parts_seen l.parts))
+    (map (request_refusal l.fault l.x) (range_with_len l.j (length (task_at (parts_seen l.parts) l.x).requests - l.j)))
     ≡ find (is_due (parts_seen l.parts)) (map (request_refusal l.fault l.x) (numbers (length (task_at (parts_seen l.parts) l.x).requests)))

@@ -12,10 +12,15 @@ pub loop-x-preserved : goal.loop-x-preserved
 loop-x-preserved c =
     let set : SetDef = parts_seen c.args.parts.now in
     let within : c.loop-x.x < length set.tasks = rw (length-map task_seen c.args.parts.now.tasks.items) (omega arith) in
-    sym (find_in_later (is_due set) (λ x. map (request_refusal c.args.fault x) (numbers (length (task_at set x).requests))) c.loop-x.x (length set.tasks) within (sym c.first_at_entries.ensures ∙ c.in_default.is)) ∙ c.loop-x.invariant
+    sym
+    (find_in_later (is_due set) (λ x. map (request_refusal c.args.fault x) (numbers (length (task_at set x).requests)))
+    c.loop-x.x (length set.tasks) within (sym c.first_at_entries.ensures ∙ c.in_default.is)) ∙ c.loop-x.invariant
 
 pub returns-in-Some : goal.returns-in-Some
 returns-in-Some c =
     let set : SetDef = parts_seen c.args.parts.now in
     let within : c.loop-x.x < length set.tasks = rw (length-map task_seen c.args.parts.now.tasks.items) (omega arith) in
-    sym (find_in_here (is_due set) (λ x. map (request_refusal c.args.fault x) (numbers (length (task_at set x).requests))) c.loop-x.x (length set.tasks) c.in-Some.refusal within (sym c.first_at_entries.ensures ∙ c.in-Some.is)) ∙ c.loop-x.invariant
+    sym
+    (find_in_here (is_due set) (λ x. map (request_refusal c.args.fault x) (numbers (length (task_at set x).requests)))
+    c.loop-x.x (length set.tasks) c.in-Some.refusal within (sym c.first_at_entries.ensures ∙ c.in-Some.is))
+    ∙ c.loop-x.invariant

@@ -11,5 +11,6 @@ pub loop-q-preserved : goal.loop-q-preserved
 loop-q-preserved c =
     let set : SetDef = parts_seen c.args.parts.now in
     let within : c.loop-q.q < length set.resources = rw (length-map resource_seen c.args.parts.now.resources.items) (omega arith) in
-    let fails : is_due set (resource_refusal c.args.fault c.loop-q.q) ≡ false = sym c.is_due_at_resource.ensures ∙ c.if-is_due_at_resource.false in
+    let fails : is_due set (resource_refusal c.args.fault c.loop-q.q) ≡ false =
+    sym c.is_due_at_resource.ensures ∙ c.if-is_due_at_resource.false in
     sym (find_later (is_due set) (resource_refusal c.args.fault) c.loop-q.q (length set.resources) within fails) ∙ c.loop-q.invariant

@@ -11,8 +11,11 @@ unfolding is_due
 returns-in-TwiceName c =
     let set : SetDef = parts_seen c.args.parts.now in
     let earlier : map resource_seen (take c.args.q c.deref-in-TwiceName.result.now) ≡ take c.args.q set.resources =
-    ap (λ l. map resource_seen (take c.args.q l)) c.deref-in-TwiceName.ensures.value ∙ sym (take-map resource_seen c.args.q c.args.parts.now.resources.items) in
+    ap (λ l. map resource_seen (take c.args.q l)) c.deref-in-TwiceName.ensures.value
+    ∙ sym (take-map resource_seen c.args.q c.args.parts.now.resources.items) in
     let name : c.as_bytes-name.result.now ≡ (resource_at set c.args.q).name =
     c.as_bytes-name.ensures.value ∙ ap (λ p. p.name) c.resource_part-resource.ensures
     ∙ ap (λ l. (slice_index_or (map resource_seen l) c.args.q no_resource).name) c.deref.ensures.value in
-    rw c.in-TwiceName.is (c.is_resource_named.ensures ∙ ap (λ l. has_resource_named l c.as_bytes-name.result.now) earlier ∙ ap (λ n. has_resource_named (take c.args.q set.resources) n) name)
+    rw c.in-TwiceName.is
+    (c.is_resource_named.ensures ∙ ap (λ l. has_resource_named l c.as_bytes-name.result.now) earlier
+    ∙ ap (λ n. has_resource_named (take c.args.q set.resources) n) name)

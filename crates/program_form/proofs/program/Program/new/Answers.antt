@@ -9,11 +9,15 @@ use Rattle.program_form.proofs.program.Program.new.Goals as goal
 pub invariant_of-result : goal.invariant_of-result
 invariant_of-result c =
     let p : ProgramDef = record { costs = c.args.costs.items; rows = rows_seen c.args.rows.items; limits = c.args.limits.items } in
-    let accepted : first_refusal p ≡ None = rw (← c.deref.ensures.value, ← c.deref-2.ensures.value, ← c.deref-3.ensures.value) (sym c.refusal_of.ensures ∙ c.in-None.is) in
+    let accepted : first_refusal p ≡ None =
+    rw (← c.deref.ensures.value, ← c.deref-2.ensures.value, ← c.deref-3.ensures.value)
+    (sym c.refusal_of.ensures ∙ c.in-None.is) in
     is_program p (omega arith) (omega (arith, length-map (λ row. row.items) c.args.rows.items)) accepted
 
 pub returns-in-None-clause-program : goal.returns-in-None-clause-program
 returns-in-None-clause-program c =
     let p : ProgramDef = record { costs = c.args.costs.items; rows = rows_seen c.args.rows.items; limits = c.args.limits.items } in
-    let accepted : first_refusal p ≡ None = rw (← c.deref.ensures.value, ← c.deref-2.ensures.value, ← c.deref-3.ensures.value) (sym c.refusal_of.ensures ∙ c.in-None.is) in
+    let accepted : first_refusal p ≡ None =
+    rw (← c.deref.ensures.value, ← c.deref-2.ensures.value, ← c.deref-3.ensures.value)
+    (sym c.refusal_of.ensures ∙ c.in-None.is) in
     is_program p (omega arith) (omega (arith, length-map (λ row. row.items) c.args.rows.items)) accepted

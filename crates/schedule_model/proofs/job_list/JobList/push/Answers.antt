@@ -14,14 +14,27 @@ pub invariant_of-self-2 : goal.invariant_of-self-2
 invariant_of-self-2 c =
     let old = c.self.inside in
     let job : JobDef = job_seen c.args.job in
-    let seen : map job_seen c.push.new.self.items ≡ map job_seen old.jobs.items ++ job ∷ [] = ap (map job_seen) c.in_ok-push.ensures.items ∙ map-append job_seen old.jobs.items (c.args.job ∷ []) in
-    let none : first_refusal (jobs_view old) job ≡ None = subst (λ (js : List Job). first_refusal (record { set = old.set.now; jobs = map job_seen js }) job ≡ None) c.deref.ensures.value (sym c.refusal_of.ensures ∙ c.in-None.is) in
-    let task : job.task < length (jobs_view old).set.tasks = subst (λ (js : JobsDef). job.task < length js.set.tasks) (sym c.self.view_is) c.requires.task in
-    let resources : are_resources_in (length (jobs_view old).set.resources) job.script ≡ true = subst (λ (js : JobsDef). are_resources_in (length js.set.resources) job.script ≡ true) (sym c.self.view_is) c.requires.resources in
+    let seen : map job_seen c.push.new.self.items ≡ map job_seen old.jobs.items ++ job ∷ [] =
+    ap (map job_seen) c.in_ok-push.ensures.items ∙ map-append job_seen old.jobs.items (c.args.job ∷ []) in
+    let none : first_refusal (jobs_view old) job ≡ None =
+    subst (λ (js : List Job). first_refusal (record { set = old.set.now; jobs = map job_seen js }) job ≡ None)
+    c.deref.ensures.value (sym c.refusal_of.ensures ∙ c.in-None.is) in
+    let task : job.task < length (jobs_view old).set.tasks =
+    subst (λ (js : JobsDef). job.task < length js.set.tasks) (sym c.self.view_is) c.requires.task in
+    let resources : are_resources_in (length (jobs_view old).set.resources) job.script ≡ true =
+    subst (λ (js : JobsDef). are_resources_in (length js.set.resources) job.script ≡ true) (sym c.self.view_is)
+    c.requires.resources in
     let more : AreLawfulJobs (with_job (jobs_view old) job) = lawful_more (jobs_view old) job c.self.invariant.lawful task resources none in
     let within : IsJobList (with_job (jobs_view old) job) = listed_more (jobs_view old) job c.self.invariant.listed none in
     record {
       lawful = subst (λ (js : List JobDef). AreLawfulJobs (record { set = old.set.now; jobs = js })) (sym seen) more;
       listed = subst (λ (js : List JobDef). IsJobList (record { set = old.set.now; jobs = js })) (sym seen) within;
-      counted = omega (arith, ap segment_count seen, segments_more (map job_seen old.jobs.items) job, c.self.invariant.counted, c.len.ensures, length-map segment_seen c.args.job.script.items);
+      counted = omega (
+        arith,
+        ap segment_count seen,
+        segments_more (map job_seen old.jobs.items) job,
+        c.self.invariant.counted,
+        c.len.ensures,
+        length-map segment_seen c.args.job.script.items,
+      );
     }

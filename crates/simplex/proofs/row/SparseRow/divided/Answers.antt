@@ -23,7 +23,8 @@ returns c =
     let all = rw (c.deref_mut.ensures.value) at c.in_ok-divide_all.ensures in
     let len : length c.divide_all.new.entries ≡ c.self.inside.entries.len = omega (arith, all.as_many, c.self.inside.entries.ok.0) in
     rw (with_items_is c.self.inside.entries c.divide_all.new.entries len, ← c.self.view_is)
-    (divided_row (row_view c.self.inside) c.args.by c.in_ok-limit.limit c.divide_all.new.entries c.self.invariant all c.in_ok-limit.ensures.0 c.in_ok-limit.ensures.1)
+    (divided_row (row_view c.self.inside) c.args.by c.in_ok-limit.limit c.divide_all.new.entries c.self.invariant all
+    c.in_ok-limit.ensures.0 c.in_ok-limit.ensures.1)
 
 pub returns-in_err-limit : goal.returns-in_err-limit
 returns-in_err-limit c =

@@ -9,20 +9,23 @@ use Rattle.sporadic_model.proofs.task_set.TaskSet.ceiling.Goals as goal
 pub returns-clause-highest : goal.returns-clause-highest
 returns-clause-highest c =
     let set : SetDef = c.args.self.now in
-    let kept : AreCeilings set c.self.inside.ceilings.items = subst (λ s. AreCeilings s c.self.inside.ceilings.items) c.self.view_is c.self.invariant.ceilings in
+    let kept : AreCeilings set c.self.inside.ceilings.items =
+    subst (λ s. AreCeilings s c.self.inside.ceilings.items) c.self.view_is c.self.invariant.ceilings in
     let given = c.ceiling_at.ensures ∙ ap (λ l. slice_index_or l c.args.q.0 None) c.deref.ensures.value in
     ceiling_highest set c.args.q.0 c.ceiling_at.result (ap (option_map (λ x. x.0)) given ∙ kept.each c.args.q.0 c.requires)
 
 pub returns-clause-within : goal.returns-clause-within
 returns-clause-within c =
     let set : SetDef = c.args.self.now in
-    let kept : AreCeilings set c.self.inside.ceilings.items = subst (λ s. AreCeilings s c.self.inside.ceilings.items) c.self.view_is c.self.invariant.ceilings in
+    let kept : AreCeilings set c.self.inside.ceilings.items =
+    subst (λ s. AreCeilings s c.self.inside.ceilings.items) c.self.view_is c.self.invariant.ceilings in
     let given = c.ceiling_at.ensures ∙ ap (λ l. slice_index_or l c.args.q.0 None) c.deref.ensures.value in
     ceiling_within set c.args.q.0 c.ceiling_at.result (ap (option_map (λ x. x.0)) given ∙ kept.each c.args.q.0 c.requires)
 
 pub returns-clause-none : goal.returns-clause-none
 returns-clause-none c =
     let set : SetDef = c.args.self.now in
-    let kept : AreCeilings set c.self.inside.ceilings.items = subst (λ s. AreCeilings s c.self.inside.ceilings.items) c.self.view_is c.self.invariant.ceilings in
+    let kept : AreCeilings set c.self.inside.ceilings.items =
+    subst (λ s. AreCeilings s c.self.inside.ceilings.items) c.self.view_is c.self.invariant.ceilings in
     let given = c.ceiling_at.ensures ∙ ap (λ l. slice_index_or l c.args.q.0 None) c.deref.ensures.value in
     ceiling_none set c.args.q.0 c.ceiling_at.result (ap (option_map (λ x. x.0)) given ∙ kept.each c.args.q.0 c.requires)

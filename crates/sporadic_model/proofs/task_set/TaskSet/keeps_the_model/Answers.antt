@@ -1,6 +1,7 @@
 use Rattle.std.proofs.Common.{subst}
 use Rattle.sporadic_model.specs.Accepted.{IsAccepted}
-use Rattle.sporadic_model.proofs.Laws.{numbers_of_accepted, sizes_of_accepted, homes_of_accepted, names_of_accepted, entries_of_accepted, requests_of_accepted}
+use Rattle.sporadic_model.proofs.Laws.{numbers_of_accepted, sizes_of_accepted, homes_of_accepted, names_of_accepted}
+use Rattle.sporadic_model.proofs.Laws.{entries_of_accepted, requests_of_accepted}
 use Rattle.sporadic_model.proofs.task_set.TaskSet.keeps_the_model.Goals as goal
 
 pub returns-clause-sizes : goal.returns-clause-sizes

@@ -15,7 +15,8 @@ pub returns-then-is_user_beyond-clause-highest : goal.returns-then-is_user_beyon
 returns-then-is_user_beyond-clause-highest c =
     let set : SetDef = c.args.self.now in
     let passes : is_remote_user set c.args.q.0 c.args.k c.loop-x.x ≡ true = sym c.is_user_beyond.ensures ∙ c.if-is_user_beyond.true in
-    highest_remote_user set c.args.q.0 c.args.k c.loop-x.x (sym c.loop-x.invariant ∙ find_now (is_remote_user set c.args.q.0 c.args.k) c.loop-x.x (length set.tasks) (omega arith) passes)
+    highest_remote_user set c.args.q.0 c.args.k c.loop-x.x (sym c.loop-x.invariant
+    ∙ find_now (is_remote_user set c.args.q.0 c.args.k) c.loop-x.x (length set.tasks) (omega arith) passes)
 
 pub returns-then-is_user_beyond-clause-value : goal.returns-then-is_user_beyond-clause-value
 returns-then-is_user_beyond-clause-value c =
@@ -26,4 +27,5 @@ returns-then-is_user_beyond-clause-value c =
 pub returns-clause-none : goal.returns-clause-none
 returns-clause-none c =
     let set : SetDef = c.args.self.now in
-    no_remote_user set c.args.q.0 c.args.k (sym c.loop-x.invariant ∙ find_done (is_remote_user set c.args.q.0 c.args.k) c.loop-x.x (length set.tasks) (omega arith))
+    no_remote_user set c.args.q.0 c.args.k (sym c.loop-x.invariant
+    ∙ find_done (is_remote_user set c.args.q.0 c.args.k) c.loop-x.x (length set.tasks) (omega arith))
