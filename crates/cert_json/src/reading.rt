@@ -13,7 +13,7 @@ use crate::written::certificate_of;
 use program_form::Certificate;
 use serde_json::Value;
 use sporadic_model::Protocol;
-use std::alloc::{AllocError, Global};
+use std::alloc::Global;
 
 /// Why the value is refused as a certificate for the protocol; none where it has the form of one.
 fn refusal_of(value: &Value, protocol: Protocol) -> Option<CertRefusal>
@@ -31,10 +31,7 @@ fn judged(alloc: Global, value: &Value, protocol: Protocol) -> Result<Certificat
     if let Some(refusal) = refusal_of(value, protocol) {
         return Err(refusal);
     }
-    match certificate_of(alloc, value) {
-        Ok(certificate) => Ok(certificate),
-        Err(AllocError) => Err(CertRefusal::Memory),
-    }
+    Ok(certificate_of(alloc, value)?)
 }
 
 /// Reads a certificate for the protocol from fewer than 2^31 bytes of JSON, or says why they are refused

@@ -1,3 +1,6 @@
+ghost use Rattle.std.specs.Prelude.{◌≡◌};
+
+use std::alloc::AllocError;
 use thiserror::Error;
 
 /// Where a value does not have the form of a certificate.
@@ -30,4 +33,14 @@ pub enum CertRefusal {
     /// Memory was refused.
     #[error("out of memory")]
     Memory,
+}
+
+impl From<AllocError> for CertRefusal {
+    ghost use Rattle.cert_json.specs.declared.refusal.CertRefusal.TheVariants.{Memory};
+
+    ghost from_gives = { λ _ refusal. refusal ≡ Memory };
+
+    fn from(_error: AllocError) -> CertRefusal {
+        CertRefusal::Memory
+    }
 }

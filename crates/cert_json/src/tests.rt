@@ -207,3 +207,34 @@ fn refuses_a_certificate_for_another_protocol(rt: HostRuntime) -> Result<(), Fai
     }
     Ok(())
 }
+
+/// A certificate of 64 tasks, whose duals have 400 numerators of 19 digits each.
+fn largest(alloc: Global) -> Result<Certificate, AllocError> {
+    let mut duals = Vec::new(alloc);
+    for x in 0..64u64 {
+        duals.push(Dual {
+            den: 9_223_372_036_854_775_807,
+            num: vec![in alloc; 1_000_000_000_000_000_000 + x; 400]?,
+        })?;
+    }
+    Ok(Certificate {
+        bounds: vec![in alloc; 1_000_000_000; 64]?,
+        duals,
+    })
+}
+
+#[test]
+fn reads_half_a_megabyte_that_was_written(rt: HostRuntime) -> Result<(), Fail> {
+    let text = write(rt.alloc(), Protocol::Dpcp, &largest(rt.alloc())?)?;
+    if text.len() < 512_000 || text.len() > 600_000 {
+        return Err("64 times 400 numerators take 20 bytes each".into());
+    }
+    match read(rt.alloc(), &text, Protocol::Dpcp) {
+        Ok(certificate) => {
+            let again = write(rt.alloc(), Protocol::Dpcp, &certificate)?;
+            assert!(rt; again == text);
+        }
+        Err(refusal) => assert_eq!(rt; Some(refusal), None),
+    }
+    Ok(())
+}

@@ -73,7 +73,7 @@ fn part_of_time(set: &TaskSet, x: TaskId) -> u64
     ensures value { result ≡ (task_at set.now x.0).cost * 1000000 / (task_at set.now x.0).period }
     ensures most { result ≤ 1000000 }
 {
-    let _tasks = set.tasks();
+    set.keeps_the_model();
     set.cost(x) * 1_000_000 / set.period(x)
 }
 

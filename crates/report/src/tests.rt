@@ -78,3 +78,32 @@ load 2 400000
     assert_eq!(rt; text.as_slice(), want.as_bytes());
     Ok(())
 }
+
+/// 64 tasks with the greatest numbers, which each take all of the last of 64 processors.
+fn largest(alloc: Global) -> Result<Parts, AllocError> {
+    let mut parts = two_tasks(alloc)?;
+    parts.processors = 64;
+    parts.tasks.clear();
+    for x in 0..64 {
+        let mut task = task(alloc, "", 64, 1_000_000_000)?;
+        task.name = format!(in alloc; "t{x}")?;
+        task.period = 1_000_000_000;
+        task.deadline = 1_000_000_000;
+        parts.tasks.push(task)?;
+    }
+    Ok(parts)
+}
+
+#[test]
+fn the_table_of_the_largest_numbers_keeps_its_columns(rt: HostRuntime) -> Result<(), Fail> {
+    let alloc = rt.alloc();
+    let set = TaskSet::new(alloc, largest(alloc)?)?;
+    let text = set_table(alloc, &set)?;
+    // a header and 64 lines of 80 bytes, loads of 0 for nine processors and for 54, and a last load
+    assert!(rt; text.len() == 65 * 80 + 9 * 9 + 54 * 10 + 17);
+    let line =
+        "t63                              64 1000000000 1000000000 1000000000 1000000000\nload 1 0\n";
+    assert!(rt; &text[64 * 80..65 * 80 + 9] == line.as_bytes());
+    assert!(rt; text.ends_with(b"load 63 0\nload 64 64000000\n"));
+    Ok(())
+}

@@ -1,3 +1,5 @@
+ghost use Rattle.std.specs.Prelude.{◌<◌};
+
 use super::*;
 use std::alloc::{AllocError, Global};
 use std::test::Fail;
@@ -312,7 +314,9 @@ fn keeps_the_limits_on_sizes(rt: HostRuntime) -> Result<(), Fail> {
 const NAME_OF_29: &str = "a_name_of_thirty_two_bytes_in";
 
 /// A task with four entries, of the greatest numbers.
-fn largest_task(alloc: Global, x: u64) -> Result<TaskPart, AllocError> {
+fn largest_task(alloc: Global, x: u64) -> Result<TaskPart, AllocError>
+    requires { x < 64 }
+{
     let most = 1_000_000_000;
     let mut task = task_of(alloc, &("", 64, [most, most, most, most], &[]))?;
     task.name = format!(in alloc; "{NAME_OF_29}{}", 100 + x)?;

@@ -10,7 +10,7 @@ use crate::shape::first_misshapen;
 use crate::written::parts_of;
 use serde_json::Value;
 use sporadic_model::{ModelRefusal, Place, TaskSet};
-use std::alloc::{AllocError, Global};
+use std::alloc::Global;
 
 /// The first place at which the value breaks the form of a task set; none where it has the form.
 fn fault_of(value: &Value) -> Option<Place>
@@ -28,10 +28,7 @@ fn set_of(alloc: Global, value: &Value) -> Result<TaskSet, SetRefusal>
     if let Some(place) = fault_of(value) {
         return Err(SetRefusal::Shape(place));
     }
-    let parts = match parts_of(alloc, value) {
-        Ok(parts) => parts,
-        Err(AllocError) => return Err(SetRefusal::Memory),
-    };
+    let parts = parts_of(alloc, value)?;
     match TaskSet::new(alloc, parts) {
         Ok(set) => Ok(set),
         Err(ModelRefusal::Memory) => Err(SetRefusal::Memory),

@@ -1,4 +1,7 @@
+ghost use Rattle.std.specs.Prelude.{◌≡◌};
+
 use sporadic_model::{ModelRefusal, Place, ResourceId};
+use std::alloc::AllocError;
 use thiserror::Error;
 
 /// Why bytes are not read as a task set, or a set does not suit a protocol.
@@ -21,4 +24,14 @@ pub enum SetRefusal {
     /// Memory was refused.
     #[error("out of memory")]
     Memory,
+}
+
+impl From<AllocError> for SetRefusal {
+    ghost use Rattle.taskset_json.specs.declared.refusal.SetRefusal.TheVariants.{Memory};
+
+    ghost from_gives = { λ _ refusal. refusal ≡ Memory };
+
+    fn from(_error: AllocError) -> SetRefusal {
+        SetRefusal::Memory
+    }
 }

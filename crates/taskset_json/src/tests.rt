@@ -257,3 +257,66 @@ fn judges_the_parts_of_the_form(rt: HostRuntime) -> Result<(), Fail> {
     }
     Ok(())
 }
+
+/// Adds a task of four requests, each of the greatest numbers.
+fn push_largest_task(text: &mut String, x: u64) -> Result<(), AllocError>
+    requires { x < 64 }
+{
+    write!(
+        text,
+        r#"{{"name":"a_task_whose_name_has_32_bytes{}","processor":64,"period":1000000000,"cost":1000000000,"requests":["#,
+        10 + x
+    )?;
+    for j in 0..4 {
+        let q = 10 + (4 * x + j) % 32;
+        if j > 0 {
+            text.push_str(",")?;
+        }
+        write!(
+            text,
+            r#"{{"resource":"one_resource_of_a_32_byte_name{q}","count":1000,"length":999999999}}"#
+        )?;
+    }
+    text.push_str("]}")
+}
+
+/// A set at all its limits: 64 processors and tasks, 32 resources, 256 requests, and the greatest numbers and names.
+fn largest(alloc: Global) -> Result<String, AllocError> {
+    let mut text = String::from_str(alloc, r#"{"processors":64,"resources":["#)?;
+    for q in 10..42 {
+        if q > 10 {
+            text.push_str(",")?;
+        }
+        write!(
+            text,
+            r#"{{"name":"one_resource_of_a_32_byte_name{q}","home":64}}"#
+        )?;
+    }
+    text.push_str(r#"],"tasks":["#)?;
+    for x in 0..64 {
+        if x > 0 {
+            text.push_str(",")?;
+        }
+        push_largest_task(&mut text, x)?;
+    }
+    text.push_str("]}")?;
+    Ok(text)
+}
+
+#[test]
+fn reads_a_set_at_all_its_limits(rt: HostRuntime) -> Result<(), Fail> {
+    let text = largest(rt.alloc())?;
+    assert!(rt; text.len() <= MOST_TEXT);
+    match read(rt.alloc(), text.as_bytes()) {
+        Ok(set) => {
+            assert!(rt; set.tasks() == 64 && set.resources() == 32);
+            let (x, q) = (TaskId(63), ResourceId(31));
+            assert_eq!(rt; set.task_name(x), "a_task_whose_name_has_32_bytes73");
+            assert_eq!(rt; [set.period(x), set.cost(x)], [1_000_000_000; 2]);
+            assert_eq!(rt; [set.count(x, q), set.length(x, q)], [1000, 999_999_999]);
+            assert_eq!(rt; home_check(&set, Protocol::Dpcp), Ok(()));
+        }
+        Err(refusal) => assert_eq!(rt; Some(refusal), None),
+    }
+    Ok(())
+}

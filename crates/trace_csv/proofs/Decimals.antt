@@ -8,7 +8,7 @@ use Rattle.std.proofs.Math.Bool.{or-true}
 use Rattle.std.proofs.lemmas.Fmt.{decimal_digit, decimal_nonempty, digits_decimal, digits_value-decimal, first_decimal}
 use Rattle.std.proofs.lemmas.Str.Parse.{IsDigitsTest, IsNumeralModel, numerals_by_fold}
 use Rattle.schedule_model.specs.Fitting.{is_below, names_below}
-use Rattle.trace_csv.specs.Numbers.{is_digit, is_number, number_in, number_between, value_after}
+use Rattle.text_pieces.specs.Numbers.{is_digit, is_number, number_in, number_between, value_after}
 use Rattle.trace_csv.specs.RowLines.{is_cell, is_listed, job_in}
 use Rattle.trace_csv.specs.Written.{cell_of}
 

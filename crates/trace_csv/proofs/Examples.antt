@@ -3,7 +3,7 @@ use Rattle.std.proofs.Common.{◌≡◌, true, [], ◌∷◌, None, Some, refl}
 use Rattle.std.specs.Prelude.{codes}
 use Rattle.csv.specs.Machine.{next_record}
 use Rattle.csv.specs.Reading.{records_from, strip_bom}
-use Rattle.trace_csv.specs.Numbers.{number_in, number_between}
+use Rattle.text_pieces.specs.Numbers.{number_in, number_between}
 use Rattle.trace_csv.specs.Records.{records_in}
 use Rattle.trace_csv.specs.Scripts.{script_in}
 use Rattle.trace_csv.specs.RowLines.{is_cell, job_in}

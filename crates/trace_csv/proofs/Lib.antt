@@ -1,4 +1,3 @@
-pub mod Numbers
 pub mod Fields
 pub mod Rests
 pub mod Sized

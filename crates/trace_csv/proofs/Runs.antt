@@ -10,7 +10,7 @@ use Rattle.sporadic_model.proofs.Mapped.{length-map}
 use Rattle.sporadic_model.specs.declared.limits.TheConstants.{MOST_TICKS}
 use Rattle.schedule_model.specs.JobDef.{JobsDef}
 use Rattle.schedule_model.specs.Fitting.{is_below, names_below, is_sized}
-use Rattle.trace_csv.specs.Numbers.{if_in_range, number_in}
+use Rattle.text_pieces.specs.Numbers.{if_in_range, number_in}
 use Rattle.trace_csv.specs.RowLines.{is_cell, is_listed, job_in, job_count, processor_count, resource_count, row_of_cells, run_written, ticks_in, cells_refusal}
 use Rattle.trace_csv.specs.RowAnswers.{IsRunOf}
 

@@ -11,7 +11,7 @@ use Rattle.schedule_model.specs.declared.refusal.JobRefusal.{JobRefusal}
 use Rattle.schedule_model.specs.declared.refusal.JobRefusal.TheVariants as push
 use Rattle.trace_csv.specs.declared.refusal.JobsRefusal.{JobsRefusal}
 use Rattle.trace_csv.specs.declared.refusal.JobsRefusal.TheVariants as refusal
-use Rattle.trace_csv.specs.Numbers.{number_between}
+use Rattle.text_pieces.specs.Numbers.{number_between}
 use Rattle.trace_csv.specs.Records.{Fields, line_at}
 use Rattle.trace_csv.specs.Scripts.{NamedRequest, PartDef, script_in}
 

@@ -6,7 +6,7 @@ use Rattle.schedule_model.specs.JobDef.{JobsDef}
 use Rattle.schedule_model.specs.RowDef.{RowDef, RunDef, ticks_of, idle_row}
 use Rattle.trace_csv.specs.declared.refusal.RowsRefusal.{RowsRefusal}
 use Rattle.trace_csv.specs.declared.refusal.RowsRefusal.TheVariants as refusal
-use Rattle.trace_csv.specs.Numbers.{is_number, number_between}
+use Rattle.text_pieces.specs.Numbers.{is_number, number_between}
 use Rattle.trace_csv.specs.Records.{Fields, line_at}
 
 -- The number of ticks that a field writes: from 1 to 10^9.

@@ -3,7 +3,7 @@ use Rattle.std.specs.Prelude.{ℕ, ◌==◌, Bool, List, [], ◌∷◌, ◌++◌
 use Rattle.std.specs.List.{before_first, after_first}
 use Rattle.std.specs.Int.{is_in_range}
 use Rattle.sporadic_model.specs.declared.limits.TheConstants.{MOST_NAME, MOST_TICKS}
-use Rattle.trace_csv.specs.Numbers.{number_between}
+use Rattle.text_pieces.specs.Numbers.{number_between}
 
 -- The codes of a space and of a colon.
 abbrev pub space : ℕ

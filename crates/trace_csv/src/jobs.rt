@@ -6,14 +6,14 @@ ghost use Rattle.trace_csv.specs.JobsFile.{jobs_header, IsJobsFile, LinesRead, R
 ghost use Rattle.trace_csv.specs.JobAnswers.{SegmentOf, SegmentsRead, ScriptRead, FieldsRead, LineRead, LineTaken};
 
 use crate::header::are_same;
-use crate::number::number_between;
 use crate::refusal::JobsRefusal;
 use crate::script::{Part, Request, ScriptFault, parts_in};
 use crate::table::{fields_in, records_of};
 use csv::ByteRecord;
 use schedule_model::{Job, JobList, JobRefusal, Segment};
 use sporadic_model::{MOST_TICKS, ResourceId, TaskId, TaskSet};
-use std::alloc::{AllocError, Global};
+use std::alloc::{AllocError, AllocFailed, Global};
+use text_pieces::number_between;
 
 /// Why a script is not read as segments.
 #[derive(Clone, Copy, Debug, PartialEq, Eq)]
@@ -24,6 +24,16 @@ enum SegmentFault {
     UnknownName,
     /// Memory was refused.
     Memory,
+}
+
+impl<T: Drop> From<AllocFailed<T>> for SegmentFault {
+    ghost use Rattle.trace_csv.specs.declared.jobs.SegmentFault.TheVariants.{Memory};
+
+    ghost from_gives = { λ _ fault. fault ≡ Memory };
+
+    fn from(_error: AllocFailed<T>) -> SegmentFault {
+        SegmentFault::Memory
+    }
 }
 
 /// The segment that a part of a script writes; none where it names no resource of the set.
@@ -53,10 +63,7 @@ fn segments_of(alloc: Global, set: &TaskSet, parts: &[Part]) -> Result<Vec<Segme
         let Some(segment) = segment_of(set, part) else {
             return Err(SegmentFault::UnknownName);
         };
-        match segments.push(segment) {
-            Ok(()) => {}
-            Err(_) => return Err(SegmentFault::Memory),
-        }
+        segments.push(segment)?;
     }
     Ok(segments)
 }
@@ -105,10 +112,7 @@ fn job_of_fields(
 fn job_of(alloc: Global, set: &TaskSet, row: &ByteRecord, line: u64) -> Result<Job, JobsRefusal>
     ensures { LineRead result set.now (fields_of row.now) line }
 {
-    let fields = match fields_in(alloc, row) {
-        Ok(fields) => fields,
-        Err(AllocError) => return Err(JobsRefusal::Memory),
-    };
+    let fields = fields_in(alloc, row)?;
     match fields.as_slice() {
         [name, release, script] => job_of_fields(alloc, set, name, release, script, line),
         _ => Err(JobsRefusal::Fields(line)),
@@ -179,11 +183,10 @@ fn jobs_under_header<'a>(
     let [header, lines @ ..] = rows else {
         return Err(JobsRefusal::Fields(0));
     };
-    match is_jobs_header(alloc, header) {
-        Ok(true) => jobs_of(alloc, set, lines),
-        Ok(false) => Err(JobsRefusal::Fields(0)),
-        Err(AllocError) => Err(JobsRefusal::Memory),
+    if !is_jobs_header(alloc, header)? {
+        return Err(JobsRefusal::Fields(0));
     }
+    jobs_of(alloc, set, lines)
 }
 
 /// Reads jobs of a task set from CSV: the header `task,release,script`, and then a line for each job, with
@@ -199,8 +202,6 @@ pub fn read_jobs<'a>(
     ensures read { JobsRead result set.now bytes.now }
     ensures accepts { IsJobsFile set.now bytes.now → IsUnrefused result }
 {
-    match records_of(alloc, bytes) {
-        Ok(rows) => jobs_under_header(alloc, set, &rows),
-        Err(AllocError) => Err(JobsRefusal::Memory),
-    }
+    let rows = records_of(alloc, bytes)?;
+    jobs_under_header(alloc, set, &rows)
 }

@@ -3,7 +3,6 @@
 
 mod header;
 mod jobs;
-mod number;
 mod refusal;
 mod rows;
 mod script;

@@ -1,3 +1,6 @@
+ghost use Rattle.std.specs.Prelude.{◌≡◌};
+
+use std::alloc::AllocError;
 use thiserror::Error;
 
 /// Why a text is not read as jobs, with the number of the first line that is refused: data lines are
@@ -31,6 +34,16 @@ pub enum JobsRefusal {
     Memory,
 }
 
+impl From<AllocError> for JobsRefusal {
+    ghost use Rattle.trace_csv.specs.declared.refusal.JobsRefusal.TheVariants.{Memory};
+
+    ghost from_gives = { λ _ refusal. refusal ≡ Memory };
+
+    fn from(_error: AllocError) -> JobsRefusal {
+        JobsRefusal::Memory
+    }
+}
+
 /// Why a text is not read as rows, with the number of the first line that is refused: data lines are
 /// counted from 1, and the header is line 0. On a line the refusals are tried in the order in which they
 /// stand here.
@@ -52,4 +65,14 @@ pub enum RowsRefusal {
     /// Memory was refused.
     #[error("out of memory")]
     Memory,
+}
+
+impl From<AllocError> for RowsRefusal {
+    ghost use Rattle.trace_csv.specs.declared.refusal.RowsRefusal.TheVariants.{Memory};
+
+    ghost from_gives = { λ _ refusal. refusal ≡ Memory };
+
+    fn from(_error: AllocError) -> RowsRefusal {
+        RowsRefusal::Memory
+    }
 }

@@ -7,13 +7,13 @@ ghost use Rattle.trace_csv.specs.RowsFile.{IsRowsFile, LinesRead, RecordsRead, R
 ghost use Rattle.trace_csv.specs.RowAnswers.{CellsRead, LineRead, LineTaken, at_line, IsMade};
 
 use crate::header::is_rows_header;
-use crate::number::{is_number, number_between};
 use crate::refusal::RowsRefusal;
 use crate::table::{fields_in, records_of};
 use csv::ByteRecord;
 use schedule_model::{JobId, JobList, Row, RowList, RowRefusal, RowRun};
 use sporadic_model::MOST_TICKS;
 use std::alloc::{AllocError, Global};
+use text_pieces::{is_number, number_between};
 
 /// Is the cell empty, or a number?
 fn is_cell(cell: &[u8]) -> bool
@@ -109,20 +109,15 @@ fn run_of_cells(
     if !are_listed(cells, jobs.len()) {
         return Err(RowsRefusal::UnknownJob(line));
     }
-    match row_of(alloc, cells, processors, jobs.len()) {
-        Ok(row) => Ok(RowRun { ticks, row }),
-        Err(AllocError) => Err(RowsRefusal::Memory),
-    }
+    let row = row_of(alloc, cells, processors, jobs.len())?;
+    Ok(RowRun { ticks, row })
 }
 
 /// The run that a line writes, or why the line, which has this number, is refused for what stands on it.
 fn run_of(alloc: Global, jobs: &JobList, row: &ByteRecord, line: u64) -> Result<RowRun, RowsRefusal>
     ensures { LineRead result jobs.now (fields_of row.now) line }
 {
-    let fields = match fields_in(alloc, row) {
-        Ok(fields) => fields,
-        Err(AllocError) => return Err(RowsRefusal::Memory),
-    };
+    let fields = fields_in(alloc, row)?;
     match fields.as_slice() {
         [ticks, cells @ ..] => run_of_cells(alloc, jobs, ticks, cells, line),
         [] => Err(RowsRefusal::Fields(line)),
@@ -181,11 +176,10 @@ fn rows_under_header(
     let [header, lines @ ..] = records else {
         return Err(RowsRefusal::Fields(0));
     };
-    match is_rows_header(alloc, jobs.set(), header) {
-        Ok(true) => rows_of(alloc, jobs, lines),
-        Ok(false) => Err(RowsRefusal::Fields(0)),
-        Err(AllocError) => Err(RowsRefusal::Memory),
+    if !is_rows_header(alloc, jobs.set(), header)? {
+        return Err(RowsRefusal::Fields(0));
     }
+    rows_of(alloc, jobs, lines)
 }
 
 /// Reads rows of jobs from CSV: the header, and then a line for each run of equal rows, with its number of
@@ -197,8 +191,6 @@ pub fn read_rows(alloc: Global, jobs: &JobList, bytes: &[u8]) -> Result<RowList,
     ensures read { RowsRead result jobs.now bytes.now }
     ensures accepts { IsRowsFile jobs.now bytes.now → IsUnrefused result }
 {
-    match records_of(alloc, bytes) {
-        Ok(records) => rows_under_header(alloc, jobs, &records),
-        Err(AllocError) => Err(RowsRefusal::Memory),
-    }
+    let records = records_of(alloc, bytes)?;
+    rows_under_header(alloc, jobs, &records)
 }

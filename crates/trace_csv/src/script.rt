@@ -2,9 +2,9 @@ ghost use Rattle.std.specs.Prelude.{◌≡◌, ◌==◌, option_map, position};
 ghost use Rattle.trace_csv.specs.Scripts.{request_in, script_in};
 ghost use Rattle.trace_csv.specs.PartsSeen.{request_seen, part_seen, Divides, IsFirstToken, IsFirstPart, PartsRead};
 
-use crate::number::number_between;
 use sporadic_model::{MOST_NAME, MOST_TICKS};
-use std::alloc::{AllocError, Global};
+use std::alloc::{AllocFailed, Global};
+use text_pieces::number_between;
 
 /// A request by the name of its resource, and for how many ticks.
 #[derive(Clone, Copy, Debug)]
@@ -27,6 +27,16 @@ pub(crate) enum ScriptFault {
     Form,
     /// Memory was refused.
     Memory,
+}
+
+impl<T: Drop> From<AllocFailed<T>> for ScriptFault {
+    ghost use Rattle.trace_csv.specs.declared.script.ScriptFault.TheVariants.{Memory};
+
+    ghost from_gives = { λ _ fault. fault ≡ Memory };
+
+    fn from(_error: AllocFailed<T>) -> ScriptFault {
+        ScriptFault::Memory
+    }
 }
 
 /// Where is the first such byte?
@@ -99,10 +109,7 @@ pub(crate) fn parts_in(alloc: Global, text: &[u8]) -> Result<Vec<Part<'_>>, Scri
         let Some((part, after)) = first_part(text) else {
             return Err(ScriptFault::Form);
         };
-        match parts.push(part) {
-            Ok(()) => {}
-            Err(_) => return Err(ScriptFault::Memory),
-        }
+        parts.push(part)?;
         rest = after;
     }
     Ok(parts)

@@ -4,6 +4,7 @@ use super::*;
 use schedule_model::{JobId, JobList, RowList, Segment};
 use sporadic_model::{Parts, RequestPart, ResourceId, ResourcePart, TaskId, TaskPart, TaskSet};
 use std::alloc::{AllocError, Global};
+use std::fmt::Write;
 use std::test::Fail;
 
 fn request(alloc: Global, length: u64) -> Result<Vec<RequestPart>, AllocError> {
@@ -221,5 +222,44 @@ fn reads_rows_or_names_the_first_refused_line(rt: HostRuntime) -> Result<(), Fai
     assert!(rt; answer_to_rows(rt.alloc(), &jobs, "") == refused);
     assert!(rt; answer_to_rows(rt.alloc(), &jobs, "ticks,P1,P2\n") == refused);
     assert!(rt; answer_to_rows(rt.alloc(), &jobs, "\"ticks\",P1,\"P2\",q") == Ok(0));
+    Ok(())
+}
+
+/// A thousand jobs of the first task.
+fn many_jobs(alloc: Global) -> Result<String, AllocError> {
+    let mut text = String::from_str(alloc, "task,release,script\n")?;
+    for j in 0..1000u64 {
+        writeln!(text, "t1,{},1 q:1 1", 1_000_000 * j)?;
+    }
+    Ok(text)
+}
+
+/// A thousand runs, which name each job, and last 10^9 ticks in all.
+fn many_rows(alloc: Global) -> Result<String, AllocError> {
+    let mut text = String::from_str(alloc, "ticks,P1,P2,q\n")?;
+    for j in 0..1000u64 {
+        writeln!(text, "1000000,{},,{}", j + 1, 1000 - j)?;
+    }
+    Ok(text)
+}
+
+#[test]
+fn reads_a_thousand_jobs_and_rows_and_writes_the_same_rows(rt: HostRuntime) -> Result<(), Fail> {
+    let set = two_tasks(rt.alloc())?;
+    let text = many_jobs(rt.alloc())?;
+    let Ok(jobs) = read_jobs(rt.alloc(), &set, text.as_bytes()) else {
+        return Err("refused".into());
+    };
+    assert!(rt; jobs.len() == 1000);
+    assert_eq!(rt; jobs.job(JobId(999)).release, 999_000_000);
+    let text = many_rows(rt.alloc())?;
+    let Ok(rows) = read_rows(rt.alloc(), &jobs, text.as_bytes()) else {
+        return Err("refused".into());
+    };
+    assert!(rt; rows.ticks() == 1_000_000_000 && rows.runs().len() == 1000);
+    match written(rt.alloc(), &jobs, &rows) {
+        Some(again) => assert!(rt; again?.as_slice() == text.as_bytes()),
+        None => return Err("does not fit".into()),
+    }
     Ok(())
 }

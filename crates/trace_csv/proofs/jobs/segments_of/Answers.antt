@@ -32,10 +32,10 @@ loop-part-preserved c =
     let segment = c.in-Some.segment in
     record {
       known = next_known (has_known_resource set) c.args.parts.now c.loop-part.part-index _ here c.in-Some.ensures.0 ∙ inv.known;
-      written = rw (c.in-Ok.ensures.items, map-append segment_seen old (segment ∷ []))
+      written = rw (c.in_ok-push.ensures.items, map-append segment_seen old (segment ∷ []))
           (next_written (segment_written set) (map segment_seen old) (segment_seen segment) c.args.parts.now c.loop-part.part-index _ here c.in-Some.ensures.1) ∙ inv.written;
       inside = rw (
-        c.in-Ok.ensures.items,
+        c.in_ok-push.ensures.items,
         map-append segment_seen old (segment ∷ []),
         list_all-append (is_resource_in (length set.resources)) (map segment_seen old) (segment_seen segment ∷ []),
         inv.inside,

@@ -10,8 +10,8 @@ use Rattle.trace_csv.specs.RowAnswers.{IsRunOf}
 use Rattle.trace_csv.proofs.Runs.{is_run, none_due}
 use Rattle.trace_csv.proofs.rows.run_of_cells.Goals as goal
 
-pub returns-in-Ok : goal.returns-in-Ok
-returns-in-Ok c =
+pub returns : goal.returns
+returns c =
     let jobs : JobsDef = c.args.jobs.now in
     let cells : List (List ℕ) = map (λ (f : Bor (List ℕ)). f.now) c.args.cells.now in
     let ticks : List ℕ = c.args.ticks.now in
@@ -25,8 +25,8 @@ returns-in-Ok c =
     let some : ticks_in ticks ≡ Some n = sym c.in-Some.ensures in
     let form : list_all is_cell cells ≡ true = sym c.if-not-are_cells.ensures in
     let listed : list_all (is_listed (job_count jobs)) cells ≡ true = ap (λ m. list_all (is_listed m) cells) (sym count) ∙ sym c.if-not-are_listed.ensures in
-    let row : row_seen c.in-Ok.row ≡ row_written jobs cells =
-    c.in-Ok.ensures ∙ ap (λ p. row_of_cells p c.len-2.result cells) processors ∙ ap (λ m. row_of_cells (processor_count jobs) m cells) again in
-    let run : run_seen (record { ticks = n; row = c.in-Ok.row }) ≡ run_written jobs (ticks ∷ cells) =
+    let row : row_seen c.in_ok-row.row ≡ row_written jobs cells =
+    c.in_ok-row.ensures ∙ ap (λ p. row_of_cells p c.len-2.result cells) processors ∙ ap (λ m. row_of_cells (processor_count jobs) m cells) again in
+    let run : run_seen (record { ticks = n; row = c.in_ok-row.row }) ≡ run_written jobs (ticks ∷ cells) =
     λ i. record { ticks = unwrap_or (sym some i) 0; row = row i } in
     (none_due jobs ticks cells c.args.line n size some form listed, run, subst (IsRunOf jobs) (sym run) (is_run jobs ticks cells n size some))

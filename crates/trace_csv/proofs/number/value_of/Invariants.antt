@@ -1,9 +1,0 @@
-use Rattle.std.proofs.Common.{◌≡◌, ◌≤◌, ◌-◌, ◌^◌, min, drop}
-use Rattle.trace_csv.specs.Numbers.{value_after}
-use Rattle.trace_csv.proofs.number.value_of.Given as goal
-
-abbrev pub invariant-loop-digit : goal.invariant-loop-digit
-invariant-loop-digit l = record {
-  small : l.value ≤ 2 ^ 64 - 1;
-  left : min (value_after l.value (drop l.digit-index l.digits)) (2 ^ 64 - 1) ≡ min (value_after 0 l.digits) (2 ^ 64 - 1);
-}
