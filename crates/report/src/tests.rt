@@ -101,8 +101,9 @@ fn the_table_of_the_largest_numbers_keeps_its_columns(rt: HostRuntime) -> Result
     let text = set_table(alloc, &set)?;
     // a header and 64 lines of 80 bytes, loads of 0 for nine processors and for 54, and a last load
     assert!(rt; text.len() == 65 * 80 + 9 * 9 + 54 * 10 + 17);
-    let line = "t63                              64 1000000000 1000000000 1000000000 1000000000\nload 1 0\n";
-    assert!(rt; text[64 * 80..65 * 80 + 9] == *line.as_bytes());
+    let line =
+        "t63                              64 1000000000 1000000000 1000000000 1000000000\nload 1 0\n";
+    assert!(rt; &text[64 * 80..65 * 80 + 9] == line.as_bytes());
     assert!(rt; text.ends_with(b"load 63 0\nload 64 64000000\n"));
     Ok(())
 }
