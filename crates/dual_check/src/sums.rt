@@ -15,6 +15,18 @@ fn product(a: u64, b: u64) -> u128
     u128::from(a) * u128::from(b)
 }
 
+// What a row holds of a column, the numerator times. Most numerators of a dual are zero, and their rows aren't looked at.
+fn weighted(program: &Program, numerator: u64, row: u32, column: u32) -> u128
+    requires row { row < height program.now }
+    requires column { column < columns program.now }
+    ensures { result ≡ numerator * entry program.now row column }
+{
+    if numerator == 0 {
+        return 0;
+    }
+    product(numerator, program.entry(row, column))
+}
+
 /// What the rows hold of a column, each its numerator times, no further than `most`.
 fn column_sum(program: &Program, num: &[u64], column: u32, most: u128) -> u128
     requires column { column < columns program.now }
@@ -23,7 +35,7 @@ fn column_sum(program: &Program, num: &[u64], column: u32, most: u128) -> u128
 {
     let mut sum = 0;
     for r in 0..program.rows() {
-        let term = product(num[r as usize], program.entry(r, column));
+        let term = weighted(program, num[r as usize], r, column);
         sum = most.min(term.saturating_add(sum));
     }
     sum

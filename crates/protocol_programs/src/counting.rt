@@ -1,7 +1,7 @@
 ghost use Rattle.std.specs.Prelude.{◌≡◌, ◌<◌, ◌≤◌, ◌*◌, length, slice_index};
 ghost use Rattle.sporadic_model.specs.Accepted.{TaskNumbers};
 ghost use Rattle.sporadic_model.specs.SetDef.{task_at};
-ghost use Rattle.program_sources.specs.Bounds.{AreWithinDeadlines, AreFromCostsAbove};
+ghost use Rattle.program_sources.specs.Bounds.{AreWithinDeadlines, AreFromCostsAbove, most_of_one_task};
 ghost use Rattle.program_sources.specs.Recurrence.{interference_by, interference_of};
 ghost use Rattle.program_laws.specs.Programs.{interfering_cost};
 
@@ -33,7 +33,7 @@ fn interference_of_task(
     requires within { AreWithinDeadlines set.now bounds.now }
     requires from_costs { AreFromCostsAbove set.now bounds.now i.0 }
     ensures value { result ≡ interference_by (interfering_cost protocol set.now) set.now bounds.now i.0 h.0 }
-    ensures most { result ≤ 3000000000 }
+    ensures most { result ≤ most_of_one_task }
 {
     let _tasks = set.tasks();
     let ticks = interfering(set, protocol, h);
@@ -50,7 +50,7 @@ pub fn interference(set: &TaskSet, protocol: Protocol, i: TaskId, bounds: &[u64]
     requires within { AreWithinDeadlines set.now bounds.now }
     requires from_costs { AreFromCostsAbove set.now bounds.now i.0 }
     ensures value { result ≡ interference_of (interfering_cost protocol set.now) set.now bounds.now i.0 }
-    ensures most { result ≤ i.0 * 3000000000 }
+    ensures most { result ≤ i.0 * most_of_one_task }
 {
     let mut total = 0;
     for h in 0..i.0 {
