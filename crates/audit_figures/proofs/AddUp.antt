@@ -18,7 +18,8 @@ BlockedCharged charges interferes w n =
     (t j : ℕ) → t < n → is_blocked interferes w t j ≡ true → (charge : Charge) × (charges w t j ≡ Some charge)
 
 -- A charge is of one class.
-one_class : (o : Option Charge) (b : Bool) → ((charge : Charge) → o ≡ Some charge → b ≡ true) → (b ≡ true → (charge : Charge) × (o ≡ Some charge))
+one_class : (o : Option Charge) (b : Bool) → ((charge : Charge) → o ≡ Some charge → b ≡ true)
+    → (b ≡ true → (charge : Charge) × (o ≡ Some charge))
     → flag (is_of_class Direct o) + (flag (is_of_class Indirect o) + flag (is_of_class Preemption o)) ≡ flag b
 one_class None true only all = let a : (charge : Charge) × (None ≡ Some charge) = all refl in let no : None ≡ Some a.0 = a.1 in absurd (cc)
 one_class None false only all = refl
@@ -37,7 +38,8 @@ job_adds_up : (charges : Trace → ℕ → ℕ → Option Charge) (interferes : 
 unfolding class_ticks
 job_adds_up charges interferes w bound n j only all =
     let m : ℕ = window_end w bound n j in
-    ap (λ k. count_below m (in_class Direct) + k) (sym (sum_below-plus m (λ t. flag (in_class Indirect t)) (λ t. flag (in_class Preemption t))))
+    ap (λ k. count_below m (in_class Direct) + k)
+    (sym (sum_below-plus m (λ t. flag (in_class Indirect t)) (λ t. flag (in_class Preemption t))))
     ∙ sym (sum_below-plus m (λ t. flag (in_class Direct t)) (λ t. flag (in_class Indirect t) + flag (in_class Preemption t)))
     ∙ sum_below-agree m (λ t. flag (in_class Direct t) + (flag (in_class Indirect t) + flag (in_class Preemption t)))
     (λ t. flag (is_blocked interferes w t j))

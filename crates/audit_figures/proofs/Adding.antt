@@ -1,5 +1,6 @@
 -- Adding one item more to the sums of its task.
-use Rattle.std.proofs.Common.{◌≡◌, ℕ, ◌+◌, ◌<◌, ◌==◌, ◌&&◌, Bool, true, false, List, [], length, get_or, set, take, refl, sym, ap, ◌∙◌, arith, inl, inr, sum_by}
+use Rattle.std.proofs.Common.{◌≡◌, ℕ, ◌+◌, ◌<◌, ◌==◌, ◌&&◌, Bool, true, false, List, [], length, get_or, set, take}
+use Rattle.std.proofs.Common.{refl, sym, ap, ◌∙◌, arith, inl, inr, sum_by}
 use Rattle.std.proofs.lemmas.Bool.{cases_eq, eq-eqb, ne_eqb}
 use Rattle.std.proofs.lemmas.List.{take_more, get_or-set_same, get_or-set_other}
 use Rattle.std.proofs.lemmas.List.Sums.{sum_by_push}
@@ -33,7 +34,9 @@ sum_more : (jobs : List JobDef) (x : ℕ) (c : Class) (items : List ChargeItem) 
     ≡ sum_by (item_ticks jobs x c) (take i items) + only_if (b && is_same_class c (get_or items i d).class) (get_or items i d).ticks
 sum_more jobs x c items i d b l own =
     item_more (item_ticks jobs x c) items i d l
-    ∙ ap (λ o. sum_by (item_ticks jobs x c) (take i items) + only_if (o && is_same_class c (get_or items i d).class) (get_or items i d).ticks) own
+    ∙ ap
+    (λ o. sum_by (item_ticks jobs x c) (take i items)
+    + only_if (o && is_same_class c (get_or items i d).class) (get_or items i d).ticks) own
 
 -- Sums with the same parts are the same.
 same_sums : (s : ClassSums) (d i p : ℕ) → s.direct ≡ d → s.indirect ≡ i → s.preemption ≡ p
@@ -47,7 +50,8 @@ own_more : (jobs : List JobDef) (x : ℕ) (items : List ChargeItem) (i : ℕ) (d
 unfolding item_sums
 own_more jobs x items i d sums l own before =
     same_sums (sums_with sums (get_or items i d)) (counted (all Direct)) (counted (all Indirect)) (counted (all Preemption))
-    (of Direct sums.direct (ap (λ (s : ClassSums). s.direct) before)) (of Indirect sums.indirect (ap (λ (s : ClassSums). s.indirect) before))
+    (of Direct sums.direct (ap (λ (s : ClassSums). s.direct) before))
+    (of Indirect sums.indirect (ap (λ (s : ClassSums). s.indirect) before))
     (of Preemption sums.preemption (ap (λ (s : ClassSums). s.preemption) before)) where
       all : Class → ℕ
       all c = sum_by (item_ticks jobs x c) (take (i + 1) items)

@@ -1,5 +1,6 @@
 -- Each charged tick is counted in one item of a table, and each item counts its own ticks alone.
-use Rattle.std.proofs.Common.{◌≡◌, ℕ, ◌<◌, ◌==◌, ◌&&◌, Bool, true, false, List, length, get_or, refl, sym, ap, ◌∙◌, inl, inr, Option, Some, None}
+use Rattle.std.proofs.Common.{◌≡◌, ℕ, ◌<◌, ◌==◌, ◌&&◌, Bool, true, false, List, length, get_or, refl, sym, ap, ◌∙◌, inl}
+use Rattle.std.proofs.Common.{inr, Option, Some, None}
 use Rattle.std.specs.List.{Contains}
 use Rattle.std.specs.List.Sorted.{IsStrictlySortedBy}
 use Rattle.std.specs.Ordering.{nat_cmp}
@@ -102,7 +103,8 @@ counts_once items j c r sorted item there own is =
       others k l other = elim (cases_Bool (counts_for j c (Some r) (item_at items k))) [
         | inr out ↦ flag-of_false _ out
         | inl is_in ↦
-            let known : ((item_at items k).blocked ≡ j) × (is_of (item_at items k) (Some r) ≡ true) = counted_for j c r (item_at items k) is_in in
+            let known : ((item_at items k).blocked ≡ j) × (is_of (item_at items k) (Some r) ≡ true) =
+            counted_for j c r (item_at items k) is_in in
             elim (cases_order k there.0) [
               | inl same ↦ absurd (other same)
               | inr apart ↦ elim apart [

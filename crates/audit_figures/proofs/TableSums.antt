@@ -1,11 +1,13 @@
 -- The sums over the items of a table are the charged ticks of its schedule.
-use Rattle.std.proofs.Common.{◌≡◌, ℕ, ◌<◌, ◌==◌, ◌&&◌, Bool, true, false, List, length, get_or, map, refl, sym, ap, ◌∙◌, inl, inr, Option, Some, None, sum_by}
+use Rattle.std.proofs.Common.{◌≡◌, ℕ, ◌<◌, ◌==◌, ◌&&◌, Bool, true, false, List, length, get_or, map, refl, sym, ap, ◌∙◌}
+use Rattle.std.proofs.Common.{inl, inr, Option, Some, None, sum_by}
 use Rattle.std.specs.List.{Contains}
 use Rattle.std.proofs.lemmas.Bool.{cases_Bool, and_parts, eq-eqb, eqb-true, ne_eqb}
 use Rattle.std.proofs.lemmas.List.{get_or-map, length-map}
 use Rattle.bounded_sums.specs.Sums.{sum_below, flag, only_if}
 use Rattle.bounded_sums.specs.Tests.{count_below}
-use Rattle.bounded_sums.proofs.SumLaws.{sum_below-agree, sum_below-swap, sum_below-zero, sum_below-one, sum_below-list_by, only_if-true, only_if-false}
+use Rattle.bounded_sums.proofs.SumLaws.{sum_below-agree, sum_below-swap, sum_below-zero, sum_below-one}
+use Rattle.bounded_sums.proofs.SumLaws.{sum_below-list_by, only_if-true, only_if-false}
 use Rattle.bounded_sums.proofs.CountLaws.{count_below-none}
 use Rattle.schedule_model.specs.RowDef.{Trace}
 use Rattle.schedule_model.specs.Phase.{Phase, phase_of}
@@ -47,7 +49,8 @@ ticks_by_tick charges w bound n j c item counted = elim (cases_Bool ((item.block
 tick_counts : (charges : Trace → ℕ → ℕ → Option Charge) (interferes : Trace → ℕ → ℕ → Bool) (w : Trace) (bound : ℕ → ℕ) (n : ℕ)
     (items : List ItemDef) (c : Class) (t j : ℕ) → ChargesBlocked charges interferes w → IsChargeTable charges interferes w bound n items
     → j < length w.jobs → t < window_end w bound n j
-    → count_below (length items) (λ k. counts_for j c (charged_request charges w t j) (item_at items k)) ≡ flag (is_of_class c (charges w t j))
+    → count_below (length items) (λ k. counts_for j c (charged_request charges w t j) (item_at items k))
+    ≡ flag (is_of_class c (charges w t j))
 tick_counts charges interferes w bound n items c t j only table listed within = go (charges w t j) refl where
   Goal : Option ChargedRequest → Option Charge → Type 0
   Goal named charge = count_below (length items) (λ k. counts_for j c named (item_at items k)) ≡ flag (is_of_class c charge)

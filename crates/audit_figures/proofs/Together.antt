@@ -1,5 +1,6 @@
 -- What is put together are the figures.
-use Rattle.std.proofs.Common.{◌≡◌, ℕ, ◌*◌, ◌<◌, ◌≤◌, ◌==◌, Bool, List, length, get_or, map, refl, sym, ap, ◌∙◌, subst, arith, Option, sum_by}
+use Rattle.std.proofs.Common.{◌≡◌, ℕ, ◌*◌, ◌<◌, ◌≤◌, ◌==◌, Bool, List, length, get_or, map, refl, sym, ap, ◌∙◌, subst}
+use Rattle.std.proofs.Common.{arith, Option, sum_by}
 use Rattle.std.specs.Prelude.{slice_index, Result, Ok, Err, IfOk}
 use Rattle.std.specs.Global.{Global}
 use Rattle.std.specs.declared.vec.Vec.{Vec}
@@ -97,7 +98,8 @@ pub answer_is : (r : Result (Vec TaskFigures Global) AllocError) (list : JobsDef
     → IsChargeTable charges interferes w (slice_index bounds) n (map item_seen items)
     → AreFigures charges interferes w (slice_index bounds) (slice_index values) n v.items)
 answer_is (Err e) list measured bounds values items sums jobs one_each summed size put = tt
-answer_is (Ok v) list measured bounds values items sums jobs one_each summed size put = λ charges interferes w n same rows only measures table.
+answer_is (Ok v) list measured bounds values items sums jobs one_each summed size put =
+    λ charges interferes w n same rows only measures table.
     figures_are charges interferes w n bounds values measured items sums v.items
     (subst (λ (l : JobsDef). length l.jobs ≤ MOST_JOBS) (sym same) jobs) rows only measures table
     (subst (λ (l : JobsDef). (x : ℕ) → x < length l.set.tasks → sums_at sums x ≡ item_sums l.jobs x items) (sym same) summed)

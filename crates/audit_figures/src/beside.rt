@@ -63,7 +63,8 @@ fn put_together(
     requires sums { length sums.now ≡ length measures.now }
     ensures size { IfOk result (λ v. length v.items ≡ length measures.now) }
     ensures each { IfOk result (λ v. (x : ℕ) → x < length measures.now → slice_index_or v.items x no_figures
-        ≡ figures_from (slice_index_or measures.now x no_measure) (slice_index bounds.now x) (slice_index values.now x) (sums_at sums.now x)) }
+        ≡ figures_from (slice_index_or measures.now x no_measure) (slice_index bounds.now x) (slice_index values.now x)
+        (sums_at sums.now x)) }
 {
     let mut figures = Vec::with_capacity(alloc, measures.len())?;
     for x in 0..measures.len() {

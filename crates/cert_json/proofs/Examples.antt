@@ -14,14 +14,20 @@ no_object = refl
 ninth : first_refusal protocol.FmlpPlus (object (member (codes "version") (number (unsigned 9)) no_members)) ≡ Some refusal.Version
 ninth = refl
 
-bare : first_refusal protocol.FmlpPlus (object (member (codes "version") (number (unsigned 1)) no_members)) ≡ Some (refusal.Shape place.Root)
+bare : first_refusal protocol.FmlpPlus (object (member (codes "version") (number (unsigned 1)) no_members))
+    ≡ Some (refusal.Shape place.Root)
 bare = refl
 
-accepted : first_refusal protocol.FmlpPlus (certificate_data protocol.FmlpPlus (record { bounds = 5 ∷ []; duals = record { den = 1; num = 2 ∷ 0 ∷ [] } ∷ [] })) ≡ None
+accepted : first_refusal protocol.FmlpPlus
+    (certificate_data protocol.FmlpPlus (record { bounds = 5 ∷ []; duals = record { den = 1; num = 2 ∷ 0 ∷ [] } ∷ [] }))
+    ≡ None
 accepted = refl
 
-no_denominator : first_refusal protocol.FmlpPlus (certificate_data protocol.FmlpPlus (record { bounds = 5 ∷ []; duals = record { den = 1; num = [] } ∷ record { den = 0; num = [] } ∷ [] })) ≡ Some (refusal.Shape (place.Dual 1))
+no_denominator : first_refusal protocol.FmlpPlus (certificate_data protocol.FmlpPlus
+    (record { bounds = 5 ∷ []; duals = record { den = 1; num = [] } ∷ record { den = 0; num = [] } ∷ [] }))
+    ≡ Some (refusal.Shape (place.Dual 1))
 no_denominator = refl
 
-for_another : first_refusal protocol.Mpcp (certificate_data protocol.FmlpPlus (record { bounds = []; duals = [] })) ≡ Some refusal.OtherProtocol
+for_another : first_refusal protocol.Mpcp (certificate_data protocol.FmlpPlus (record { bounds = []; duals = [] }))
+    ≡ Some refusal.OtherProtocol
 for_another = refl

@@ -1,5 +1,7 @@
 -- A value is refused nowhere exactly where it has the form.
-use Rattle.std.proofs.Common.{◌≡◌, ℕ, suc, ◌+◌, ◌<◌, ◌&&◌, ◌==◌, not, Bool, true, false, cond, List, [], ◌∷◌, length, Option, Some, None, option_map, inl, inr, ◌⊎◌, refl, ap, ap₂, sym, ◌∙◌, arith, codes, IfNone, subst, Err, if◌then◌else◌}
+use Rattle.std.proofs.Common.{◌≡◌, ℕ, suc, ◌+◌, ◌<◌, ◌&&◌, ◌==◌, not, Bool, true, false, cond, List, [], ◌∷◌, length}
+use Rattle.std.proofs.Common.{Option, Some, None, option_map, inl, inr, ◌⊎◌, refl, ap, ap₂, sym, ◌∙◌, arith, codes}
+use Rattle.std.proofs.Common.{IfNone, subst, Err, if◌then◌else◌}
 use Rattle.std.proofs.lemmas.Bool.{lt-ltb, le-ltb}
 use Rattle.std.specs.List.{list_all, position, position_or_len}
 use Rattle.std.specs.Option.{is_none, option_or, option_map_or}
@@ -22,13 +24,15 @@ one_more true a k n (inr h) = inr (h.0, omega (arith, h.1))
 one_more false a k n h = inr (refl, omega arith)
 
 all_or_first : {X : Type 0} (g : X → Bool) (xs : List X)
-    → ((list_all g xs ≡ true) × (position_or_len (λ x. not (g x)) xs ≡ length xs)) ⊎ ((list_all g xs ≡ false) × (position_or_len (λ x. not (g x)) xs < length xs))
+    → ((list_all g xs ≡ true) × (position_or_len (λ x. not (g x)) xs ≡ length xs))
+    ⊎ ((list_all g xs ≡ false) × (position_or_len (λ x. not (g x)) xs < length xs))
 all_or_first g [] = inl (refl, refl)
 all_or_first g (x ∷ xs) = one_more (g x) (list_all g xs) (position_or_len (λ y. not (g y)) xs) (length xs) (all_or_first g xs)
 
 none_fails : {X : Type 0} (g : X → Bool) (xs : List X) → is_none (position (λ x. not (g x)) xs) ≡ list_all g xs
 none_fails g xs = go (all_or_first g xs) where
-  go : ((list_all g xs ≡ true) × (position_or_len (λ x. not (g x)) xs ≡ length xs)) ⊎ ((list_all g xs ≡ false) × (position_or_len (λ x. not (g x)) xs < length xs))
+  go : ((list_all g xs ≡ true) × (position_or_len (λ x. not (g x)) xs ≡ length xs))
+      ⊎ ((list_all g xs ≡ false) × (position_or_len (λ x. not (g x)) xs < length xs))
       → is_none (position (λ x. not (g x)) xs) ≡ list_all g xs
   go (inl h) = rw (le-ltb (position_or_len (λ x. not (g x)) xs) (length xs) (omega (arith, h.1))) (sym h.0)
   go (inr h) = rw (lt-ltb (position_or_len (λ x. not (g x)) xs) (length xs) h.1) (sym h.0)
@@ -67,7 +71,9 @@ none_refused p d =
     (none_or (refused_unless (list_all is_whole (list_at (codes "bounds") d)) (refusal.Shape place.Bounds)) _
     ∙ both (none_unless (list_all is_whole (list_at (codes "bounds") d)) (refusal.Shape place.Bounds))
     (none_or (option_map (λ k. refusal.Shape (place.Dual k)) (first_bad_dual d)) _
-    ∙ both (none_map (λ k. refusal.Shape (place.Dual k)) (first_bad_dual d) ∙ none_fails is_dual (list_at (codes "duals") d)) (none_unless (is_for p d) refusal.OtherProtocol))))
+    ∙ both
+    (none_map (λ k. refusal.Shape (place.Dual k)) (first_bad_dual d) ∙ none_fails is_dual (list_at (codes "duals") d))
+    (none_unless (is_for p d) refusal.OtherProtocol))))
 
 -- Where there is no cause the value has the form.
 pub form_from : (p : Protocol) (d : Data) → first_refusal p d ≡ None → has_certificate_form p d ≡ true
@@ -121,9 +127,12 @@ dual_refused (Some k) = tt
 refused : (p : Protocol) (d : Data) → IfRefused (first_refusal p d)
 refused p d =
     or_refused (version_refusal (whole_at (codes "version") d)) _ (version_refused (whole_at (codes "version") d))
-    (or_refused (refused_unless (is_certificate d) (refusal.Shape place.Root)) _ (unless_refused (is_certificate d) (refusal.Shape place.Root) tt)
-    (or_refused (refused_unless (list_all is_whole (list_at (codes "bounds") d)) (refusal.Shape place.Bounds)) _ (unless_refused (list_all is_whole (list_at (codes "bounds") d)) (refusal.Shape place.Bounds) tt)
-    (or_refused (option_map (λ k. refusal.Shape (place.Dual k)) (first_bad_dual d)) _ (dual_refused (first_bad_dual d)) (unless_refused (is_for p d) refusal.OtherProtocol tt))))
+    (or_refused (refused_unless (is_certificate d) (refusal.Shape place.Root)) _
+    (unless_refused (is_certificate d) (refusal.Shape place.Root) tt)
+    (or_refused (refused_unless (list_all is_whole (list_at (codes "bounds") d)) (refusal.Shape place.Bounds)) _
+    (unless_refused (list_all is_whole (list_at (codes "bounds") d)) (refusal.Shape place.Bounds) tt)
+    (or_refused (option_map (λ k. refusal.Shape (place.Dual k)) (first_bad_dual d)) _ (dual_refused (first_bad_dual d))
+    (unless_refused (is_for p d) refusal.OtherProtocol tt))))
 
 pub judged_by_cause : (r : CertRefusal) (p : Protocol) (d : Data) → first_refusal p d ≡ Some r → JudgesValue (Err r) p d
 judged_by_cause refusal.NotJson p d h = subst IfRefused h (refused p d)

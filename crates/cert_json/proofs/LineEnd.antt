@@ -55,7 +55,8 @@ lex-quoted s r =
     ap (λ l. lex between (34 ∷ l)) (append_assoc (escape s) (34 ∷ []) r)
     ∙ ap₂ (λ o l. token (string_token o) ∷ l) (content-escape s r) (lex-escape s r)
 
-lex-token : (t : Token) (r : List ℕ) → IsPrintable t → (ends t ≡ true → ends_word r ≡ true) → lex between (token_text t ++ r) ≡ lexemes_of t ++ lex between r
+lex-token : (t : Token) (r : List ℕ) → IsPrintable t → (ends t ≡ true → ends_word r ≡ true)
+    → lex between (token_text t ++ r) ≡ lexemes_of t ++ lex between r
 unfolding lex word
 lex-token begin_object r h ended = refl
 lex-token end_object r h ended = refl
@@ -74,14 +75,16 @@ unfolding lex
 lex-separator true r = refl
 lex-separator false r = refl
 
-lex-line : (later : Bool) (ts : List Token) → ArePrintable ts → lex between (print_from later ts ++ 10 ∷ []) ≡ lex between (print_from later ts)
+lex-line : (later : Bool) (ts : List Token) → ArePrintable ts
+    → lex between (print_from later ts ++ 10 ∷ []) ≡ lex between (print_from later ts)
 unfolding lex print_from ArePrintable
 lex-line later [] h = refl
 lex-line later (t ∷ ts) h =
     let rest : List ℕ = print_from (ends t) ts in
     let line : List ℕ = rest ++ 10 ∷ [] in
     let before : List Lexeme = cond (later && begins t) (comma ∷ []) [] in
-    ap (lex between) (append_assoc (separator later t) (token_text t ++ rest) (10 ∷ []) ∙ ap (λ l. separator later t ++ l) (append_assoc (token_text t) rest (10 ∷ [])))
+    ap (lex between) (append_assoc (separator later t) (token_text t ++ rest) (10 ∷ [])
+    ∙ ap (λ l. separator later t ++ l) (append_assoc (token_text t) rest (10 ∷ [])))
     ∙ lex-separator (later && begins t) (token_text t ++ line)
     ∙ ap (λ l. before ++ l)
     (lex-token t line h.0 (λ e. ap (λ b. ends_word (print_from b ts ++ 10 ∷ [])) e ∙ value_ends_before_line ts)

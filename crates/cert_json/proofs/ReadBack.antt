@@ -1,5 +1,7 @@
 -- What is read of the text of a certificate is the certificate.
-use Rattle.std.proofs.Common.{◌≡◌, ℕ, ◌^◌, ◌<◌, ◌≤◌, ◌&&◌, true, List, [], ◌∷◌, ◌++◌, map, Option, Some, None, option_map, option_and_then, Result, Ok, Err, IsUtf8, codes, decimal, refl, sym, ap, ap₂, ◌∙◌, arith, append-nil, le-leb, All}
+use Rattle.std.proofs.Common.{◌≡◌, ℕ, ◌^◌, ◌<◌, ◌≤◌, ◌&&◌, true, List, [], ◌∷◌, ◌++◌, map, Option, Some, None}
+use Rattle.std.proofs.Common.{option_map, option_and_then, Result, Ok, Err, IsUtf8, codes, decimal, refl, sym, ap, ap₂}
+use Rattle.std.proofs.Common.{◌∙◌, arith, append-nil, le-leb, All}
 use Rattle.std.proofs.lemmas.Fmt.{IsAscii-decimal}
 use Rattle.std.proofs.lemmas.List.Elements.{All-head, All-tail}
 use Rattle.std.proofs.lemmas.Str.{IsUtf8-append, IsUtf8-nil, IsUtf8-from_ascii}
@@ -31,7 +33,8 @@ use Rattle.cert_json.specs.Form.{is_whole, is_from, is_dual, has_certificate_for
 use Rattle.cert_json.specs.Refusals.{first_refusal}
 use Rattle.cert_json.specs.Written.{numbers_written, dual_written, certificate_written}
 use Rattle.cert_json.specs.Ranges.{IsSmallDual, IsWritable}
-use Rattle.cert_json.specs.Text.{after_commas, with_commas, dual_text, duals_after_commas, duals_text, bounds_member, duals_member, last_members, certificate_text}
+use Rattle.cert_json.specs.Text.{after_commas, with_commas, dual_text, duals_after_commas, duals_text, bounds_member}
+use Rattle.cert_json.specs.Text.{duals_member, last_members, certificate_text}
 use Rattle.cert_json.specs.Value.{number_data, dual_data, certificate_data}
 use Rattle.cert_json.specs.Answers.{Reads, Gives}
 use Rattle.cert_json.proofs.FormLaws.{none_from_form}
@@ -47,12 +50,14 @@ utf8-after_commas : (ns : List ℕ) → All (λ n. n < 2 ^ 64) ns → IsUtf8 (af
 utf8-after_commas [] h = IsUtf8-nil
 utf8-after_commas (n ∷ ns) h =
     IsUtf8-append (codes ",") _ (IsUtf8-are_ascii (codes ",") refl)
-    (IsUtf8-append (decimal n) (after_commas ns) (utf8-decimal n (All-head (λ m. m < 2 ^ 64) n ns h)) (utf8-after_commas ns (All-tail (λ m. m < 2 ^ 64) n ns h)))
+    (IsUtf8-append (decimal n) (after_commas ns) (utf8-decimal n (All-head (λ m. m < 2 ^ 64) n ns h))
+    (utf8-after_commas ns (All-tail (λ m. m < 2 ^ 64) n ns h)))
 
 utf8-with_commas : (ns : List ℕ) → All (λ n. n < 2 ^ 64) ns → IsUtf8 (with_commas ns)
 utf8-with_commas [] h = IsUtf8-nil
 utf8-with_commas (n ∷ ns) h =
-    IsUtf8-append (decimal n) (after_commas ns) (utf8-decimal n (All-head (λ m. m < 2 ^ 64) n ns h)) (utf8-after_commas ns (All-tail (λ m. m < 2 ^ 64) n ns h))
+    IsUtf8-append (decimal n) (after_commas ns) (utf8-decimal n (All-head (λ m. m < 2 ^ 64) n ns h))
+    (utf8-after_commas ns (All-tail (λ m. m < 2 ^ 64) n ns h))
 
 -- ---- small numbers have 64 bits
 
@@ -77,12 +82,14 @@ utf8-duals_after_commas : (ds : List DualDef) → All IsSmallDual ds → IsUtf8 
 utf8-duals_after_commas [] h = IsUtf8-nil
 utf8-duals_after_commas (d ∷ ds) h =
     IsUtf8-append (codes ",") _ (IsUtf8-are_ascii (codes ",") refl)
-    (IsUtf8-append (dual_text d) (duals_after_commas ds) (utf8-dual d (each_64 d (All-head IsSmallDual d ds h))) (utf8-duals_after_commas ds (All-tail IsSmallDual d ds h)))
+    (IsUtf8-append (dual_text d) (duals_after_commas ds) (utf8-dual d (each_64 d (All-head IsSmallDual d ds h)))
+    (utf8-duals_after_commas ds (All-tail IsSmallDual d ds h)))
 
 utf8-duals : (ds : List DualDef) → All IsSmallDual ds → IsUtf8 (duals_text ds)
 utf8-duals [] h = IsUtf8-nil
 utf8-duals (d ∷ ds) h =
-    IsUtf8-append (dual_text d) (duals_after_commas ds) (utf8-dual d (each_64 d (All-head IsSmallDual d ds h))) (utf8-duals_after_commas ds (All-tail IsSmallDual d ds h))
+    IsUtf8-append (dual_text d) (duals_after_commas ds) (utf8-dual d (each_64 d (All-head IsSmallDual d ds h)))
+    (utf8-duals_after_commas ds (All-tail IsSmallDual d ds h))
 
 utf8-last : (p : Protocol) → IsUtf8 (last_members p)
 utf8-last protocol.Mpcp = IsUtf8-are_ascii (last_members protocol.Mpcp) refl
@@ -103,7 +110,8 @@ utf8-text p c h =
 
 numbers-outlined : (ns : List ℕ) → All (λ n. n < 2 ^ 64) ns → tree.ItemsHaveNumbers (items_outline (items_of (map number_data ns)))
 numbers-outlined [] h = tt
-numbers-outlined (n ∷ ns) h = (IsNumber-decimal n (All-head (λ m. m < 2 ^ 64) n ns h), numbers-outlined ns (All-tail (λ m. m < 2 ^ 64) n ns h))
+numbers-outlined (n ∷ ns) h =
+    (IsNumber-decimal n (All-head (λ m. m < 2 ^ 64) n ns h), numbers-outlined ns (All-tail (λ m. m < 2 ^ 64) n ns h))
 
 duals-outlined : (ds : List DualDef) → All IsSmallDual ds → tree.ItemsHaveNumbers (items_outline (items_of (map dual_data ds)))
 duals-outlined [] h = tt
@@ -125,14 +133,17 @@ duals-flat (d ∷ ds) = rw (numbers-flat d.num) (omega (arith, duals-flat ds))
 flat : (p : Protocol) (c : CertificateDef) → tree.depth (outline (certificate_data p c)) ≤ 127
 flat p c = rw (numbers-flat c.bounds) (omega (arith, duals-flat c.duals))
 
-numbers-again : (ns : List ℕ) → All (λ n. n < 2 ^ 64) ns → of_items (items_outline (items_of (map number_data ns))) ≡ Some (items_of (map number_data ns))
+numbers-again : (ns : List ℕ) → All (λ n. n < 2 ^ 64) ns
+    → of_items (items_outline (items_of (map number_data ns))) ≡ Some (items_of (map number_data ns))
 numbers-again [] h = refl
-numbers-again (n ∷ ns) h = rw (number_of-decimal n (All-head (λ m. m < 2 ^ 64) n ns h), numbers-again ns (All-tail (λ m. m < 2 ^ 64) n ns h)) refl
+numbers-again (n ∷ ns) h = rw
+    (number_of-decimal n (All-head (λ m. m < 2 ^ 64) n ns h), numbers-again ns (All-tail (λ m. m < 2 ^ 64) n ns h)) refl
 
 dual-again : (d : DualDef) → Has64Bits d → of_json (outline (dual_data d)) ≡ Some (dual_data d)
 dual-again d h = rw (number_of-decimal d.den h.den, numbers-again d.num h.num) refl
 
-duals-again : (ds : List DualDef) → All IsSmallDual ds → of_items (items_outline (items_of (map dual_data ds))) ≡ Some (items_of (map dual_data ds))
+duals-again : (ds : List DualDef) → All IsSmallDual ds
+    → of_items (items_outline (items_of (map dual_data ds))) ≡ Some (items_of (map dual_data ds))
 duals-again [] h = refl
 duals-again (d ∷ ds) h =
     let first : of_json (outline (dual_data d)) ≡ Some (dual_data d) = dual-again d (each_64 d (All-head IsSmallDual d ds h)) in
@@ -168,7 +179,8 @@ from_least least n above below = rw (le-leb least n above, le-leb n MOST_NUMBER 
 are_numerators : (ns : List ℕ) → All (λ n. n ≤ MOST_NUMBER) ns → list_all (is_from 0) (values_of (items_of (map number_data ns))) ≡ true
 are_numerators [] h = refl
 are_numerators (n ∷ ns) h =
-    ap₂ (λ a b. a && b) (from_least 0 n (omega arith) (All-head (λ m. m ≤ MOST_NUMBER) n ns h)) (are_numerators ns (All-tail (λ m. m ≤ MOST_NUMBER) n ns h))
+    ap₂ (λ a b. a && b) (from_least 0 n (omega arith) (All-head (λ m. m ≤ MOST_NUMBER) n ns h))
+    (are_numerators ns (All-tail (λ m. m ≤ MOST_NUMBER) n ns h))
 
 dual_formed : (d : DualDef) → IsSmallDual d → is_dual (dual_data d) ≡ true
 dual_formed d h = ap₂ (λ a b. a && b) (from_least 1 d.den h.positive h.small) (are_numerators d.num h.numerators)
@@ -204,12 +216,14 @@ one_value text d e h k = Some_inj d e (sym h.1 ∙ k.1)
 none_is_some : (o : Option CertRefusal) (r : CertRefusal) → o ≡ None → o ≡ Some r → ⊥
 none_is_some o r none some = cc
 
-never : (p : Protocol) (c : CertificateDef) → IsWritable c → (r : CertRefusal) (d : Data) → IsValue (certificate_text p c) d → first_refusal p d ≡ Some r → ⊥
+never : (p : Protocol) (c : CertificateDef) → IsWritable c → (r : CertRefusal) (d : Data)
+    → IsValue (certificate_text p c) d → first_refusal p d ≡ Some r → ⊥
 never p c w r d is refused =
     let same : d ≡ certificate_data p c = one_value (certificate_text p c) d (certificate_data p c) is (is_value p c w) in
     none_is_some (first_refusal p d) r (ap (first_refusal p) same ∙ none_from_form p (certificate_data p c) (formed p c w)) refused
 
-pub read_back : (p : Protocol) (c : CertificateDef) (answer : Result Certificate CertRefusal) → IsWritable c → Reads answer p (certificate_text p c) → Gives answer c
+pub read_back : (p : Protocol) (c : CertificateDef) (answer : Result Certificate CertRefusal) → IsWritable c
+    → Reads answer p (certificate_text p c) → Gives answer c
 read_back p c (Ok k) w h =
     h.2.1 ∙ ap certificate_written (one_value (certificate_text p c) h.0 (certificate_data p c) h.1 (is_value p c w)) ∙ written p c
 read_back p c (Err refusal.NotJson) w h = absurd (h (certificate_data p c) (is_value p c w))

@@ -1,5 +1,6 @@
 -- What is read has small duals.
-use Rattle.std.proofs.Common.{◌≡◌, ℕ, ◌≤◌, ◌&&◌, true, false, List, [], ◌∷◌, map, Option, Some, None, option_and_then, unwrap_or, Result, Ok, Err, sym, subst, codes, All, IfOk}
+use Rattle.std.proofs.Common.{◌≡◌, ℕ, ◌≤◌, ◌&&◌, true, false, List, [], ◌∷◌, map, Option, Some, None, option_and_then}
+use Rattle.std.proofs.Common.{unwrap_or, Result, Ok, Err, sym, subst, codes, All, IfOk}
 use Rattle.std.proofs.lemmas.Bool.{and_parts, leb-true}
 use Rattle.std.proofs.lemmas.List.Elements.{All-nil, All-cons}
 use Rattle.std.specs.List.{list_all}
@@ -19,11 +20,13 @@ use Rattle.cert_json.specs.Written.{number_written, numbers_written, dual_writte
 use Rattle.cert_json.specs.Ranges.{IsSmallDual, HasSmallDuals}
 use Rattle.cert_json.specs.Answers.{JudgesValue}
 
-in_range : (least : ℕ) (o : Option ℕ) → option_map_or (λ n. nat_le least n && nat_le n MOST_NUMBER) o false ≡ true → (least ≤ unwrap_or o 0) × (unwrap_or o 0 ≤ MOST_NUMBER)
+in_range : (least : ℕ) (o : Option ℕ) → option_map_or (λ n. nat_le least n && nat_le n MOST_NUMBER) o false ≡ true
+    → (least ≤ unwrap_or o 0) × (unwrap_or o 0 ≤ MOST_NUMBER)
 in_range least None h = absurd (cc)
 in_range least (Some n) h = let p = and_parts (nat_le least n) _ h in (leb-true least n p.0, leb-true n MOST_NUMBER p.1)
 
-den_in_range : (o : Option Data) → option_map_or (is_from 1) o false ≡ true → (1 ≤ unwrap_or (option_and_then whole o) 0) × (unwrap_or (option_and_then whole o) 0 ≤ MOST_NUMBER)
+den_in_range : (o : Option Data) → option_map_or (is_from 1) o false ≡ true
+    → (1 ≤ unwrap_or (option_and_then whole o) 0) × (unwrap_or (option_and_then whole o) 0 ≤ MOST_NUMBER)
 den_in_range None h = absurd (cc)
 den_in_range (Some d) h = in_range 1 (whole d) h
 
@@ -42,7 +45,8 @@ small_dual d h =
 
 small_duals : (ds : List Data) → list_all is_dual ds ≡ true → All IsSmallDual (map dual_written ds)
 small_duals [] h = All-nil IsSmallDual
-small_duals (d ∷ ds) h = let p = and_parts (is_dual d) _ h in All-cons IsSmallDual (dual_written d) (map dual_written ds) (small_dual d p.0) (small_duals ds p.1)
+small_duals (d ∷ ds) h = let p = and_parts (is_dual d) _ h in
+    All-cons IsSmallDual (dual_written d) (map dual_written ds) (small_dual d p.0) (small_duals ds p.1)
 
 pub small_of_form : (p : Protocol) (d : Data) → has_certificate_form p d ≡ true → HasSmallDuals (certificate_written d)
 small_of_form p d h =
@@ -51,6 +55,7 @@ small_of_form p d h =
     let third = and_parts (list_all is_whole (list_at (codes "bounds") d)) _ second.1 in
     small_duals (list_at (codes "duals") d) (and_parts (list_all is_dual (list_at (codes "duals") d)) _ third.1).0
 
-pub small_if_judged : (r : Result Certificate CertRefusal) (p : Protocol) (d : Data) → JudgesValue r p d → IfOk r (λ c. HasSmallDuals (certificate_seen c))
+pub small_if_judged : (r : Result Certificate CertRefusal) (p : Protocol) (d : Data) → JudgesValue r p d
+    → IfOk r (λ c. HasSmallDuals (certificate_seen c))
 small_if_judged (Ok c) p d h = subst HasSmallDuals (sym h.1) (small_of_form p d h.0)
 small_if_judged (Err r) p d h = tt

@@ -47,13 +47,20 @@ duals_are (d ∷ ds) =
 
 -- The members after the duals, with their closing bracket.
 abbrev last_text : Protocol → List ℕ
-last_text p = members_text true (member (codes "protocol") (string (word_of p)) (member (codes "verdict") (string (codes "schedulable")) (member (codes "version") (number_data 1) no_members)))
+last_text p = members_text true (member (codes "protocol") (string (word_of p))
+    (member (codes "verdict") (string (codes "schedulable")) (member (codes "version") (number_data 1) no_members)))
 
 last_is : (p : Protocol) → last_text p ++ 10 ∷ [] ≡ codes "," ++ last_members p
 unfolding escape_byte
-last_is protocol.Mpcp = ap (λ l. codes ",\"protocol\":\"mpcp\",\"verdict\":\"schedulable\",\"version\":" ++ ((l ++ codes "}") ++ 10 ∷ [])) (decimal_digit 1 (omega arith))
-last_is protocol.FmlpPlus = ap (λ l. codes ",\"protocol\":\"fmlp+\",\"verdict\":\"schedulable\",\"version\":" ++ ((l ++ codes "}") ++ 10 ∷ [])) (decimal_digit 1 (omega arith))
-last_is protocol.Dpcp = ap (λ l. codes ",\"protocol\":\"dpcp\",\"verdict\":\"schedulable\",\"version\":" ++ ((l ++ codes "}") ++ 10 ∷ [])) (decimal_digit 1 (omega arith))
+last_is protocol.Mpcp =
+    ap (λ l. codes ",\"protocol\":\"mpcp\",\"verdict\":\"schedulable\",\"version\":" ++ ((l ++ codes "}") ++ 10 ∷ []))
+    (decimal_digit 1 (omega arith))
+last_is protocol.FmlpPlus =
+    ap (λ l. codes ",\"protocol\":\"fmlp+\",\"verdict\":\"schedulable\",\"version\":" ++ ((l ++ codes "}") ++ 10 ∷ []))
+    (decimal_digit 1 (omega arith))
+last_is protocol.Dpcp =
+    ap (λ l. codes ",\"protocol\":\"dpcp\",\"verdict\":\"schedulable\",\"version\":" ++ ((l ++ codes "}") ++ 10 ∷ []))
+    (decimal_digit 1 (omega arith))
 
 -- A list that is closed, and what follows a comma.
 closed : (text inside rest : List ℕ) → text ≡ inside ++ codes "]" → text ++ (codes "," ++ rest) ≡ (inside ++ codes "],") ++ rest
@@ -68,7 +75,8 @@ text_is p c =
     let from_duals : List ℕ = codes ",\"duals\":[" ++ (duals ++ last_text p) in
     let rest : List ℕ = codes "\"duals\":[" ++ ((duals_text c.duals ++ codes "],") ++ last_members p) in
     let second : (duals ++ last_text p) ++ 10 ∷ [] ≡ (duals_text c.duals ++ codes "],") ++ last_members p =
-    append_assoc duals (last_text p) (10 ∷ []) ∙ ap (λ l. duals ++ l) (last_is p) ∙ closed duals (duals_text c.duals) (last_members p) (duals_are c.duals) in
+    append_assoc duals (last_text p) (10 ∷ []) ∙ ap (λ l. duals ++ l) (last_is p)
+    ∙ closed duals (duals_text c.duals) (last_members p) (duals_are c.duals) in
     ap (λ l. codes "{\"bounds\":[" ++ l)
     (append_assoc bounds from_duals (10 ∷ [])
     ∙ ap (λ l. bounds ++ (codes ",\"duals\":[" ++ l)) second

@@ -24,5 +24,6 @@ pub fn form_is_exact()
 /// the same certificate, but for want of memory.
 pub fn what_is_written_is_read()
     ensures value { (p : Protocol) (c : CertificateDef) → IsWritable c → IsValue (certificate_text p c) (certificate_data p c) }
-    ensures same { (p : Protocol) (c : CertificateDef) (answer : Result Certificate CertRefusal) → IsWritable c → Reads answer p (certificate_text p c) → Gives answer c }
+    ensures same { (p : Protocol) (c : CertificateDef) (answer : Result Certificate CertRefusal) → IsWritable c
+        → Reads answer p (certificate_text p c) → Gives answer c }
 {}

@@ -1,7 +1,8 @@
 ghost use Rattle.std.specs.Prelude.{◌≡◌, ◌++◌, IfOk, OnOk, map};
 ghost use Rattle.program_form.specs.Certificate.{dual_seen, certificate_seen};
 ghost use Rattle.cert_json.specs.Words.{word_of};
-ghost use Rattle.cert_json.specs.Text.{after_commas, with_commas, dual_text, duals_after_commas, duals_text, bounds_member, duals_member, last_members, certificate_text};
+ghost use Rattle.cert_json.specs.Text.{after_commas, with_commas, dual_text, duals_after_commas, duals_text};
+ghost use Rattle.cert_json.specs.Text.{bounds_member, duals_member, last_members, certificate_text};
 
 use crate::words::word_of;
 use program_form::{Certificate, Dual};

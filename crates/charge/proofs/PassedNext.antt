@@ -2,7 +2,8 @@
 -- look at the active jobs.
 use Rattle.std.proofs.Common.{◌≡◌, ℕ, ◌+◌, ◌<◌, ◌≤◌, ◌||◌, true, false, List, length, sym, ap, ◌∙◌, arith, inl, inr, None}
 use Rattle.std.specs.Prelude.{nat_le, slice_index}
-use Rattle.std.proofs.lemmas.Bool.{cases_lt, cases_Bool, or_cases, or_left, or_right, and_parts, and_from, and_cases, not-true, not-false, not_from_false, leb-true, le-leb, eqb-true, eq-eqb, both_ways}
+use Rattle.std.proofs.lemmas.Bool.{cases_lt, cases_Bool, or_cases, or_left, or_right, and_parts, and_from, and_cases}
+use Rattle.std.proofs.lemmas.Bool.{not-true, not-false, not_from_false, leb-true, le-leb, eqb-true, eq-eqb, both_ways}
 use Rattle.bounded_sums.specs.Tests.{found_below}
 use Rattle.sporadic_model.specs.Accepted.{TaskNumbers}
 use Rattle.schedule_model.specs.JobDef.{job_of}
@@ -59,7 +60,8 @@ none_passed w bound lawful bounds = nothing_from (length w.jobs) (has_passed w b
 
 -- Nor has one where each job whose bound has come was finished by then.
 pub none_passed_by : (w : Trace) (bound : ℕ → ℕ) (n : ℕ)
-    → ((j : ℕ) → j < length w.jobs → bound_end w bound j ≤ n → phase_of w (bound_end w bound j) j ≡ Finished) → first_passed w bound n ≡ None
+    → ((j : ℕ) → j < length w.jobs → bound_end w bound j ≤ n → phase_of w (bound_end w bound j) j ≡ Finished)
+    → first_passed w bound n ≡ None
 none_passed_by w bound n finished = nothing_from (length w.jobs) (has_passed w bound n) (λ j l. elim (cases_Bool (has_passed w bound n j)) [
   | inr off ↦ off
   | inl on ↦
@@ -90,7 +92,8 @@ first_active w bound n j numbers lawful bounds l p first = active_from w (bound_
 })
 
 -- One tick later.
-pub passed_next : (m : MachineDef) (rows : ℕ → RowDef) (bounds : List ℕ) (t : ℕ) → Shows m rows → m.tick ≡ t + 1 → AreBounds m.list.set (slice_index bounds)
+pub passed_next : (m : MachineDef) (rows : ℕ → RowDef) (bounds : List ℕ) (t : ℕ) → Shows m rows → m.tick ≡ t + 1
+    → AreBounds m.list.set (slice_index bounds)
     → found_below (length m.list.jobs) (λ j. has_passed (under m rows) (slice_index bounds) t j || is_due m bounds j)
     ≡ first_passed (under m rows) (slice_index bounds) m.tick
 passed_next m rows bounds t shows tick are =
@@ -125,6 +128,7 @@ passed_next m rows bounds t shows tick are =
             | inl now ↦
                 let e : bound_end w bound k ≡ m.tick = omega (arith, now, p.within, tick) in
                 let active : is_active w m.tick k ≡ true =
-                ap (λ u. is_active w u k) (sym e) ∙ first_active w bound m.tick k shows.machine.numbers shows.machine.lawful are l p earlier in
+                ap (λ u. is_active w u k) (sym e)
+                ∙ first_active w bound m.tick k shows.machine.numbers shows.machine.lawful are l p earlier in
                 or_right _ _ (and_from _ _ (eq-eqb _ _ e) (active_shown m rows k shows ∙ active))
           ]

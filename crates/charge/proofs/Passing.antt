@@ -1,7 +1,9 @@
 -- The first of the jobs that pass a test, while the test grows.
-use Rattle.std.proofs.Common.{◌≡◌, ℕ, ◌+◌, ◌<◌, ◌≤◌, ◌==◌, ◌&&◌, ◌||◌, Bool, true, false, length, refl, sym, ap, ◌∙◌, arith, inl, inr, cond, Option, Some, None, ltb}
+use Rattle.std.proofs.Common.{◌≡◌, ℕ, ◌+◌, ◌<◌, ◌≤◌, ◌==◌, ◌&&◌, ◌||◌, Bool, true, false, length, refl, sym, ap, ◌∙◌}
+use Rattle.std.proofs.Common.{arith, inl, inr, cond, Option, Some, None, ltb}
 use Rattle.std.specs.Prelude.{nat_lt, nat_le, List}
-use Rattle.std.proofs.lemmas.Bool.{cases_lt, cases_order, cases_Bool, cases_eq, both_ways, lt-ltb, le-ltb, le-leb, lt-leb, eq-eqb, ne_eqb, or_from, or_left, or_right, and_right, false_from_ne_true}
+use Rattle.std.proofs.lemmas.Bool.{cases_lt, cases_order, cases_Bool, cases_eq, both_ways, lt-ltb, le-ltb, le-leb}
+use Rattle.std.proofs.lemmas.Bool.{lt-leb, eq-eqb, ne_eqb, or_from, or_left, or_right, and_right, false_from_ne_true}
 use Rattle.bounded_sums.specs.Tests.{first_below, found_below}
 use Rattle.bounded_sums.proofs.TestLaws.{first_below-before, first_below-is, found_below-is, found_below-none, found_below-agree}
 use Rattle.schedule_model.specs.RowDef.{is_job}
@@ -97,7 +99,8 @@ current_listed m x j e =
     × ((job_of m.list.jobs (place_of m x).job).release ≤ m.tick) = current_some m.list.jobs m.tick (place_of m x) j e in
     omega (arith, parts.0, parts.1)
 
-pub current_own : (m : MachineDef) (x j : ℕ) → IsMachine m → x < length m.list.set.tasks → current_now m x ≡ Some j → task_in m.list.jobs j ≡ x
+pub current_own : (m : MachineDef) (x j : ℕ) → IsMachine m → x < length m.list.set.tasks → current_now m x ≡ Some j
+    → task_in m.list.jobs j ≡ x
 unfolding current_now
 current_own m x j machine l e =
     let parts : ((place_of m x).job ≡ j) × ((place_of m x).job < length m.list.jobs)

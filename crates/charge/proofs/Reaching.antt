@@ -29,7 +29,8 @@ use Rattle.charge.proofs.TallyLaws.{Charges}
 abbrev pub over : JobsDef → (ℕ → RowDef) → Trace
 over list rows = record { set = list.set; jobs = list.jobs; row = rows }
 
-keeps_one_more : (keeps : Rule → Trace → ℕ → Type 0) (w : Trace) (t : ℕ) → KeepsBefore keeps w t → KeepsRow keeps w t → KeepsBefore keeps w (suc t)
+keeps_one_more : (keeps : Rule → Trace → ℕ → Type 0) (w : Trace) (t : ℕ) → KeepsBefore keeps w t → KeepsRow keeps w t
+    → KeepsBefore keeps w (suc t)
 keeps_one_more keeps w t before row u l = elim (cases_lt u t) [
   | inl early ↦ before u early
   | inr late ↦ let e : u ≡ t = omega arith in subst (λ (u : ℕ). KeepsRow keeps w u) (sym e) row
@@ -56,13 +57,16 @@ pub reached_next : (keeps : Rule → Trace → ℕ → Type 0) (charges : Charge
     → place_seen after.passed ≡ first_passed (under n rows) (slice_index bounds) n.tick → IsReached keeps charges rows bounds n after
 reached_next keeps charges rows bounds m n before after reached list tick shows row counted passed =
     let next : n.tick ≡ suc m.tick = omega (arith, tick) in
-    let keeps_all : KeepsBefore keeps (over m.list rows) (suc m.tick) = keeps_one_more keeps (under m rows) m.tick reached.keeps_before row in
+    let keeps_all : KeepsBefore keeps (over m.list rows) (suc m.tick) =
+    keeps_one_more keeps (under m rows) m.tick reached.keeps_before row in
     record {
       shows = shows;
       keeps_before = subst (λ (t : ℕ). KeepsBefore keeps (over n.list rows) t) (sym next)
           (subst (λ (l : JobsDef). KeepsBefore keeps (over l rows) (suc m.tick)) (sym list) keeps_all);
       counted = subst (λ (t : ℕ). IsTally after.ticks (ticks_before charges (over n.list rows) (slice_index bounds) t)) (sym tick)
-          (subst (λ (l : JobsDef). IsTally after.ticks (ticks_before charges (over l rows) (slice_index bounds) (m.tick + 1))) (sym list) counted);
+          (subst
+          (λ (l : JobsDef). IsTally after.ticks (ticks_before charges (over l rows) (slice_index bounds) (m.tick + 1)))
+          (sym list) counted);
       passed = passed;
     }
 
@@ -75,7 +79,8 @@ noted_by rows bounds m n o t list noted = subst (λ (l : JobsDef). o ≡ first_p
 pub broken_here : (keeps : Rule → Trace → ℕ → Type 0) (charges : Charges) (rows : ℕ → RowDef) (bounds : List ℕ) (m : MachineDef)
     (ledger : Ledger) (r : Rule) → IsReached keeps charges rows bounds m ledger → Breaks keeps (under m rows) m.tick r
     → IsFirstUnlawful keeps (under m rows) (m.tick + 1) m.tick r
-broken_here keeps charges rows bounds m ledger r reached breaks = record { within = omega arith; before = reached.keeps_before; breaks = breaks }
+broken_here keeps charges rows bounds m ledger r reached breaks =
+    record { within = omega arith; before = reached.keeps_before; breaks = breaks }
 
 -- A row that fits the jobs and is sound can be taken.
 pub row_taken : (interferes : Trace → ℕ → ℕ → Bool) (rows : ℕ → RowDef) (m : MachineDef) (row : RowDef) → rows m.tick ≡ row
@@ -86,11 +91,13 @@ row_taken interferes rows m row here fits shows sound =
     subst (λ (r : RowDef). CanTake m r) here (can_take m rows shows can)
 
 -- What a schedule was judged and charged to.
-pub record Walked (keeps : Rule → Trace → ℕ → Type 0) (charges : Charges) (w : Trace) (bound : ℕ → ℕ) (n : ℕ) (ledger : Ledger) : Type 0 where
-  pub lawful : AreLawfulJobs (jobs_of w)
-  pub keeps_all : KeepsBefore keeps w n
-  pub counted : IsTally ledger.ticks (ticks_before charges w bound n)
-  pub passed : place_seen ledger.passed ≡ first_passed w bound n
+pub record Walked (keeps : Rule → Trace → ℕ → Type 0) (charges : Charges) (w : Trace) (bound : ℕ → ℕ) (n : ℕ)
+    (ledger : Ledger) : Type 0
+  where
+    pub lawful : AreLawfulJobs (jobs_of w)
+    pub keeps_all : KeepsBefore keeps w n
+    pub counted : IsTally ledger.ticks (ticks_before charges w bound n)
+    pub passed : place_seen ledger.passed ≡ first_passed w bound n
 
 pub walked_all : (keeps : Rule → Trace → ℕ → Type 0) (charges : Charges) (rows : ℕ → RowDef) (bounds : List ℕ) (m : MachineDef)
     (ledger : Ledger) (jobs : JobsDef) (n : ℕ) → m.list ≡ jobs → m.tick ≡ n → IsReached keeps charges rows bounds m ledger

@@ -1,5 +1,6 @@
 -- The items of the places are the table of the schedule.
-use Rattle.std.proofs.Common.{◌≡◌, ℕ, zero, suc, ◌+◌, ◌<◌, ◌==◌, ◌&&◌, Bool, true, false, List, length, map, refl, sym, ap, ◌∙◌, arith, inl, inr, min, Option, Some, None}
+use Rattle.std.proofs.Common.{◌≡◌, ℕ, zero, suc, ◌+◌, ◌<◌, ◌==◌, ◌&&◌, Bool, true, false, List, length, map, refl, sym}
+use Rattle.std.proofs.Common.{ap, ◌∙◌, arith, inl, inr, min, Option, Some, None}
 use Rattle.std.specs.Prelude.{nat_lt, option_map}
 use Rattle.std.specs.List.{All, Contains}
 use Rattle.std.specs.BTreeMap.{BTreeMap, get, IsOrdered}
@@ -20,7 +21,8 @@ use Rattle.charge_model.specs.Windows.{bound_end, window_end}
 use Rattle.charge.specs.declared.tally.Place.{Place}
 use Rattle.charge.specs.Requests.{ChargedRequest, request_in, charged_request, class_rank}
 use Rattle.charge.specs.Table.{ItemDef, is_of, charged_ticks, IsChargeTable}
-use Rattle.charge.specs.Tally.{IsTally, positive, place_cmp, is_same_place, is_place, place_of, place_at, class_ranked, item_of, ticks_before}
+use Rattle.charge.specs.Tally.{IsTally, positive, place_cmp, is_same_place, is_place, place_of, place_at, class_ranked}
+use Rattle.charge.specs.Tally.{item_of, ticks_before}
 use Rattle.charge.proofs.TallyLaws.{Charges, OfActive}
 use Rattle.charge.proofs.Places.{places_total, same_by_order, same_itself, class_back, Known, table_sorted}
 
@@ -166,7 +168,8 @@ contains_map f xs x c = (c.0, rw (length-map xs f) c.1, get_or-map f xs c.0 x (f
 tick_there : (charges : Charges) (w : Trace) (bound : ℕ → ℕ) (n : ℕ) (ticks : BTreeMap Place ℕ) (t j : ℕ)
     → IsTally ticks (ticks_before charges w bound n) → t < window_end w bound n j → (charge : Charge) → charges w t j ≡ Some charge
     → Executes w t charge
-    → (item : ItemDef) × Contains (map item_of ticks.entries) item × (item.blocked ≡ j) × (is_of item (charged_request charges w t j) ≡ true)
+    → (item : ItemDef) × Contains (map item_of ticks.entries) item × (item.blocked ≡ j)
+    × (is_of item (charged_request charges w t j) ≡ true)
 unfolding ticks_before
 tick_there charges w bound n ticks t j tally l charge is_it executes =
     (item_of (p, count), contains_map item_of ticks.entries (p, count) among, refl, here) where
@@ -234,7 +237,8 @@ table_is charges interferes w bound n ticks tally ordered only charged = record 
 
   counts : All Counts ticks.entries
   counts = All-weaker (λ (e : Place × ℕ). get place_cmp ticks e.0 ≡ Some e.1) Counts
-      (λ e found. some_count (ticks_before charges w bound n e.0) e.1 (sym found ∙ tally e.0)) ticks.entries (All-found places_total ticks ordered)
+      (λ e found. some_count (ticks_before charges w bound n e.0) e.1 (sym found ∙ tally e.0)) ticks.entries
+      (All-found places_total ticks ordered)
 
   counted : (e : Place × ℕ) → Counts e → Counted charges w e
   counted e c = counted_is charges w bound n e c.1

@@ -1,5 +1,6 @@
 -- The ticks of a table add up to the blocked ticks of the windows: each is counted in one item.
-use Rattle.std.proofs.Common.{◌≡◌, ℕ, ◌<◌, ◌≤◌, ◌==◌, ◌&&◌, Bool, true, false, List, [], ◌∷◌, length, refl, sym, ap, ◌∙◌, arith, inl, inr, Option, Some, None, sum_by}
+use Rattle.std.proofs.Common.{◌≡◌, ℕ, ◌<◌, ◌≤◌, ◌==◌, ◌&&◌, Bool, true, false, List, [], ◌∷◌, length, refl, sym, ap}
+use Rattle.std.proofs.Common.{◌∙◌, arith, inl, inr, Option, Some, None, sum_by}
 use Rattle.std.specs.List.{All, AllByRecursion, Contains}
 use Rattle.std.specs.List.Sorted.{IsStrictlySortedBy}
 use Rattle.std.specs.declared.cmp.Ordering.{Ordering}
@@ -104,7 +105,8 @@ one_at_most m (x ∷ xs) same h = elim (cases_Bool (m x)) [
 -- Each tick of a window is counted once where it is blocked, and else not.
 tick_once : (charges : Charges) (interferes : Trace → ℕ → ℕ → Bool) (w : Trace) (bound : ℕ → ℕ) (n : ℕ) (items : List ItemDef) (t j : ℕ)
     → IsChargeTable charges interferes w bound n items
-    → ((t k : ℕ) (c : Charge) → charges w t k ≡ Some c → is_blocked interferes w t k ≡ true) → j < length w.jobs → t < window_end w bound n j
+    → ((t k : ℕ) (c : Charge) → charges w t k ≡ Some c → is_blocked interferes w t k ≡ true) → j < length w.jobs
+    → t < window_end w bound n j
     → sum_by (λ i. flag (counts charges w t j i)) items ≡ flag (is_blocked interferes w t j)
 tick_once charges interferes w bound n items t j table only listed l = elim (cases_Bool (is_blocked interferes w t j)) [
   | inr free ↦ rw free (sum_nothing (λ i. flag (counts charges w t j i)) items (λ i. uncounted i (charges w t j) refl free))
@@ -121,7 +123,8 @@ tick_once charges interferes w bound n items t j table only listed l = elim (cas
         one_at_most (counts charges w t j) items (one_place charges w t j) table.sorted,
       )
 ] where
-  uncounted : (i : ItemDef) (o : Option Charge) → charges w t j ≡ o → is_blocked interferes w t j ≡ false → flag (counts charges w t j i) ≡ 0
+  uncounted : (i : ItemDef) (o : Option Charge) → charges w t j ≡ o → is_blocked interferes w t j ≡ false
+      → flag (counts charges w t j i) ≡ 0
   uncounted i None e free = rw e (nothing (i.blocked == j)) where
     nothing : (b : Bool) → flag (b && false) ≡ 0
     nothing true = refl
@@ -137,7 +140,8 @@ unfolding charged_ticks
 job_sum charges interferes w bound n items j table only listed =
     sum_agree (λ i. only_if (i.blocked == j) i.ticks) (λ i. sum_below e (λ t. flag (counts charges w t j i))) items
     (All-weaker (λ i. i.ticks ≡ charged_ticks charges w bound n i)
-    (λ i. only_if (i.blocked == j) i.ticks ≡ sum_below e (λ t. flag (counts charges w t j i))) (λ i ticks. of_item i ticks) items table.counted)
+    (λ i. only_if (i.blocked == j) i.ticks ≡ sum_below e (λ t. flag (counts charges w t j i)))
+    (λ i ticks. of_item i ticks) items table.counted)
     ∙ sum_by-swap e (λ i t. flag (counts charges w t j i)) items
     ∙ sum_below-agree e (λ t. sum_by (λ i. flag (counts charges w t j i)) items) (λ t. flag (is_blocked interferes w t j))
     (λ t l. tick_once charges interferes w bound n items t j table only listed l) where

@@ -10,7 +10,8 @@ use Rattle.charge.specs.Seen.{charge_seen}
 pub none_where_free : (answer : Option (JobId × Class)) (charge : Option Charge) (blocked : Bool) → charge_seen answer ≡ charge
     → (blocked ≡ true → (c : Charge) × (charge ≡ Some c)) → ((c : Charge) → charge ≡ Some c → blocked ≡ true)
     → (answer ≡ None) ↔ (blocked ≡ false)
-none_where_free None charge true e some only = let a : (c : Charge) × (charge ≡ Some c) = some refl in absurd (let x : None ≡ Some a.0 = e ∙ a.1 in cc)
+none_where_free None charge true e some only =
+    let a : (c : Charge) × (charge ≡ Some c) = some refl in absurd (let x : None ≡ Some a.0 = e ∙ a.1 in cc)
 none_where_free None charge false e some only = (λ h. refl, λ h. refl)
 none_where_free (Some a) charge false e some only =
     let on : false ≡ true = only (record { job = a.0.0; class = a.1 }) (sym e) in absurd (cc)

@@ -1,7 +1,8 @@
 -- How many ticks of a job's window are interference by jobs of one task. A job that was released before the window and
 -- runs z ticks in it was released no earlier than z less its bound before it; so where one job too many runs, the first and
 -- the last together run no longer than one.
-use Rattle.std.proofs.Common.{◌≡◌, ◌⊎◌, ℕ, zero, suc, ◌+◌, ◌-◌, ◌*◌, ◌<◌, ◌≤◌, ◌==◌, Bool, true, false, length, refl, sym, ap, ◌∙◌, arith, inl, inr, suc-mul, Option, Some, None}
+use Rattle.std.proofs.Common.{◌≡◌, ◌⊎◌, ℕ, zero, suc, ◌+◌, ◌-◌, ◌*◌, ◌<◌, ◌≤◌, ◌==◌, Bool, true, false, length, refl}
+use Rattle.std.proofs.Common.{sym, ap, ◌∙◌, arith, inl, inr, suc-mul, Option, Some, None}
 use Rattle.std.specs.Int.{div_ceil}
 use Rattle.std.specs.Option.{option_map_or}
 use Rattle.std.proofs.Math.Nat.{add-mul}
@@ -105,7 +106,10 @@ carried jobs h r bi bh g f (suc n) lawful less l part =
         | inr zero_here ↦ inl (omega arith)
       ]
       | inr before ↦ elim (cases_lt 0 (f n)) [
-        | inl some ↦ inr (suc before.0, carried_next jobs h r bi bh g f n before.0 lawful (omega arith) (part n (omega arith) some) before.1)
+        | inl some ↦ inr (
+          suc before.0,
+          carried_next jobs h r bi bh g f n before.0 lawful (omega arith) (part n (omega arith) some) before.1,
+        )
         | inr zero_here ↦ inr (before.0, carried_past jobs h r bi bh g f n before.0 (omega arith) before.1)
       ]
     ]

@@ -14,7 +14,8 @@ use Rattle.schedule_model.specs.Protocols.{shared_rule}
 use Rattle.schedule_model.specs.Keeping.{KeepsRow}
 use Rattle.schedule_model.specs.BlockedTicks.{is_delayed, runs_higher, is_shared_interference, is_blocked}
 use Rattle.schedule_laws.proofs.ActiveJobs.{Active, active_is, one_active, Requester, requester_is, requester_from, active_local_from}
-use Rattle.schedule_laws.proofs.Rows.{runs_from, ReadyHolder, ready_holder_is, ready_holder_from, ready_is, ready_local, ready_holding, ready_active, ready_listed}
+use Rattle.schedule_laws.proofs.Rows.{runs_from, ReadyHolder, ready_holder_is, ready_holder_from, ready_is, ready_local}
+use Rattle.schedule_laws.proofs.Rows.{ready_holding, ready_active, ready_listed}
 use Rattle.schedule_laws.proofs.RuleUses.{ready_busy, requested_held}
 use Rattle.schedule_laws.proofs.KindsOfTicks.{Blocked, blocked_is, delayed_from, higher_local_from}
 use Rattle.fragments.specs.declared.columns.Class.{Class}

@@ -41,7 +41,8 @@ fn add_request_row(
     requires known { AreKnown (length set.now.tasks) (length set.now.resources) columns.now }
     requires order { AreInOrder columns.now }
     requires from { BeginsAt (slot row.now.task.0 row.now.resource.0) columns.now from }
-    ensures rows { OnOk result (block_seen block.new ≡ with_rows (block_seen block.old) (map column_seen columns.now) (request_row set.now i.0 row.now.task.0 row.now.resource.0 ∷ []) bounds.now) }
+    ensures rows { OnOk result (block_seen block.new ≡ with_rows (block_seen block.old) (map column_seen columns.now)
+        (request_row set.now i.0 row.now.task.0 row.now.resource.0 ∷ []) bounds.now) }
     ensures end { IfOk result (λ n. BeginsAt (slot row.now.task.0 (row.now.resource.0 + 1)) columns.now n) }
 {
     let to = requests_end(set, columns, from, row.task, row.resource);
@@ -66,7 +67,8 @@ fn add_request_rows_of(
     requires known { AreKnown (length set.now.tasks) (length set.now.resources) columns.now }
     requires order { AreInOrder columns.now }
     requires from { BeginsAt (slot x.0 0) columns.now from }
-    ensures rows { OnOk result (block_seen block.new ≡ with_rows (block_seen block.old) (map column_seen columns.now) (per (length set.now.resources) (request_row set.now i.0 x.0)) bounds.now) }
+    ensures rows { OnOk result (block_seen block.new ≡ with_rows (block_seen block.old) (map column_seen columns.now)
+        (per (length set.now.resources) (request_row set.now i.0 x.0)) bounds.now) }
     ensures end { IfOk result (λ n. BeginsAt (slot (x.0 + 1) 0) columns.now n) }
 {
     let mut place = from;
@@ -93,7 +95,8 @@ fn add_request_rows(
     requires within { AreWithinDeadlines set.now bounds.now }
     requires known { AreKnown (length set.now.tasks) (length set.now.resources) columns.now }
     requires order { AreInOrder columns.now }
-    ensures { OnOk result (block_seen block.new ≡ with_rows (block_seen block.old) (map column_seen columns.now) (per_pair (length set.now.tasks) (length set.now.resources) (request_row set.now i.0)) bounds.now) }
+    ensures { OnOk result (block_seen block.new ≡ with_rows (block_seen block.old) (map column_seen columns.now)
+        (per_pair (length set.now.tasks) (length set.now.resources) (request_row set.now i.0)) bounds.now) }
 {
     let mut place = 0;
     for x in 0..set.tasks() {
@@ -119,7 +122,8 @@ fn add_time_row(
     requires known { AreKnown (length set.now.tasks) (length set.now.resources) columns.now }
     requires order { AreInOrder columns.now }
     requires from { BeginsAt (slot x.0 0) columns.now from }
-    ensures rows { OnOk result (block_seen block.new ≡ with_rows (block_seen block.old) (map column_seen columns.now) (time_row set.now i.0 x.0 ∷ []) bounds.now) }
+    ensures rows { OnOk result (block_seen block.new
+        ≡ with_rows (block_seen block.old) (map column_seen columns.now) (time_row set.now i.0 x.0 ∷ []) bounds.now) }
     ensures end { IfOk result (λ n. BeginsAt (slot (x.0 + 1) 0) columns.now n) }
 {
     let _resources = set.resources();
@@ -142,7 +146,8 @@ fn add_time_rows(
     requires within { AreWithinDeadlines set.now bounds.now }
     requires known { AreKnown (length set.now.tasks) (length set.now.resources) columns.now }
     requires order { AreInOrder columns.now }
-    ensures { OnOk result (block_seen block.new ≡ with_rows (block_seen block.old) (map column_seen columns.now) (per (length set.now.tasks) (time_row set.now i.0)) bounds.now) }
+    ensures { OnOk result (block_seen block.new ≡ with_rows (block_seen block.old) (map column_seen columns.now)
+        (per (length set.now.tasks) (time_row set.now i.0)) bounds.now) }
 {
     let mut place = 0;
     for x in 0..set.tasks() {
@@ -196,7 +201,8 @@ fn add_turn_row(
     requires known { AreKnown (length set.now.tasks) (length set.now.resources) columns.now }
     requires order { AreInOrder columns.now }
     requires from { BeginsAt (slot row.now.task.0 row.now.resource.0) columns.now from }
-    ensures rows { OnOk result (block_seen block.new ≡ with_rows (block_seen block.old) (map column_seen columns.now) (turn_row set.now i.0 row.now.task.0 row.now.resource.0 ∷ []) bounds.now) }
+    ensures rows { OnOk result (block_seen block.new ≡ with_rows (block_seen block.old) (map column_seen columns.now)
+        (turn_row set.now i.0 row.now.task.0 row.now.resource.0 ∷ []) bounds.now) }
     ensures end { IfOk result (λ n. BeginsAt (slot row.now.task.0 (row.now.resource.0 + 1)) columns.now n) }
 {
     let to = requests_end(set, columns, from, row.task, row.resource);
@@ -221,7 +227,8 @@ fn add_turn_rows_of(
     requires known { AreKnown (length set.now.tasks) (length set.now.resources) columns.now }
     requires order { AreInOrder columns.now }
     requires from { BeginsAt (slot x.0 0) columns.now from }
-    ensures rows { OnOk result (block_seen block.new ≡ with_rows (block_seen block.old) (map column_seen columns.now) (per (length set.now.resources) (turn_row set.now i.0 x.0)) bounds.now) }
+    ensures rows { OnOk result (block_seen block.new ≡ with_rows (block_seen block.old) (map column_seen columns.now)
+        (per (length set.now.resources) (turn_row set.now i.0 x.0)) bounds.now) }
     ensures end { IfOk result (λ n. BeginsAt (slot (x.0 + 1) 0) columns.now n) }
 {
     let mut place = from;
@@ -248,7 +255,8 @@ fn add_turn_rows(
     requires within { AreWithinDeadlines set.now bounds.now }
     requires known { AreKnown (length set.now.tasks) (length set.now.resources) columns.now }
     requires order { AreInOrder columns.now }
-    ensures { OnOk result (block_seen block.new ≡ with_rows (block_seen block.old) (map column_seen columns.now) (per_pair (length set.now.tasks) (length set.now.resources) (turn_row set.now i.0)) bounds.now) }
+    ensures { OnOk result (block_seen block.new ≡ with_rows (block_seen block.old) (map column_seen columns.now)
+        (per_pair (length set.now.tasks) (length set.now.resources) (turn_row set.now i.0)) bounds.now) }
 {
     let mut place = 0;
     for x in 0..set.tasks() {
@@ -272,7 +280,8 @@ fn add_lower_holder_row(
     requires within { AreWithinDeadlines set.now bounds.now }
     requires known { AreKnown (length set.now.tasks) (length set.now.resources) columns.now }
     requires asked { AreAskedFor set.now i.0 columns.now }
-    ensures { OnOk result (block_seen block.new ≡ with_rows (block_seen block.old) (map column_seen columns.now) (lower_holder_row set.now i.0 row.now.resource.0 ∷ []) bounds.now) }
+    ensures { OnOk result (block_seen block.new ≡ with_rows (block_seen block.old) (map column_seen columns.now)
+        (lower_holder_row set.now i.0 row.now.resource.0 ∷ []) bounds.now) }
 {
     if !uses(set, i, row.resource) {
         return Ok(());
@@ -293,7 +302,8 @@ fn add_lower_holder_rows(
     requires within { AreWithinDeadlines set.now bounds.now }
     requires known { AreKnown (length set.now.tasks) (length set.now.resources) columns.now }
     requires asked { AreAskedFor set.now i.0 columns.now }
-    ensures { OnOk result (block_seen block.new ≡ with_rows (block_seen block.old) (map column_seen columns.now) (per (length set.now.resources) (lower_holder_row set.now i.0)) bounds.now) }
+    ensures { OnOk result (block_seen block.new ≡ with_rows (block_seen block.old) (map column_seen columns.now)
+        (per (length set.now.resources) (lower_holder_row set.now i.0)) bounds.now) }
 {
     for q in 0..set.resources() {
         let row = LowerHolderRow {

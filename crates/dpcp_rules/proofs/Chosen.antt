@@ -1,8 +1,10 @@
 -- What the holders and the running jobs are once all tasks have come makes the row the chosen one.
-use Rattle.std.proofs.Common.{◌≡◌, ◌⊎◌, ℕ, ◌<◌, ◌≤◌, ◌==◌, ◌&&◌, ◌||◌, not, Bool, true, false, List, length, refl, sym, ap, ◌∙◌, arith, inl, inr, Option, Some, None, subst, cond, leb, ltb}
+use Rattle.std.proofs.Common.{◌≡◌, ◌⊎◌, ℕ, ◌<◌, ◌≤◌, ◌==◌, ◌&&◌, ◌||◌, not, Bool, true, false, List, length, refl, sym}
+use Rattle.std.proofs.Common.{ap, ◌∙◌, arith, inl, inr, Option, Some, None, subst, cond, leb, ltb}
 use Rattle.std.specs.Option.{option_map_or}
 use Rattle.std.proofs.Math.Bool.{and_assoc}
-use Rattle.std.proofs.lemmas.Bool.{cases_Bool, and_parts, and_from, and_left, both_ways, false_from_ne_true, not-true, eq-eqb, eqb-true, le-leb, leb-true}
+use Rattle.std.proofs.lemmas.Bool.{cases_Bool, and_parts, and_from, and_left, both_ways, false_from_ne_true, not-true}
+use Rattle.std.proofs.lemmas.Bool.{eq-eqb, eqb-true, le-leb, leb-true}
 use Rattle.bounded_sums.specs.Tests.{all_below, any_below}
 use Rattle.bounded_sums.proofs.TestLaws.{all_below-each, any_below-from, any_below-some, any_below-none, any_below-none_from}
 use Rattle.sporadic_model.specs.Users.{is_user}
@@ -14,10 +16,13 @@ use Rattle.schedule_model.specs.Phase.{Phase, is_local, is_asking, phase_of}
 use Rattle.schedule_model.specs.Phase.Phase.{Local, Asking, Finished}
 use Rattle.schedule_model.specs.Activity.{task_of, processor_of, is_active, is_requester, is_active_local, holds_by}
 use Rattle.schedule_model.specs.SharedRules.{KeepsKeep}
-use Rattle.schedule_model.specs.DpcpRules.{home_of, ceiling_rank, has_requests, holds_at, is_kept, waits_at, is_first_waiting, is_barred, is_granted, KeepsRun, KeepsGrant, KeepsIdle, RunsFirstHolder, KeepsPriority}
+use Rattle.schedule_model.specs.DpcpRules.{home_of, ceiling_rank, has_requests, holds_at, is_kept, waits_at}
+use Rattle.schedule_model.specs.DpcpRules.{is_first_waiting, is_barred, is_granted, KeepsRun, KeepsGrant, KeepsIdle}
+use Rattle.schedule_model.specs.DpcpRules.{RunsFirstHolder, KeepsPriority}
 use Rattle.schedule_model.specs.Protocols.{dpcp_rule}
 use Rattle.schedule_model.specs.Chosen.{IsSized, IsDpcpChoice}
-use Rattle.schedule_laws.proofs.ActiveJobs.{active_listed, one_active, Requester, requester_is, requester_from, ActiveLocal, active_local_is}
+use Rattle.schedule_laws.proofs.ActiveJobs.{active_listed, one_active, Requester, requester_is, requester_from}
+use Rattle.schedule_laws.proofs.ActiveJobs.{ActiveLocal, active_local_is}
 use Rattle.schedule_laws.proofs.Rows.{job_named, named_job}
 use Rattle.schedule_laws.proofs.RuleUses.{request_among}
 use Rattle.schedule_laws.proofs.Segments.{open_resource, open_user}
@@ -33,7 +38,8 @@ use Rattle.shared_rules.proofs.HolderTests.{right_of}
 use Rattle.dpcp_rules.specs.Homes.{column_now, entry_at}
 use Rattle.dpcp_rules.specs.RowTests.{is_due}
 use Rattle.dpcp_rules.specs.Choosing.{Takes, grant_claim, holder_claim, local_claim, AreHolders, IsRunning}
-use Rattle.dpcp_rules.proofs.Shown.{RequestAt, request_at_is, request_at_from, HolderAt, holds_at_is, holds_at_from, phase_is, column_is, column_within, processors_within, unfinished}
+use Rattle.dpcp_rules.proofs.Shown.{RequestAt, request_at_is, request_at_from, HolderAt, holds_at_is, holds_at_from}
+use Rattle.dpcp_rules.proofs.Shown.{phase_is, column_is, column_within, processors_within, unfinished}
 use Rattle.dpcp_rules.proofs.Waiting.{Requesting, waiting_asks, waits_new, waiting_of}
 use Rattle.dpcp_rules.proofs.Entries.{Waits, waits_is, waits_from, WaitsOf, entry_low, first_of, below_is, barred_shown}
 use Rattle.dpcp_rules.proofs.GrantTest.{Noted, granted_waits, due_at, holds_at_q}
@@ -64,13 +70,16 @@ cond_some false o k h = absurd (cc)
 cond_from : (b : Bool) (o : Option ℕ) (k : ℕ) → b ≡ true → o ≡ Some k → cond b o None ≡ Some k
 cond_from b o k e f = ap (λ c. cond c o None) e ∙ f
 
-pub active_of : (m : MachineDef) (rows : ℕ → RowDef) (j : ℕ) → Shows m rows → active_now m j ≡ true → is_active (under m rows) m.tick j ≡ true
+pub active_of : (m : MachineDef) (rows : ℕ → RowDef) (j : ℕ) → Shows m rows → active_now m j ≡ true
+    → is_active (under m rows) m.tick j ≡ true
 active_of m rows j shows a = sym (active_shown m rows j shows) ∙ a
 
-pub now_active : (m : MachineDef) (rows : ℕ → RowDef) (j : ℕ) → Shows m rows → is_active (under m rows) m.tick j ≡ true → active_now m j ≡ true
+pub now_active : (m : MachineDef) (rows : ℕ → RowDef) (j : ℕ) → Shows m rows → is_active (under m rows) m.tick j ≡ true
+    → active_now m j ≡ true
 now_active m rows j shows a = active_shown m rows j shows ∙ a
 
-pub task_below : (m : MachineDef) (rows : ℕ → RowDef) (j : ℕ) → Shows m rows → is_active (under m rows) m.tick j ≡ true → task_in m.list.jobs j < length m.list.set.tasks
+pub task_below : (m : MachineDef) (rows : ℕ → RowDef) (j : ℕ) → Shows m rows → is_active (under m rows) m.tick j ≡ true
+    → task_in m.list.jobs j < length m.list.set.tasks
 task_below m rows j shows a = task_listed m.list j shows.machine.lawful (active_listed (under m rows) m.tick j a)
 
 -- What a job that is granted q is.
@@ -88,9 +97,11 @@ requests_now : (m : MachineDef) (q j : ℕ) → active_now m j ≡ true → is_a
 unfolding requester_now
 requests_now m q j a h = and_from (active_now m j) (is_asking q (phase_now m j)) a h
 
-pub due_of : (m : MachineDef) (rows : ℕ → RowDef) (first bars : List ℕ) (q j : ℕ) → Shows m rows → active_now m j ≡ true → grant_claim m first bars j ≡ Some q → Due m rows first bars q j
+pub due_of : (m : MachineDef) (rows : ℕ → RowDef) (first bars : List ℕ) (q j : ℕ) → Shows m rows → active_now m j ≡ true
+    → grant_claim m first bars j ≡ Some q → Due m rows first bars q j
 due_of m rows first bars q j shows a h =
-    let parts : ((waiting_now m j && is_due m first bars j) ≡ true) × (resource_in (phase_now m j) ≡ Some q) = cond_some (waiting_now m j && is_due m first bars j) (resource_in (phase_now m j)) q h in
+    let parts : ((waiting_now m j && is_due m first bars j) ≡ true) × (resource_in (phase_now m j) ≡ Some q) =
+    cond_some (waiting_now m j && is_due m first bars j) (resource_in (phase_now m j)) q h in
     let both : (waiting_now m j ≡ true) × (is_due m first bars j ≡ true) = and_parts (waiting_now m j) (is_due m first bars j) parts.0 in
     record {
       asks = sym (requester_shown m rows q j shows) ∙ requests_now m q j a (asking_true q (phase_now m j) parts.1);
@@ -98,13 +109,16 @@ due_of m rows first bars q j shows a h =
       due = both.1;
     }
 
-claim_of_due : (m : MachineDef) (rows : ℕ → RowDef) (first bars : List ℕ) (q j : ℕ) → Shows m rows → Due m rows first bars q j → grant_claim m first bars j ≡ Some q
+claim_of_due : (m : MachineDef) (rows : ℕ → RowDef) (first bars : List ℕ) (q j : ℕ) → Shows m rows
+    → Due m rows first bars q j → grant_claim m first bars j ≡ Some q
 claim_of_due m rows first bars q j shows d =
     let r : Requester (under m rows) m.tick q j = requester_is (under m rows) m.tick q j d.asks in
-    cond_from (waiting_now m j && is_due m first bars j) (resource_in (phase_now m j)) q (and_from (waiting_now m j) (is_due m first bars j) d.waiting d.due)
+    cond_from (waiting_now m j && is_due m first bars j) (resource_in (phase_now m j)) q
+    (and_from (waiting_now m j) (is_due m first bars j) d.waiting d.due)
     (ap resource_in (phase_is m rows j (Asking r.number q) shows r.active r.phase))
 
-granted_due : (m : MachineDef) (rows : ℕ → RowDef) (first bars : List ℕ) (q j : ℕ) → Noted m rows first bars → Due m rows first bars q j → is_granted (under m rows) m.tick (home_of (under m rows) q) j ≡ true
+granted_due : (m : MachineDef) (rows : ℕ → RowDef) (first bars : List ℕ) (q j : ℕ) → Noted m rows first bars
+    → Due m rows first bars q j → is_granted (under m rows) m.tick (home_of (under m rows) q) j ≡ true
 granted_due m rows first bars q j noted d = sym (due_at m rows first bars q j noted d.asks d.waiting) ∙ d.due
 
 -- A holder was kept, or is due.
@@ -117,7 +131,8 @@ held_is m rows first bars q j made e = elim (made.holders.from q j e) [
   | inr taken ↦ inr (due_of m rows first bars q j made.noted.shows taken.active taken.claims)
 ]
 
-holder_asks : (m : MachineDef) (rows : ℕ → RowDef) (first bars : List ℕ) (q j : ℕ) → Made m rows first bars → holder_in (rows m.tick) q ≡ Some j → is_requester (under m rows) m.tick q j ≡ true
+holder_asks : (m : MachineDef) (rows : ℕ → RowDef) (first bars : List ℕ) (q j : ℕ) → Made m rows first bars
+    → holder_in (rows m.tick) q ≡ Some j → is_requester (under m rows) m.tick q j ≡ true
 holder_asks m rows first bars q j made e = elim (held_is m rows first bars q j made e) [
   | inl old ↦ old.1
   | inr due ↦ due.asks
@@ -125,40 +140,58 @@ holder_asks m rows first bars q j made e = elim (held_is m rows first bars q j m
 
 made_keep : (m : MachineDef) (rows : ℕ → RowDef) (first bars : List ℕ) → Made m rows first bars → KeepsKeep (under m rows) m.tick
 made_keep m rows first bars made q j e asks =
-    made.holders.keeps q j (ap (stays (requester_now m q)) (made.noted.shows.holders q ∙ e) ∙ stays_from (requester_now m q) j (requester_shown m rows q j made.noted.shows ∙ asks))
+    made.holders.keeps q j (ap (stays (requester_now m q)) (made.noted.shows.holders q ∙ e)
+    ∙ stays_from (requester_now m q) j (requester_shown m rows q j made.noted.shows ∙ asks))
 
-kept_true : (m : MachineDef) (rows : ℕ → RowDef) (q h : ℕ) → held_before (under m rows) m.tick q ≡ Some h → is_requester (under m rows) m.tick q h ≡ true → is_kept (under m rows) m.tick q ≡ true
+kept_true : (m : MachineDef) (rows : ℕ → RowDef) (q h : ℕ) → held_before (under m rows) m.tick q ≡ Some h
+    → is_requester (under m rows) m.tick q h ≡ true → is_kept (under m rows) m.tick q ≡ true
 unfolding is_kept
 kept_true m rows q h e asks = ap (λ o. option_map_or (λ j. is_requester (under m rows) m.tick q j) o false) e ∙ asks
 
 -- Who requests a kept resource is barred at its home.
-barred_by : (m : MachineDef) (rows : ℕ → RowDef) (q j : ℕ) → Shows m rows → is_requester (under m rows) m.tick q j ≡ true → is_kept (under m rows) m.tick q ≡ true
+barred_by : (m : MachineDef) (rows : ℕ → RowDef) (q j : ℕ) → Shows m rows
+    → is_requester (under m rows) m.tick q j ≡ true → is_kept (under m rows) m.tick q ≡ true
     → is_barred (under m rows) m.tick (home_of (under m rows) q) (task_of (under m rows) j) ≡ true
 unfolding is_barred
 barred_by m rows q j shows asks kept =
     let r : Requester (under m rows) m.tick q j = requester_is (under m rows) m.tick q j asks in
     let listed : j < length m.list.jobs = active_listed (under m rows) m.tick j r.active in
-    let user : is_user m.list.set q (task_in m.list.jobs j) ≡ true = open_user m.list.set (under m rows) m.tick j r.number q (shows.machine.lawful.each j listed) r.phase in
-    let within : q < length m.list.set.resources = open_resource m.list.set (under m rows) m.tick j r.number q (shows.machine.lawful.each j listed) r.phase in
-    any_below-from (length m.list.set.resources) (λ p. (home_of (under m rows) p == home_of (under m rows) q) && (is_kept (under m rows) m.tick p && leb (ceiling_rank (under m rows) p) (task_of (under m rows) j))) q within
-    (and_from (home_of (under m rows) q == home_of (under m rows) q) (is_kept (under m rows) m.tick q && leb (ceiling_rank (under m rows) q) (task_of (under m rows) j)) (eq-eqb (home_of (under m rows) q) (home_of (under m rows) q) refl)
+    let user : is_user m.list.set q (task_in m.list.jobs j) ≡ true =
+    open_user m.list.set (under m rows) m.tick j r.number q (shows.machine.lawful.each j listed) r.phase in
+    let within : q < length m.list.set.resources =
+    open_resource m.list.set (under m rows) m.tick j r.number q (shows.machine.lawful.each j listed) r.phase in
+    any_below-from (length m.list.set.resources)
+    (λ p. (home_of (under m rows) p == home_of (under m rows) q)
+    && (is_kept (under m rows) m.tick p && leb (ceiling_rank (under m rows) p) (task_of (under m rows) j))) q within
+    (and_from (home_of (under m rows) q == home_of (under m rows) q)
+    (is_kept (under m rows) m.tick q && leb (ceiling_rank (under m rows) q) (task_of (under m rows) j))
+    (eq-eqb (home_of (under m rows) q) (home_of (under m rows) q) refl)
     (and_from (is_kept (under m rows) m.tick q) (leb (ceiling_rank (under m rows) q) (task_of (under m rows) j)) kept
-    (le-leb (ceiling_rank (under m rows) q) (task_of (under m rows) j) (ceiling_low m.list.set q (task_in m.list.jobs j) user (task_below m rows j shows r.active)))))
+    (le-leb (ceiling_rank (under m rows) q) (task_of (under m rows) j)
+    (ceiling_low m.list.set q (task_in m.list.jobs j) user (task_below m rows j shows r.active)))))
 
-not_barred : (m : MachineDef) (rows : ℕ → RowDef) (k j : ℕ) → is_granted (under m rows) m.tick k j ≡ true → is_barred (under m rows) m.tick k (task_of (under m rows) j) ≡ false
+not_barred : (m : MachineDef) (rows : ℕ → RowDef) (k j : ℕ) → is_granted (under m rows) m.tick k j ≡ true
+    → is_barred (under m rows) m.tick k (task_of (under m rows) j) ≡ false
 unfolding is_granted
 not_barred m rows k j h =
-    not-true (is_barred (under m rows) m.tick k (task_of (under m rows) j)) (and_parts (is_first_waiting (under m rows) m.tick k j) (not (is_barred (under m rows) m.tick k (task_of (under m rows) j))) h).1
+    not-true (is_barred (under m rows) m.tick k (task_of (under m rows) j))
+    (and_parts (is_first_waiting (under m rows) m.tick k j)
+    (not (is_barred (under m rows) m.tick k (task_of (under m rows) j))) h).1
 
 -- Who is granted is of no lower task than who waits there.
-granted_leads : (m : MachineDef) (rows : ℕ → RowDef) (k j i : ℕ) → is_granted (under m rows) m.tick k j ≡ true → is_active (under m rows) m.tick i ≡ true → waits_at (under m rows) m.tick k i ≡ true
+granted_leads : (m : MachineDef) (rows : ℕ → RowDef) (k j i : ℕ) → is_granted (under m rows) m.tick k j ≡ true
+    → is_active (under m rows) m.tick i ≡ true → waits_at (under m rows) m.tick k i ≡ true
     → task_of (under m rows) j ≤ task_of (under m rows) i
 unfolding is_granted is_first_waiting
 granted_leads m rows k j i h a waits =
-    let each : all_below (length m.list.jobs) (λ i. not (waits_at (under m rows) m.tick k i) || leb (task_of (under m rows) j) (task_of (under m rows) i)) ≡ true = (and_parts _ _ (and_parts _ _ h).0).1 in
+    let each : all_below (length m.list.jobs)
+    (λ i. not (waits_at (under m rows) m.tick k i) || leb (task_of (under m rows) j) (task_of (under m rows) i))
+    ≡ true = (and_parts _ _ (and_parts _ _ h).0).1 in
     leb-true (task_of (under m rows) j) (task_of (under m rows) i)
     (right_of (not (waits_at (under m rows) m.tick k i)) (leb (task_of (under m rows) j) (task_of (under m rows) i))
-    (all_below-each (length m.list.jobs) (λ i. not (waits_at (under m rows) m.tick k i) || leb (task_of (under m rows) j) (task_of (under m rows) i)) each i (active_listed (under m rows) m.tick i a)) (ap not waits))
+    (all_below-each (length m.list.jobs)
+    (λ i. not (waits_at (under m rows) m.tick k i) || leb (task_of (under m rows) j) (task_of (under m rows) i)) each i
+    (active_listed (under m rows) m.tick i a)) (ap not waits))
 
 made_grant : (m : MachineDef) (rows : ℕ → RowDef) (first bars : List ℕ) → Made m rows first bars → KeepsGrant (under m rows) m.tick
 made_grant m rows first bars made = record {
@@ -169,21 +202,28 @@ made_grant m rows first bars made = record {
   shows : Shows m rows
   shows = made.noted.shows
 
-  new : (q j : ℕ) → (held_before (under m rows) m.tick q ≡ Some j → ⊥) → ((held_before (under m rows) m.tick q ≡ Some j) × (is_requester (under m rows) m.tick q j ≡ true)) ⊎ Due m rows first bars q j
+  new : (q j : ℕ) → (held_before (under m rows) m.tick q ≡ Some j → ⊥)
+      → ((held_before (under m rows) m.tick q ≡ Some j) × (is_requester (under m rows) m.tick q j ≡ true))
+      ⊎ Due m rows first bars q j
       → is_granted (under m rows) m.tick (home_of (under m rows) q) j ≡ true
   new q j fresh (inl old) = absurd (fresh old.0)
   new q j fresh (inr due) = granted_due m rows first bars q j made.noted due
 
-  due_from : (q j : ℕ) → is_requester (under m rows) m.tick q j ≡ true → is_granted (under m rows) m.tick (home_of (under m rows) q) j ≡ true → Due m rows first bars q j
+  due_from : (q j : ℕ) → is_requester (under m rows) m.tick q j ≡ true
+      → is_granted (under m rows) m.tick (home_of (under m rows) q) j ≡ true → Due m rows first bars q j
   due_from q j asks g =
-      let w : waiting_now m j ≡ true = waiting_of m rows (home_of (under m rows) q) q j shows asks (granted_waits m rows (home_of (under m rows) q) j g) in
+      let w : waiting_now m j ≡ true = waiting_of m rows (home_of (under m rows) q) q j shows asks
+      (granted_waits m rows (home_of (under m rows) q) j g) in
       record { asks = asks; waiting = w; due = due_at m rows first bars q j made.noted asks w ∙ g }
 
   -- A holder of what is granted to j is j.
-  holder_is : (q j h : ℕ) → is_requester (under m rows) m.tick q j ≡ true → is_granted (under m rows) m.tick (home_of (under m rows) q) j ≡ true
-      → ((held_before (under m rows) m.tick q ≡ Some h) × (is_requester (under m rows) m.tick q h ≡ true)) ⊎ Due m rows first bars q h → h ≡ j
+  holder_is : (q j h : ℕ) → is_requester (under m rows) m.tick q j ≡ true
+      → is_granted (under m rows) m.tick (home_of (under m rows) q) j ≡ true
+      → ((held_before (under m rows) m.tick q ≡ Some h) × (is_requester (under m rows) m.tick q h ≡ true))
+      ⊎ Due m rows first bars q h → h ≡ j
   holder_is q j h asks g (inl old) =
-      absurd (both_ways (is_barred (under m rows) m.tick (home_of (under m rows) q) (task_of (under m rows) j)) (not_barred m rows (home_of (under m rows) q) j g)
+      absurd (both_ways (is_barred (under m rows) m.tick (home_of (under m rows) q) (task_of (under m rows) j))
+      (not_barred m rows (home_of (under m rows) q) j g)
       (barred_by m rows q j shows asks (kept_true m rows q h old.0 old.1)))
   holder_is q j h asks g (inr due) =
       let gh : is_granted (under m rows) m.tick (home_of (under m rows) q) h ≡ true = granted_due m rows first bars q h made.noted due in
@@ -200,37 +240,48 @@ made_grant m rows first bars made = record {
       → (o : Option ℕ) → holder_in (rows m.tick) q ≡ o → holder_in (rows m.tick) q ≡ Some j
   granted q j asks g None e =
       let r : Requester (under m rows) m.tick q j = requester_is (under m rows) m.tick q j asks in
-      absurd (made.holders.free q e j (now_active m rows j shows r.active) (claim_of_due m rows first bars q j shows (due_from q j asks g)) (task_below m rows j shows r.active))
+      absurd (made.holders.free q e j (now_active m rows j shows r.active)
+      (claim_of_due m rows first bars q j shows (due_from q j asks g)) (task_below m rows j shows r.active))
   granted q j asks g (Some h) e = e ∙ ap (λ i. Some i) (holder_is q j h asks g (held_is m rows first bars q h made e))
 
 -- Who holds at a processor claims it, and the other way round.
-claim_of_holder : (m : MachineDef) (rows : ℕ → RowDef) (k q h : ℕ) → Shows m rows → is_requester (under m rows) m.tick q h ≡ true → holder_in (rows m.tick) q ≡ Some h → home_of (under m rows) q ≡ k
+claim_of_holder : (m : MachineDef) (rows : ℕ → RowDef) (k q h : ℕ) → Shows m rows
+    → is_requester (under m rows) m.tick q h ≡ true → holder_in (rows m.tick) q ≡ Some h → home_of (under m rows) q ≡ k
     → holder_claim m (holder_in (rows m.tick)) h ≡ Some k
 claim_of_holder m rows k q h shows asks e home =
     let r : Requester (under m rows) m.tick q h = requester_is (under m rows) m.tick q h asks in
-    cond_from (holds_now m (holder_in (rows m.tick)) h) (Some (column_now m h)) k (holds_at_q m rows (holder_in (rows m.tick)) q h shows asks ∙ named_job h (holder_in (rows m.tick) q) e)
+    cond_from (holds_now m (holder_in (rows m.tick)) h) (Some (column_now m h)) k
+    (holds_at_q m rows (holder_in (rows m.tick)) q h shows asks ∙ named_job h (holder_in (rows m.tick) q) e)
     (ap (λ c. Some c) (column_is m rows h (Asking r.number q) shows r.active r.phase ∙ home))
 
-claim_of_holds : (m : MachineDef) (rows : ℕ → RowDef) (k h : ℕ) → Shows m rows → holds_at (under m rows) m.tick k h ≡ true → holder_claim m (holder_in (rows m.tick)) h ≡ Some k
+claim_of_holds : (m : MachineDef) (rows : ℕ → RowDef) (k h : ℕ) → Shows m rows
+    → holds_at (under m rows) m.tick k h ≡ true → holder_claim m (holder_in (rows m.tick)) h ≡ Some k
 claim_of_holds m rows k h shows holds =
     let at : HolderAt (under m rows) m.tick k h = holds_at_is (under m rows) m.tick k h holds in
-    claim_of_holder m rows k at.request.resource h shows (requester_from (under m rows) m.tick at.request.resource h at.request.number at.request.active at.request.phase) at.holds at.request.home
+    claim_of_holder m rows k at.request.resource h shows
+    (requester_from (under m rows) m.tick at.request.resource h at.request.number at.request.active at.request.phase)
+    at.holds at.request.home
 
 pub some_same : (a b : ℕ) → Some a ≡ Some b → a ≡ b
 some_same a b h = cc
 
-holds_of_claim : (m : MachineDef) (rows : ℕ → RowDef) (k h : ℕ) → Shows m rows → is_active (under m rows) m.tick h ≡ true → holder_claim m (holder_in (rows m.tick)) h ≡ Some k
+holds_of_claim : (m : MachineDef) (rows : ℕ → RowDef) (k h : ℕ) → Shows m rows
+    → is_active (under m rows) m.tick h ≡ true → holder_claim m (holder_in (rows m.tick)) h ≡ Some k
     → holds_at (under m rows) m.tick k h ≡ true
 holds_of_claim m rows k h shows a claim = go (phase_of (under m rows) m.tick h) refl where
   parts : (holds_now m (holder_in (rows m.tick)) h ≡ true) × (Some (column_now m h) ≡ Some k)
   parts = cond_some (holds_now m (holder_in (rows m.tick)) h) (Some (column_now m h)) k claim
 
   go : (p : Phase) → phase_of (under m rows) m.tick h ≡ p → holds_at (under m rows) m.tick k h ≡ true
-  go Local e = let x : false ≡ true = sym (ap (holds_by (holder_in (rows m.tick)) h) (phase_is m rows h Local shows a e)) ∙ parts.0 in absurd (cc)
+  go Local e = let x : false ≡ true =
+      sym (ap (holds_by (holder_in (rows m.tick)) h) (phase_is m rows h Local shows a e)) ∙ parts.0 in
+      absurd (cc)
   go Finished e = absurd (unfinished (under m rows) m.tick h a e)
   go (Asking n q) e =
-      holds_at_from (under m rows) m.tick k h n q a e (sym (column_is m rows h (Asking n q) shows a e) ∙ some_same (column_now m h) k parts.1)
-      (job_named h (holder_in (rows m.tick) q) (sym (ap (holds_by (holder_in (rows m.tick)) h) (phase_is m rows h (Asking n q) shows a e)) ∙ parts.0))
+      holds_at_from (under m rows) m.tick k h n q a e
+      (sym (column_is m rows h (Asking n q) shows a e) ∙ some_same (column_now m h) k parts.1)
+      (job_named h (holder_in (rows m.tick) q)
+      (sym (ap (holds_by (holder_in (rows m.tick)) h) (phase_is m rows h (Asking n q) shows a e)) ∙ parts.0))
 
 -- Where a processor has requests, it has a holder.
 record AtHome (m : MachineDef) (rows : ℕ → RowDef) (k : ℕ) : Type 0 where
@@ -238,32 +289,40 @@ record AtHome (m : MachineDef) (rows : ℕ → RowDef) (k : ℕ) : Type 0 where
   active : is_active (under m rows) m.tick job ≡ true
   claims : holder_claim m (holder_in (rows m.tick)) job ≡ Some k
 
-holder_at_home : (m : MachineDef) (rows : ℕ → RowDef) (first bars : List ℕ) (k q h : ℕ) → Made m rows first bars → holder_in (rows m.tick) q ≡ Some h → home_of (under m rows) q ≡ k → AtHome m rows k
+holder_at_home : (m : MachineDef) (rows : ℕ → RowDef) (first bars : List ℕ) (k q h : ℕ) → Made m rows first bars
+    → holder_in (rows m.tick) q ≡ Some h → home_of (under m rows) q ≡ k → AtHome m rows k
 holder_at_home m rows first bars k q h made e home =
     let asks : is_requester (under m rows) m.tick q h ≡ true = holder_asks m rows first bars q h made e in
     let r : Requester (under m rows) m.tick q h = requester_is (under m rows) m.tick q h asks in
     record { job = h; active = r.active; claims = claim_of_holder m rows k q h made.noted.shows asks e home }
 
 -- A kept resource's holder.
-kept_holder : (m : MachineDef) (rows : ℕ → RowDef) (q : ℕ) → is_kept (under m rows) m.tick q ≡ true → (h : ℕ) × (held_before (under m rows) m.tick q ≡ Some h) × (is_requester (under m rows) m.tick q h ≡ true)
+kept_holder : (m : MachineDef) (rows : ℕ → RowDef) (q : ℕ) → is_kept (under m rows) m.tick q ≡ true
+    → (h : ℕ) × (held_before (under m rows) m.tick q ≡ Some h) × (is_requester (under m rows) m.tick q h ≡ true)
 unfolding is_kept
 kept_holder m rows q kept = go (held_before (under m rows) m.tick q) refl where
-  go : (o : Option ℕ) → held_before (under m rows) m.tick q ≡ o → (h : ℕ) × (held_before (under m rows) m.tick q ≡ Some h) × (is_requester (under m rows) m.tick q h ≡ true)
-  go None e = let x : false ≡ true = sym (ap (λ o. option_map_or (λ j. is_requester (under m rows) m.tick q j) o false) e) ∙ kept in absurd (cc)
+  go : (o : Option ℕ) → held_before (under m rows) m.tick q ≡ o
+      → (h : ℕ) × (held_before (under m rows) m.tick q ≡ Some h) × (is_requester (under m rows) m.tick q h ≡ true)
+  go None e = let x : false ≡ true =
+      sym (ap (λ o. option_map_or (λ j. is_requester (under m rows) m.tick q j) o false) e) ∙ kept in
+      absurd (cc)
   go (Some h) e = (h, e, sym (ap (λ o. option_map_or (λ j. is_requester (under m rows) m.tick q j) o false) e) ∙ kept)
 
 -- Where nothing is kept at a processor, no task is barred there.
-nothing_barred : (m : MachineDef) (rows : ℕ → RowDef) (k x : ℕ) → any_below (length m.list.set.resources) (λ q. (home_of (under m rows) q == k) && is_kept (under m rows) m.tick q) ≡ false
+nothing_barred : (m : MachineDef) (rows : ℕ → RowDef) (k x : ℕ) → any_below (length m.list.set.resources)
+    (λ q. (home_of (under m rows) q == k) && is_kept (under m rows) m.tick q) ≡ false
     → is_barred (under m rows) m.tick k x ≡ false
 unfolding is_barred
 nothing_barred m rows k x none =
-    any_below-none_from (length m.list.set.resources) (λ q. (home_of (under m rows) q == k) && (is_kept (under m rows) m.tick q && leb (ceiling_rank (under m rows) q) x))
+    any_below-none_from (length m.list.set.resources)
+    (λ q. (home_of (under m rows) q == k) && (is_kept (under m rows) m.tick q && leb (ceiling_rank (under m rows) q) x))
     (λ q l. sym (and_assoc (home_of (under m rows) q == k) (is_kept (under m rows) m.tick q) (leb (ceiling_rank (under m rows) q) x))
     ∙ and_left ((home_of (under m rows) q == k) && is_kept (under m rows) m.tick q) (leb (ceiling_rank (under m rows) q) x)
     (any_below-none (length m.list.set.resources) (λ q. (home_of (under m rows) q == k) && is_kept (under m rows) m.tick q) none q l))
 
 -- Then the first that waits there is due.
-first_due : (m : MachineDef) (rows : ℕ → RowDef) (first bars : List ℕ) (k i : ℕ) → Noted m rows first bars → RequestAt (under m rows) m.tick k i
+first_due : (m : MachineDef) (rows : ℕ → RowDef) (first bars : List ℕ) (k i : ℕ) → Noted m rows first bars
+    → RequestAt (under m rows) m.tick k i
     → any_below (length m.list.set.resources) (λ q. (home_of (under m rows) q == k) && is_kept (under m rows) m.tick q) ≡ false
     → (f : ℕ) × (q : ℕ) × (home_of (under m rows) q ≡ k) × Due m rows first bars q f
 first_due m rows first bars k i noted r none = due w.job w.active w.own (waits_is m rows w.job k shows w.active within.0 w.waits) where
@@ -278,16 +337,20 @@ first_due m rows first bars k i noted r none = due w.job w.active w.own (waits_i
 
   within : (1 ≤ k) × (k ≤ MOST_PROCESSORS)
   within =
-      let here : (1 ≤ column_now m i) × (column_now m i ≤ m.list.set.processors) = column_within m rows i shows noted.accepted noted.homes r.active in
+      let here : (1 ≤ column_now m i) × (column_now m i ≤ m.list.set.processors) =
+      column_within m rows i shows noted.accepted noted.homes r.active in
       (omega (arith, here.0, column), omega (arith, here.1, column, processors_within m.list.set noted.accepted))
 
   fresh : held_before (under m rows) m.tick r.resource ≡ Some i → ⊥
   fresh e =
       let listed : i < length m.list.jobs = active_listed (under m rows) m.tick i r.active in
-      let l : r.resource < length m.list.set.resources = open_resource m.list.set (under m rows) m.tick i r.number r.resource (shows.machine.lawful.each i listed) r.phase in
+      let l : r.resource < length m.list.set.resources = open_resource m.list.set (under m rows) m.tick i r.number
+      r.resource (shows.machine.lawful.each i listed) r.phase in
       both_ways ((home_of (under m rows) r.resource == k) && is_kept (under m rows) m.tick r.resource)
-      (any_below-none (length m.list.set.resources) (λ q. (home_of (under m rows) q == k) && is_kept (under m rows) m.tick q) none r.resource l)
-      (and_from (home_of (under m rows) r.resource == k) (is_kept (under m rows) m.tick r.resource) (eq-eqb (home_of (under m rows) r.resource) k r.home) (kept_true m rows r.resource i e asks))
+      (any_below-none (length m.list.set.resources)
+      (λ q. (home_of (under m rows) q == k) && is_kept (under m rows) m.tick q) none r.resource l)
+      (and_from (home_of (under m rows) r.resource == k) (is_kept (under m rows) m.tick r.resource)
+      (eq-eqb (home_of (under m rows) r.resource) k r.home) (kept_true m rows r.resource i e asks))
 
   waits : waits_at (under m rows) m.tick k i ≡ true
   waits =
@@ -304,8 +367,14 @@ first_due m rows first bars k i noted r none = due w.job w.active w.own (waits_i
   w : WaitsOf m rows some.0 k
   w = some.2
 
-  due : (f : ℕ) → is_active (under m rows) m.tick f ≡ true → task_in m.list.jobs f ≡ some.0 → Waits m f k → (f : ℕ) × (q : ℕ) × (home_of (under m rows) q ≡ k) × Due m rows first bars q f
-  due f a own at = (f, g.resource, sym (column_is m rows f (Asking rf.number g.resource) shows a rf.phase) ∙ at.column, record { asks = g.asks; waiting = at.waiting; due = passes }) where
+  due : (f : ℕ) → is_active (under m rows) m.tick f ≡ true → task_in m.list.jobs f ≡ some.0 → Waits m f k
+      → (f : ℕ) × (q : ℕ) × (home_of (under m rows) q ≡ k) × Due m rows first bars q f
+  due f a own at = (
+    f,
+    g.resource,
+    sym (column_is m rows f (Asking rf.number g.resource) shows a rf.phase) ∙ at.column,
+    record { asks = g.asks; waiting = at.waiting; due = passes },
+  ) where
     g : Requesting m rows f
     g = waiting_asks m rows f shows a at.waiting
 
@@ -318,36 +387,49 @@ first_due m rows first bars k i noted r none = due w.job w.active w.own (waits_i
     free : ltb (task_in m.list.jobs f) (entry_at bars k) ≡ true
     free =
         below_is (task_in m.list.jobs f) (entry_at bars k)
-        ∙ ap not (barred_shown m rows bars k (task_in m.list.jobs f) shows noted.kept within.0 within.1 (task_below m rows f shows a) ∙ nothing_barred m rows k (task_in m.list.jobs f) none)
+        ∙ ap not (barred_shown m rows bars k (task_in m.list.jobs f) shows noted.kept within.0 within.1
+        (task_below m rows f shows a) ∙ nothing_barred m rows k (task_in m.list.jobs f) none)
 
     passes : is_due m first bars f ≡ true
     passes =
         ap (λ c. leb (task_in m.list.jobs f) (entry_at first c) && ltb (task_in m.list.jobs f) (entry_at bars c)) at.column
         ∙ and_from (leb (task_in m.list.jobs f) (entry_at first k)) (ltb (task_in m.list.jobs f) (entry_at bars k)) leads free
 
-home_holder : (m : MachineDef) (rows : ℕ → RowDef) (first bars : List ℕ) (k : ℕ) → Made m rows first bars → has_requests (under m rows) m.tick k ≡ true → AtHome m rows k
-home_holder m rows first bars k made h = elim (cases_Bool (any_below (length m.list.set.resources) (λ q. (home_of (under m rows) q == k) && is_kept (under m rows) m.tick q))) [
-  | inl kept ↦ of_kept (any_below-some (length m.list.set.resources) (λ q. (home_of (under m rows) q == k) && is_kept (under m rows) m.tick q) kept)
-  | inr none ↦ of_due (first_due m rows first bars k (some_request m rows k h).0 made.noted (request_at_is (under m rows) m.tick k (some_request m rows k h).0 (some_request m rows k h).1) none)
-] where
-  of_kept : (q : ℕ) × (q < length m.list.set.resources) × (((home_of (under m rows) q == k) && is_kept (under m rows) m.tick q) ≡ true) → AtHome m rows k
-  of_kept s =
-      let parts : ((home_of (under m rows) s.0 == k) ≡ true) × (is_kept (under m rows) m.tick s.0 ≡ true) = and_parts (home_of (under m rows) s.0 == k) (is_kept (under m rows) m.tick s.0) s.2 in
-      let old : (h : ℕ) × (held_before (under m rows) m.tick s.0 ≡ Some h) × (is_requester (under m rows) m.tick s.0 h ≡ true) = kept_holder m rows s.0 parts.1 in
-      holder_at_home m rows first bars k s.0 old.0 made (made_keep m rows first bars made s.0 old.0 old.1 old.2) (eqb-true (home_of (under m rows) s.0) k parts.0)
+home_holder : (m : MachineDef) (rows : ℕ → RowDef) (first bars : List ℕ) (k : ℕ) → Made m rows first bars
+    → has_requests (under m rows) m.tick k ≡ true → AtHome m rows k
+home_holder m rows first bars k made h = elim (cases_Bool (any_below (length m.list.set.resources)
+    (λ q. (home_of (under m rows) q == k) && is_kept (under m rows) m.tick q))) [
+      | inl kept ↦ of_kept (any_below-some (length m.list.set.resources)
+          (λ q. (home_of (under m rows) q == k) && is_kept (under m rows) m.tick q) kept)
+      | inr none ↦ of_due (first_due m rows first bars k (some_request m rows k h).0 made.noted
+          (request_at_is (under m rows) m.tick k (some_request m rows k h).0 (some_request m rows k h).1) none)
+    ] where
+      of_kept : (q : ℕ) × (q < length m.list.set.resources)
+          × (((home_of (under m rows) q == k) && is_kept (under m rows) m.tick q) ≡ true) → AtHome m rows k
+      of_kept s =
+          let parts : ((home_of (under m rows) s.0 == k) ≡ true) × (is_kept (under m rows) m.tick s.0 ≡ true) =
+          and_parts (home_of (under m rows) s.0 == k) (is_kept (under m rows) m.tick s.0) s.2 in
+          let old : (h : ℕ) × (held_before (under m rows) m.tick s.0 ≡ Some h)
+          × (is_requester (under m rows) m.tick s.0 h ≡ true) = kept_holder m rows s.0 parts.1 in
+          holder_at_home m rows first bars k s.0 old.0 made (made_keep m rows first bars made s.0 old.0 old.1 old.2)
+          (eqb-true (home_of (under m rows) s.0) k parts.0)
 
-  held : (q : ℕ) (o : Option ℕ) (f : ℕ) → home_of (under m rows) q ≡ k → Due m rows first bars q f → holder_in (rows m.tick) q ≡ o → AtHome m rows k
-  held q None f home due e =
-      let r : Requester (under m rows) m.tick q f = requester_is (under m rows) m.tick q f due.asks in
-      absurd (made.holders.free q e f (now_active m rows f made.noted.shows r.active) (claim_of_due m rows first bars q f made.noted.shows due) (task_below m rows f made.noted.shows r.active))
-  held q (Some g) f home due e = holder_at_home m rows first bars k q g made e home
+      held : (q : ℕ) (o : Option ℕ) (f : ℕ) → home_of (under m rows) q ≡ k → Due m rows first bars q f
+          → holder_in (rows m.tick) q ≡ o → AtHome m rows k
+      held q None f home due e =
+          let r : Requester (under m rows) m.tick q f = requester_is (under m rows) m.tick q f due.asks in
+          absurd (made.holders.free q e f (now_active m rows f made.noted.shows r.active)
+          (claim_of_due m rows first bars q f made.noted.shows due) (task_below m rows f made.noted.shows r.active))
+      held q (Some g) f home due e = holder_at_home m rows first bars k q g made e home
 
-  of_due : (f : ℕ) × (q : ℕ) × (home_of (under m rows) q ≡ k) × Due m rows first bars q f → AtHome m rows k
-  of_due s = held s.1 (holder_in (rows m.tick) s.1) s.0 s.2 s.3 refl
+      of_due : (f : ℕ) × (q : ℕ) × (home_of (under m rows) q ≡ k) × Due m rows first bars q f → AtHome m rows k
+      of_due s = held s.1 (holder_in (rows m.tick) s.1) s.0 s.2 s.3 refl
 
 -- What runs on a processor: a holder there, or a Local job.
-ran : (m : MachineDef) (rows : ℕ → RowDef) (first bars : List ℕ) (made : Made m rows first bars) (k r : ℕ) → running_on (rows m.tick) k ≡ Some r
-    → Takes m (holder_claim m (holder_in (rows m.tick))) (length m.list.set.tasks) k r ⊎ Takes m (local_claim m) (length m.list.set.tasks) k r
+ran : (m : MachineDef) (rows : ℕ → RowDef) (first bars : List ℕ) (made : Made m rows first bars) (k r : ℕ)
+    → running_on (rows m.tick) k ≡ Some r
+    → Takes m (holder_claim m (holder_in (rows m.tick))) (length m.list.set.tasks) k r
+    ⊎ Takes m (local_claim m) (length m.list.set.tasks) k r
 ran m rows first bars made k r e = elim (made.running.locals.from k r e) [
   | inr local ↦ inr local
   | inl held ↦ elim (made.running.holders.from k r held) [
@@ -362,10 +444,12 @@ record HolderRuns (m : MachineDef) (rows : ℕ → RowDef) (k : ℕ) : Type 0 wh
   runs : running_on (rows m.tick) k ≡ Some runner
   takes : Takes m (holder_claim m (holder_in (rows m.tick))) (length m.list.set.tasks) k runner
 
-holder_runs : (m : MachineDef) (rows : ℕ → RowDef) (first bars : List ℕ) (k : ℕ) → Made m rows first bars → AtHome m rows k → HolderRuns m rows k
+holder_runs : (m : MachineDef) (rows : ℕ → RowDef) (first bars : List ℕ) (k : ℕ) → Made m rows first bars
+    → AtHome m rows k → HolderRuns m rows k
 holder_runs m rows first bars k made at = go (made.running.before k) refl where
   go : (o : Option ℕ) → made.running.before k ≡ o → HolderRuns m rows k
-  go None e = absurd (made.running.holders.free k e at.job (now_active m rows at.job made.noted.shows at.active) at.claims (task_below m rows at.job made.noted.shows at.active))
+  go None e = absurd (made.running.holders.free k e at.job (now_active m rows at.job made.noted.shows at.active)
+      at.claims (task_below m rows at.job made.noted.shows at.active))
   go (Some r) e = record {
     runner = r;
     runs = made.running.locals.keeps k r e;
@@ -375,9 +459,12 @@ holder_runs m rows first bars k made at = go (made.running.before k) refl where
     ];
   }
 
-claim_of_local : (m : MachineDef) (rows : ℕ → RowDef) (k i : ℕ) → Shows m rows → ActiveLocal (under m rows) m.tick i → processor_of (under m rows) i ≡ k → local_claim m i ≡ Some k
+claim_of_local : (m : MachineDef) (rows : ℕ → RowDef) (k i : ℕ) → Shows m rows → ActiveLocal (under m rows) m.tick i
+    → processor_of (under m rows) i ≡ k → local_claim m i ≡ Some k
 claim_of_local m rows k i shows l own =
-    cond_from (is_local_now m i) (Some (column_now m i)) k (ap is_local (phase_is m rows i Local shows l.active l.phase)) (ap (λ c. Some c) (column_of_local m rows k i shows l own))
+    cond_from (is_local_now m i) (Some (column_now m i)) k
+    (ap is_local (phase_is m rows i Local shows l.active l.phase))
+    (ap (λ c. Some c) (column_of_local m rows k i shows l own))
 
 made_run : (m : MachineDef) (rows : ℕ → RowDef) (first bars : List ℕ) → Made m rows first bars → KeepsRun (under m rows) m.tick
 made_run m rows first bars made = record {
@@ -388,17 +475,22 @@ made_run m rows first bars made = record {
   shows : Shows m rows
   shows = made.noted.shows
 
-  active : (k j : ℕ) → Takes m (holder_claim m (holder_in (rows m.tick))) (length m.list.set.tasks) k j ⊎ Takes m (local_claim m) (length m.list.set.tasks) k j → is_active (under m rows) m.tick j ≡ true
+  active : (k j : ℕ)
+      → Takes m (holder_claim m (holder_in (rows m.tick))) (length m.list.set.tasks) k j
+      ⊎ Takes m (local_claim m) (length m.list.set.tasks) k j → is_active (under m rows) m.tick j ≡ true
   active k j (inl holder) = active_of m rows j shows holder.active
   active k j (inr local) = active_of m rows j shows local.active
 
   holds : (k j : ℕ) → Takes m (holder_claim m (holder_in (rows m.tick))) (length m.list.set.tasks) k j → HolderAt (under m rows) m.tick k j
-  holds k j holder = holds_at_is (under m rows) m.tick k j (holds_of_claim m rows k j shows (active_of m rows j shows holder.active) holder.claims)
+  holds k j holder = holds_at_is (under m rows) m.tick k j
+      (holds_of_claim m rows k j shows (active_of m rows j shows holder.active) holder.claims)
 
-  local_parts : (k j : ℕ) → Takes m (local_claim m) (length m.list.set.tasks) k j → (is_local_now m j ≡ true) × (Some (column_now m j) ≡ Some k)
+  local_parts : (k j : ℕ) → Takes m (local_claim m) (length m.list.set.tasks) k j
+      → (is_local_now m j ≡ true) × (Some (column_now m j) ≡ Some k)
   local_parts k j taken = cond_some (is_local_now m j) (Some (column_now m j)) k taken.claims
 
-  local : (k j : ℕ) (p : Phase) → Takes m (holder_claim m (holder_in (rows m.tick))) (length m.list.set.tasks) k j ⊎ Takes m (local_claim m) (length m.list.set.tasks) k j
+  local : (k j : ℕ) (p : Phase) → Takes m (holder_claim m (holder_in (rows m.tick))) (length m.list.set.tasks) k j
+      ⊎ Takes m (local_claim m) (length m.list.set.tasks) k j
       → is_local (phase_of (under m rows) m.tick j) ≡ true → phase_of (under m rows) m.tick j ≡ p → k ≡ processor_of (under m rows) j
   local k j (Asking n q) t l e = let x : false ≡ true = sym (ap is_local e) ∙ l in absurd (cc)
   local k j Finished t l e = let x : false ≡ true = sym (ap is_local e) ∙ l in absurd (cc)
@@ -406,10 +498,13 @@ made_run m rows first bars made = record {
       let at : HolderAt (under m rows) m.tick k j = holds k j holder in
       let x : Local ≡ Asking at.request.number at.request.resource = sym e ∙ at.request.phase in absurd (cc)
   local k j Local (inr taken) l e =
-      sym (some_same (column_now m j) k (local_parts k j taken).1) ∙ column_is m rows j Local shows (active_of m rows j shows taken.active) e
+      sym (some_same (column_now m j) k (local_parts k j taken).1)
+      ∙ column_is m rows j Local shows (active_of m rows j shows taken.active) e
 
-  request : (k j q : ℕ) (p : Phase) → Takes m (holder_claim m (holder_in (rows m.tick))) (length m.list.set.tasks) k j ⊎ Takes m (local_claim m) (length m.list.set.tasks) k j
-      → is_asking q (phase_of (under m rows) m.tick j) ≡ true → phase_of (under m rows) m.tick j ≡ p → (k ≡ home_of (under m rows) q) × (holder_in (rows m.tick) q ≡ Some j)
+  request : (k j q : ℕ) (p : Phase) → Takes m (holder_claim m (holder_in (rows m.tick))) (length m.list.set.tasks) k j
+      ⊎ Takes m (local_claim m) (length m.list.set.tasks) k j
+      → is_asking q (phase_of (under m rows) m.tick j) ≡ true → phase_of (under m rows) m.tick j ≡ p
+      → (k ≡ home_of (under m rows) q) × (holder_in (rows m.tick) q ≡ Some j)
   request k j q p (inl holder) asks e =
       let at : HolderAt (under m rows) m.tick k j = holds k j holder in
       let same : at.request.resource ≡ q = eqb-true at.request.resource q (sym (ap (is_asking q) at.request.phase) ∙ asks) in
@@ -419,19 +514,26 @@ made_run m rows first bars made = record {
     not_local Local f = let x : false ≡ true = sym (ap (is_asking q) f) ∙ asks in cc
     not_local Finished f = let x : false ≡ true = sym (ap (is_asking q) f) ∙ asks in cc
     not_local (Asking n r) f =
-        let x : false ≡ true = sym (ap is_local (phase_is m rows j (Asking n r) shows (active_of m rows j shows taken.active) f)) ∙ (local_parts k j taken).0 in cc
+        let x : false ≡ true =
+        sym (ap is_local (phase_is m rows j (Asking n r) shows (active_of m rows j shows taken.active) f))
+        ∙ (local_parts k j taken).0 in
+        cc
 
 made_idle : (m : MachineDef) (rows : ℕ → RowDef) (first bars : List ℕ) → Made m rows first bars → KeepsIdle (under m rows) m.tick
 made_idle m rows first bars made = record {
-  requests = λ k e. false_from_ne_true (has_requests (under m rows) m.tick k) (λ some. busy k e (holder_runs m rows first bars k made (home_holder m rows first bars k made some)));
-  locals = λ k e i l own. false_from_ne_true (is_active_local (under m rows) m.tick i) (λ li. waits k e i own (active_local_is (under m rows) m.tick i li));
+  requests = λ k e. false_from_ne_true (has_requests (under m rows) m.tick k)
+      (λ some. busy k e (holder_runs m rows first bars k made (home_holder m rows first bars k made some)));
+  locals = λ k e i l own. false_from_ne_true (is_active_local (under m rows) m.tick i)
+      (λ li. waits k e i own (active_local_is (under m rows) m.tick i li));
 } where
   busy : (k : ℕ) → running_on (rows m.tick) k ≡ None → HolderRuns m rows k → ⊥
   busy k e h = let x : Some h.runner ≡ None = sym h.runs ∙ e in cc
 
-  waits : (k : ℕ) → running_on (rows m.tick) k ≡ None → (i : ℕ) → processor_of (under m rows) i ≡ k → ActiveLocal (under m rows) m.tick i → ⊥
+  waits : (k : ℕ) → running_on (rows m.tick) k ≡ None → (i : ℕ) → processor_of (under m rows) i ≡ k
+      → ActiveLocal (under m rows) m.tick i → ⊥
   waits k e i own l =
-      made.running.locals.free k e i (now_active m rows i made.noted.shows l.active) (claim_of_local m rows k i made.noted.shows l own) (task_below m rows i made.noted.shows l.active)
+      made.running.locals.free k e i (now_active m rows i made.noted.shows l.active)
+      (claim_of_local m rows k i made.noted.shows l own) (task_below m rows i made.noted.shows l.active)
 
 made_priority : (m : MachineDef) (rows : ℕ → RowDef) (first bars : List ℕ) → Made m rows first bars → KeepsPriority (under m rows) m.tick
 made_priority m rows first bars made = record {
@@ -449,22 +551,26 @@ made_priority m rows first bars made = record {
     runner = h.runner;
     runs = h.runs;
     holds = holds_of_claim m rows k h.runner shows (active_of m rows h.runner shows h.takes.active) h.takes.claims;
-    first = λ i l holds. h.takes.first i (now_active m rows i shows (holder_active k i holds)) (claim_of_holds m rows k i shows holds) (task_below m rows i shows (holder_active k i holds));
+    first = λ i l holds. h.takes.first i (now_active m rows i shows (holder_active k i holds))
+        (claim_of_holds m rows k i shows holds) (task_below m rows i shows (holder_active k i holds));
   }
 
   locals : (k r i : ℕ) → has_requests (under m rows) m.tick k ≡ false → processor_of (under m rows) i ≡ k
-      → Takes m (holder_claim m (holder_in (rows m.tick))) (length m.list.set.tasks) k r ⊎ Takes m (local_claim m) (length m.list.set.tasks) k r → ActiveLocal (under m rows) m.tick i
+      → Takes m (holder_claim m (holder_in (rows m.tick))) (length m.list.set.tasks) k r
+      ⊎ Takes m (local_claim m) (length m.list.set.tasks) k r → ActiveLocal (under m rows) m.tick i
       → task_of (under m rows) r ≤ task_of (under m rows) i
   locals k r i none own (inl holder) l =
       let active : is_active (under m rows) m.tick r ≡ true = active_of m rows r shows holder.active in
-      let at : HolderAt (under m rows) m.tick k r = holds_at_is (under m rows) m.tick k r (holds_of_claim m rows k r shows active holder.claims) in
+      let at : HolderAt (under m rows) m.tick k r =
+      holds_at_is (under m rows) m.tick k r (holds_of_claim m rows k r shows active holder.claims) in
       absurd (both_ways (has_requests (under m rows) m.tick k) none
       (request_among (under m rows) m.tick k r (active_listed (under m rows) m.tick r active)
       (request_at_from (under m rows) m.tick k r at.request.number at.request.resource active at.request.phase at.request.home)))
   locals k r i none own (inr taken) l =
       taken.first i (now_active m rows i shows l.active) (claim_of_local m rows k i shows l own) (task_below m rows i shows l.active)
 
-pub chosen_from : (m : MachineDef) (rows : ℕ → RowDef) (first bars : List ℕ) → Made m rows first bars → IsSized m.list.set (rows m.tick) → IsDpcpChoice (under m rows) m.tick
+pub chosen_from : (m : MachineDef) (rows : ℕ → RowDef) (first bars : List ℕ) → Made m rows first bars
+    → IsSized m.list.set (rows m.tick) → IsDpcpChoice (under m rows) m.tick
 chosen_from m rows first bars made sized = record { sized = sized; keeps = λ r. keeps r } where
   keeps : (r : Rule) → dpcp_rule r (under m rows) m.tick
   keeps rule.Run = made_run m rows first bars made

@@ -1,5 +1,6 @@
 -- Places while they are filled, task by task.
-use Rattle.std.proofs.Common.{◌≡◌, ◌⊎◌, ℕ, ◌+◌, ◌<◌, ◌≤◌, ◌&&◌, not, true, length, refl, sym, ap, ◌∙◌, arith, inl, inr, Option, Some, None, subst}
+use Rattle.std.proofs.Common.{◌≡◌, ◌⊎◌, ℕ, ◌+◌, ◌<◌, ◌≤◌, ◌&&◌, not, true, length, refl, sym, ap, ◌∙◌, arith, inl, inr}
+use Rattle.std.proofs.Common.{Option, Some, None, subst}
 use Rattle.std.specs.Prelude.{is_some}
 use Rattle.std.proofs.lemmas.Bool.{cases_Bool, and_parts, and_from, both_ways}
 use Rattle.schedule_model.specs.RowDef.{is_job}
@@ -37,7 +38,8 @@ record Fails (claim places more : ℕ → Option ℕ) (j k : ℕ) : Type 0 where
   now : more k ≡ places k
   fails : claim j ≡ Some k → places k ≡ None → ⊥
 
-gets_or : (claim places more : ℕ → Option ℕ) (j k : ℕ) → more k ≡ filled j (claim j) places k → Gets claim places more j k ⊎ Fails claim places more j k
+gets_or : (claim places more : ℕ → Option ℕ) (j k : ℕ) → more k ≡ filled j (claim j) places k
+    → Gets claim places more j k ⊎ Fails claim places more j k
 gets_or claim places more j k same = elim (cases_Bool (is_job k (claim j) && not (is_some (places k)))) [
   | inl passes ↦
       let parts = and_parts (is_job k (claim j)) (not (is_some (places k))) passes in
@@ -53,18 +55,21 @@ gets_or claim places more j k same = elim (cases_Bool (is_job k (claim j) && not
 ]
 
 takes_more : (m : MachineDef) (claim : ℕ → Option ℕ) (x k j : ℕ) → Takes m claim x k j
-    → ((i : ℕ) → active_now m i ≡ true → claim i ≡ Some k → task_in m.list.jobs i < x + 1 → (task_in m.list.jobs i < x) ⊎ (x ≤ task_in m.list.jobs i)) → Takes m claim (x + 1) k j
+    → ((i : ℕ) → active_now m i ≡ true → claim i ≡ Some k → task_in m.list.jobs i < x + 1
+    → (task_in m.list.jobs i < x) ⊎ (x ≤ task_in m.list.jobs i)) → Takes m claim (x + 1) k j
 takes_more m claim x k j t cases = record {
   active = t.active;
   claims = t.claims;
   early = let l : task_in m.list.jobs j < x = t.early in omega arith;
   first = λ i a c l. leads i a c (cases i a c l);
 } where
-  leads : (i : ℕ) → active_now m i ≡ true → claim i ≡ Some k → (task_in m.list.jobs i < x) ⊎ (x ≤ task_in m.list.jobs i) → task_in m.list.jobs j ≤ task_in m.list.jobs i
+  leads : (i : ℕ) → active_now m i ≡ true → claim i ≡ Some k → (task_in m.list.jobs i < x) ⊎ (x ≤ task_in m.list.jobs i)
+      → task_in m.list.jobs j ≤ task_in m.list.jobs i
   leads i a c (inl earlier) = t.first i a c earlier
   leads i a c (inr later) = omega (arith, t.early, later)
 
-filled_some : (m : MachineDef) (claim start : ℕ → Option ℕ) (x j : ℕ) (places more : ℕ → Option ℕ) → Filled m claim start x places → IsActiveJob (plain m) x (Some j)
+filled_some : (m : MachineDef) (claim start : ℕ → Option ℕ) (x j : ℕ) (places more : ℕ → Option ℕ)
+    → Filled m claim start x places → IsActiveJob (plain m) x (Some j)
     → ((k : ℕ) → more k ≡ filled j (claim j) places k) → Filled m claim start (x + 1) more
 filled_some m claim start x j places more g own same = record {
   keeps = keeps;
@@ -85,7 +90,8 @@ filled_some m claim start x j places more g own same = record {
     early = omega (arith, own.1);
     first = λ i a c l. first i a c l;
   } where
-    first : (i : ℕ) → active_now m i ≡ true → claim i ≡ Some k → task_in m.list.jobs i < x + 1 → task_in m.list.jobs j ≤ task_in m.list.jobs i
+    first : (i : ℕ) → active_now m i ≡ true → claim i ≡ Some k → task_in m.list.jobs i < x + 1
+        → task_in m.list.jobs j ≤ task_in m.list.jobs i
     first i a c l = elim (earlier_or (plain m) x j i own a l) [
       | inl earlier ↦ absurd (g.free k gets.empty i a c earlier)
       | inr self ↦ omega (arith, ap (task_in m.list.jobs) self)
@@ -120,7 +126,8 @@ filled_some m claim start x j places more g own same = record {
         ]
   ]
 
-filled_none : (m : MachineDef) (claim start : ℕ → Option ℕ) (x : ℕ) (places more : ℕ → Option ℕ) → Filled m claim start x places → IsActiveJob (plain m) x None → ((k : ℕ) → more k ≡ places k)
+filled_none : (m : MachineDef) (claim start : ℕ → Option ℕ) (x : ℕ) (places more : ℕ → Option ℕ)
+    → Filled m claim start x places → IsActiveJob (plain m) x None → ((k : ℕ) → more k ≡ places k)
     → Filled m claim start (x + 1) more
 filled_none m claim start x places more g none same = record {
   keeps = λ k i e. same k ∙ g.keeps k i e;
@@ -132,18 +139,21 @@ filled_none m claim start x places more g none same = record {
   from k i (inr taken) = inr (takes_more m claim x k i taken (λ h a c l. inl (earlier_only (plain m) x h none a l)))
 
 -- One task more has come.
-filled_next : (m : MachineDef) (claim start : ℕ → Option ℕ) (x : ℕ) (o : Option ℕ) (places more : ℕ → Option ℕ) → Filled m claim start x places → IsActiveJob (plain m) x o
+filled_next : (m : MachineDef) (claim start : ℕ → Option ℕ) (x : ℕ) (o : Option ℕ) (places more : ℕ → Option ℕ)
+    → Filled m claim start x places → IsActiveJob (plain m) x o
     → ((k : ℕ) → more k ≡ filled_by claim o places k) → Filled m claim start (x + 1) more
 filled_next m claim start x None places more g own same = filled_none m claim start x places more g own same
 filled_next m claim start x (Some j) places more g own same = filled_some m claim start x j places more g own same
 
-pub fills_go_on : (m : MachineDef) (claim start : ℕ → Option ℕ) (x : ℕ) (places more : ℕ → Option ℕ) → IsMachine m → x < length m.list.set.tasks → Filled m claim start x places
+pub fills_go_on : (m : MachineDef) (claim start : ℕ → Option ℕ) (x : ℕ) (places more : ℕ → Option ℕ) → IsMachine m
+    → x < length m.list.set.tasks → Filled m claim start x places
     → ((k : ℕ) → more k ≡ filled_by claim (current_now m x) places k) → Filled m claim start (x + 1) more
 fills_go_on m claim start x places more machine l g same =
     filled_next m claim start x (current_now m x) places more g (active_job_now m (λ j. 0) (λ j. 0) x machine l) same
 
 -- The same places.
-pub filled_same : (m : MachineDef) (claim start : ℕ → Option ℕ) (x : ℕ) (places more : ℕ → Option ℕ) → Filled m claim start x places → ((k : ℕ) → more k ≡ places k) → Filled m claim start x more
+pub filled_same : (m : MachineDef) (claim start : ℕ → Option ℕ) (x : ℕ) (places more : ℕ → Option ℕ)
+    → Filled m claim start x places → ((k : ℕ) → more k ≡ places k) → Filled m claim start x more
 filled_same m claim start x places more g same = record {
   keeps = λ k j e. same k ∙ g.keeps k j e;
   from = λ k j e. g.from k j (sym (same k) ∙ e);

@@ -1,5 +1,6 @@
 -- After any rows that can be taken there is a chosen row.
-use Rattle.std.proofs.Common.{◌≡◌, ◌⊎◌, ℕ, ◌<◌, ◌≤◌, zero, suc, true, List, length, refl, sym, ◌∙◌, arith, inl, inr, Option, Some, None, subst, add-one, min, replicate}
+use Rattle.std.proofs.Common.{◌≡◌, ◌⊎◌, ℕ, ◌<◌, ◌≤◌, zero, suc, true, List, length, refl, sym, ◌∙◌, arith, inl, inr}
+use Rattle.std.proofs.Common.{Option, Some, None, subst, add-one, min, replicate}
 use Rattle.std.proofs.Math.ListN.{set}
 use Rattle.std.proofs.lemmas.Bool.{cases_lt}
 use Rattle.std.proofs.lemmas.List.{get_or-set_same, get_or-set_other, length-set, length-replicate}
@@ -44,7 +45,11 @@ record Table (place key : ℕ → ℕ) (most n : ℕ) : Type 0 where
   least : IsLeast place key most n entries
 
 table_of : (place key : ℕ → ℕ) (most n : ℕ) → Table place key most n
-table_of place key most zero = record { entries = replicate 65 most; size = length-replicate 65 most; least = least_first place key most (replicate 65 most) refl }
+table_of place key most zero = record {
+  entries = replicate 65 most;
+  size = length-replicate 65 most;
+  least = least_first place key most (replicate 65 most) refl;
+}
 table_of place key most (suc n) = go (table_of place key most n) (cases_lt (place n) 65) where
   go : Table place key most n → (place n < 65) ⊎ (65 ≤ place n) → Table place key most (suc n)
   go t (inl here) = record {
@@ -66,25 +71,30 @@ filled_at : (claim start current : ℕ → Option ℕ) → ℕ → ℕ → Optio
 filled_at claim start current zero k = start k
 filled_at claim start current (suc x) k = filled_by claim (current x) (filled_at claim start current x) k
 
-all_filled : (m : MachineDef) (claim start : ℕ → Option ℕ) (x : ℕ) → IsMachine m → x ≤ length m.list.set.tasks → Filled m claim start x (filled_at claim start (current_now m) x)
+all_filled : (m : MachineDef) (claim start : ℕ → Option ℕ) (x : ℕ) → IsMachine m → x ≤ length m.list.set.tasks
+    → Filled m claim start x (filled_at claim start (current_now m) x)
 unfolding filled_at
 all_filled m claim start zero machine l = filled_first m claim start (filled_at claim start (current_now m) zero) (λ k. refl)
 all_filled m claim start (suc x) machine l =
     subst (λ n. Filled m claim start n (filled_at claim start (current_now m) (suc x))) (add-one x)
-    (fills_go_on m claim start x (filled_at claim start (current_now m) x) (filled_at claim start (current_now m) (suc x)) machine (omega arith)
+    (fills_go_on m claim start x (filled_at claim start (current_now m) x)
+    (filled_at claim start (current_now m) (suc x)) machine (omega arith)
     (all_filled m claim start x machine (omega arith)) (λ k. refl))
 
 -- What holds is a resource of the set, and what runs is on a processor of the set.
-resource_within : (m : MachineDef) (rows : ℕ → RowDef) (first bars : List ℕ) (held : ℕ → Option ℕ) (q j : ℕ) → Shows m rows → AreHolders m first bars held → held q ≡ Some j → q < length m.list.set.resources
+resource_within : (m : MachineDef) (rows : ℕ → RowDef) (first bars : List ℕ) (held : ℕ → Option ℕ) (q j : ℕ)
+    → Shows m rows → AreHolders m first bars held → held q ≡ Some j → q < length m.list.set.resources
 resource_within m rows first bars held q j shows g e = elim (g.from q j e) [
   | inl old ↦ held_within m rows q j shows (stays_is (requester_now m q) (holder_now m q) j old).0
   | inr taken ↦
       let d : Due m rows first bars q j = due_of m rows first bars q j shows taken.active taken.claims in
       let r : Requester (under m rows) m.tick q j = requester_is (under m rows) m.tick q j d.asks in
-      open_resource m.list.set (under m rows) m.tick j r.number q (shows.machine.lawful.each j (active_listed (under m rows) m.tick j r.active)) r.phase
+      open_resource m.list.set (under m rows) m.tick j r.number q
+      (shows.machine.lawful.each j (active_listed (under m rows) m.tick j r.active)) r.phase
 ]
 
-processor_within : (m : MachineDef) (rows : ℕ → RowDef) (held running : ℕ → Option ℕ) (k j : ℕ) → Shows m rows → IsAccepted m.list.set → EachHasHome m.list.set → IsRunning m held running → running k ≡ Some j
+processor_within : (m : MachineDef) (rows : ℕ → RowDef) (held running : ℕ → Option ℕ) (k j : ℕ) → Shows m rows
+    → IsAccepted m.list.set → EachHasHome m.list.set → IsRunning m held running → running k ≡ Some j
     → (1 ≤ k) × (k ≤ m.list.set.processors)
 processor_within m rows held running k j shows accepted homes p e = elim (p.locals.from k j e) [
   | inr local ↦ there local.active (cond_some (is_local_now m j) (Some (column_now m j)) k local.claims).1
@@ -95,11 +105,13 @@ processor_within m rows held running k j shows accepted homes p e = elim (p.loca
 ] where
   there : active_now m j ≡ true → Some (column_now m j) ≡ Some k → (1 ≤ k) × (k ≤ m.list.set.processors)
   there a f =
-      let w : (1 ≤ column_now m j) × (column_now m j ≤ m.list.set.processors) = column_within m rows j shows accepted homes (active_of m rows j shows a) in
+      let w : (1 ≤ column_now m j) × (column_now m j ≤ m.list.set.processors) =
+      column_within m rows j shows accepted homes (active_of m rows j shows a) in
       let same : column_now m j ≡ k = some_same (column_now m j) k f in
       (omega (arith, w.0, same), omega (arith, w.1, same))
 
-running_read : (m : MachineDef) (held running more : ℕ → Option ℕ) → IsRunning m held running → ((k : ℕ) → more k ≡ running k) → IsRunning m held more
+running_read : (m : MachineDef) (held running more : ℕ → Option ℕ) → IsRunning m held running
+    → ((k : ℕ) → more k ≡ running k) → IsRunning m held more
 running_read m held running more r same = record {
   before = r.before;
   holders = r.holders;
@@ -113,11 +125,16 @@ record Row (m : MachineDef) (first bars : List ℕ) : Type 0 where
   holders : AreHolders m first bars (place_in row.holders)
   running : IsRunning m (place_in row.holders) (running_in row.running)
 
-row_of : (m : MachineDef) (rows : ℕ → RowDef) (first bars : List ℕ) → Shows m rows → IsAccepted m.list.set → EachHasHome m.list.set → Row m first bars
+row_of : (m : MachineDef) (rows : ℕ → RowDef) (first bars : List ℕ) → Shows m rows → IsAccepted m.list.set
+    → EachHasHome m.list.set → Row m first bars
 row_of m rows first bars shows accepted homes = record {
   row = record { running = places_of (λ c. runs (suc c)) m.list.set.processors; holders = holders };
-  sized = record { processors = places_length (λ c. runs (suc c)) m.list.set.processors; resources = places_length held (length m.list.set.resources) };
-  holders = filled_same m (grant_claim m first bars) (λ q. stays (requester_now m q) (holder_now m q)) (length m.list.set.tasks) held (place_in holders) all_held
+  sized = record {
+    processors = places_length (λ c. runs (suc c)) m.list.set.processors;
+    resources = places_length held (length m.list.set.resources);
+  };
+  holders = filled_same m (grant_claim m first bars) (λ q. stays (requester_now m q) (holder_now m q))
+      (length m.list.set.tasks) held (place_in holders) all_held
       (λ q. place_of_list held (length m.list.set.resources) q (λ j e. resource_within m rows first bars held q j shows all_held e));
   running = running_read m (place_in holders) runs (running_in (places_of (λ c. runs (suc c)) m.list.set.processors)) all_running there;
 } where
@@ -125,7 +142,8 @@ row_of m rows first bars shows accepted homes = record {
   held = filled_at (grant_claim m first bars) (λ q. stays (requester_now m q) (holder_now m q)) (current_now m) (length m.list.set.tasks)
 
   all_held : AreHolders m first bars held
-  all_held = all_filled m (grant_claim m first bars) (λ q. stays (requester_now m q) (holder_now m q)) (length m.list.set.tasks) shows.machine (omega arith)
+  all_held = all_filled m (grant_claim m first bars) (λ q. stays (requester_now m q) (holder_now m q))
+      (length m.list.set.tasks) shows.machine (omega arith)
 
   holders : List (Option ℕ)
   holders = places_of held (length m.list.set.resources)
@@ -146,7 +164,8 @@ row_of m rows first bars shows accepted homes = record {
   at_zero : (p : Option ℕ) → runs 0 ≡ p → None ≡ runs 0
   at_zero None e = sym e
   at_zero (Some r) e =
-      let b : (1 ≤ 0) × (0 ≤ m.list.set.processors) = processor_within m rows (place_in holders) runs 0 r shows accepted homes all_running e in
+      let b : (1 ≤ 0) × (0 ≤ m.list.set.processors) =
+      processor_within m rows (place_in holders) runs 0 r shows accepted homes all_running e in
       absurd (omega (arith, b.0))
 
   there : (k : ℕ) → running_in (places_of (λ c. runs (suc c)) m.list.set.processors) k ≡ runs k
@@ -154,10 +173,12 @@ row_of m rows first bars shows accepted homes = record {
   there (suc c) = place_of_list (λ y. runs (suc y)) m.list.set.processors c (λ r e. below r e) where
     below : (r : ℕ) → runs (suc c) ≡ Some r → c < m.list.set.processors
     below r e =
-        let b : (1 ≤ suc c) × (suc c ≤ m.list.set.processors) = processor_within m rows (place_in holders) runs (suc c) r shows accepted homes all_running e in
+        let b : (1 ≤ suc c) × (suc c ≤ m.list.set.processors) =
+        processor_within m rows (place_in holders) runs (suc c) r shows accepted homes all_running e in
         omega (arith, b.1)
 
-choice_at : (m : MachineDef) (rows : ℕ → RowDef) → Shows m rows → IsAccepted m.list.set → EachHasHome m.list.set → HasChoice (under m rows) m.tick
+choice_at : (m : MachineDef) (rows : ℕ → RowDef) → Shows m rows → IsAccepted m.list.set → EachHasHome m.list.set
+    → HasChoice (under m rows) m.tick
 choice_at m rows shows accepted homes = record {
   row = r.row;
   chosen = choice_made m (with_row (under m rows) m.tick r.row).row r.row waiting.entries kept.entries
@@ -185,8 +206,10 @@ choice_at m rows shows accepted homes = record {
 pub next_row : (w : Trace) (t : ℕ) → IsAccepted w.set → EachHasHome w.set → AreLawfulJobs (jobs_of w) → CanBeTakenBefore w t → HasChoice w t
 next_row w t accepted homes lawful taken =
     let s : Shown w t = shown w t lawful (λ x l. numbers_of_accepted w.set x accepted l) taken in
-    choice_at (record { list = jobs_of w; tick = t; places = s.places; holders = s.holders; coming = s.coming }) w.row s.shows accepted homes
+    choice_at (record { list = jobs_of w; tick = t; places = s.places; holders = s.holders; coming = s.coming }) w.row
+    s.shows accepted homes
 
-pub next_lawful_row : (w : Trace) (t : ℕ) → IsAccepted w.set → EachHasHome w.set → AreLawfulJobs (jobs_of w) → ((u : ℕ) → u < t → IsSized w.set (w.row u)) → KeepsBefore dpcp_rule w t → HasChoice w t
+pub next_lawful_row : (w : Trace) (t : ℕ) → IsAccepted w.set → EachHasHome w.set → AreLawfulJobs (jobs_of w)
+    → ((u : ℕ) → u < t → IsSized w.set (w.row u)) → KeepsBefore dpcp_rule w t → HasChoice w t
 next_lawful_row w t accepted homes lawful sized keeps =
     next_row w t accepted homes lawful (λ u l. sound_taken is_dpcp_interference w u (sized u l) (dpcp_sound_row w u (keeps u l)))

@@ -1,5 +1,6 @@
 -- The test of Run says that the row keeps it.
-use Rattle.std.proofs.Common.{◌≡◌, ℕ, ◌+◌, ◌==◌, ◌||◌, zero, suc, true, false, length, refl, sym, ap, ◌∙◌, arith, Option, Some, None, get_or}
+use Rattle.std.proofs.Common.{◌≡◌, ℕ, ◌+◌, ◌==◌, ◌||◌, zero, suc, true, false, length, refl, sym, ap, ◌∙◌, arith}
+use Rattle.std.proofs.Common.{Option, Some, None, get_or}
 use Rattle.std.specs.Option.{option_map_or}
 use Rattle.std.proofs.lemmas.Bool.{and_parts, and_from, eq-eqb, eqb-true}
 use Rattle.bounded_sums.proofs.TestLaws.{all_below-each, all_below-from}
@@ -49,7 +50,8 @@ run_is m rows shows h = record {
   active : (k j : ℕ) → running_on (rows m.tick) k ≡ Some j → is_active (under m rows) m.tick j ≡ true
   active k j e = let s : Stands m (rows m.tick) k j = stands m (rows m.tick) k j h e in sym (active_shown m rows j shows) ∙ s.active
 
-  local : (k j : ℕ) → running_on (rows m.tick) k ≡ Some j → is_local (phase_of (under m rows) m.tick j) ≡ true → k ≡ processor_of (under m rows) j
+  local : (k j : ℕ) → running_on (rows m.tick) k ≡ Some j → is_local (phase_of (under m rows) m.tick j) ≡ true
+      → k ≡ processor_of (under m rows) j
   local k j e l = go (phase_of (under m rows) m.tick j) refl where
     s : Stands m (rows m.tick) k j
     s = stands m (rows m.tick) k j h e
@@ -59,7 +61,8 @@ run_is m rows shows h = record {
     go (Asking n q) f = let x : false ≡ true = sym (ap is_local f) ∙ l in absurd (cc)
     go Finished f = let x : false ≡ true = sym (ap is_local f) ∙ l in absurd (cc)
 
-  request : (k j q : ℕ) → running_on (rows m.tick) k ≡ Some j → is_asking q (phase_of (under m rows) m.tick j) ≡ true → (k ≡ home_of (under m rows) q) × (holder_in (rows m.tick) q ≡ Some j)
+  request : (k j q : ℕ) → running_on (rows m.tick) k ≡ Some j → is_asking q (phase_of (under m rows) m.tick j) ≡ true
+      → (k ≡ home_of (under m rows) q) × (holder_in (rows m.tick) q ≡ Some j)
   request k j q e asks = go (phase_of (under m rows) m.tick j) refl where
     s : Stands m (rows m.tick) k j
     s = stands m (rows m.tick) k j h e
@@ -71,36 +74,46 @@ run_is m rows shows h = record {
         let same : r ≡ q = eqb-true r q (sym (ap (is_asking q) f) ∙ asks) in
         let home : k ≡ home_of (under m rows) r = sym s.column ∙ column_is m rows j (Asking n r) shows (active k j e) f in
         let held : holder_in (rows m.tick) r ≡ Some j =
-        ready_holds (holder_in (rows m.tick)) j n r (sym (ap (λ p. is_local p || holds_by (holder_in (rows m.tick)) j p) (phase_is m rows j (Asking n r) shows (active k j e) f)) ∙ s.ready) in
+        ready_holds (holder_in (rows m.tick)) j n r (sym (ap (λ p. is_local p || holds_by (holder_in (rows m.tick)) j p)
+        (phase_is m rows j (Asking n r) shows (active k j e) f)) ∙ s.ready) in
         (home ∙ ap (home_of (under m rows)) same, sym (ap (holder_in (rows m.tick)) same) ∙ held)
 
 pub run_from : (m : MachineDef) (rows : ℕ → RowDef) → Shows m rows → KeepsRun (under m rows) m.tick → passes_run m (rows m.tick) ≡ true
 unfolding passes_run
-run_from m rows shows run = all_below-from (length (rows m.tick).running) (column_passes m (rows m.tick)) (λ c l. at_column c (get_or (rows m.tick).running c None) refl) where
-  stand : (c j : ℕ) (p : Phase) → get_or (rows m.tick).running c None ≡ Some j → phase_of (under m rows) m.tick j ≡ p → may_stand m (rows m.tick) c j ≡ true
-  stand c j p e f = and_from (active_now m j) _ (active_shown m rows j shows ∙ active) (and_from (may_run_now m (holder_in (rows m.tick)) j) (column_now m j == c + 1) (ready p f) (eq-eqb (column_now m j) (c + 1) (own p f))) where
-    active : is_active (under m rows) m.tick j ≡ true
-    active = run.active (suc c) j e
+run_from m rows shows run = all_below-from (length (rows m.tick).running) (column_passes m (rows m.tick))
+    (λ c l. at_column c (get_or (rows m.tick).running c None) refl)
+  where
+    stand : (c j : ℕ) (p : Phase) → get_or (rows m.tick).running c None ≡ Some j → phase_of (under m rows) m.tick j ≡ p
+        → may_stand m (rows m.tick) c j ≡ true
+    stand c j p e f = and_from (active_now m j) _ (active_shown m rows j shows ∙ active)
+        (and_from (may_run_now m (holder_in (rows m.tick)) j) (column_now m j == c + 1) (ready p f)
+        (eq-eqb (column_now m j) (c + 1) (own p f)))
+      where
+        active : is_active (under m rows) m.tick j ≡ true
+        active = run.active (suc c) j e
 
-    asks : (n q : ℕ) → phase_of (under m rows) m.tick j ≡ Asking n q → (suc c ≡ home_of (under m rows) q) × (holder_in (rows m.tick) q ≡ Some j)
-    asks n q g = run.request (suc c) j q e (ap (is_asking q) g ∙ eq-eqb q q refl)
+        asks : (n q : ℕ) → phase_of (under m rows) m.tick j ≡ Asking n q
+            → (suc c ≡ home_of (under m rows) q) × (holder_in (rows m.tick) q ≡ Some j)
+        asks n q g = run.request (suc c) j q e (ap (is_asking q) g ∙ eq-eqb q q refl)
 
-    ready : (r : Phase) → phase_of (under m rows) m.tick j ≡ r → may_run_now m (holder_in (rows m.tick)) j ≡ true
-    ready Local g = ap (λ s. is_local s || holds_by (holder_in (rows m.tick)) j s) (phase_is m rows j Local shows active g)
-    ready (Asking n q) g = ap (λ s. is_local s || holds_by (holder_in (rows m.tick)) j s) (phase_is m rows j (Asking n q) shows active g) ∙ named_job j (holder_in (rows m.tick) q) (asks n q g).1
-    ready Finished g = absurd (unfinished (under m rows) m.tick j active g)
+        ready : (r : Phase) → phase_of (under m rows) m.tick j ≡ r → may_run_now m (holder_in (rows m.tick)) j ≡ true
+        ready Local g = ap (λ s. is_local s || holds_by (holder_in (rows m.tick)) j s) (phase_is m rows j Local shows active g)
+        ready (Asking n q) g = ap (λ s. is_local s || holds_by (holder_in (rows m.tick)) j s)
+            (phase_is m rows j (Asking n q) shows active g) ∙ named_job j (holder_in (rows m.tick) q) (asks n q g).1
+        ready Finished g = absurd (unfinished (under m rows) m.tick j active g)
 
-    own : (r : Phase) → phase_of (under m rows) m.tick j ≡ r → column_now m j ≡ c + 1
-    own Local g =
-        let here : suc c ≡ processor_of (under m rows) j = run.local (suc c) j e (ap is_local g) in
-        let column : column_now m j ≡ processor_of (under m rows) j = column_is m rows j Local shows active g in
-        omega arith
-    own (Asking n q) g =
-        let here : suc c ≡ home_of (under m rows) q = (asks n q g).0 in
-        let column : column_now m j ≡ home_of (under m rows) q = column_is m rows j (Asking n q) shows active g in
-        omega arith
-    own Finished g = absurd (unfinished (under m rows) m.tick j active g)
+        own : (r : Phase) → phase_of (under m rows) m.tick j ≡ r → column_now m j ≡ c + 1
+        own Local g =
+            let here : suc c ≡ processor_of (under m rows) j = run.local (suc c) j e (ap is_local g) in
+            let column : column_now m j ≡ processor_of (under m rows) j = column_is m rows j Local shows active g in
+            omega arith
+        own (Asking n q) g =
+            let here : suc c ≡ home_of (under m rows) q = (asks n q g).0 in
+            let column : column_now m j ≡ home_of (under m rows) q = column_is m rows j (Asking n q) shows active g in
+            omega arith
+        own Finished g = absurd (unfinished (under m rows) m.tick j active g)
 
-  at_column : (c : ℕ) (o : Option ℕ) → get_or (rows m.tick).running c None ≡ o → column_passes m (rows m.tick) c ≡ true
-  at_column c None e = ap (λ o. option_map_or (may_stand m (rows m.tick) c) o true) e
-  at_column c (Some j) e = ap (λ o. option_map_or (may_stand m (rows m.tick) c) o true) e ∙ stand c j (phase_of (under m rows) m.tick j) e refl
+    at_column : (c : ℕ) (o : Option ℕ) → get_or (rows m.tick).running c None ≡ o → column_passes m (rows m.tick) c ≡ true
+    at_column c None e = ap (λ o. option_map_or (may_stand m (rows m.tick) c) o true) e
+    at_column c (Some j) e = ap (λ o. option_map_or (may_stand m (rows m.tick) c) o true) e
+        ∙ stand c j (phase_of (under m rows) m.tick j) e refl

@@ -16,7 +16,8 @@ use Rattle.dpcp_rules.proofs.GrantTest.{Noted, grant_is, grant_from}
 use Rattle.dpcp_rules.proofs.ReadyTests.{idle_is, idle_from, priority_is, priority_from}
 
 tests_say : (m : MachineDef) (rows : ℕ → RowDef) (first bars : List ℕ) → Noted m rows first bars → IsRowFor m.list (rows m.tick)
-    → Tests dpcp_rule (under m rows) m.tick (passes_run m (rows m.tick)) (passes_keep m (rows m.tick)) (passes_grant m first bars (rows m.tick)) (passes_idle m (rows m.tick)) (passes_priority m (rows m.tick))
+    → Tests dpcp_rule (under m rows) m.tick (passes_run m (rows m.tick)) (passes_keep m (rows m.tick))
+    (passes_grant m first bars (rows m.tick)) (passes_idle m (rows m.tick)) (passes_priority m (rows m.tick))
 tests_say m rows first bars noted fits = record {
   run_is = run_is m rows noted.shows;
   run_from = run_from m rows noted.shows;
@@ -32,16 +33,20 @@ tests_say m rows first bars noted fits = record {
   within : (q j : ℕ) → holder_in (rows m.tick) q ≡ Some j → q < length m.list.set.resources
   within q j e = omega (arith, some_within (rows m.tick).holders q j e, fits.sized.resources)
 
-pub judged_none : (m : MachineDef) (rows : ℕ → RowDef) (row : RowDef) (first bars : List ℕ) → Noted m rows first bars → IsRowFor m.list row → rows m.tick ≡ row
+pub judged_none : (m : MachineDef) (rows : ℕ → RowDef) (row : RowDef) (first bars : List ℕ) → Noted m rows first bars
+    → IsRowFor m.list row → rows m.tick ≡ row
     → first_failed m first bars row ≡ None → KeepsRow dpcp_rule (under m rows) m.tick
 judged_none m rows row first bars noted fits e h =
-    all_kept dpcp_rule (under m rows) m.tick (passes_run m (rows m.tick)) (passes_keep m (rows m.tick)) (passes_grant m first bars (rows m.tick)) (passes_idle m (rows m.tick))
+    all_kept dpcp_rule (under m rows) m.tick (passes_run m (rows m.tick)) (passes_keep m (rows m.tick))
+    (passes_grant m first bars (rows m.tick)) (passes_idle m (rows m.tick))
     (passes_priority m (rows m.tick)) (tests_say m rows first bars noted (subst (λ r. IsRowFor m.list r) (sym e) fits))
     (subst (λ r. first_failed m first bars r ≡ None) (sym e) h)
 
-pub judged_some : (m : MachineDef) (rows : ℕ → RowDef) (row : RowDef) (first bars : List ℕ) (r : Rule) → Noted m rows first bars → IsRowFor m.list row → rows m.tick ≡ row
+pub judged_some : (m : MachineDef) (rows : ℕ → RowDef) (row : RowDef) (first bars : List ℕ) (r : Rule)
+    → Noted m rows first bars → IsRowFor m.list row → rows m.tick ≡ row
     → first_failed m first bars row ≡ Some r → Breaks dpcp_rule (under m rows) m.tick r
 judged_some m rows row first bars r noted fits e h =
-    first_broken dpcp_rule (under m rows) m.tick (passes_run m (rows m.tick)) (passes_keep m (rows m.tick)) (passes_grant m first bars (rows m.tick)) (passes_idle m (rows m.tick))
+    first_broken dpcp_rule (under m rows) m.tick (passes_run m (rows m.tick)) (passes_keep m (rows m.tick))
+    (passes_grant m first bars (rows m.tick)) (passes_idle m (rows m.tick))
     (passes_priority m (rows m.tick)) r (tests_say m rows first bars noted (subst (λ r. IsRowFor m.list r) (sym e) fits))
     (subst (λ s. first_failed m first bars s ≡ Some r) (sym e) h)

@@ -13,15 +13,19 @@ use Rattle.dpcp_rules.proofs.Filling.{filled_same}
 use Rattle.dpcp_rules.proofs.GrantTest.{Noted}
 use Rattle.dpcp_rules.proofs.Chosen.{chosen_from}
 
-running_at : (m : MachineDef) (held : ℕ → Option ℕ) (row : RowDef) → IsRunning m held (running_in row.running) → IsRunning m held (running_on row)
+running_at : (m : MachineDef) (held : ℕ → Option ℕ) (row : RowDef) → IsRunning m held (running_in row.running)
+    → IsRunning m held (running_on row)
 running_at m held row r = record {
   before = r.before;
   holders = r.holders;
-  locals = filled_same m (local_claim m) r.before (length m.list.set.tasks) (running_in row.running) (running_on row) r.locals (running_same row);
+  locals = filled_same m (local_claim m) r.before (length m.list.set.tasks) (running_in row.running) (running_on row)
+      r.locals (running_same row);
 }
 
-pub choice_made : (m : MachineDef) (rows : ℕ → RowDef) (row : RowDef) (first bars : List ℕ) → Noted m rows first bars → rows m.tick ≡ row → IsSized m.list.set row
-    → AreHolders m first bars (place_in row.holders) → IsRunning m (place_in row.holders) (running_in row.running) → IsDpcpChoice (under m rows) m.tick
+pub choice_made : (m : MachineDef) (rows : ℕ → RowDef) (row : RowDef) (first bars : List ℕ) → Noted m rows first bars
+    → rows m.tick ≡ row → IsSized m.list.set row
+    → AreHolders m first bars (place_in row.holders) → IsRunning m (place_in row.holders) (running_in row.running)
+    → IsDpcpChoice (under m rows) m.tick
 choice_made m rows row first bars noted e sized holders running =
     chosen_from m rows first bars
     (record {
@@ -31,10 +35,14 @@ choice_made m rows row first bars noted e sized holders running =
     })
     (subst (λ r. IsSized m.list.set r) (sym e) sized)
 
-pub choice_written : (m : MachineDef) (rows : ℕ → RowDef) (first bars : List ℕ) (holders running written_holders written_running held : List (Option JobId)) → Noted m rows first bars
-    → written_holders ≡ holders → written_running ≡ running → held ≡ written_holders → length holders ≡ length m.list.set.resources → length running ≡ m.list.set.processors
+pub choice_written : (m : MachineDef) (rows : ℕ → RowDef) (first bars : List ℕ)
+    (holders running written_holders written_running held : List (Option JobId)) → Noted m rows first bars
+    → written_holders ≡ holders → written_running ≡ running → held ≡ written_holders
+    → length holders ≡ length m.list.set.resources → length running ≡ m.list.set.processors
     → rows m.tick ≡ record { running = map place_seen written_running; holders = map place_seen written_holders }
-    → AreHolders m first bars (place_in (map place_seen holders)) → IsRunning m (place_in (map place_seen held)) (running_in (map place_seen running)) → IsDpcpChoice (under m rows) m.tick
+    → AreHolders m first bars (place_in (map place_seen holders))
+    → IsRunning m (place_in (map place_seen held)) (running_in (map place_seen running))
+    → IsDpcpChoice (under m rows) m.tick
 choice_written m rows first bars holders running written_holders written_running held noted hs rs hd resources processors e granted ran =
     choice_made m rows (record { running = map place_seen written_running; holders = map place_seen written_holders }) first bars noted e
     (record {

@@ -1,6 +1,7 @@
 -- The rules of a row under DPCP as tests: what they look at is a machine's value, the row that comes next, and two tables:
 -- for each processor the first task that waits there, and the least ceiling that is kept there.
-use Rattle.std.specs.Prelude.{ℕ, ◌+◌, ◌==◌, ◌&&◌, ◌||◌, not, Bool, true, nat_le, nat_lt, if◌then◌else◌, List, length, Option, None, Some, is_some, slice_index_or}
+use Rattle.std.specs.Prelude.{ℕ, ◌+◌, ◌==◌, ◌&&◌, ◌||◌, not, Bool, true, nat_le, nat_lt, if◌then◌else◌, List, length}
+use Rattle.std.specs.Prelude.{Option, None, Some, is_some, slice_index_or}
 use Rattle.std.specs.Option.{option_map_or}
 use Rattle.bounded_sums.specs.Tests.{all_below}
 use Rattle.schedule_model.specs.RowDef.{RowDef, running_on, holder_in}

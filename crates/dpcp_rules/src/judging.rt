@@ -9,7 +9,9 @@ ghost use Rattle.phase_machine.specs.Shows.{Shows};
 ghost use Rattle.phase_machine.specs.Taking.{IsRowFor};
 ghost use Rattle.phase_machine.specs.Judged.{Judged};
 ghost use Rattle.shared_rules.specs.RowTests.{current_passes, each_current};
-ghost use Rattle.dpcp_rules.specs.RowTests.{may_stand, column_passes, passes_run, is_due, request_passes, passes_grant, idle_passes, passes_idle, is_no_lower, goes_first, priority_passes, passes_priority, first_failed};
+ghost use Rattle.dpcp_rules.specs.RowTests.{may_stand, column_passes, passes_run, is_due, request_passes, passes_grant};
+ghost use Rattle.dpcp_rules.specs.RowTests.{idle_passes, passes_idle, is_no_lower, goes_first, priority_passes};
+ghost use Rattle.dpcp_rules.specs.RowTests.{passes_priority, first_failed};
 
 use crate::lookup::{column_of, running_instead, tasks_of};
 use crate::tables::{PLACES, note_kept, note_waiting};

@@ -42,7 +42,8 @@ no_size f c i first passes = not_all (tasks_of f) (HasDualSize f c) i first pass
 no_cover : (f : SourceDef) (c : CertificateDef) (i : ℕ) → IsFirstFailing (tasks_of f) (IsCovered f c) i → PassesCovers f c → ⊥
 no_cover f c i first passes = not_all (tasks_of f) (IsCovered f c) i first passes.1
 
-one_cover : (f : SourceDef) (c : CertificateDef) (i j : TaskId) (k m : ℕ) → IsFailure (invalid.Cover i k) f c → IsFailure (invalid.Cover j m) f c
+one_cover : (f : SourceDef) (c : CertificateDef) (i j : TaskId) (k m : ℕ) → IsFailure (invalid.Cover i k) f c
+    → IsFailure (invalid.Cover j m) f c
     → invalid.Cover i k ≡ invalid.Cover j m
 one_cover f c i j k m p q =
     let task : i.0 ≡ j.0 = first_once (tasks_of f) (IsCovered f c) i.0 j.0 p.1 q.1 in
@@ -59,13 +60,15 @@ one_failure invalid.Size (invalid.DualSize j) f c p q = absurd (p q.0.0)
 one_failure invalid.Size (invalid.Cover j m) f c p q = absurd (p q.0.0.0)
 one_failure invalid.Size (invalid.Small j) f c p q = absurd (p q.0.0.0.0)
 one_failure (invalid.Bound i) invalid.Size f c p q = absurd (q p.0)
-one_failure (invalid.Bound i) (invalid.Bound j) f c p q = ap (λ (x : ℕ). invalid.Bound (record { 0 = x })) (first_once (tasks_of f) (IsBoundWithin f c) i.0 j.0 p.1 q.1)
+one_failure (invalid.Bound i) (invalid.Bound j) f c p q =
+    ap (λ (x : ℕ). invalid.Bound (record { 0 = x })) (first_once (tasks_of f) (IsBoundWithin f c) i.0 j.0 p.1 q.1)
 one_failure (invalid.Bound i) (invalid.DualSize j) f c p q = absurd (no_bound f c i.0 p.1 q.0)
 one_failure (invalid.Bound i) (invalid.Cover j m) f c p q = absurd (no_bound f c i.0 p.1 q.0.0)
 one_failure (invalid.Bound i) (invalid.Small j) f c p q = absurd (no_bound f c i.0 p.1 q.0.0.0)
 one_failure (invalid.DualSize i) invalid.Size f c p q = absurd (q p.0.0)
 one_failure (invalid.DualSize i) (invalid.Bound j) f c p q = absurd (no_bound f c j.0 q.1 p.0)
-one_failure (invalid.DualSize i) (invalid.DualSize j) f c p q = ap (λ (x : ℕ). invalid.DualSize (record { 0 = x })) (first_once (tasks_of f) (HasDualSize f c) i.0 j.0 p.1 q.1)
+one_failure (invalid.DualSize i) (invalid.DualSize j) f c p q =
+    ap (λ (x : ℕ). invalid.DualSize (record { 0 = x })) (first_once (tasks_of f) (HasDualSize f c) i.0 j.0 p.1 q.1)
 one_failure (invalid.DualSize i) (invalid.Cover j m) f c p q = absurd (no_size f c i.0 p.1 q.0)
 one_failure (invalid.DualSize i) (invalid.Small j) f c p q = absurd (no_size f c i.0 p.1 q.0.0)
 one_failure (invalid.Cover i k) invalid.Size f c p q = absurd (q p.0.0.0)
@@ -77,6 +80,7 @@ one_failure (invalid.Small i) invalid.Size f c p q = absurd (q p.0.0.0.0)
 one_failure (invalid.Small i) (invalid.Bound j) f c p q = absurd (no_bound f c j.0 q.1 p.0.0.0)
 one_failure (invalid.Small i) (invalid.DualSize j) f c p q = absurd (no_size f c j.0 q.1 p.0.0)
 one_failure (invalid.Small i) (invalid.Cover j m) f c p q = absurd (no_cover f c j.0 q.1 p.0)
-one_failure (invalid.Small i) (invalid.Small j) f c p q = ap (λ (x : ℕ). invalid.Small (record { 0 = x })) (first_once (tasks_of f) (IsEnough f c) i.0 j.0 p.1 q.1)
+one_failure (invalid.Small i) (invalid.Small j) f c p q =
+    ap (λ (x : ℕ). invalid.Small (record { 0 = x })) (first_once (tasks_of f) (IsEnough f c) i.0 j.0 p.1 q.1)
 one_failure invalid.Memory e f c p q = absurd p
 one_failure e invalid.Memory f c p q = absurd q

@@ -13,7 +13,8 @@ use Rattle.dual_check.specs.declared.answer.Valid.{Valid}
 use Rattle.dual_check.specs.declared.answer.Invalid.{Invalid}
 
 -- What is Ok is sound where valid certificates are.
-pub sound_where_valid : (keeps : Rule → Trace → ℕ → Type 0) (interferes : Trace → ℕ → ℕ → Bool) (f : SourceDef) (c : CertificateDef) (r : Result Valid Invalid)
+pub sound_where_valid : (keeps : Rule → Trace → ℕ → Type 0) (interferes : Trace → ℕ → ℕ → Bool) (f : SourceDef)
+    (c : CertificateDef) (r : Result Valid Invalid)
     → ((values : List ℕ) → IsValid f c → AreValues f c values → Sound keeps interferes f.set c.bounds values) → Judges r f c
     → IfOk r (λ v. Sound keeps interferes f.set c.bounds v.values.items)
 sound_where_valid keeps interferes f c (Ok v) sound (valid, values) = sound v.values.items valid values

@@ -13,7 +13,8 @@ use Rattle.dual_check.specs.declared.duals.DualWorth.TheVariants as worth
 use Rattle.dual_check.proofs.PassLaws.{one_more}
 
 -- The dual of task i, as contracts see it.
-pub dual_seen_at : (duals : List Dual) (i : ℕ) (dual : Dual) → i < length duals → dual ≡ get_or duals i dual → dual_at (map dual_seen duals) i ≡ dual_seen dual
+pub dual_seen_at : (duals : List Dual) (i : ℕ) (dual : Dual) → i < length duals → dual ≡ get_or duals i dual
+    → dual_at (map dual_seen duals) i ≡ dual_seen dual
 dual_seen_at duals i dual here is = get_or-map dual_seen duals i dual no_dual here ∙ ap dual_seen (sym is)
 
 pub one_more_worth : (f : SourceDef) (c : CertificateDef) (n : ℕ) (worths : List DualWorth) (w : DualWorth) → AreWorths f c n worths

@@ -60,7 +60,8 @@ pub(crate) fn weigh_duals<P: ChargedProtocol>(
     requires within { AreWithinDeadlines set.now certificate.now.bounds.items }
     requires dual_each { vec_len certificate.now.duals ≡ length set.now.tasks }
     requires denominators { HasDenominators (certificate_seen certificate.now) }
-    ensures { Weighs result (source_for (P.program_of protocol.now) (P.interfering protocol.now) set.now) (certificate_seen certificate.now) }
+    ensures { Weighs result (source_for (P.program_of protocol.now) (P.interfering protocol.now) set.now)
+        (certificate_seen certificate.now) }
 {
     let mut worths = Vec::new(alloc);
     for i in 0..set.tasks() {

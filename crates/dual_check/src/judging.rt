@@ -87,7 +87,8 @@ fn add_up<P: ChargedProtocol>(
 ) -> Result<Vec<u64>, Invalid>
     requires suits { P.suits protocol.now set.now }
     requires within { AreWithinDeadlines set.now certificate.now.bounds.items }
-    requires worths { AreWorths (source_for (P.program_of protocol.now) (P.interfering protocol.now) set.now) (certificate_seen certificate.now) (length set.now.tasks) worths.now }
+    requires worths { AreWorths (source_for (P.program_of protocol.now) (P.interfering protocol.now) set.now)
+        (certificate_seen certificate.now) (length set.now.tasks) worths.now }
     requires covering { (i : ℕ) → i < length set.now.tasks → IsCovering (worth_at worths.now i) }
     ensures { Sums result (source_for (P.program_of protocol.now) (P.interfering protocol.now) set.now) (certificate_seen certificate.now) }
 {
@@ -113,8 +114,10 @@ fn judged<P: ChargedProtocol>(
 ) -> Result<Valid, Invalid>
     requires suits { P.suits protocol.now set.now }
     requires denominators { HasDenominators (certificate_seen certificate.now) }
-    ensures judges { Judges result (source_for (P.program_of protocol.now) (P.interfering protocol.now) set.now) (certificate_seen certificate.now) }
-    ensures accepts { IsValid (source_for (P.program_of protocol.now) (P.interfering protocol.now) set.now) (certificate_seen certificate.now) → IfErr result (λ e. e ≡ Invalid.Memory) }
+    ensures judges { Judges result (source_for (P.program_of protocol.now) (P.interfering protocol.now) set.now)
+        (certificate_seen certificate.now) }
+    ensures accepts { IsValid (source_for (P.program_of protocol.now) (P.interfering protocol.now) set.now)
+        (certificate_seen certificate.now) → IfErr result (λ e. e ≡ Invalid.Memory) }
 {
     let count = set.tasks() as usize;
     if certificate.bounds.len() != count || certificate.duals.len() != count {
@@ -145,13 +148,16 @@ pub fn check_with<P: ChargedProtocol>(
     requires denominators { HasDenominators (certificate_seen certificate.now) }
 
     // Valid with the duals' values, or the first failure.
-    ensures judges { Judges result (source_for (P.program_of protocol.now) (P.interfering protocol.now) set.now) (certificate_seen certificate.now) }
+    ensures judges { Judges result (source_for (P.program_of protocol.now) (P.interfering protocol.now) set.now)
+        (certificate_seen certificate.now) }
 
     // Only want of memory keeps a valid one from being Ok.
-    ensures accepts { IsValid (source_for (P.program_of protocol.now) (P.interfering protocol.now) set.now) (certificate_seen certificate.now) → IfErr result (λ e. e ≡ Invalid.Memory) }
+    ensures accepts { IsValid (source_for (P.program_of protocol.now) (P.interfering protocol.now) set.now)
+        (certificate_seen certificate.now) → IfErr result (λ e. e ≡ Invalid.Memory) }
 
     // What is Ok holds in every schedule that keeps the protocol's rules, of whatever lawful jobs.
-    ensures sound { IfOk result (λ v. Sound (P.keeps protocol.now) (P.interferes protocol.now) set.now certificate.now.bounds.items v.values.items) }
+    ensures sound { IfOk result (λ v.
+        Sound (P.keeps protocol.now) (P.interferes protocol.now) set.now certificate.now.bounds.items v.values.items) }
 {
     set.keeps_the_model();
     charged_protocols_are_analysed::<P>();

@@ -16,7 +16,8 @@ issue_given : (m : MachineDef) (rows : ℕ → RowDef) → Shows m rows → (q j
 unfolding issue_of
 issue_given m rows shows q j asks =
     let r : Requester (under m rows) m.tick q j = requester_is (under m rows) m.tick q j asks in
-    ap (λ o. unwrap_or o 0) (issued_shown m rows j shows (requester_listed (under m rows) m.tick q j asks) ∙ ap (λ p. issued_in p (issue_tick_of (under m rows) m.tick j)) r.phase)
+    ap (λ o. unwrap_or o 0) (issued_shown m rows j shows (requester_listed (under m rows) m.tick q j asks)
+    ∙ ap (λ p. issued_in p (issue_tick_of (under m rows) m.tick j)) r.phase)
 
 pub issue_gives : GivesRanks fmlp_plus issue_now issue_now
 unfolding fmlp_plus

@@ -26,14 +26,16 @@ begins_here s cs p e order l here before = record {
 }
 
 -- A column of task x stands before the next task's.
-pub task_more : (n m x : ℕ) (cs : List Fragment) (p : ℕ) (e : Fragment) → AreKnown n m cs → m ≤ 4294967296 → p < length cs → (get_or cs p e).task.0 ≡ x
+pub task_more : (n m x : ℕ) (cs : List Fragment) (p : ℕ) (e : Fragment) → AreKnown n m cs → m ≤ 4294967296
+    → p < length cs → (get_or cs p e).task.0 ≡ x
     → AllWithin (λ c. slot_of c < slot (x + 1) 0) cs 0 p → AllWithin (λ c. slot_of c < slot (x + 1) 0) cs 0 (p + 1)
 task_more n m x cs p e known few l same before =
     let q : (get_or cs p e).resource.0 < m = (known p e l).1 in
     one_more_below (slot (x + 1) 0) cs p e l (omega (arith, q, same)) before
 
 -- The first column from where those of task x begin that is of another task begins the later tasks'.
-pub task_stops : (n m x a : ℕ) (cs : List Fragment) (p : ℕ) (e : Fragment) → AreKnown n m cs → m ≤ 4294967296 → AreInOrder cs → BeginsAt (slot x 0) cs a → a ≤ p
+pub task_stops : (n m x a : ℕ) (cs : List Fragment) (p : ℕ) (e : Fragment) → AreKnown n m cs → m ≤ 4294967296
+    → AreInOrder cs → BeginsAt (slot x 0) cs a → a ≤ p
     → p < length cs → ((get_or cs p e).task.0 ≡ x → ⊥) → AllWithin (λ c. slot_of c < slot (x + 1) 0) cs 0 p → BeginsAt (slot (x + 1) 0) cs p
 task_stops n m x a cs p e known few order from later l other before =
     let q : (get_or cs p e).resource.0 < m = (known p e l).1 in
@@ -44,12 +46,16 @@ task_stops n m x a cs p e known few order from later l other before =
     ]) before
 
 -- The same of one resource of the task.
-pub requests_more : (x q : ℕ) (cs : List Fragment) (p : ℕ) (e : Fragment) → p < length cs → (get_or cs p e).task.0 ≡ x → (get_or cs p e).resource.0 ≡ q
+pub requests_more : (x q : ℕ) (cs : List Fragment) (p : ℕ) (e : Fragment) → p < length cs → (get_or cs p e).task.0 ≡ x
+    → (get_or cs p e).resource.0 ≡ q
     → AllWithin (λ c. slot_of c < slot x (q + 1)) cs 0 p → AllWithin (λ c. slot_of c < slot x (q + 1)) cs 0 (p + 1)
-requests_more x q cs p e l same_task same_resource before = one_more_below (slot x (q + 1)) cs p e l (omega (arith, same_task, same_resource)) before
+requests_more x q cs p e l same_task same_resource before =
+    one_more_below (slot x (q + 1)) cs p e l (omega (arith, same_task, same_resource)) before
 
-pub requests_stop : (n m x q a : ℕ) (cs : List Fragment) (p : ℕ) (e : Fragment) → AreKnown n m cs → m ≤ 4294967296 → q < m → AreInOrder cs → BeginsAt (slot x q) cs a → a ≤ p
-    → p < length cs → ((get_or cs p e).task.0 ≡ x → (get_or cs p e).resource.0 ≡ q → ⊥) → AllWithin (λ c. slot_of c < slot x (q + 1)) cs 0 p → BeginsAt (slot x (q + 1)) cs p
+pub requests_stop : (n m x q a : ℕ) (cs : List Fragment) (p : ℕ) (e : Fragment) → AreKnown n m cs → m ≤ 4294967296
+    → q < m → AreInOrder cs → BeginsAt (slot x q) cs a → a ≤ p
+    → p < length cs → ((get_or cs p e).task.0 ≡ x → (get_or cs p e).resource.0 ≡ q → ⊥)
+    → AllWithin (λ c. slot_of c < slot x (q + 1)) cs 0 p → BeginsAt (slot x (q + 1)) cs p
 requests_stop n m x q a cs p e known few within order from later l other before =
     let r : (get_or cs p e).resource.0 < m = (known p e l).1 in
     let here : slot x q ≤ slot_of (get_or cs p e) = from.behind p e later l in

@@ -12,7 +12,8 @@ use Rattle.fragments.specs.declared.columns.Fragment.{Fragment}
 
 pub all_collected : {X : Type 0} (P : X → Type 0) (n : ℕ) (f : ℕ → List X) → ((k : ℕ) → k < n → All P (f k)) → All P (collect_below n f)
 all_collected P zero f each = All-nil P
-all_collected P (suc n) f each = All-append P (collect_below n f) (f n) (all_collected P n f (λ k l. each k (omega arith))) (each n (omega arith))
+all_collected P (suc n) f each =
+    All-append P (collect_below n f) (f n) (all_collected P n f (λ k l. each k (omega arith))) (each n (omega arith))
 
 pub all_mapped : {X Y : Type 0} (P : Y → Type 0) (f : X → Y) (xs : List X) → All P (map f xs) → All (λ x. P (f x)) xs
 all_mapped P f [] h = All-nil (λ x. P (f x))
@@ -36,13 +37,15 @@ all_known n m = all_collected (IsKnown n m) n (λ x. collect_below m (λ q. clas
 
 -- Each column of a task is of a task and a resource of the set.
 pub columns_known : (p : Protocol) (set : SetDef) (i : ℕ) → All (IsKnown (length set.tasks) (length set.resources)) (columns_of p set i)
-columns_known p set i = All-filter (is_column p set i) (IsKnown (length set.tasks) (length set.resources)) (all_columns (length set.tasks) (length set.resources)) (all_known (length set.tasks) (length set.resources))
+columns_known p set i = All-filter (is_column p set i) (IsKnown (length set.tasks) (length set.resources))
+    (all_columns (length set.tasks) (length set.resources)) (all_known (length set.tasks) (length set.resources))
 
 -- And passes the test of columns.
 pub columns_pass : (p : Protocol) (set : SetDef) (i : ℕ) → All (λ c. is_column p set i c ≡ true) (columns_of p set i)
 columns_pass p set i = filter_passes (is_column p set i) (all_columns (length set.tasks) (length set.resources))
 
 -- The same of the fragments that show these columns.
-pub fragments_known : (p : Protocol) (set : SetDef) (i : ℕ) (cs : List Fragment) → map column_seen cs ≡ columns_of p set i → AreKnown (length set.tasks) (length set.resources) cs
+pub fragments_known : (p : Protocol) (set : SetDef) (i : ℕ) (cs : List Fragment)
+    → map column_seen cs ≡ columns_of p set i → AreKnown (length set.tasks) (length set.resources) cs
 fragments_known p set i cs same = all_mapped (IsKnown (length set.tasks) (length set.resources)) column_seen cs
     (All-same (IsKnown (length set.tasks) (length set.resources)) (map column_seen cs) (columns_of p set i) same (columns_known p set i))

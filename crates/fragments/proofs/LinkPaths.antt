@@ -1,5 +1,6 @@
 -- Paths, and other resources of one home, looked for among the links alone.
-use Rattle.std.proofs.Common.{◌≡◌, ℕ, zero, suc, ◌+◌, ◌<◌, ◌==◌, ◌&&◌, ◌||◌, not, Bool, true, false, List, [], ◌∷◌, ◌++◌, length, refl, ap, add-one, sym, ◌∙◌, if◌then◌else◌}
+use Rattle.std.proofs.Common.{◌≡◌, ℕ, zero, suc, ◌+◌, ◌<◌, ◌==◌, ◌&&◌, ◌||◌, not, Bool, true, false, List, [], ◌∷◌}
+use Rattle.std.proofs.Common.{◌++◌, length, refl, ap, add-one, sym, ◌∙◌, if◌then◌else◌}
 use Rattle.std.proofs.lemmas.List.Folds.{list_any-append}
 use Rattle.std.proofs.lemmas.List.{map-append}
 use Rattle.std.proofs.lemmas.List.Elements.{All-nil, All-cons, All-same, All-append}
@@ -56,31 +57,42 @@ home_parts false true here = refl
 home_parts false false here = refl
 
 -- A link, and what else makes a path of it.
-link_parts : (p : Protocol) (set : SetDef) (i x q r : ℕ) → (is_link p set i x r && (not (r == q) && may_run_before p set (task_at set x).processor q r))
+link_parts : (p : Protocol) (set : SetDef) (i x q r : ℕ)
+    → (is_link p set i x r && (not (r == q) && may_run_before p set (task_at set x).processor q r))
     ≡ any_below (length set.tasks) (λ y. is_path p set i x q y r)
-link_parts protocol.Mpcp set i x q r = used_parts (is_user set r i) (is_used_beside set i x r) (not (r == q)) (may_run_before protocol.Mpcp set (task_at set x).processor q r)
+link_parts protocol.Mpcp set i x q r = used_parts (is_user set r i) (is_used_beside set i x r) (not (r == q))
+    (may_run_before protocol.Mpcp set (task_at set x).processor q r)
     ∙ sym (paths_by protocol.Mpcp set i x q r)
-link_parts protocol.FmlpPlus set i x q r = used_parts (is_user set r i) (is_used_beside set i x r) (not (r == q)) true ∙ sym (paths_by protocol.FmlpPlus set i x q r)
-link_parts protocol.Dpcp set i x q r = never_parts (is_user set r i) (is_used_beside set i x r) (not (r == q)) ∙ sym (paths_by protocol.Dpcp set i x q r)
+link_parts protocol.FmlpPlus set i x q r = used_parts (is_user set r i) (is_used_beside set i x r) (not (r == q)) true
+    ∙ sym (paths_by protocol.FmlpPlus set i x q r)
+link_parts protocol.Dpcp set i x q r =
+    never_parts (is_user set r i) (is_used_beside set i x r) (not (r == q)) ∙ sym (paths_by protocol.Dpcp set i x q r)
 
 pub linked_paths : (p : Protocol) (set : SetDef) (i x q : ℕ) (rs : List ResourceId) → AreLinks p set i x rs
     → list_any (λ r. not (r.0 == q) && may_run_before p set (task_at set x).processor q r.0) rs ≡ has_path p set i x q
 linked_paths p set i x q rs links =
     let test : ℕ → Bool = λ r. not (r == q) && may_run_before p set (task_at set x).processor q r in
     let seen : list_any (λ r. test r.0) rs ≡ list_any test (numbers_of rs) = sym (list_any-map (λ r. r.0) test rs) in
-    let all : list_any test (numbers_of rs) ≡ list_any test (listed (is_link p set i x) (length set.resources)) = ap (λ (l : List ℕ). list_any test l) links in
-    let below : any_below (length set.resources) (λ r. is_link p set i x r && test r) ≡ any_below (length set.resources) (λ r. any_below (length set.tasks) (λ y. is_path p set i x q y r))
-    = any_below-agree (length set.resources) (λ r. is_link p set i x r && test r) (λ r. any_below (length set.tasks) (λ y. is_path p set i x q y r)) (λ r l. link_parts p set i x q r) in
-    seen ∙ (all ∙ (any_listed test (is_link p set i x) (length set.resources) ∙ (below ∙ sym (any_below-swap (length set.tasks) (length set.resources) (is_path p set i x q)))))
+    let all : list_any test (numbers_of rs) ≡ list_any test (listed (is_link p set i x) (length set.resources)) =
+    ap (λ (l : List ℕ). list_any test l) links in
+    let below : any_below (length set.resources) (λ r. is_link p set i x r && test r)
+    ≡ any_below (length set.resources) (λ r. any_below (length set.tasks) (λ y. is_path p set i x q y r))
+    = any_below-agree (length set.resources) (λ r. is_link p set i x r && test r)
+    (λ r. any_below (length set.tasks) (λ y. is_path p set i x q y r)) (λ r l. link_parts p set i x q r) in
+    seen ∙ (all ∙ (any_listed test (is_link p set i x) (length set.resources)
+    ∙ (below ∙ sym (any_below-swap (length set.tasks) (length set.resources) (is_path p set i x q)))))
 
 pub linked_homes : (set : SetDef) (i x q : ℕ) (rs : List ResourceId) → AreLinks protocol.Dpcp set i x rs
     → list_any (λ r. not (r.0 == q) && (home_in set r.0 == home_in set q)) rs ≡ requests_beside set i q
 linked_homes set i x q rs links =
     let test : ℕ → Bool = λ r. not (r == q) && (home_in set r == home_in set q) in
     let seen : list_any (λ r. test r.0) rs ≡ list_any test (numbers_of rs) = sym (list_any-map (λ r. r.0) test rs) in
-    let all : list_any test (numbers_of rs) ≡ list_any test (listed (is_link protocol.Dpcp set i x) (length set.resources)) = ap (λ (l : List ℕ). list_any test l) links in
+    let all : list_any test (numbers_of rs)
+    ≡ list_any test (listed (is_link protocol.Dpcp set i x) (length set.resources)) =
+    ap (λ (l : List ℕ). list_any test l) links in
     let below : any_below (length set.resources) (λ r. is_user set r i && test r) ≡ requests_beside set i q
-    = any_below-agree (length set.resources) (λ r. is_user set r i && test r) (λ r. not (r == q) && (is_user set r i && (home_in set r == home_in set q))) (λ r l.
+    = any_below-agree (length set.resources) (λ r. is_user set r i && test r)
+    (λ r. not (r == q) && (is_user set r i && (home_in set r == home_in set q))) (λ r l.
     home_parts (is_user set r i) (not (r == q)) (home_in set r == home_in set q)) in
     seen ∙ (all ∙ (any_listed test (is_link protocol.Dpcp set i x) (length set.resources) ∙ below))
 
@@ -93,7 +105,8 @@ pub next_link : (p : Protocol) (set : SetDef) (i x r : ℕ) (xs ys : List Resour
     → ys ≡ xs ++ (if is_link p set i x r then record { 0 = r } ∷ [] else []) → numbers_of ys ≡ listed (is_link p set i x) (r + 1)
 next_link p set i x r xs ys before now =
     let one : ResourceId = record { 0 = r } in
-    let parts : numbers_of (xs ++ (if is_link p set i x r then one ∷ [] else [])) ≡ numbers_of xs ++ numbers_of (if is_link p set i x r then one ∷ [] else [])
+    let parts : numbers_of (xs ++ (if is_link p set i x r then one ∷ [] else []))
+    ≡ numbers_of xs ++ numbers_of (if is_link p set i x r then one ∷ [] else [])
     = map-append (λ (q : ResourceId). q.0) xs (if is_link p set i x r then one ∷ [] else []) in
     rw (add-one, now, parts, before, link_added (is_link p set i x r) one) refl
 
@@ -101,9 +114,11 @@ known_added : (b : Bool) (m : ℕ) (r : ResourceId) → r.0 < m → All (λ q. q
 known_added true m r l = All-cons (λ (q : ResourceId). q.0 < m) r [] l (All-nil (λ (q : ResourceId). q.0 < m))
 known_added false m r l = All-nil (λ (q : ResourceId). q.0 < m)
 
-pub next_link_known : (p : Protocol) (set : SetDef) (i x r : ℕ) (xs ys : List ResourceId) → r < length set.resources → All (λ q. q.0 < length set.resources) xs
+pub next_link_known : (p : Protocol) (set : SetDef) (i x r : ℕ) (xs ys : List ResourceId) → r < length set.resources
+    → All (λ q. q.0 < length set.resources) xs
     → ys ≡ xs ++ (if is_link p set i x r then record { 0 = r } ∷ [] else []) → All (λ q. q.0 < length set.resources) ys
 next_link_known p set i x r xs ys l before now =
     let one : ResourceId = record { 0 = r } in
     All-same (λ (q : ResourceId). q.0 < length set.resources) ys (xs ++ (if is_link p set i x r then one ∷ [] else [])) now
-    (All-append (λ (q : ResourceId). q.0 < length set.resources) xs (if is_link p set i x r then one ∷ [] else []) before (known_added (is_link p set i x r) (length set.resources) one l))
+    (All-append (λ (q : ResourceId). q.0 < length set.resources) xs (if is_link p set i x r then one ∷ [] else [])
+    before (known_added (is_link p set i x r) (length set.resources) one l))

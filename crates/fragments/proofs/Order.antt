@@ -54,34 +54,45 @@ classes_at x q =
     (All-cons Here indirect (preemption ∷ []) (refl, refl) (All-cons Here preemption [] (refl, refl) (All-nil Here)))
 
 classes_slot : (x q : ℕ) → All (λ c. slot_seen c ≡ slot x q) (classes_of x q)
-classes_slot x q = All-weaker (λ c. (c.task ≡ x) × (c.resource ≡ q)) (λ c. slot_seen c ≡ slot x q) (λ c h. omega (arith, h.0, h.1)) (classes_of x q) (classes_at x q)
+classes_slot x q = All-weaker (λ c. (c.task ≡ x) × (c.resource ≡ q)) (λ c. slot_seen c ≡ slot x q)
+    (λ c h. omega (arith, h.0, h.1)) (classes_of x q) (classes_at x q)
 
 -- The columns of task x and of resources below m stand from slot x 0 on and below slot x m.
 row_from : (x m : ℕ) → All (λ c. (c.task ≡ x) × (c.resource < m)) (collect_below m (λ q. classes_of x q))
 row_from x m = all_collected (λ c. (c.task ≡ x) × (c.resource < m)) m (λ q. classes_of x q) (λ q l.
-    All-weaker (λ c. (c.task ≡ x) × (c.resource ≡ q)) (λ c. (c.task ≡ x) × (c.resource < m)) (λ c h. (h.0, omega (arith, h.1))) (classes_of x q) (classes_at x q))
+    All-weaker (λ c. (c.task ≡ x) × (c.resource ≡ q)) (λ c. (c.task ≡ x) × (c.resource < m))
+    (λ c h. (h.0, omega (arith, h.1))) (classes_of x q) (classes_at x q))
 
 row_in_order : (x m : ℕ) → IsNonDecreasingBy slot_seen (collect_below m (λ q. classes_of x q))
 row_in_order x zero = λ i j d l m. absurd (omega arith)
 row_in_order x (suc q) = in_order_append slot_seen (slot x q) (collect_below q (λ q. classes_of x q)) (classes_of x q) (row_in_order x q)
     (in_order_same slot_seen (slot x q) (classes_of x q) (classes_slot x q))
-    (All-weaker (λ c. (c.task ≡ x) × (c.resource < q)) (λ c. slot_seen c ≤ slot x q) (λ c h. omega (arith, h.0, h.1)) (collect_below q (λ q. classes_of x q)) (row_from x q))
+    (All-weaker (λ c. (c.task ≡ x) × (c.resource < q)) (λ c. slot_seen c ≤ slot x q) (λ c h. omega (arith, h.0, h.1))
+    (collect_below q (λ q. classes_of x q)) (row_from x q))
     (All-weaker (λ c. slot_seen c ≡ slot x q) (λ c. slot x q ≤ slot_seen c) (λ c h. omega (arith, h)) (classes_of x q) (classes_slot x q))
 
 all_in_order : (n m : ℕ) → m ≤ 4294967296 → IsNonDecreasingBy slot_seen (all_columns n m)
 all_in_order zero m few = λ i j d l m. absurd (omega arith)
-all_in_order (suc x) m few = in_order_append slot_seen (slot x 0) (all_columns x m) (collect_below m (λ q. classes_of x q)) (all_in_order x m few) (row_in_order x m)
+all_in_order (suc x) m few = in_order_append slot_seen (slot x 0) (all_columns x m)
+    (collect_below m (λ q. classes_of x q)) (all_in_order x m few) (row_in_order x m)
     (All-weaker (IsKnown x m) (λ c. slot_seen c ≤ slot x 0) (λ c h. omega (arith, h.0, h.1)) (all_columns x m) (all_known x m))
-    (All-weaker (λ c. (c.task ≡ x) × (c.resource < m)) (λ c. slot x 0 ≤ slot_seen c) (λ c h. omega (arith, h.0)) (collect_below m (λ q. classes_of x q)) (row_from x m))
+    (All-weaker (λ c. (c.task ≡ x) × (c.resource < m)) (λ c. slot x 0 ≤ slot_seen c) (λ c h. omega (arith, h.0))
+    (collect_below m (λ q. classes_of x q)) (row_from x m))
 
 -- What contracts see of columns is in order, and so are the columns.
 seen_in_order : (cs : List Fragment) → IsNonDecreasingBy slot_seen (map column_seen cs) → AreInOrder cs
 seen_in_order cs h i j d l m =
-    let first : get_or (map column_seen cs) i (column_seen d) ≡ column_seen (get_or cs i d) = get_or-map column_seen cs i d (column_seen d) (omega arith) in
-    let second : get_or (map column_seen cs) j (column_seen d) ≡ column_seen (get_or cs j d) = get_or-map column_seen cs j d (column_seen d) m in
-    let order : slot_seen (get_or (map column_seen cs) i (column_seen d)) ≤ slot_seen (get_or (map column_seen cs) j (column_seen d)) = h i j (column_seen d) l (omega (arith, m, length-map cs column_seen)) in
+    let first : get_or (map column_seen cs) i (column_seen d) ≡ column_seen (get_or cs i d) =
+    get_or-map column_seen cs i d (column_seen d) (omega arith) in
+    let second : get_or (map column_seen cs) j (column_seen d) ≡ column_seen (get_or cs j d) =
+    get_or-map column_seen cs j d (column_seen d) m in
+    let order : slot_seen (get_or (map column_seen cs) i (column_seen d))
+    ≤ slot_seen (get_or (map column_seen cs) j (column_seen d)) =
+    h i j (column_seen d) l (omega (arith, m, length-map cs column_seen)) in
     rw (first, second) at order
 
-pub fragments_in_order : (p : Protocol) (set : SetDef) (i : ℕ) (cs : List Fragment) → length set.resources ≤ 4294967296 → map column_seen cs ≡ columns_of p set i → AreInOrder cs
+pub fragments_in_order : (p : Protocol) (set : SetDef) (i : ℕ) (cs : List Fragment) → length set.resources ≤ 4294967296
+    → map column_seen cs ≡ columns_of p set i → AreInOrder cs
 fragments_in_order p set i cs few same = seen_in_order cs (subst (IsNonDecreasingBy slot_seen) (sym same)
-    (IsNonDecreasingBy-filter slot_seen (is_column p set i) (all_columns (length set.tasks) (length set.resources)) (all_in_order (length set.tasks) (length set.resources) few)))
+    (IsNonDecreasingBy-filter slot_seen (is_column p set i) (all_columns (length set.tasks) (length set.resources))
+    (all_in_order (length set.tasks) (length set.resources) few)))

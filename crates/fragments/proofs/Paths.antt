@@ -9,7 +9,8 @@ use Rattle.sporadic_model.specs.declared.ids.Protocol.{Protocol}
 use Rattle.fragments.specs.Columns.{is_path, have_one_processor, may_run_before}
 
 -- Some number with some other is some other with some number.
-pub any_below-swap : (n m : ℕ) (p : ℕ → ℕ → Bool) → any_below n (λ y. any_below m (λ r. p y r)) ≡ any_below m (λ r. any_below n (λ y. p y r))
+pub any_below-swap : (n m : ℕ) (p : ℕ → ℕ → Bool)
+    → any_below n (λ y. any_below m (λ r. p y r)) ≡ any_below m (λ r. any_below n (λ y. p y r))
 any_below-swap n m p = elim (cases_Bool (any_below n (λ y. any_below m (λ r. p y r)))) [
   | inl some ↦
       let y = any_below-some n (λ y. any_below m (λ r. p y r)) some in
@@ -24,7 +25,8 @@ any_below-both : (b : Bool) (n : ℕ) (p : ℕ → Bool) → any_below n (λ y. 
 any_below-both true n p = refl
 any_below-both false n p = any_below-none_from n (λ y. false) (λ y a. refl)
 
-path_parts : (beside apart mine its before : Bool) → (beside && ((apart && (mine && its)) && before)) ≡ ((apart && (mine && before)) && (beside && its))
+path_parts : (beside apart mine its before : Bool)
+    → (beside && ((apart && (mine && its)) && before)) ≡ ((apart && (mine && before)) && (beside && its))
 path_parts true false mine its before = refl
 path_parts true true false its before = refl
 path_parts true true true true true = refl
@@ -45,5 +47,6 @@ paths_by p set i x q r =
     let behind : Bool = not (r == q) && (is_user set r i && may_run_before p set (task_at set x).processor q r) in
     let beside : ℕ → Bool = λ y. (have_one_processor set y x && (not (y == x) && not (y == i))) && is_user set r y in
     any_below-agree (length set.tasks) (λ y. is_path p set i x q y r) (λ y. behind && beside y) (λ y a.
-    path_parts (have_one_processor set y x && (not (y == x) && not (y == i))) (not (r == q)) (is_user set r i) (is_user set r y) (may_run_before p set (task_at set x).processor q r))
+    path_parts (have_one_processor set y x && (not (y == x) && not (y == i))) (not (r == q)) (is_user set r i)
+    (is_user set r y) (may_run_before p set (task_at set x).processor q r))
     ∙ any_below-both behind (length set.tasks) beside

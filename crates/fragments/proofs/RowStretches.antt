@@ -24,7 +24,8 @@ pub begins_first : (cs : List Fragment) → BeginsAt (slot 0 0) cs 0
 begins_first cs = record { within = omega arith; before = λ k d l m. absurd (omega arith); behind = λ k d l m. omega arith }
 
 -- Behind the last resource of a task stand the columns of the next task.
-pub begins_next : (n m x : ℕ) (cs : List Fragment) (a : ℕ) → AreKnown n m cs → m ≤ 4294967296 → BeginsAt (slot x m) cs a → BeginsAt (slot (x + 1) 0) cs a
+pub begins_next : (n m x : ℕ) (cs : List Fragment) (a : ℕ) → AreKnown n m cs → m ≤ 4294967296 → BeginsAt (slot x m) cs a
+    → BeginsAt (slot (x + 1) 0) cs a
 begins_next n m x cs a known few at = record {
   within = at.within;
   before = λ k d l b.
@@ -61,8 +62,10 @@ stretch_of_requests x q cs row a b from to order zero = record {
   within = to.within;
   before = λ k d l h.
       let here : slot_of (get_or cs k d) < slot x q = from.before k d l h in
-      zero (column_seen (get_or cs k d)) (other_numbers (get_or cs k d).task.0 x (get_or cs k d).resource.0 q (λ e f. absurd (omega (arith, here, e, f))));
+      zero (column_seen (get_or cs k d))
+      (other_numbers (get_or cs k d).task.0 x (get_or cs k d).resource.0 q (λ e f. absurd (omega (arith, here, e, f))));
   behind = λ k d l h.
       let here : slot x (q + 1) ≤ slot_of (get_or cs k d) = to.behind k d l h in
-      zero (column_seen (get_or cs k d)) (other_numbers (get_or cs k d).task.0 x (get_or cs k d).resource.0 q (λ e f. absurd (omega (arith, here, e, f))));
+      zero (column_seen (get_or cs k d))
+      (other_numbers (get_or cs k d).task.0 x (get_or cs k d).resource.0 q (λ e f. absurd (omega (arith, here, e, f))));
 }

@@ -19,7 +19,8 @@ pub with_more_rows : (b : RowBlockDef) (cs : List ColumnDef) (xs ys : List Const
 with_more_rows b cs xs ys bounds = rw (filter-append, map-append, map-append, append_assoc, append_assoc) refl
 
 -- A row in which no column has a coefficient above zero adds nothing.
-pub row_missing : (b : RowBlockDef) (cs : List ColumnDef) (row : ConstraintDef) (bounds : List ℕ) → holds_some cs row ≡ false → with_rows b cs (row ∷ []) bounds ≡ b
+pub row_missing : (b : RowBlockDef) (cs : List ColumnDef) (row : ConstraintDef) (bounds : List ℕ)
+    → holds_some cs row ≡ false → with_rows b cs (row ∷ []) bounds ≡ b
 row_missing b cs row bounds none = rw (none, append-nil, append-nil) refl
 
 -- Any other adds its coefficients and its limit.
@@ -33,6 +34,7 @@ no_more_rows b cs bounds = rw (append-nil, append-nil) refl
 
 -- A loop that adds the rows of one number after another has added the rows of all numbers that it passed.
 pub next_rows : (b0 b1 b2 : RowBlockDef) (cs : List ColumnDef) (bounds : List ℕ) (rows : ℕ → List ConstraintDef) (n : ℕ)
-    → b1 ≡ with_rows b0 cs (collect_below n rows) bounds → b2 ≡ with_rows b1 cs (rows n) bounds → b2 ≡ with_rows b0 cs (collect_below (n + 1) rows) bounds
+    → b1 ≡ with_rows b0 cs (collect_below n rows) bounds → b2 ≡ with_rows b1 cs (rows n) bounds
+    → b2 ≡ with_rows b0 cs (collect_below (n + 1) rows) bounds
 next_rows b0 b1 b2 cs bounds rows n before now =
     rw add-one (now ∙ (ap (λ b. with_rows b cs (rows n) bounds) before ∙ with_more_rows b0 cs (collect_below n rows) (rows n) bounds))

@@ -13,10 +13,11 @@ use Rattle.fragments.specs.Constraints.{ConstraintDef}
 pub none_above : (row : ConstraintDef) (cs : List Fragment) (b p : ℕ) → b ≤ p
     → AllWithin (λ c. row.coefficient (column_seen c) ≡ 0) cs 0 p → AllWithin (λ c. row.coefficient (column_seen c) ≡ 0) cs b (length cs)
     → list_any (λ c. nat_lt 0 (row.coefficient (column_seen c))) cs ≡ false
-none_above row cs b p order before behind = list_any_none (λ c. nat_lt 0 (row.coefficient (column_seen c))) cs (λ k d l. elim (cases_lt k p) [
-  | inl first ↦ rw (before k d (omega arith) first) refl
-  | inr second ↦ rw (behind k d (omega arith) l) refl
-])
+none_above row cs b p order before behind =
+    list_any_none (λ c. nat_lt 0 (row.coefficient (column_seen c))) cs (λ k d l. elim (cases_lt k p) [
+      | inl first ↦ rw (before k d (omega arith) first) refl
+      | inr second ↦ rw (behind k d (omega arith) l) refl
+    ])
 
 -- A list of numbers that has f of each element at the element's place is f of all of them.
 pub list_is_map : {X : Type 0} (f : X → ℕ) (xs : List ℕ) (cs : List X) → length xs ≡ length cs

@@ -41,7 +41,8 @@ block_of columns rows bounds = record { rows = coefficients_of columns rows; lim
 
 -- A block with these rows behind its own.
 abbrev pub with_rows : RowBlockDef → List ColumnDef → List ConstraintDef → List ℕ → RowBlockDef
-with_rows block columns rows bounds = record { rows = block.rows ++ coefficients_of columns rows; limits = block.limits ++ limits_of columns rows bounds }
+with_rows block columns rows bounds =
+    record { rows = block.rows ++ coefficients_of columns rows; limits = block.limits ++ limits_of columns rows bounds }
 
 -- A block without rows.
 abbrev pub no_rows : RowBlockDef

@@ -18,7 +18,8 @@ numbers_of resources = map (λ r. r.0) resources
 
 -- Does a task beside x, neither x nor i, use resource r?
 abbrev pub is_used_beside : SetDef → ℕ → ℕ → ℕ → Bool
-is_used_beside set i x r = any_below (length set.tasks) (λ y. (have_one_processor set y x && (not (y == x) && not (y == i))) && is_user set r y)
+is_used_beside set i x r = any_below (length set.tasks)
+    (λ y. (have_one_processor set y x && (not (y == x) && not (y == i))) && is_user set r y)
 
 -- Can requests by x block i indirectly by resource r? Only one that i uses, and under MPCP and FMLP+ a task beside x too.
 abbrev pub is_link : Protocol → SetDef → ℕ → ℕ → ℕ → Bool

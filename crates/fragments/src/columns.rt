@@ -5,7 +5,8 @@ ghost use Rattle.sporadic_model.specs.SetDef.{task_at};
 ghost use Rattle.sporadic_model.specs.Users.{is_user};
 ghost use Rattle.sporadic_model.specs.Homes.{HasHomesFor, home_in};
 ghost use Rattle.fragments.specs.ColumnDef.{column_seen, classes_of, is_direct, is_indirect, is_preemption};
-ghost use Rattle.fragments.specs.Columns.{have_one_processor, may_run_before, has_path, requests_beside, blocks_by_sharing, blocks_at_home, may_block, is_column, columns_of};
+ghost use Rattle.fragments.specs.Columns.{have_one_processor, may_run_before, has_path, requests_beside};
+ghost use Rattle.fragments.specs.Columns.{blocks_by_sharing, blocks_at_home, may_block, is_column, columns_of};
 ghost use Rattle.fragments.specs.Links.{is_used_beside, is_link, AreLinks};
 
 use crate::places::{boost_place, ceiling_place, home, lower_local, share_processor, uses};
@@ -93,7 +94,8 @@ fn stands_behind(set: &TaskSet, protocol: Protocol, c: Fragment, r: ResourceId) 
     requires column { c.task.0 < length set.now.tasks }
     requires resource { c.resource.0 < length set.now.resources }
     requires by { r.0 < length set.now.resources }
-    ensures { result ≡ (not (r.0 == c.resource.0) && may_run_before protocol set.now (task_at set.now c.task.0).processor c.resource.0 r.0) }
+    ensures { result ≡ (not (r.0 == c.resource.0)
+        && may_run_before protocol set.now (task_at set.now c.task.0).processor c.resource.0 r.0) }
 {
     r.0 != c.resource.0 && runs_before(set, protocol, set.processor(c.task), c.resource, r)
 }
@@ -180,7 +182,9 @@ fn leads(set: &TaskSet, protocol: Protocol, c: Fragment, links: &[ResourceId]) -
     requires column { c.task.0 < length set.now.tasks }
     requires resource { c.resource.0 < length set.now.resources }
     requires known { All (λ r. r.0 < length set.now.resources) links.now }
-    ensures { result ≡ list_any (λ r. not (r.0 == c.resource.0) && may_run_before protocol set.now (task_at set.now c.task.0).processor c.resource.0 r.0) links.now }
+    ensures { result ≡ list_any
+        (λ r. not (r.0 == c.resource.0)
+        && may_run_before protocol set.now (task_at set.now c.task.0).processor c.resource.0 r.0) links.now }
 {
     for r in links {
         if stands_behind(set, protocol, c, *r) {
@@ -326,7 +330,8 @@ fn add_column(
     requires resource { c.resource.0 < length set.now.resources }
     requires links { AreLinks protocol set.now i.0 c.task.0 links.now }
     requires known { All (λ r. r.0 < length set.now.resources) links.now }
-    ensures { OnOk result (map column_seen columns.new.items ≡ map column_seen columns.old.items ++ filter (is_column protocol set.now i.0) (column_seen c ∷ [])) }
+    ensures { OnOk result (map column_seen columns.new.items
+        ≡ map column_seen columns.old.items ++ filter (is_column protocol set.now i.0) (column_seen c ∷ [])) }
 {
     if is_fragment(set, protocol, i, c, links) {
         columns.push(c)?;
@@ -348,7 +353,8 @@ fn add_classes(
     requires resource { of.1.0 < length set.now.resources }
     requires links { AreLinks protocol set.now i.0 of.0.0 links.now }
     requires known { All (λ r. r.0 < length set.now.resources) links.now }
-    ensures { OnOk result (map column_seen columns.new.items ≡ map column_seen columns.old.items ++ filter (is_column protocol set.now i.0) (classes_of of.0.0 of.1.0)) }
+    ensures { OnOk result (map column_seen columns.new.items
+        ≡ map column_seen columns.old.items ++ filter (is_column protocol set.now i.0) (classes_of of.0.0 of.1.0)) }
 {
     let (task, resource) = of;
     let class = Class::Direct;
@@ -403,7 +409,8 @@ fn add_task(
 ) -> Result<(), AllocError>
     requires task { i.0 < length set.now.tasks }
     requires other { x.0 < length set.now.tasks }
-    ensures { OnOk result (map column_seen columns.new.items ≡ map column_seen columns.old.items ++ filter (is_column protocol set.now i.0) (collect_below (length set.now.resources) (λ q. classes_of x.0 q))) }
+    ensures { OnOk result (map column_seen columns.new.items ≡ map column_seen columns.old.items
+        ++ filter (is_column protocol set.now i.0) (collect_below (length set.now.resources) (λ q. classes_of x.0 q))) }
 {
     let links = links_of(alloc, set, protocol, i, x)?;
     for q in 0..set.resources() {

@@ -108,7 +108,8 @@ pub fn add_row_within<K: Constraint>(
     requires within { AreWithinDeadlines set.now bounds.now }
     requires known { AreKnown (length set.now.tasks) (length set.now.resources) columns.now }
     requires stretch { IsStretch (K.row_of kind.now set.now i.0) columns.now stretch.0 stretch.1 }
-    ensures { OnOk result (block_seen block.new ≡ with_rows (block_seen block.old) (map column_seen columns.now) (K.row_of kind.now set.now i.0 ∷ []) bounds.now) }
+    ensures { OnOk result (block_seen block.new ≡ with_rows (block_seen block.old) (map column_seen columns.now)
+        (K.row_of kind.now set.now i.0 ∷ []) bounds.now) }
 {
     if holds(kind, set, i, columns, stretch) {
         let list = coefficients(alloc, kind, set, i, columns, stretch)?;
@@ -131,7 +132,8 @@ pub fn add_row<K: Constraint>(
     requires task { i.0 < length set.now.tasks }
     requires within { AreWithinDeadlines set.now bounds.now }
     requires known { AreKnown (length set.now.tasks) (length set.now.resources) columns.now }
-    ensures { OnOk result (block_seen block.new ≡ with_rows (block_seen block.old) (map column_seen columns.now) (K.row_of kind.now set.now i.0 ∷ []) bounds.now) }
+    ensures { OnOk result (block_seen block.new ≡ with_rows (block_seen block.old) (map column_seen columns.now)
+        (K.row_of kind.now set.now i.0 ∷ []) bounds.now) }
 {
     add_row_within(
         alloc,

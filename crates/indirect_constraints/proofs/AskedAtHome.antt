@@ -1,5 +1,6 @@
 -- The columns of a task under DPCP are of homes where it makes requests, and rows of other homes are not there.
-use Rattle.std.proofs.Common.{◌≡◌, ℕ, ◌<◌, ◌==◌, ◌&&◌, ◌||◌, not, Bool, true, false, List, [], ◌∷◌, map, length, refl, ◌∙◌, nat_lt, nat_le, inl, inr}
+use Rattle.std.proofs.Common.{◌≡◌, ℕ, ◌<◌, ◌==◌, ◌&&◌, ◌||◌, not, Bool, true, false, List, [], ◌∷◌, map, length, refl}
+use Rattle.std.proofs.Common.{◌∙◌, nat_lt, nat_le, inl, inr}
 use Rattle.std.proofs.lemmas.Bool.{and_parts, cases_Bool, both_ways, eqb-true, eq-eqb}
 use Rattle.std.proofs.lemmas.List.Elements.{All-head, All-tail, All-same}
 use Rattle.bounded_sums.specs.Sums.{sum_below, only_if}
@@ -21,22 +22,27 @@ use Rattle.indirect_constraints.specs.Asked.{IsAskedAtHome, AreAskedAtHome}
 use Rattle.indirect_constraints.specs.Rows.{home_row}
 
 -- What blocks directly or indirectly is of a home where the analysed task requests something.
-asked_there : (set : SetDef) (i x q : ℕ) (k : Class) → q < length set.resources → blocks_at_home set i x q k ≡ true → is_preemption k ≡ false
+asked_there : (set : SetDef) (i x q : ℕ) (k : Class) → q < length set.resources → blocks_at_home set i x q k ≡ true
+    → is_preemption k ≡ false
     → (r : ℕ) × (r < length set.resources) × (is_user set r i ≡ true) × (home_in set r ≡ home_in set q)
 asked_there set i x q class.Direct l h p = (q, l, h, refl)
 asked_there set i x q class.Indirect l h p =
     let beside = (and_parts (requests_beside set i q) (not (nat_lt i x) || nat_le (ceiling_rank set q) i) h).0 in
     let some = any_below-some (length set.resources) (λ r. not (r == q) && (is_user set r i && (home_in set r == home_in set q))) beside in
-    let parts = and_parts (is_user set some.0 i) (home_in set some.0 == home_in set q) (and_parts (not (some.0 == q)) (is_user set some.0 i && (home_in set some.0 == home_in set q)) some.2).1 in
+    let parts = and_parts (is_user set some.0 i) (home_in set some.0 == home_in set q)
+    (and_parts (not (some.0 == q)) (is_user set some.0 i && (home_in set some.0 == home_in set q)) some.2).1 in
     (some.0, some.1, parts.0, eqb-true (home_in set some.0) (home_in set q) parts.1)
 asked_there set i x q class.Preemption l h p = absurd cc
 
-asked_at_home : (set : SetDef) (i : ℕ) (c : ColumnDef) → c.resource < length set.resources → is_column protocol.Dpcp set i c ≡ true → IsAskedAtHome set i c
+asked_at_home : (set : SetDef) (i : ℕ) (c : ColumnDef) → c.resource < length set.resources
+    → is_column protocol.Dpcp set i c ≡ true → IsAskedAtHome set i c
 asked_at_home set i c l h p = asked_there set i c.task c.resource c.class l
     (and_parts (not (c.task == i) && is_user set c.resource c.task) (blocks_at_home set i c.task c.resource c.class) h).1 p
 
-pub columns_asked_at_home : (set : SetDef) (i : ℕ) (cs : List Fragment) → map column_seen cs ≡ columns_of protocol.Dpcp set i → AreAskedAtHome set i cs
-columns_asked_at_home set i cs same = all_mapped (IsAskedAtHome set i) column_seen cs (All-same (IsAskedAtHome set i) (map column_seen cs) (columns_of protocol.Dpcp set i) same
+pub columns_asked_at_home : (set : SetDef) (i : ℕ) (cs : List Fragment)
+    → map column_seen cs ≡ columns_of protocol.Dpcp set i → AreAskedAtHome set i cs
+columns_asked_at_home set i cs same = all_mapped (IsAskedAtHome set i) column_seen cs
+    (All-same (IsAskedAtHome set i) (map column_seen cs) (columns_of protocol.Dpcp set i) same
     (λ k d l. asked_at_home set i _ (columns_known protocol.Dpcp set i k d l).1 (columns_pass protocol.Dpcp set i k d l)))
 
 not_preempting : (b : Bool) → not b ≡ true → b ≡ false
@@ -47,7 +53,8 @@ not_preempting false h = refl
 no_count : (set : SetDef) (i k : ℕ) → sum_below (length set.resources) (λ q. only_if (home_in set q == k) (count_of set i q)) ≡ 0
     → (q : ℕ) → q < length set.resources → is_user set q i ≡ true → home_in set q ≡ k → ⊥
 no_count set i k none q l user home =
-    let term : only_if (home_in set q == k) (count_of set i q) ≡ 0 = sum_below-no_term (length set.resources) (λ q. only_if (home_in set q == k) (count_of set i q)) none q l in
+    let term : only_if (home_in set q == k) (count_of set i q) ≡ 0 =
+    sum_below-no_term (length set.resources) (λ q. only_if (home_in set q == k) (count_of set i q)) none q l in
     let here : (home_in set q == k) ≡ true = eq-eqb (home_in set q) k home in
     let zero : count_of set i q ≡ 0 = rw here at term in
     both_ways (is_user set q i) (rw zero refl) user

@@ -9,7 +9,8 @@ use Rattle.fragments.specs.ColumnDef.{ColumnDef, column_seen, is_preemption}
 
 -- Does task i, unless the column is of preemption, use a resource of the home of the column's resource?
 abbrev pub IsAskedAtHome : SetDef → ℕ → ColumnDef → Type 0
-IsAskedAtHome set i c = is_preemption c.class ≡ false → (q : ℕ) × (q < length set.resources) × (is_user set q i ≡ true) × (home_in set q ≡ home_in set c.resource)
+IsAskedAtHome set i c = is_preemption c.class ≡ false
+    → (q : ℕ) × (q < length set.resources) × (is_user set q i ≡ true) × (home_in set q ≡ home_in set c.resource)
 
 -- Is each of the columns so?
 abbrev pub AreAskedAtHome : SetDef → ℕ → List Fragment → Type 0

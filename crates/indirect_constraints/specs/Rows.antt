@@ -30,11 +30,13 @@ higher_holdings set bounds i x q = sum_below i (λ y. only_if (is_beside set x y
 
 -- And how many requests of q can lower tasks beside x hold while i waits? One for each request of i, where one of them uses q.
 abbrev pub lower_holdings : SetDef → ℕ → ℕ → ℕ → ℕ
-lower_holdings set i x q = only_if (any_below (length set.tasks) (λ y. nat_lt i y && (is_beside set x y && is_user set q y))) (count_of set i q)
+lower_holdings set i x q = only_if
+    (any_below (length set.tasks) (λ y. nat_lt i y && (is_beside set x y && is_user set q y))) (count_of set i q)
 
 -- How many requests that i may wait for can other tasks hold on x's processor?
 abbrev pub holdings : SetDef → (ℕ → ℕ) → ℕ → ℕ → ℕ
-holdings set bounds i x = sum_below (length set.resources) (λ q. only_if (is_user set q i) (higher_holdings set bounds i x q + lower_holdings set i x q))
+holdings set bounds i x = sum_below (length set.resources)
+    (λ q. only_if (is_user set q i) (higher_holdings set bounds i x q + lower_holdings set i x q))
 
 -- Holdings: in each holding of another task on its processor, which i waits for, x runs at most one request.
 abbrev pub holding_row : SetDef → ℕ → ℕ → ConstraintDef

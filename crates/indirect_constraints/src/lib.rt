@@ -39,7 +39,8 @@ fn add_queue_row(
     requires known { AreKnown (length set.now.tasks) (length set.now.resources) columns.now }
     requires order { AreInOrder columns.now }
     requires from { BeginsAt (slot x.0 0) columns.now from }
-    ensures rows { OnOk result (block_seen block.new ≡ with_rows (block_seen block.old) (map column_seen columns.now) (queue_row set.now i.0 x.0 ∷ []) bounds.now) }
+    ensures rows { OnOk result (block_seen block.new
+        ≡ with_rows (block_seen block.old) (map column_seen columns.now) (queue_row set.now i.0 x.0 ∷ []) bounds.now) }
     ensures end { IfOk result (λ n. BeginsAt (slot (x.0 + 1) 0) columns.now n) }
 {
     let _resources = set.resources();
@@ -62,7 +63,8 @@ fn add_queue_rows(
     requires within { AreWithinDeadlines set.now bounds.now }
     requires known { AreKnown (length set.now.tasks) (length set.now.resources) columns.now }
     requires order { AreInOrder columns.now }
-    ensures { OnOk result (block_seen block.new ≡ with_rows (block_seen block.old) (map column_seen columns.now) (per (length set.now.tasks) (queue_row set.now i.0)) bounds.now) }
+    ensures { OnOk result (block_seen block.new ≡ with_rows (block_seen block.old) (map column_seen columns.now)
+        (per (length set.now.tasks) (queue_row set.now i.0)) bounds.now) }
 {
     let mut place = 0;
     for x in 0..set.tasks() {
@@ -88,7 +90,8 @@ fn add_holding_row(
     requires known { AreKnown (length set.now.tasks) (length set.now.resources) columns.now }
     requires order { AreInOrder columns.now }
     requires from { BeginsAt (slot x.0 0) columns.now from }
-    ensures rows { OnOk result (block_seen block.new ≡ with_rows (block_seen block.old) (map column_seen columns.now) (holding_row set.now i.0 x.0 ∷ []) bounds.now) }
+    ensures rows { OnOk result (block_seen block.new ≡ with_rows (block_seen block.old) (map column_seen columns.now)
+        (holding_row set.now i.0 x.0 ∷ []) bounds.now) }
     ensures end { IfOk result (λ n. BeginsAt (slot (x.0 + 1) 0) columns.now n) }
 {
     let _resources = set.resources();
@@ -111,7 +114,8 @@ fn add_holding_rows(
     requires within { AreWithinDeadlines set.now bounds.now }
     requires known { AreKnown (length set.now.tasks) (length set.now.resources) columns.now }
     requires order { AreInOrder columns.now }
-    ensures { OnOk result (block_seen block.new ≡ with_rows (block_seen block.old) (map column_seen columns.now) (per (length set.now.tasks) (holding_row set.now i.0)) bounds.now) }
+    ensures { OnOk result (block_seen block.new ≡ with_rows (block_seen block.old) (map column_seen columns.now)
+        (per (length set.now.tasks) (holding_row set.now i.0)) bounds.now) }
 {
     let mut place = 0;
     for x in 0..set.tasks() {
@@ -135,7 +139,8 @@ fn add_home_row(
     requires within { AreWithinDeadlines set.now bounds.now }
     requires known { AreKnown (length set.now.tasks) (length set.now.resources) columns.now }
     requires asked { AreAskedAtHome set.now i.0 columns.now }
-    ensures { OnOk result (block_seen block.new ≡ with_rows (block_seen block.old) (map column_seen columns.now) (home_row set.now i.0 row.now.processor ∷ []) bounds.now) }
+    ensures { OnOk result (block_seen block.new ≡ with_rows (block_seen block.old) (map column_seen columns.now)
+        (home_row set.now i.0 row.now.processor ∷ []) bounds.now) }
 {
     let asked = home_count(set, i, row.processor);
     if asked == 0 {
@@ -157,7 +162,8 @@ fn add_home_rows(
     requires within { AreWithinDeadlines set.now bounds.now }
     requires known { AreKnown (length set.now.tasks) (length set.now.resources) columns.now }
     requires asked { AreAskedAtHome set.now i.0 columns.now }
-    ensures { OnOk result (block_seen block.new ≡ with_rows (block_seen block.old) (map column_seen columns.now) (per set.now.processors (λ k. home_row set.now i.0 (k + 1))) bounds.now) }
+    ensures { OnOk result (block_seen block.new ≡ with_rows (block_seen block.old) (map column_seen columns.now)
+        (per set.now.processors (λ k. home_row set.now i.0 (k + 1))) bounds.now) }
 {
     for k in 0..set.processors() {
         let row = HomeRow { processor: k + 1 };

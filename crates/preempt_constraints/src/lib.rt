@@ -61,7 +61,8 @@ fn add_interval_row(
     requires known { AreKnown (length set.now.tasks) (length set.now.resources) columns.now }
     requires order { AreInOrder columns.now }
     requires from { BeginsAt (slot x.0 0) columns.now from }
-    ensures rows { OnOk result (block_seen block.new ≡ with_rows (block_seen block.old) (map column_seen columns.now) (if is_lower_local set.now i.0 x.0 then interval_row set.now i.0 x.0 ∷ [] else []) bounds.now) }
+    ensures rows { OnOk result (block_seen block.new ≡ with_rows (block_seen block.old) (map column_seen columns.now)
+        (if is_lower_local set.now i.0 x.0 then interval_row set.now i.0 x.0 ∷ [] else []) bounds.now) }
     ensures end { IfOk result (λ n. BeginsAt (slot (x.0 + 1) 0) columns.now n) }
 {
     let _resources = set.resources();

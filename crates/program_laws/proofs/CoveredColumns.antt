@@ -24,12 +24,14 @@ some_column : ColumnDef
 some_column = record { task = 0; resource = 0; class = class.Direct }
 
 -- The row of the requests of a task and a resource of the set is one of the rows.
-request_row_among : (p : Protocol) (set : SetDef) (i x q : ℕ) → x < length set.tasks → q < length set.resources → Contains (rows_of p set i) (request_row set i x q)
+request_row_among : (p : Protocol) (set : SetDef) (i x q : ℕ) → x < length set.tasks → q < length set.resources
+    → Contains (rows_of p set i) (request_row set i x q)
 request_row_among p set i x q a b =
     let n = length set.tasks in
     let m = length set.resources in
     let row : ConstraintDef = request_row set i x q in
-    let mine : Contains (per m (request_row set i x)) row = contains_collected m q (λ q. request_row set i x q ∷ []) row b (0, omega arith, refl) in
+    let mine : Contains (per m (request_row set i x)) row =
+    contains_collected m q (λ q. request_row set i x q ∷ []) row b (0, omega arith, refl) in
     let pair : Contains (per_pair n m (request_row set i)) row = contains_collected n x (λ x. per m (request_row set i x)) row a mine in
     Contains-append_left (common_rows set i) (preemption_rows set i ++ (own_rows p set i ++ indirect_rows p set i)) row
     (Contains-append_left (per_pair n m (request_row set i)) (per n (time_row set i)) row pair)
@@ -38,18 +40,21 @@ flag_itself : (x q : ℕ) → flag ((x == x) && (q == q)) ≡ 1
 flag_itself x q = rw (eq-eqb x x refl, eq-eqb q q refl) refl
 
 -- What stands where a row stands among the rows that are there.
-coefficient_at : (cs : List ColumnDef) (rows : List ConstraintDef) (row : ConstraintDef) (r c : ℕ) (d : ColumnDef) → r < length rows → slice_index_or rows r row ≡ row → c < length cs
+coefficient_at : (cs : List ColumnDef) (rows : List ConstraintDef) (row : ConstraintDef) (r c : ℕ) (d : ColumnDef)
+    → r < length rows → slice_index_or rows r row ≡ row → c < length cs
     → slice_index (slice_index_or (map (λ k. map k.coefficient cs) rows) r []) c ≡ row.coefficient (slice_index_or cs c d)
 coefficient_at cs rows row r c d within same here =
     ap (λ (l : List ℕ). slice_index l c) (get_or-map (λ (k : ConstraintDef). map k.coefficient cs) rows r row [] within)
     ∙ (ap (λ (k : ConstraintDef). slice_index (map k.coefficient cs) c) same ∙ get_or-map row.coefficient cs c d 0 here)
 
-pub covered : (p : Protocol) (set : SetDef) (i : ℕ) (r : List ℕ) (c : ℕ) → c < columns (program_of p set i r) → IsCovered (program_of p set i r) c
+pub covered : (p : Protocol) (set : SetDef) (i : ℕ) (r : List ℕ) (c : ℕ) → c < columns (program_of p set i r)
+    → IsCovered (program_of p set i r) c
 covered p set i r c within =
     let cs : List ColumnDef = columns_of p set i in
     let here : c < length cs = rw (← length-map cs (cost_of set)) within in
     let k : ColumnDef = slice_index_or cs c some_column in
-    let known : IsKnown (length set.tasks) (length set.resources) k = All-get_or (IsKnown (length set.tasks) (length set.resources)) cs c some_column here (columns_known p set i) in
+    let known : IsKnown (length set.tasks) (length set.resources) k =
+    All-get_or (IsKnown (length set.tasks) (length set.resources)) cs c some_column here (columns_known p set i) in
     let row : ConstraintDef = request_row set i k.task k.resource in
     let one : row.coefficient k ≡ 1 = flag_itself k.task k.resource in
     let above : nat_lt 0 (row.coefficient k) ≡ true = rw one refl in
@@ -58,5 +63,6 @@ covered p set i r c within =
     contains_filter (holds_some cs) (rows_of p set i) row (request_row_among p set i k.task k.resource known.0 known.1) holds in
     let entry_here : slice_index (slice_index_or (coefficients_of cs (rows_of p set i)) there.0 []) c ≡ row.coefficient k =
     coefficient_at cs (rows_there cs (rows_of p set i)) row there.0 c some_column there.1 there.2 here in
-    let inside : there.0 < length (coefficients_of cs (rows_of p set i)) = rw (length-map (rows_there cs (rows_of p set i)) (λ (k : ConstraintDef). map k.coefficient cs)) there.1 in
+    let inside : there.0 < length (coefficients_of cs (rows_of p set i)) =
+    rw (length-map (rows_there cs (rows_of p set i)) (λ (k : ConstraintDef). map k.coefficient cs)) there.1 in
     record { by_row = there.0; within = inside; above = rw (entry_here, one) (omega arith) }

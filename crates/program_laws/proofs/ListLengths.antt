@@ -27,7 +27,8 @@ record Few (set : SetDef) : Type 0 where
 few : (set : SetDef) → IsAccepted set → Few set
 few set accepted =
     let sizes = sizes_of_accepted set accepted in
-    let left : length set.tasks * length set.resources ≤ 64 * length set.resources = mul-le-mul_right (length set.resources) sizes.tasks_to in
+    let left : length set.tasks * length set.resources ≤ 64 * length set.resources =
+    mul-le-mul_right (length set.resources) sizes.tasks_to in
     record {
       tasks = sizes.tasks_to;
       resources = sizes.resources_to;
@@ -63,7 +64,8 @@ if_at_most true row = omega arith
 if_at_most false row = omega arith
 
 where_at_most : (test : ℕ → Bool) (n : ℕ) (row : ℕ → ConstraintDef) → length (per_where test n row) ≤ n
-where_at_most test n row = omega (arith, collected_at_most n 1 (λ k. if test k then row k ∷ [] else []) (λ k l. if_at_most (test k) (row k)))
+where_at_most test n row =
+    omega (arith, collected_at_most n 1 (λ k. if test k then row k ∷ [] else []) (λ k l. if_at_most (test k) (row k)))
 
 own_few : (p : Protocol) (set : SetDef) (i : ℕ) → Few set → length (own_rows p set i) ≤ 2048
 own_few protocol.FmlpPlus set i f = omega (arith, pair_at_most (length set.tasks) (length set.resources) (turn_row set i), f.pairs)
@@ -79,7 +81,13 @@ common_few : (set : SetDef) (i : ℕ) → Few set → length (common_rows set i)
 common_few set i f =
     let pairs = per_pair (length set.tasks) (length set.resources) (request_row set i) in
     let times = per (length set.tasks) (time_row set i) in
-    rw (length-append pairs times) (omega (arith, pair_at_most (length set.tasks) (length set.resources) (request_row set i), per_at_most (length set.tasks) (time_row set i), f.pairs, f.tasks))
+    rw (length-append pairs times) (omega (
+      arith,
+      pair_at_most (length set.tasks) (length set.resources) (request_row set i),
+      per_at_most (length set.tasks) (time_row set i),
+      f.pairs,
+      f.tasks,
+    ))
 
 pub rows_few : (p : Protocol) (set : SetDef) (i : ℕ) → IsAccepted set → length (rows_there (columns_of p set i) (rows_of p set i)) ≤ 4288
 rows_few p set i accepted =

@@ -1,5 +1,6 @@
 -- Laws of lists of numbers, of filters and of lists that are collected index by index.
-use Rattle.std.proofs.Common.{◌≡◌, ℕ, zero, suc, ◌*◌, ◌<◌, ◌≤◌, Bool, true, false, List, [], ◌∷◌, map, length, ◌∙◌, ap, subst, arith, inl, inr, cond}
+use Rattle.std.proofs.Common.{◌≡◌, ℕ, zero, suc, ◌*◌, ◌<◌, ◌≤◌, Bool, true, false, List, [], ◌∷◌, map, length, ◌∙◌, ap}
+use Rattle.std.proofs.Common.{subst, arith, inl, inr, cond}
 use Rattle.std.specs.Prelude.{slice_index, slice_index_or}
 use Rattle.std.specs.List.{All, Contains, filter}
 use Rattle.std.proofs.lemmas.Bool.{cases_lt}
@@ -16,7 +17,8 @@ index_at_most m (x ∷ xs) h zero = All-head (λ k. k ≤ m) x xs h
 index_at_most m (x ∷ xs) h (suc c) = index_at_most m xs (All-tail (λ k. k ≤ m) x xs h) c
 
 -- Where f is at most g at each element, so are the numbers that they give at any place.
-pub index_rises : {X : Type 0} (f g : X → ℕ) (xs : List X) → All (λ x. f x ≤ g x) xs → (c : ℕ) → slice_index (map f xs) c ≤ slice_index (map g xs) c
+pub index_rises : {X : Type 0} (f g : X → ℕ) (xs : List X) → All (λ x. f x ≤ g x) xs → (c : ℕ)
+    → slice_index (map f xs) c ≤ slice_index (map g xs) c
 index_rises f g [] h zero = omega arith
 index_rises f g [] h (suc c) = omega arith
 index_rises f g (x ∷ xs) h zero = All-head (λ k. f k ≤ g k) x xs h
@@ -45,7 +47,8 @@ contains_first false y x zs kept same = absurd cc
 pub contains_filter : {X : Type 0} (p : X → Bool) (xs : List X) (x : X) → Contains xs x → p x ≡ true → Contains (filter p xs) x
 contains_filter p [] x (k, l, e) passes = absurd (omega arith)
 contains_filter p (y ∷ ys) x (zero, l, e) passes = contains_first (p y) y x (filter p ys) (ap p e ∙ passes) e
-contains_filter p (y ∷ ys) x (suc k, l, e) passes = contains_behind (p y) y x (filter p ys) (contains_filter p ys x (k, omega arith, e) passes)
+contains_filter p (y ∷ ys) x (suc k, l, e) passes =
+    contains_behind (p y) y x (filter p ys) (contains_filter p ys x (k, omega arith, e) passes)
 
 pub filter_shorter : {X : Type 0} (p : X → Bool) (xs : List X) → length (filter p xs) ≤ length xs
 filter_shorter p [] = omega arith
@@ -65,7 +68,8 @@ contains_collected (suc n) k f x l h = elim (cases_lt k n) [
 
 pub collected_at_most : {X : Type 0} (n m : ℕ) (f : ℕ → List X) → ((k : ℕ) → k < n → length (f k) ≤ m) → length (collect_below n f) ≤ n * m
 collected_at_most zero m f each = omega arith
-collected_at_most (suc n) m f each = rw (length-append (collect_below n f) (f n)) (omega (arith, collected_at_most n m f (λ k l. each k (omega arith)), each n (omega arith)))
+collected_at_most (suc n) m f each = rw (length-append (collect_below n f) (f n))
+    (omega (arith, collected_at_most n m f (λ k l. each k (omega arith)), each n (omega arith)))
 
 pub sum_at_most : (n m : ℕ) (f : ℕ → ℕ) → ((k : ℕ) → k < n → f k ≤ m) → sum_below n f ≤ n * m
 sum_at_most n m f each = omega (arith, sum_below-monotone n f (λ k. m) each, sum_below-constant n m)

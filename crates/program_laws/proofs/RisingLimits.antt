@@ -20,7 +20,8 @@ Rises r s row = row.limit (slice_index r) ≤ row.limit (slice_index s)
 
 jobs_rise : (set : SetDef) (r s : List ℕ) (i x : ℕ) → slice_index r i ≤ slice_index s i → slice_index r x ≤ slice_index s x
     → jobs_in set (slice_index r) i x ≤ jobs_in set (slice_index s) i x
-jobs_rise set r s i x own other = div_ceil_rises (slice_index r i + slice_index r x) (slice_index s i + slice_index s x) (task_at set x).period (omega arith)
+jobs_rise set r s i x own other = div_ceil_rises (slice_index r i + slice_index r x) (slice_index s i + slice_index s x)
+    (task_at set x).period (omega arith)
 
 requests_rise : (set : SetDef) (r s : List ℕ) (i x q : ℕ) → slice_index r i ≤ slice_index s i → slice_index r x ≤ slice_index s x
     → requests_in set (slice_index r) i x q ≤ requests_in set (slice_index s) i x q
@@ -35,9 +36,11 @@ holdings_rise : (set : SetDef) (r s : List ℕ) (i x : ℕ) → i < length set.t
 holdings_rise set r s i x here h = sum_below-monotone (length set.resources) _ _ (λ q l.
     let higher : higher_holdings set (slice_index r) i x q ≤ higher_holdings set (slice_index s) i x q =
     sum_below-monotone i _ _ (λ y a. only_if_rises (is_beside set x y) _ _ (requests_rise set r s i y q (h i here) (h y (omega arith)))) in
-    only_if_rises (is_user set q i) (higher_holdings set (slice_index r) i x q + lower_holdings set i x q) (higher_holdings set (slice_index s) i x q + lower_holdings set i x q) (omega arith))
+    only_if_rises (is_user set q i) (higher_holdings set (slice_index r) i x q + lower_holdings set i x q)
+    (higher_holdings set (slice_index s) i x q + lower_holdings set i x q) (omega arith))
 
-pub limits_rise : (p : Protocol) (set : SetDef) (i : ℕ) (r s : List ℕ) → i < length set.tasks → AtMost (length set.tasks) r s → EachKind (Rises r s) p set i
+pub limits_rise : (p : Protocol) (set : SetDef) (i : ℕ) (r s : List ℕ) → i < length set.tasks
+    → AtMost (length set.tasks) r s → EachKind (Rises r s) p set i
 limits_rise p set i r s here h = record {
   request = λ x q a b. requests_rise set r s i x q (h i here) (h x a);
   time = λ x a. mul-le-mul_left (task_at set x).cost (jobs_rise set r s i x (h i here) (h x a));

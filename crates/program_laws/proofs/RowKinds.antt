@@ -16,14 +16,16 @@ use Rattle.program_laws.specs.Programs.{rows_of}
 pub all_per : (P : ConstraintDef → Type 0) (n : ℕ) (row : ℕ → ConstraintDef) → ((k : ℕ) → k < n → P (row k)) → All P (per n row)
 all_per P n row each = all_collected P n (λ k. row k ∷ []) (λ k l. All-cons P (row k) [] (each k l) (All-nil P))
 
-pub all_per_pair : (P : ConstraintDef → Type 0) (m n : ℕ) (row : ℕ → ℕ → ConstraintDef) → ((x q : ℕ) → x < m → q < n → P (row x q)) → All P (per_pair m n row)
+pub all_per_pair : (P : ConstraintDef → Type 0) (m n : ℕ) (row : ℕ → ℕ → ConstraintDef)
+    → ((x q : ℕ) → x < m → q < n → P (row x q)) → All P (per_pair m n row)
 all_per_pair P m n row each = all_collected P m (λ x. per n (row x)) (λ x a. all_per P n (row x) (λ q b. each x q a b))
 
 all_if : (P : ConstraintDef → Type 0) (b : Bool) (row : ConstraintDef) → (b ≡ true → P row) → All P (if b then row ∷ [] else [])
 all_if P true row holds = All-cons P row [] (holds refl) (All-nil P)
 all_if P false row holds = All-nil P
 
-pub all_per_where : (P : ConstraintDef → Type 0) (test : ℕ → Bool) (n : ℕ) (row : ℕ → ConstraintDef) → ((k : ℕ) → k < n → test k ≡ true → P (row k)) → All P (per_where test n row)
+pub all_per_where : (P : ConstraintDef → Type 0) (test : ℕ → Bool) (n : ℕ) (row : ℕ → ConstraintDef)
+    → ((k : ℕ) → k < n → test k ≡ true → P (row k)) → All P (per_where test n row)
 all_per_where P test n row each = all_collected P n (λ k. if test k then row k ∷ [] else []) (λ k l. all_if P (test k) (row k) (each k l))
 
 -- Does P hold of each kind of row that the protocol has, for the analysed task i?

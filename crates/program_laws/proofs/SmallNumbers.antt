@@ -1,5 +1,6 @@
 -- No number of a program is large, since the numbers of an accepted set are in their ranges.
-use Rattle.std.proofs.Common.{◌≡◌, ℕ, zero, suc, ◌+◌, ◌*◌, ◌<◌, ◌≤◌, Bool, List, length, refl, arith, ◌==◌, ◌&&◌, nat_lt, Option, Some, None, inl, inr}
+use Rattle.std.proofs.Common.{◌≡◌, ℕ, zero, suc, ◌+◌, ◌*◌, ◌<◌, ◌≤◌, Bool, List, length, refl, arith, ◌==◌, ◌&&◌}
+use Rattle.std.proofs.Common.{nat_lt, Option, Some, None, inl, inr}
 use Rattle.std.specs.Prelude.{slice_index}
 use Rattle.std.specs.Int.{div_ceil}
 use Rattle.std.specs.Option.{option_map_or}
@@ -52,7 +53,8 @@ length_small set x q accepted here = option_at_most (entry_of set x q) (λ e. e.
     omega (arith, below, numbers.cost_to, numbers.deadline_to, numbers.period_to))
 
 -- A bound within the deadlines is at most the greatest number of ticks.
-bound_small : (set : SetDef) (r : List ℕ) (x : ℕ) → IsAccepted set → AreWithinDeadlines set r → x < length set.tasks → slice_index r x ≤ 1000000000
+bound_small : (set : SetDef) (r : List ℕ) (x : ℕ) → IsAccepted set → AreWithinDeadlines set r → x < length set.tasks
+    → slice_index r x ≤ 1000000000
 bound_small set r x accepted within here =
     let numbers = numbers_of_accepted set x accepted here in
     omega (arith, within.to_deadline x here, numbers.deadline_to, numbers.period_to)
@@ -61,7 +63,8 @@ jobs_small : (set : SetDef) (r : List ℕ) (i x : ℕ) → IsAccepted set → Ar
     → jobs_in set (slice_index r) i x ≤ 2000000000
 jobs_small set r i x accepted within here there =
     let numbers = numbers_of_accepted set x accepted there in
-    let jobs = div_ceil_at_most (slice_index r i + slice_index r x) (task_at set x).period (omega (arith, numbers.cost_from, numbers.cost_to, numbers.deadline_to)) in
+    let jobs = div_ceil_at_most (slice_index r i + slice_index r x) (task_at set x).period
+    (omega (arith, numbers.cost_from, numbers.cost_to, numbers.deadline_to)) in
     omega (arith, jobs, bound_small set r i accepted within here, bound_small set r x accepted within there)
 
 times_at_most : (a b m n : ℕ) → a ≤ m → b ≤ n → a * b ≤ m * n
@@ -70,16 +73,20 @@ times_at_most a b m n h k =
     let right : m * b ≤ m * n = mul-le-mul_left m k in
     omega (arith, left, right)
 
-requests_small : (set : SetDef) (r : List ℕ) (i x q : ℕ) → IsAccepted set → AreWithinDeadlines set r → i < length set.tasks → x < length set.tasks
+requests_small : (set : SetDef) (r : List ℕ) (i x q : ℕ) → IsAccepted set → AreWithinDeadlines set r
+    → i < length set.tasks → x < length set.tasks
     → requests_in set (slice_index r) i x q ≤ 2000000000000
 requests_small set r i x q accepted within here there =
-    times_at_most (count_of set x q) (jobs_in set (slice_index r) i x) 1000 2000000000 (count_small set x q accepted there) (jobs_small set r i x accepted within here there)
+    times_at_most (count_of set x q) (jobs_in set (slice_index r) i x) 1000 2000000000
+    (count_small set x q accepted there) (jobs_small set r i x accepted within here there)
 
 time_small : (set : SetDef) (r : List ℕ) (i x : ℕ) → IsAccepted set → AreWithinDeadlines set r → i < length set.tasks → x < length set.tasks
     → (task_at set x).cost * jobs_in set (slice_index r) i x ≤ 2000000000000000000
 time_small set r i x accepted within here there =
     let numbers = numbers_of_accepted set x accepted there in
-    times_at_most (task_at set x).cost (jobs_in set (slice_index r) i x) 1000000000 2000000000 (omega (arith, numbers.cost_to, numbers.deadline_to, numbers.period_to)) (jobs_small set r i x accepted within here there)
+    times_at_most (task_at set x).cost (jobs_in set (slice_index r) i x) 1000000000 2000000000
+    (omega (arith, numbers.cost_to, numbers.deadline_to, numbers.period_to))
+    (jobs_small set r i x accepted within here there)
 
 all_small : (set : SetDef) (i : ℕ) → IsAccepted set → i < length set.tasks → all_requests set i ≤ 32000
 all_small set i accepted here =
@@ -87,7 +94,8 @@ all_small set i accepted here =
     let sum = sum_at_most (length set.resources) 1000 (λ q. count_of set i q) (λ q l. count_small set i q accepted here) in
     omega (arith, sum, sizes.resources_to)
 
-home_small : (set : SetDef) (i : ℕ) (at : ℕ → Bool) → IsAccepted set → i < length set.tasks → sum_below (length set.resources) (λ q. only_if (at q) (count_of set i q)) ≤ 32000
+home_small : (set : SetDef) (i : ℕ) (at : ℕ → Bool) → IsAccepted set → i < length set.tasks
+    → sum_below (length set.resources) (λ q. only_if (at q) (count_of set i q)) ≤ 32000
 home_small set i at accepted here =
     let sizes = sizes_of_accepted set accepted in
     let sum = sum_at_most (length set.resources) 1000 (λ q. only_if (at q) (count_of set i q)) (λ q l.
@@ -99,20 +107,27 @@ higher_small : (set : SetDef) (r : List ℕ) (i x q : ℕ) → IsAccepted set �
 higher_small set r i x q accepted within here =
     let sizes = sizes_of_accepted set accepted in
     let sum = sum_at_most i 2000000000000 (λ y. only_if (is_beside set x y) (requests_in set (slice_index r) i y q)) (λ y l.
-    omega (arith, only_if-at_most (is_beside set x y) (requests_in set (slice_index r) i y q), requests_small set r i y q accepted within here (omega arith))) in
+    omega (
+      arith,
+      only_if-at_most (is_beside set x y) (requests_in set (slice_index r) i y q),
+      requests_small set r i y q accepted within here (omega arith),
+    )) in
     omega (arith, sum, sizes.tasks_to)
 
 only_if_small : (b : Bool) (n m : ℕ) → n ≤ m → only_if b n ≤ m
 only_if_small b n m h = omega (arith, only_if-at_most b n)
 
 lower_small : (set : SetDef) (i x q : ℕ) → IsAccepted set → i < length set.tasks → lower_holdings set i x q ≤ 1000
-lower_small set i x q accepted here = only_if_small (any_below (length set.tasks) (λ y. nat_lt i y && (is_beside set x y && is_user set q y))) (count_of set i q) 1000 (count_small set i q accepted here)
+lower_small set i x q accepted here =
+    only_if_small (any_below (length set.tasks) (λ y. nat_lt i y && (is_beside set x y && is_user set q y)))
+    (count_of set i q) 1000 (count_small set i q accepted here)
 
 holdings_small : (set : SetDef) (r : List ℕ) (i x : ℕ) → IsAccepted set → AreWithinDeadlines set r → i < length set.tasks
     → holdings set (slice_index r) i x ≤ 4096000000032000
 holdings_small set r i x accepted within here =
     let sizes = sizes_of_accepted set accepted in
-    let sum = sum_at_most (length set.resources) 128000000001000 (λ q. only_if (is_user set q i) (higher_holdings set (slice_index r) i x q + lower_holdings set i x q)) (λ q l.
+    let sum = sum_at_most (length set.resources) 128000000001000
+    (λ q. only_if (is_user set q i) (higher_holdings set (slice_index r) i x q + lower_holdings set i x q)) (λ q l.
     omega (
       arith,
       only_if-at_most (is_user set q i) (higher_holdings set (slice_index r) i x q + lower_holdings set i x q),
@@ -129,9 +144,13 @@ pub record IsSmallRow (r : List ℕ) (row : ConstraintDef) : Type 0 where
 flag_small : (b : Bool) → flag b ≤ 9223372036854775807
 flag_small b = omega (arith, flag-at_most b)
 
-pub rows_small : (p : Protocol) (set : SetDef) (i : ℕ) (r : List ℕ) → IsAccepted set → AreWithinDeadlines set r → i < length set.tasks → EachKind (IsSmallRow r) p set i
+pub rows_small : (p : Protocol) (set : SetDef) (i : ℕ) (r : List ℕ) → IsAccepted set → AreWithinDeadlines set r
+    → i < length set.tasks → EachKind (IsSmallRow r) p set i
 rows_small p set i r accepted within here = record {
-  request = λ x q a b. record { coefficients = λ c. flag_small _; limit = omega (arith, requests_small set r i x q accepted within here a) };
+  request = λ x q a b. record {
+    coefficients = λ c. flag_small _;
+    limit = omega (arith, requests_small set r i x q accepted within here a);
+  };
   time = λ x a. record {
     coefficients = λ c. omega (arith, only_if-at_most (c.task == x) (length_of set x c.resource), length_small set x c.resource accepted a);
     limit = omega (arith, time_small set r i x accepted within here a);
@@ -141,5 +160,8 @@ rows_small p set i r accepted within here = record {
   queue = λ e x a. record { coefficients = λ c. flag_small _; limit = omega (arith, all_small set i accepted here) };
   lower_holder = λ e q b. record { coefficients = λ c. flag_small _; limit = omega (arith, count_small set i q accepted here) };
   holding = λ e x a. record { coefficients = λ c. flag_small _; limit = omega (arith, holdings_small set r i x accepted within here) };
-  home = λ e k b. record { coefficients = λ c. flag_small _; limit = omega (arith, home_small set i (λ q. home_in set q == (k + 1)) accepted here) };
+  home = λ e k b. record {
+    coefficients = λ c. flag_small _;
+    limit = omega (arith, home_small set i (λ q. home_in set q == (k + 1)) accepted here);
+  };
 }

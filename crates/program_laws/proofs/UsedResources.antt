@@ -1,5 +1,6 @@
 -- A task uses at most as many resources as it has request entries, so a program has at most three columns for each entry.
-use Rattle.std.proofs.Common.{◌≡◌, ℕ, zero, suc, ◌*◌, ◌<◌, ◌≤◌, ◌==◌, ◌&&◌, ◌||◌, not, Bool, true, false, nat_lt, List, [], ◌∷◌, length, refl, sym, ◌∙◌, arith, inl, inr, cond, Option, Some}
+use Rattle.std.proofs.Common.{◌≡◌, ℕ, zero, suc, ◌*◌, ◌<◌, ◌≤◌, ◌==◌, ◌&&◌, ◌||◌, not, Bool, true, false, nat_lt, List}
+use Rattle.std.proofs.Common.{[], ◌∷◌, length, refl, sym, ◌∙◌, arith, inl, inr, cond, Option, Some}
 use Rattle.std.specs.Prelude.{find}
 use Rattle.std.specs.List.{All, filter}
 use Rattle.std.specs.Option.{option_map_or}
@@ -37,7 +38,8 @@ step_named true rest e o h later = refl
 step_named false rest e o h later = later h
 
 -- A task that uses a resource has an entry that names it.
-found_named : (es : List RequestDef) (name : List ℕ) → nat_lt 0 (option_map_or (λ e. e.count) (find (λ e. bytes_eq e.resource name) es) 0) ≡ true → named es name ≡ true
+found_named : (es : List RequestDef) (name : List ℕ)
+    → nat_lt 0 (option_map_or (λ e. e.count) (find (λ e. bytes_eq e.resource name) es) 0) ≡ true → named es name ≡ true
 found_named [] name h = absurd cc
 found_named (e ∷ es) name h = step_named (names e name) (named es name) e (find (λ e. bytes_eq e.resource name) es) h (found_named es name)
 
@@ -61,16 +63,24 @@ names_apart set all p q a b same = elim (cases_lt p q) [
 ]
 
 -- A task uses at most as many resources as it has entries.
-pub used_few : (set : SetDef) (x : ℕ) → IsAccepted set → count_below (length set.resources) (λ q. is_user set q x) ≤ length (task_at set x).requests
+pub used_few : (set : SetDef) (x : ℕ) → IsAccepted set
+    → count_below (length set.resources) (λ q. is_user set q x) ≤ length (task_at set x).requests
 used_few set x accepted =
     let entries : List RequestDef = (task_at set x).requests in
-    let named_all = named_few (length set.resources) (λ q. (resource_at set q).name) (names_apart set (names_of_accepted set accepted)) entries in
-    let used = count_below-monotone (length set.resources) (λ q. is_user set q x) (λ q. named entries (resource_at set q).name) (λ q l user. found_named entries (resource_at set q).name user) in
+    let named_all = named_few (length set.resources) (λ q. (resource_at set q).name)
+    (names_apart set (names_of_accepted set accepted)) entries in
+    let used = count_below-monotone (length set.resources) (λ q. is_user set q x)
+    (λ q. named entries (resource_at set q).name) (λ q l user. found_named entries (resource_at set q).name user) in
     omega (arith, named_all, used)
 
-filtered_sum : {X : Type 0} (p : X → Bool) (n : ℕ) (f : ℕ → List X) → length (filter p (collect_below n f)) ≡ sum_below n (λ k. length (filter p (f k)))
+filtered_sum : {X : Type 0} (p : X → Bool) (n : ℕ) (f : ℕ → List X)
+    → length (filter p (collect_below n f)) ≡ sum_below n (λ k. length (filter p (f k)))
 filtered_sum p zero f = refl
-filtered_sum p (suc n) f = rw (filter-append p (collect_below n f) (f n), length-append (filter p (collect_below n f)) (filter p (f n)), filtered_sum p n f) refl
+filtered_sum p (suc n) f = rw (
+  filter-append p (collect_below n f) (f n),
+  length-append (filter p (collect_below n f)) (filter p (f n)),
+  filtered_sum p n f,
+) refl
 
 filtered_none : {X : Type 0} (p : X → Bool) (xs : List X) → All (λ x. p x ≡ false) xs → length (filter p xs) ≡ 0
 filtered_none p [] h = refl
@@ -81,7 +91,8 @@ middle_false true true c h = absurd cc
 middle_false true false c h = refl
 middle_false false b c h = refl
 
-column_apart : (p : Protocol) (set : SetDef) (i x q : ℕ) → is_user set q x ≡ false → (c : ColumnDef) → c.task ≡ x → c.resource ≡ q → is_column p set i c ≡ false
+column_apart : (p : Protocol) (set : SetDef) (i x q : ℕ) → is_user set q x ≡ false → (c : ColumnDef) → c.task ≡ x
+    → c.resource ≡ q → is_column p set i c ≡ false
 column_apart p set i x q none c task resource =
     let unused : is_user set c.resource c.task ≡ false = rw (task, resource) none in
     middle_false (not (c.task == i)) (is_user set c.resource c.task) (may_block p set i c.task c.resource c.class) unused
@@ -96,7 +107,8 @@ class_apart p set i x q none =
     (All-cons P indirect (preemption ∷ []) (column_apart p set i x q none indirect refl refl)
     (All-cons P preemption [] (column_apart p set i x q none preemption refl refl) (All-nil P)))
 
-by_user : (p : Protocol) (set : SetDef) (i x q : ℕ) (b : Bool) → is_user set q x ≡ b → length (filter (is_column p set i) (classes_of x q)) ≤ 3 * flag b
+by_user : (p : Protocol) (set : SetDef) (i x q : ℕ) (b : Bool) → is_user set q x ≡ b
+    → length (filter (is_column p set i) (classes_of x q)) ≤ 3 * flag b
 by_user p set i x q true user = omega (arith, filter_shorter (is_column p set i) (classes_of x q))
 by_user p set i x q false none = omega (arith, filtered_none (is_column p set i) (classes_of x q) (class_apart p set i x q none))
 
@@ -105,7 +117,8 @@ task_columns : (p : Protocol) (set : SetDef) (i x : ℕ) → IsAccepted set
 task_columns p set i x accepted =
     let m = length set.resources in
     let parts = filtered_sum (is_column p set i) m (λ q. classes_of x q) in
-    let each = sum_below-monotone m (λ q. length (filter (is_column p set i) (classes_of x q))) (λ q. 3 * flag (is_user set q x)) (λ q l. by_user p set i x q (is_user set q x) refl) in
+    let each = sum_below-monotone m (λ q. length (filter (is_column p set i) (classes_of x q)))
+    (λ q. 3 * flag (is_user set q x)) (λ q l. by_user p set i x q (is_user set q x) refl) in
     let thrice = sum_below-times m 3 (λ q. flag (is_user set q x)) in
     omega (arith, parts, each, thrice, used_few set x accepted)
 
@@ -115,8 +128,10 @@ columns_at_most p set i accepted =
     let n = length set.tasks in
     let m = length set.resources in
     let parts = filtered_sum (is_column p set i) n (λ x. collect_below m (λ q. classes_of x q)) in
-    let each = sum_below-monotone n (λ x. length (filter (is_column p set i) (collect_below m (λ q. classes_of x q)))) (λ x. 3 * length (task_at set x).requests) (λ x l. task_columns p set i x accepted) in
+    let each = sum_below-monotone n (λ x. length (filter (is_column p set i) (collect_below m (λ q. classes_of x q))))
+    (λ x. 3 * length (task_at set x).requests) (λ x l. task_columns p set i x accepted) in
     let thrice = sum_below-times n 3 (λ x. length (task_at set x).requests) in
-    let all : sum_below n (λ x. length (task_at set x).requests) ≡ request_count set = sum_below-list_by (λ (t : TaskDef). length t.requests) no_task set.tasks in
+    let all : sum_below n (λ x. length (task_at set x).requests) ≡ request_count set =
+    sum_below-list_by (λ (t : TaskDef). length t.requests) no_task set.tasks in
     let sizes = sizes_of_accepted set accepted in
     omega (arith, parts, each, thrice, all, sizes.requests_to)

@@ -23,12 +23,15 @@ use Rattle.program_laws.proofs.SmallNumbers.{IsSmallRow, rows_small, length_smal
 use Rattle.program_laws.proofs.CoveredColumns.{covered}
 use Rattle.program_laws.proofs.ListLengths.{columns_few, rows_few}
 
-pub programs_rise : (p : Protocol) (set : SetDef) (i : ℕ) (r s : List ℕ) → i < length set.tasks → AtMost (length set.tasks) r s → HasLimitsAtMost (program_of p set i r) (program_of p set i s)
+pub programs_rise : (p : Protocol) (set : SetDef) (i : ℕ) (r s : List ℕ) → i < length set.tasks
+    → AtMost (length set.tasks) r s → HasLimitsAtMost (program_of p set i r) (program_of p set i s)
 programs_rise p set i r s here h = record {
   same_costs = refl;
   same_rows = refl;
-  limits = λ k l. index_rises (λ row. row.limit (slice_index r)) (λ row. row.limit (slice_index s)) (rows_there (columns_of p set i) (rows_of p set i))
-      (All-filter (holds_some (columns_of p set i)) (Rises r s) (rows_of p set i) (each_row (Rises r s) p set i (limits_rise p set i r s here h))) k;
+  limits = λ k l. index_rises (λ row. row.limit (slice_index r)) (λ row. row.limit (slice_index s))
+      (rows_there (columns_of p set i) (rows_of p set i))
+      (All-filter (holds_some (columns_of p set i)) (Rises r s) (rows_of p set i)
+      (each_row (Rises r s) p set i (limits_rise p set i r s here h))) k;
 }
 
 all_of : {X : Type 0} (xs : List X) (P : X → Type 0) → ((x : X) → P x) → All P xs
@@ -40,7 +43,8 @@ lengths p set i r =
     let cs : List ColumnDef = columns_of p set i in
     let rows : List ConstraintDef = rows_there cs (rows_of p set i) in
     record {
-      limit_each = length-map rows (λ (k : ConstraintDef). k.limit (slice_index r)) ∙ sym (length-map rows (λ (k : ConstraintDef). map k.coefficient cs));
+      limit_each = length-map rows (λ (k : ConstraintDef). k.limit (slice_index r))
+          ∙ sym (length-map rows (λ (k : ConstraintDef). map k.coefficient cs));
       entry_each = λ k l.
           let here : k < length rows = rw (← length-map rows (λ (k : ConstraintDef). map k.coefficient cs)) l in
           let none : ConstraintDef = record { coefficient = λ c. 0; limit = λ b. 0 } in
@@ -48,29 +52,37 @@ lengths p set i r =
           ∙ (length-map cs (slice_index_or rows k none).coefficient ∙ sym (length-map cs (cost_of set)));
     }
 
-small : (p : Protocol) (set : SetDef) (i : ℕ) (r : List ℕ) → IsAccepted set → AreWithinDeadlines set r → i < length set.tasks → AreSmall (program_of p set i r)
+small : (p : Protocol) (set : SetDef) (i : ℕ) (r : List ℕ) → IsAccepted set → AreWithinDeadlines set r
+    → i < length set.tasks → AreSmall (program_of p set i r)
 small p set i r accepted within here =
     let cs : List ColumnDef = columns_of p set i in
     let rows : List ConstraintDef = rows_there cs (rows_of p set i) in
-    let each : All (IsSmallRow r) rows = All-filter (holds_some cs) (IsSmallRow r) (rows_of p set i) (each_row (IsSmallRow r) p set i (rows_small p set i r accepted within here)) in
+    let each : All (IsSmallRow r) rows = All-filter (holds_some cs) (IsSmallRow r) (rows_of p set i)
+    (each_row (IsSmallRow r) p set i (rows_small p set i r accepted within here)) in
     record {
       costs = index_at_most 9223372036854775807 (map (cost_of set) cs) (All-map (λ n. n ≤ 9223372036854775807) (cost_of set) cs
           (All-weaker (IsKnown (length set.tasks) (length set.resources)) (λ c. cost_of set c ≤ 9223372036854775807)
           (λ c known. omega (arith, length_small set c.task c.resource accepted known.0)) cs (columns_known p set i)));
       entries = entries_at_most 9223372036854775807 (λ (k : ConstraintDef). map k.coefficient cs) rows
           (All-weaker (IsSmallRow r) (λ k. (c : ℕ) → slice_index (map k.coefficient cs) c ≤ 9223372036854775807)
-          (λ k few c. index_at_most 9223372036854775807 (map k.coefficient cs) (All-map (λ n. n ≤ 9223372036854775807) k.coefficient cs (all_of cs (λ c. k.coefficient c ≤ 9223372036854775807) few.coefficients)) c) rows each);
-      limits = index_at_most 9223372036854775807 (limits_of cs (rows_of p set i) r) (All-map (λ n. n ≤ 9223372036854775807) (λ (k : ConstraintDef). k.limit (slice_index r)) rows
+          (λ k few c. index_at_most 9223372036854775807 (map k.coefficient cs)
+          (All-map (λ n. n ≤ 9223372036854775807) k.coefficient cs
+          (all_of cs (λ c. k.coefficient c ≤ 9223372036854775807) few.coefficients)) c) rows each);
+      limits = index_at_most 9223372036854775807 (limits_of cs (rows_of p set i) r)
+          (All-map (λ n. n ≤ 9223372036854775807) (λ (k : ConstraintDef). k.limit (slice_index r)) rows
           (All-weaker (IsSmallRow r) (λ k. k.limit (slice_index r) ≤ 9223372036854775807) (λ k few. few.limit) rows each));
     }
 
-pub written_program : (p : Protocol) (set : SetDef) (i : ℕ) (r : List ℕ) → IsAccepted set → i < length set.tasks → AreWithinDeadlines set r → IsProgram (program_of p set i r)
+pub written_program : (p : Protocol) (set : SetDef) (i : ℕ) (r : List ℕ) → IsAccepted set → i < length set.tasks
+    → AreWithinDeadlines set r → IsProgram (program_of p set i r)
 written_program p set i r accepted here within = record {
   lengths = lengths p set i r;
   covered = covered p set i r;
   small = small p set i r accepted within here;
   columns_to = rw (length-map (columns_of p set i) (cost_of set)) (omega (arith, columns_few p set i accepted));
-  rows_to = rw (length-map (rows_there (columns_of p set i) (rows_of p set i)) (λ (k : ConstraintDef). map k.coefficient (columns_of p set i))) (omega (arith, rows_few p set i accepted));
+  rows_to = rw
+      (length-map (rows_there (columns_of p set i) (rows_of p set i))
+      (λ (k : ConstraintDef). map k.coefficient (columns_of p set i))) (omega (arith, rows_few p set i accepted));
 }
 
 pub interfering_least : (p : Protocol) (set : SetDef) (h : ℕ) → TaskNumbers set h → 1 ≤ interfering_cost p set h

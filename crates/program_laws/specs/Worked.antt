@@ -13,7 +13,15 @@ one_request q length = record { resource = letter q; count = 1; length = length 
 
 -- A task of period 100 on processor k, with this cost.
 abbrev pub task_on : ℕ → ℕ → List RequestDef → TaskDef
-task_on k cost requests = record { name = letter k; processor = k; period = 100; deadline = 100; cost = cost; local = cost; requests = requests }
+task_on k cost requests = record {
+  name = letter k;
+  processor = k;
+  period = 100;
+  deadline = 100;
+  cost = cost;
+  local = cost;
+  requests = requests;
+}
 
 abbrev pub three_tasks : SetDef
 three_tasks = record {

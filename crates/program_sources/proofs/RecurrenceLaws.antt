@@ -34,13 +34,17 @@ only_if_rises : (b : Bool) (m n : ℕ) → m ≤ n → only_if b m ≤ only_if b
 only_if_rises true m n h = h
 only_if_rises false m n h = omega arith
 
-interference_by_rises : (g : ℕ → ℕ) (set : SetDef) (r s : List ℕ) (i h : ℕ) → slice_index r i ≤ slice_index s i → slice_index r h ≤ slice_index s h → interference_by g set r i h ≤ interference_by g set s i h
+interference_by_rises : (g : ℕ → ℕ) (set : SetDef) (r s : List ℕ) (i h : ℕ) → slice_index r i ≤ slice_index s i
+    → slice_index r h ≤ slice_index s h → interference_by g set r i h ≤ interference_by g set s i h
 interference_by_rises g set r s i h own other =
-    let jobs : jobs_within (slice_index r i) (slice_index r h - g h) (task_at set h).period ≤ jobs_within (slice_index s i) (slice_index s h - g h) (task_at set h).period = div_ceil_rises _ _ _ (omega arith) in
+    let jobs : jobs_within (slice_index r i) (slice_index r h - g h) (task_at set h).period
+    ≤ jobs_within (slice_index s i) (slice_index s h - g h) (task_at set h).period =
+    div_ceil_rises _ _ _ (omega arith) in
     mul-le-mul_right (g h) jobs
 
 -- Interference never falls where bounds rise.
-pub interference_rises : (g : ℕ → ℕ) (set : SetDef) (r s : List ℕ) (i : ℕ) → i < length set.tasks → AtMost (length set.tasks) r s → interference_of g set r i ≤ interference_of g set s i
+pub interference_rises : (g : ℕ → ℕ) (set : SetDef) (r s : List ℕ) (i : ℕ) → i < length set.tasks
+    → AtMost (length set.tasks) r s → interference_of g set r i ≤ interference_of g set s i
 interference_rises g set r s i here h = sum_below-monotone i _ _ (λ k below.
     only_if_rises (is_higher_local set i k) _ _ (interference_by_rises g set r s i k (h i here) (h k (omega arith))))
 
@@ -53,14 +57,19 @@ comes_up_above f rise r s i v here h up =
     let more = interference_rises f.interfering f.set r s i here h in
     let least : v ≤ response_with f s i up.blocking = omega (arith, more, up.response) in (
       response_with f s i up.blocking,
-      record { blocking = up.blocking; reached = greater_limits_reach (f.program i r) (f.program i s) up.blocking (rise i r s here h) up.reached; response = refl },
+      record {
+        blocking = up.blocking;
+        reached = greater_limits_reach (f.program i r) (f.program i s) up.blocking (rise i r s here h) up.reached;
+        response = refl;
+      },
       least,
     )
 
 pub never_falls : (f : SourceDef) → LimitsRise f → NeverFalls f
 never_falls f rise r s i v w here h low high =
     let more = interference_rises f.interfering f.set r s i here h in
-    let blocked = greater_limits_greatest (f.program i r) (f.program i s) low.blocking high.blocking (rise i r s here h) low.greatest high.greatest in
+    let blocked = greater_limits_greatest (f.program i r) (f.program i s) low.blocking high.blocking (rise i r s here h)
+    low.greatest high.greatest in
     omega (arith, more, blocked, low.response, high.response)
 
 pub one_response : (f : SourceDef) (r : List ℕ) (i v w : ℕ) → IsResponse f r i v → IsResponse f r i w → v ≡ w
@@ -83,7 +92,8 @@ valid_fits f c valid = record {
   one_each = valid.bound_each;
   kept = λ i v here up.
       let shown = valid.proved i here in
-      let blocked = dual_bounds (f.program i c.bounds) (dual_at c.duals i).den (λ r. slice_index (dual_at c.duals i).num r) up.blocking shown.feasible.covers up.reached in
+      let blocked = dual_bounds (f.program i c.bounds) (dual_at c.duals i).den
+      (λ r. slice_index (dual_at c.duals i).num r) up.blocking shown.feasible.covers up.reached in
       let least : up.blocking ≤ value_at f c i = blocked in
       let enough : response_with f c.bounds i (value_at f c i) ≤ slice_index c.bounds i = shown.enough in
       omega (arith, least, enough, up.response);

@@ -35,4 +35,5 @@ NeverFalls f = (r s : List ℕ) (i v w : ℕ) → i < tasks_of f → AtMost (tas
 
 -- And does with each response time that comes up at some bounds one that is no less come up at greater bounds?
 abbrev pub ComesUpAbove : SourceDef → Type 0
-ComesUpAbove f = (r s : List ℕ) (i v : ℕ) → i < tasks_of f → AtMost (tasks_of f) r s → ComesUp f r i v → (w : ℕ) × (ComesUp f s i w) × (v ≤ w)
+ComesUpAbove f = (r s : List ℕ) (i v : ℕ) → i < tasks_of f → AtMost (tasks_of f) r s → ComesUp f r i v
+    → (w : ℕ) × (ComesUp f s i w) × (v ≤ w)

@@ -36,6 +36,7 @@ pub table_of_two : table_text two ≡ header ++ ((task_line first ++ task_line s
 table_of_two = refl
 
 -- The first task's line with a bound of 5 and a blocking of 2: 5 ticks are left before the deadline.
-pub full_line_of_first : full_line first 5 2 ≡ codes "t1                                1         10         10          3          3          5          2          5\n"
+pub full_line_of_first : full_line first 5 2 ≡ codes
+    "t1                                1         10         10          3          3          5          2          5\n"
 unfolding digits
 full_line_of_first = refl

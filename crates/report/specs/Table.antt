@@ -14,7 +14,8 @@ header = task_words ++ codes "\n"
 
 -- A task's period, deadline, cost and local limit, on the right in 11 places each.
 abbrev pub ticks_columns : TaskDef → List ℕ
-ticks_columns t = right 11 (decimal t.period) ++ (right 11 (decimal t.deadline) ++ (right 11 (decimal t.cost) ++ right 11 (decimal t.local)))
+ticks_columns t = right 11 (decimal t.period)
+    ++ (right 11 (decimal t.deadline) ++ (right 11 (decimal t.cost) ++ right 11 (decimal t.local)))
 
 -- A task's columns: its name on the left in 32 places, its processor on the right in 3, and its ticks. And its line.
 abbrev pub task_columns : TaskDef → List ℕ
@@ -26,7 +27,8 @@ task_line t = task_columns t ++ codes "\n"
 -- The load of a processor in millionths: the part of the time that each of its tasks takes at most, each
 -- rounded down, in all.
 abbrev pub load_of : SetDef → ℕ → ℕ
-load_of set k = sum_below (length set.tasks) (λ x. only_if ((task_at set x).processor == k) ((task_at set x).cost * 1000000 / (task_at set x).period))
+load_of set k = sum_below (length set.tasks)
+    (λ x. only_if ((task_at set x).processor == k) ((task_at set x).cost * 1000000 / (task_at set x).period))
 
 -- The line of a processor's load.
 abbrev pub load_line : SetDef → ℕ → List ℕ

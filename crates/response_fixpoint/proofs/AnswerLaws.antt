@@ -1,5 +1,6 @@
 -- What the answers of the analysis mean, from how the rounds end.
-use Rattle.std.proofs.Common.{◌≡◌, ◌≢◌, ℕ, suc, ◌+◌, ◌-◌, ◌*◌, ◌<◌, ◌≤◌, ◌↔◌, List, length, map, refl, sym, ◌∙◌, ap, subst, arith, Ok, Err, IfOk}
+use Rattle.std.proofs.Common.{◌≡◌, ◌≢◌, ℕ, suc, ◌+◌, ◌-◌, ◌*◌, ◌<◌, ◌≤◌, ◌↔◌, List, length, map, refl, sym, ◌∙◌, ap}
+use Rattle.std.proofs.Common.{subst, arith, Ok, Err, IfOk}
 use Rattle.std.specs.Prelude.{Result, IsErrOf, slice_index}
 use Rattle.program_form.specs.Certificate.{DualDef, dual_seen}
 use Rattle.program_sources.specs.Bounds.{AreWithinDeadlines, AreFromCostsAbove, IsInRange}
@@ -8,9 +9,11 @@ use Rattle.program_sources.specs.Fitting.{AreFitting, NeverFalls, ComesUpAbove, 
 use Rattle.sporadic_model.specs.SetDef.{SetDef}
 use Rattle.simplex.specs.declared.SolveStop.{SolveStop}
 use Rattle.simplex.specs.declared.SolveStop.TheVariants as solve_stop
-use Rattle.response_fixpoint.specs.Rounds.{RunEnd, Valued, TooWide, OutOfUnits, Ending, Schedulable, NotShown, Wide, Allowance, Found, with_task, Passes, Reaches, ComesTo, EndsIn}
+use Rattle.response_fixpoint.specs.Rounds.{RunEnd, Valued, TooWide, OutOfUnits, Ending, Schedulable, NotShown, Wide}
+use Rattle.response_fixpoint.specs.Rounds.{Allowance, Found, with_task, Passes, Reaches, ComesTo, EndsIn}
 use Rattle.response_fixpoint.specs.Runs.{TaskRuns, rounds_of, HasNoColumns, slack_of}
-use Rattle.response_fixpoint.specs.Answers.{Answers, IsAnswerOf, IsRight, IsSchedulable, GivesRun, TakesRun, Halts, GivesRound, IsSettled, found_of, answer_at, stop_at}
+use Rattle.response_fixpoint.specs.Answers.{Answers, IsAnswerOf, IsRight, IsSchedulable, GivesRun, TakesRun, Halts}
+use Rattle.response_fixpoint.specs.Answers.{GivesRound, IsSettled, found_of, answer_at, stop_at}
 use Rattle.response_fixpoint.specs.declared.verdict.Verdict.{Verdict}
 use Rattle.response_fixpoint.specs.declared.verdict.Verdict.TheVariants as verdict
 use Rattle.response_fixpoint.specs.declared.verdict.Stop.{Stop}
@@ -25,7 +28,8 @@ use Rattle.response_fixpoint.proofs.RunLaws.{one_ending, round_value, rounds_nev
 use Rattle.response_fixpoint.proofs.EndLaws.{schedulable_best, not_shown_none}
 
 -- Rounds end in one way, so their end is the one of the answer.
-pub only_of : (f : SourceDef) (allowance : ℕ) (r : Result Verdict Stop) → Answers r f allowance → (e : Ending) → EndsIn (rounds_of f) allowance e → IsAnswerOf r e
+pub only_of : (f : SourceDef) (allowance : ℕ) (r : Result Verdict Stop) → Answers r f allowance → (e : Ending)
+    → EndsIn (rounds_of f) allowance e → IsAnswerOf r e
 only_of f allowance (Ok (verdict.Schedulable certificate)) answers e ends =
     one_ending f allowance e (Schedulable certificate.bounds.items (map dual_seen certificate.duals.items)) ends answers
 only_of f allowance (Ok (verdict.NotShown task bound)) answers e ends = one_ending f allowance e (NotShown task.0 bound) ends answers
@@ -34,14 +38,16 @@ only_of f allowance (Err stop.Allowance) answers e ends = one_ending f allowance
 only_of f allowance (Err stop.Memory) answers e ends = tt
 
 -- The verdict of rounds that end so is right.
-pub right_of : (f : SourceDef) (allowance : ℕ) (r : Result Verdict Stop) → ComesUpAbove f → Answers r f allowance → IfOk r (λ v. IsRight v f)
+pub right_of : (f : SourceDef) (allowance : ℕ) (r : Result Verdict Stop) → ComesUpAbove f → Answers r f allowance
+    → IfOk r (λ v. IsRight v f)
 right_of f allowance (Ok (verdict.Schedulable certificate)) above ends =
     schedulable_best f allowance certificate.bounds.items (map dual_seen certificate.duals.items) above ends
 right_of f allowance (Ok (verdict.NotShown task bound)) above ends = not_shown_none f allowance task.0 bound above ends
 right_of f allowance (Err e) above ends = tt
 
 -- It comes exactly where it is right.
-pub exactly_of : (f : SourceDef) (r : Result Verdict Stop) → IfOk r (λ v. IsRight v f) → IfOk r (λ v. IsSchedulable v ↔ ((s : List ℕ) × AreFitting f s))
+pub exactly_of : (f : SourceDef) (r : Result Verdict Stop) → IfOk r (λ v. IsRight v f)
+    → IfOk r (λ v. IsSchedulable v ↔ ((s : List ℕ) × AreFitting f s))
 exactly_of f (Ok (verdict.Schedulable certificate)) right = ((λ _. (certificate.bounds.items, right.least.fitting)), λ _. tt)
 exactly_of f (Ok (verdict.NotShown task bound)) right = ((λ h. absurd h), λ h. absurd (right h.0 h.1))
 exactly_of f (Err e) right = tt
@@ -55,7 +61,8 @@ never_wide_of f allowance (Err stop.Allowance) ends none task is = cc
 never_wide_of f allowance (Err stop.Memory) ends none task is = cc
 
 -- And an allowance with a unit for each task and each tick of slack, and one round more, is enough.
-pub never_short_of : (f : SourceDef) (allowance : ℕ) (r : Result Verdict Stop) → NeverFalls f → CostsFit f → Answers r f allowance → HasNoColumns f
+pub never_short_of : (f : SourceDef) (allowance : ℕ) (r : Result Verdict Stop) → NeverFalls f → CostsFit f
+    → Answers r f allowance → HasNoColumns f
     → tasks_of f * (1 + slack_of f) ≤ allowance → IsErrOf r stop.Allowance → ⊥
 never_short_of f allowance (Ok v) monotone fit ends none enough is = cc
 never_short_of f allowance (Err (stop.Wide task)) monotone fit ends none enough is = cc
@@ -81,18 +88,21 @@ passes_more f r left i before run passed runs within =
     subst (λ (k : ℕ). Passes (rounds_of f) r left k after) count next
 
 -- A solved run takes units that are there, and at least one.
-pub run_units : (f : SourceDef) (r : List ℕ) (i left used value : ℕ) (dual : DualDef) → TaskRuns f r i left (Valued used value dual) → (1 ≤ used) × (used ≤ left)
+pub run_units : (f : SourceDef) (r : List ℕ) (i left used value : ℕ) (dual : DualDef)
+    → TaskRuns f r i left (Valued used value dual) → (1 ≤ used) × (used ≤ left)
 run_units f r i left used value dual run = (omega (arith, run.ends.units), omega (arith, run.ends.units, run.ends.ends.within))
 
 -- A round ends where a run stops.
-pub run_halts : (f : SourceDef) (r : List ℕ) (left i : ℕ) (found : Found) (e : SolveStop) → i < tasks_of f → Passes (rounds_of f) r left i found
+pub run_halts : (f : SourceDef) (r : List ℕ) (left i : ℕ) (found : Found) (e : SolveStop) → i < tasks_of f
+    → Passes (rounds_of f) r left i found
     → GivesRun (Err e) f r i (left - found.used) → GivesRound (Err (stop_at e i)) f r left
 run_halts f r left i found solve_stop.Wide here passed run = record { found = found; below = here; passed = passed; run = run }
 run_halts f r left i found solve_stop.Units here passed run = (i, record { found = found; below = here; passed = passed; run = run })
 run_halts f r left i found solve_stop.Memory here passed run = tt
 
 -- It ends at a value that passes the deadline.
-pub value_halts : (f : SourceDef) (r : List ℕ) (left i deadline : ℕ) (before now : Round) (run : TaskRun) (e : RoundStop) → i < tasks_of f → deadline ≡ deadline_of f i
+pub value_halts : (f : SourceDef) (r : List ℕ) (left i deadline : ℕ) (before now : Round) (run : TaskRun)
+    (e : RoundStop) → i < tasks_of f → deadline ≡ deadline_of f i
     → Passes (rounds_of f) r left i (found_of before)
     → TaskRuns f r i (left - before.used) (Valued run.solution.used run.value (dual_seen run.solution.dual))
     → TakesRun (Err e) before now run i deadline → GivesRound (Err e) f r left
@@ -101,10 +111,14 @@ value_halts f r left i deadline before now run (round_stop.NotShown task bound) 
       found = found_of before;
       below = here;
       passed = passed;
-      run = subst (λ (v : ℕ). TaskRuns f r i (left - before.used) (Valued run.solution.used v (dual_seen run.solution.dual))) (sym value) runs;
+      run = subst
+          (λ (v : ℕ). TaskRuns f r i (left - before.used) (Valued run.solution.used v (dual_seen run.solution.dual)))
+          (sym value) runs;
     } in
     let late : deadline_of f i < bound = omega (arith, is, value, past) in
-    subst (λ (k : ℕ). (deadline_of f k < bound) × (used : ℕ) × (dual : DualDef) × Halts f r left k (Valued used bound dual)) (sym same) (late, run.solution.used, dual_seen run.solution.dual, halts)
+    subst
+    (λ (k : ℕ). (deadline_of f k < bound) × (used : ℕ) × (dual : DualDef) × Halts f r left k (Valued used bound dual))
+    (sym same) (late, run.solution.used, dual_seen run.solution.dual, halts)
 value_halts f r left i deadline before now run (round_stop.Wide task) here is passed runs given = absurd given
 value_halts f r left i deadline before now run round_stop.Allowance here is passed runs given = absurd given
 value_halts f r left i deadline before now run round_stop.Memory here is passed runs given = tt
@@ -116,8 +130,17 @@ comes_there f allowance k spent r i e reached h = record { rounds = k; spent = s
 -- A round that ends the rounds gives their end.
 pub ended_answers : (f : SourceDef) (allowance k spent : ℕ) (r : List ℕ) (e : RoundStop) → Reaches (rounds_of f) allowance k spent r
     → GivesRound (Err e) f r (allowance - spent) → Answers (answer_at e) f allowance
-ended_answers f allowance k spent r (round_stop.NotShown task bound) reached (late, used, dual, h) =
-    (r, allowance - spent - h.found.used, h.found, used, dual, h.below, comes_there f allowance k spent r task.0 (Valued used bound dual) reached h, h.run, late)
+ended_answers f allowance k spent r (round_stop.NotShown task bound) reached (late, used, dual, h) = (
+  r,
+  allowance - spent - h.found.used,
+  h.found,
+  used,
+  dual,
+  h.below,
+  comes_there f allowance k spent r task.0 (Valued used bound dual) reached h,
+  h.run,
+  late,
+)
 ended_answers f allowance k spent r (round_stop.Wide task) reached h =
     (r, allowance - spent - h.found.used, h.found, h.below, comes_there f allowance k spent r task.0 TooWide reached h, h.run)
 ended_answers f allowance k spent r round_stop.Allowance reached (i, h) =
@@ -138,15 +161,18 @@ settled_answers f allowance (Err stop.Memory) bounds duals ends given = tt
 
 -- A round that gives the vector that it began with ends them too.
 pub settled_ends : (f : SourceDef) (allowance k spent : ℕ) (r : List ℕ) (found : Found) → Reaches (rounds_of f) allowance k spent r
-    → Passes (rounds_of f) r (allowance - spent) (tasks_of f) found → found.values ≡ r → EndsIn (rounds_of f) allowance (Schedulable found.values found.duals)
+    → Passes (rounds_of f) r (allowance - spent) (tasks_of f) found → found.values ≡ r
+    → EndsIn (rounds_of f) allowance (Schedulable found.values found.duals)
 settled_ends f allowance k spent r found reached passed same =
-    let comes : ComesTo (rounds_of f) allowance r (tasks_of f) (allowance - spent - found.used) found = record { rounds = k; spent = spent; reached = reached; passed = passed; units = refl } in
+    let comes : ComesTo (rounds_of f) allowance r (tasks_of f) (allowance - spent - found.used) found =
+    record { rounds = k; spent = spent; reached = reached; passed = passed; units = refl } in
     let moved : ComesTo (rounds_of f) allowance found.values (tasks_of f) (allowance - spent - found.used) found =
     subst (λ (v : List ℕ). ComesTo (rounds_of f) allowance v (tasks_of f) (allowance - spent - found.used) found) (sym same) comes in
     (allowance - spent - found.used, found, moved, refl, refl)
 
 -- The next vector of a round is in range again.
-pub next_in_range : (f : SourceDef) (r : List ℕ) (left : ℕ) (found : Found) → Passes (rounds_of f) r left (tasks_of f) found → IsInRange f.set found.values
+pub next_in_range : (f : SourceDef) (r : List ℕ) (left : ℕ) (found : Found)
+    → Passes (rounds_of f) r left (tasks_of f) found → IsInRange f.set found.values
 next_in_range f r left found passed = record {
   one_each = values_length (rounds_of f) r left (tasks_of f) found passed;
   from_cost = λ i here. cost_below f r i (slice_index found.values i) (round_value f r left found passed i here).0;

@@ -24,7 +24,8 @@ first_table p = record { cell = λ i v. whole (pos (first_number p i v)); basic 
 -- The objective row holds no number above zero.
 no_cost : (p : ProgramDef) (v : ℕ) → columns p ≡ 0 → v < variables p → first_number p (height p) v ≡ 0
 no_cost p v none here =
-    first_of-other (columns p) (first_entries p (height p)) (slack p (height p)) (variables p) (first_limit p (height p)) v (omega (arith, none)) here (λ is. absurd (omega (arith, is, here)))
+    first_of-other (columns p) (first_entries p (height p)) (slack p (height p)) (variables p)
+    (first_limit p (height p)) v (omega (arith, none)) here (λ is. absurd (omega (arith, is, here)))
 
 is_last : (p : ProgramDef) → columns p ≡ 0 → IsLast p (first_table p)
 is_last p none = record { none = λ v here. subst (λ (k : ℕ). pos k ≤ℤ pos 0) (sym (no_cost p v none here)) (omega (arith, ints)) }
@@ -60,7 +61,8 @@ are_scaled n = record {
 }
 
 -- The run ends with any units at all.
-pub empty_end : (p : ProgramDef) (units : ℕ) → columns p ≡ 0 → 0 < units → EndsWithin p units 0 (value_of p (first_table p)) [] (empty_dual p)
+pub empty_end : (p : ProgramDef) (units : ℕ) → columns p ≡ 0 → 0 < units
+    → EndsWithin p units 0 (value_of p (first_table p)) [] (empty_dual p)
 empty_end p units none some = record {
   table = first_table p;
   run = record { reached = record { cells = λ i v l. refl; basis = λ i l. refl }; last = is_last p none };

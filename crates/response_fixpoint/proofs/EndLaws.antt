@@ -86,7 +86,8 @@ optimal_valid f bounds duals fits best = record {
       record {
         within = fits.within i here;
         feasible = optimal.feasible;
-        enough = fits.kept i (response_with f bounds i (value_at f c i)) here (record { blocking = value_at f c i; reached = reached.reached; response = refl });
+        enough = fits.kept i (response_with f bounds i (value_at f c i)) here
+            (record { blocking = value_at f c i; reached = reached.reached; response = refl });
       };
 }
 
@@ -96,10 +97,16 @@ pub schedulable_best : (f : SourceDef) (allowance : ℕ) (bounds : List ℕ) (du
 schedulable_best f allowance bounds duals above ends =
     let least = schedulable_least f allowance bounds duals above ends in
     let optimal = schedulable_optimal f allowance bounds duals ends in
-    record { least = least; optimal = optimal; valid = optimal_valid f bounds duals least.fitting optimal; small = schedulable_small f allowance bounds duals ends }
+    record {
+      least = least;
+      optimal = optimal;
+      valid = optimal_valid f bounds duals least.fitting optimal;
+      small = schedulable_small f allowance bounds duals ends;
+    }
 
 -- Rounds that end in NotShown show that nothing fits.
-pub not_shown_none : (f : SourceDef) (allowance i v : ℕ) → ComesUpAbove f → EndsIn (rounds_of f) allowance (NotShown i v) → (s : List ℕ) → AreFitting f s → ⊥
+pub not_shown_none : (f : SourceDef) (allowance i v : ℕ) → ComesUpAbove f
+    → EndsIn (rounds_of f) allowance (NotShown i v) → (s : List ℕ) → AreFitting f s → ⊥
 not_shown_none f allowance i v above (r, left, found, used, dual, here, comes, run, passes) =
     let low = reached_low f allowance comes.rounds comes.spent r above comes.reached in
     none_fits f r i v above low.below here (response_comes_up f r i v run.ends.response) passes

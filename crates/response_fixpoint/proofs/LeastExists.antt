@@ -55,7 +55,8 @@ next_has f covered r = (
 )
 
 -- Where some bounds fit, the least that fit are there.
-pub least_exists : (f : SourceDef) → EachIsCovered f → ComesUpAbove f → NeverFalls f → (s : List ℕ) → AreFitting f s → (b : List ℕ) × AreLeastFitting f b
+pub least_exists : (f : SourceDef) → EachIsCovered f → ComesUpAbove f → NeverFalls f → (s : List ℕ) → AreFitting f s
+    → (b : List ℕ) × AreLeastFitting f b
 least_exists f covered above monotone s fits =
     let n = tasks_of f in
     let first = next_has f covered (costs_of f) in

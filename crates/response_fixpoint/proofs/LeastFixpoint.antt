@@ -57,7 +57,8 @@ least_from f next above monotone steps s fits fuel r one_each below rises enough
   settled r one_each below rises same =
       let step = steps r in
       let at : (i : ℕ) → i < tasks_of f → slice_index r i ≡ slice_index (next r) i = same_total (tasks_of f) r (next r) rises same in
-      let holds : (i : ℕ) → i < tasks_of f → IsResponse f r i (slice_index r i) = λ i here. subst (λ v. IsResponse f r i v) (sym (at i here)) (step.1 i here) in
+      let holds : (i : ℕ) → i < tasks_of f → IsResponse f r i (slice_index r i) =
+      λ i here. subst (λ v. IsResponse f r i v) (sym (at i here)) (step.1 i here) in
       let within : (i : ℕ) → i < tasks_of f → slice_index r i ≤ deadline_of f i = λ i here.
       let low : slice_index r i ≤ slice_index s i = below s fits i here in
       let high : slice_index s i ≤ deadline_of f i = fits.within i here in
@@ -74,7 +75,8 @@ least_from f next above monotone steps s fits fuel r one_each below rises enough
       settled r one_each below rises (omega (arith, most, enough))
   go (suc fuel) r one_each below rises enough =
       let rises_too : AtMost (tasks_of f) (next r) (next (next r)) = λ i here.
-      monotone r (next r) i (slice_index (next r) i) (slice_index (next (next r)) i) here rises ((steps r).1 i here) ((steps (next r)).1 i here) in
+      monotone r (next r) i (slice_index (next r) i) (slice_index (next (next r)) i) here rises ((steps r).1 i here)
+      ((steps (next r)).1 i here) in
       elim (cases_lt (total (tasks_of f) r) (total (tasks_of f) (next r))) [
         | inl grows ↦ go fuel (next r) (steps r).0 (below_too r below) rises_too (omega (arith, grows, enough))
         | inr same ↦ settled r one_each below rises same

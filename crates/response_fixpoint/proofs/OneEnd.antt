@@ -2,7 +2,8 @@
 use Rattle.std.proofs.Common.{◌≡◌, ◌≢◌, ℕ, zero, suc, ◌+◌, ◌-◌, ◌<◌, ◌≤◌, List, refl, sym, ◌∙◌, ap, subst, arith, inl, inr, ◌⊎◌}
 use Rattle.std.proofs.lemmas.Bool.{cases_lt}
 use Rattle.program_form.specs.Certificate.{DualDef}
-use Rattle.response_fixpoint.specs.Rounds.{RunEnd, Valued, TooWide, OutOfUnits, Ending, Schedulable, NotShown, Wide, Allowance, Found, with_task, RoundsOf, Passes, Reaches, ComesTo, EndsIn}
+use Rattle.response_fixpoint.specs.Rounds.{RunEnd, Valued, TooWide, OutOfUnits, Ending, Schedulable, NotShown, Wide}
+use Rattle.response_fixpoint.specs.Rounds.{Allowance, Found, with_task, RoundsOf, Passes, Reaches, ComesTo, EndsIn}
 use Rattle.response_fixpoint.proofs.RoundLaws.{passed_task}
 
 -- Does each run have one end?
@@ -13,12 +14,14 @@ passes_once : (o : RoundsOf) → HaveOneEnd o → (r : List ℕ) (left i : ℕ) 
 passes_once o one r left zero f g p q = p ∙ sym q
 passes_once o one r left (suc i) f g (b, u, v, d, p, run, within, is) (c, u', v', d', q, run', within', is') =
     let same : b ≡ c = passes_once o one r left i b c p q in
-    let moved : o.runs r i (left - b.used) (Valued u' v' d') = subst (λ (x : Found). o.runs r i (left - x.used) (Valued u' v' d')) (sym same) run' in
+    let moved : o.runs r i (left - b.used) (Valued u' v' d') =
+    subst (λ (x : Found). o.runs r i (left - x.used) (Valued u' v' d')) (sym same) run' in
     let ends : Valued u v d ≡ Valued u' v' d' = one r i (left - b.used) (Valued u v d) (Valued u' v' d') run moved in
     let us : u ≡ u' = cc in
     let vs : v ≡ v' = cc in
     let ds : d ≡ d' = cc in
-    is ∙ ap (λ x. with_task x u v d) same ∙ ap (λ x. with_task c x v d) us ∙ ap (λ x. with_task c u' x d) vs ∙ ap (λ x. with_task c u' v' x) ds ∙ sym is'
+    is ∙ ap (λ x. with_task x u v d) same ∙ ap (λ x. with_task c x v d) us ∙ ap (λ x. with_task c u' x d) vs
+    ∙ ap (λ x. with_task c u' v' x) ds ∙ sym is'
 
 reaches_once : (o : RoundsOf) → HaveOneEnd o → (a k u v : ℕ) (r s : List ℕ) → Reaches o a k u r → Reaches o a k v s → (u ≡ v) × (r ≡ s)
 reaches_once o one a zero u v r s p q = (p.0 ∙ sym q.0, p.1 ∙ sym q.1)
@@ -26,7 +29,8 @@ reaches_once o one a (suc k) u v r s (b, q, f, reached, passed, is, differs, sum
     let same = reaches_once o one a k b c q q' reached reached' in
     let units : b ≡ c = same.0 in
     let vector : q ≡ q' = same.1 in
-    let moved : Passes o q' (a - c) o.tasks f = subst (λ (x : ℕ). Passes o q' (a - x) o.tasks f) units (subst (λ (x : List ℕ). Passes o x (a - b) o.tasks f) vector passed) in
+    let moved : Passes o q' (a - c) o.tasks f = subst (λ (x : ℕ). Passes o q' (a - x) o.tasks f) units
+    (subst (λ (x : List ℕ). Passes o x (a - b) o.tasks f) vector passed) in
     let founds : f ≡ g = passes_once o one q' (a - c) o.tasks f g moved passed' in
     (sum ∙ ap (λ x. x + f.used) units ∙ ap (λ x. c + x.used) founds ∙ sym sum', is ∙ ap (λ x. x.values) founds ∙ sym is')
 
@@ -79,23 +83,44 @@ record Place (o : RoundsOf) (a : ℕ) (e : Ending) : Type 0 where
   passed : Passes o vector (a - spent) task found
   ends : AtTask o vector task (a - spent - found.used) e ⊎ AtEnd o vector task found e
 
-place_of : (o : RoundsOf) (a : ℕ) (r : List ℕ) (i left : ℕ) (found : Found) (e : Ending) (run : RunEnd) → i < o.tasks → ComesTo o a r i left found → o.runs r i left run → Stops i (o.deadline i) run e → Place o a e
+place_of : (o : RoundsOf) (a : ℕ) (r : List ℕ) (i left : ℕ) (found : Found) (e : Ending) (run : RunEnd) → i < o.tasks
+    → ComesTo o a r i left found → o.runs r i left run → Stops i (o.deadline i) run e → Place o a e
 place_of o a r i left found e run below comes runs stops =
     let moved : o.runs r i (a - comes.spent - found.used) run = subst (λ (x : ℕ). o.runs r i x run) comes.units runs in
     let here : AtTask o r i (a - comes.spent - found.used) e = record { below = below; run = run; runs = moved; stops = stops } in
-    record { rounds = comes.rounds; spent = comes.spent; vector = r; task = i; found = found; reached = comes.reached; passed = comes.passed; ends = inl here }
+    record {
+      rounds = comes.rounds;
+      spent = comes.spent;
+      vector = r;
+      task = i;
+      found = found;
+      reached = comes.reached;
+      passed = comes.passed;
+      ends = inl here;
+    }
 
 place : (o : RoundsOf) (a : ℕ) (e : Ending) → EndsIn o a e → Place o a e
 place o a (Schedulable bounds duals) (left, found, comes, same, rest) =
-    let here : AtEnd o bounds o.tasks found (Schedulable bounds duals) = record { last = refl; same = same; is = ap (λ x. Schedulable bounds x) (sym rest) } in
-    record { rounds = comes.rounds; spent = comes.spent; vector = bounds; task = o.tasks; found = found; reached = comes.reached; passed = comes.passed; ends = inr here }
+    let here : AtEnd o bounds o.tasks found (Schedulable bounds duals) =
+    record { last = refl; same = same; is = ap (λ x. Schedulable bounds x) (sym rest) } in
+    record {
+      rounds = comes.rounds;
+      spent = comes.spent;
+      vector = bounds;
+      task = o.tasks;
+      found = found;
+      reached = comes.reached;
+      passed = comes.passed;
+      ends = inr here;
+    }
 place o a (NotShown i value) (r, left, found, used, dual, below, comes, run, passes) =
     place_of o a r i left found (NotShown i value) (Valued used value dual) below comes run (passes, refl)
 place o a (Wide i) (r, left, found, below, comes, run) = place_of o a r i left found (Wide i) TooWide below comes run refl
 place o a Allowance (r, i, left, found, below, comes, run) = place_of o a r i left found Allowance OutOfUnits below comes run refl
 
 -- No end stands at a task that passes.
-stops_pass : (i deadline used value : ℕ) (dual : DualDef) (e : Ending) (run : RunEnd) → run ≡ Valued used value dual → value ≤ deadline → Stops i deadline run e → ⊥
+stops_pass : (i deadline used value : ℕ) (dual : DualDef) (e : Ending) (run : RunEnd) → run ≡ Valued used value dual
+    → value ≤ deadline → Stops i deadline run e → ⊥
 stops_pass i deadline used value dual e (Valued u v d) same within stops = let vs : v ≡ value = cc in absurd (omega (arith, stops.0))
 stops_pass i deadline used value dual e TooWide same within stops = cc
 stops_pass i deadline used value dual e OutOfUnits same within stops = cc
@@ -105,7 +130,8 @@ task_passes : (o : RoundsOf) → HaveOneEnd o → (r : List ℕ) (left i j : ℕ
 task_passes o one r left i j f g e p q below ends =
     let t = passed_task o r left j g q i below in
     let same : t.before ≡ f = passes_once o one r left i t.before f t.passed p in
-    let moved : o.runs r i (left - f.used) (Valued t.used t.value t.dual) = subst (λ (x : Found). o.runs r i (left - x.used) (Valued t.used t.value t.dual)) same t.run in
+    let moved : o.runs r i (left - f.used) (Valued t.used t.value t.dual) =
+    subst (λ (x : Found). o.runs r i (left - x.used) (Valued t.used t.value t.dual)) same t.run in
     let is : ends.run ≡ Valued t.used t.value t.dual = one r i (left - f.used) ends.run (Valued t.used t.value t.dual) ends.runs moved in
     stops_pass i (o.deadline i) t.used t.value t.dual e ends.run is t.within ends.stops
 
@@ -114,11 +140,13 @@ round_passes : (o : RoundsOf) → HaveOneEnd o → (a : ℕ) (e : Ending) (p : P
 round_passes o one a e p w =
     let both = reaches_once o one a p.rounds w.spent p.spent w.vector p.vector w.reached p.reached in
     let moved : Passes o p.vector (a - p.spent) o.tasks w.found =
-    subst (λ (x : ℕ). Passes o p.vector (a - x) o.tasks w.found) both.0 (subst (λ (x : List ℕ). Passes o x (a - w.spent) o.tasks w.found) both.1 w.passed) in
+    subst (λ (x : ℕ). Passes o p.vector (a - x) o.tasks w.found) both.0
+    (subst (λ (x : List ℕ). Passes o x (a - w.spent) o.tasks w.found) both.1 w.passed) in
     elim p.ends [
       | inl ends ↦ task_passes o one p.vector (a - p.spent) p.task o.tasks p.found w.found e p.passed moved ends.below ends
       | inr ends ↦
-          let whole : Passes o p.vector (a - p.spent) o.tasks p.found = subst (λ (x : ℕ). Passes o p.vector (a - p.spent) x p.found) ends.last p.passed in
+          let whole : Passes o p.vector (a - p.spent) o.tasks p.found =
+          subst (λ (x : ℕ). Passes o p.vector (a - p.spent) x p.found) ends.last p.passed in
           let founds : w.found ≡ p.found = passes_once o one p.vector (a - p.spent) o.tasks w.found p.found moved whole in
           w.differs (both.1 ∙ sym ends.same ∙ ap (λ x. x.values) (sym founds))
     ]
@@ -159,7 +187,8 @@ same_round o one a e f p q same =
     let moved : Reaches o a q.rounds p.spent p.vector = subst (λ (x : ℕ). Reaches o a x p.spent p.vector) same p.reached in
     let both = reaches_once o one a q.rounds p.spent q.spent p.vector q.vector moved q.reached in
     let passed : Passes o q.vector (a - q.spent) p.task p.found =
-    subst (λ (x : ℕ). Passes o q.vector (a - x) p.task p.found) both.0 (subst (λ (x : List ℕ). Passes o x (a - p.spent) p.task p.found) both.1 p.passed) in
+    subst (λ (x : ℕ). Passes o q.vector (a - x) p.task p.found) both.0
+    (subst (λ (x : List ℕ). Passes o x (a - p.spent) p.task p.found) both.1 p.passed) in
     let ends : AtTask o q.vector p.task (a - q.spent - p.found.used) e ⊎ AtEnd o q.vector p.task p.found e =
     subst (λ (x : ℕ). AtTask o q.vector p.task (a - x - p.found.used) e ⊎ AtEnd o q.vector p.task p.found e) both.0
     (subst (λ (x : List ℕ). AtTask o x p.task (a - p.spent - p.found.used) e ⊎ AtEnd o x p.task p.found e) both.1 p.ends) in
@@ -171,7 +200,8 @@ same_round o one a e f p q same =
         | inl less ↦ absurd (earlier_task o one a f e q.spent q.vector q.task p.task q.found p.found q.passed q.ends passed p_most less)
         | inr least ↦
             let tasks : p.task ≡ q.task = omega arith in
-            let there : Passes o q.vector (a - q.spent) q.task p.found = subst (λ (x : ℕ). Passes o q.vector (a - q.spent) x p.found) tasks passed in
+            let there : Passes o q.vector (a - q.spent) q.task p.found =
+            subst (λ (x : ℕ). Passes o q.vector (a - q.spent) x p.found) tasks passed in
             let founds : p.found ≡ q.found = passes_once o one q.vector (a - q.spent) q.task p.found q.found there q.passed in
             let end_there : AtTask o q.vector q.task (a - q.spent - q.found.used) e ⊎ AtEnd o q.vector q.task q.found e =
             subst (λ (x : Found). AtTask o q.vector q.task (a - q.spent - x.used) e ⊎ AtEnd o q.vector q.task x e) founds

@@ -33,7 +33,8 @@ duals_length o r left (suc i) found (before, used, value, dual, passed, run, wit
     let grown = length-append before.duals (dual ∷ []) in
     ap (λ f. length f.duals) same ∙ omega (arith, grown)
 
-pub passed_task : (o : RoundsOf) (r : List ℕ) (left i : ℕ) (found : Found) → Passes o r left i found → (j : ℕ) → j < i → PassedTask o r left j found
+pub passed_task : (o : RoundsOf) (r : List ℕ) (left i : ℕ) (found : Found) → Passes o r left i found → (j : ℕ) → j < i
+    → PassedTask o r left j found
 passed_task o r left zero found p j below = absurd (omega arith)
 passed_task o r left (suc i) found (before, used, value, dual, passed, run, within, same) j below =
     let count : length before.values ≡ i = values_length o r left i before passed in
@@ -41,8 +42,10 @@ passed_task o r left (suc i) found (before, used, value, dual, passed, run, with
     elim (cases_lt j i) [
       | inl earlier ↦
           let t = passed_task o r left i before passed j earlier in
-          let old : slice_index (before.values ++ value ∷ []) j ≡ slice_index before.values j = get_or_append_left before.values (value ∷ []) 0 j (omega (arith, count)) in
-          let old_dual : dual_at (before.duals ++ dual ∷ []) j ≡ dual_at before.duals j = get_or_append_left before.duals (dual ∷ []) no_dual j (omega (arith, dual_count)) in
+          let old : slice_index (before.values ++ value ∷ []) j ≡ slice_index before.values j =
+          get_or_append_left before.values (value ∷ []) 0 j (omega (arith, count)) in
+          let old_dual : dual_at (before.duals ++ dual ∷ []) j ≡ dual_at before.duals j =
+          get_or_append_left before.duals (dual ∷ []) no_dual j (omega (arith, dual_count)) in
           record {
             before = t.before;
             used = t.used;

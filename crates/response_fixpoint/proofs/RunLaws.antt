@@ -20,18 +20,23 @@ use Rattle.response_fixpoint.proofs.OneEnd.{HaveOneEnd, one_end}
 use Rattle.response_fixpoint.proofs.LeastExists.{costs_of, cost_at, cost_below}
 use Rattle.response_fixpoint.proofs.EmptyRuns.{no_exchange, never_wide, no_more}
 
-runs_once : (f : SourceDef) (r : List ℕ) (i left : ℕ) (e g : RunEnd) → IsProgram (f.program i r) → RunEnds f r i left e → RunEnds f r i left g → e ≡ g
+runs_once : (f : SourceDef) (r : List ℕ) (i left : ℕ) (e g : RunEnd) → IsProgram (f.program i r) → RunEnds f r i left e
+    → RunEnds f r i left g → e ≡ g
 runs_once f r i left (Valued u v d) (Valued u' v' d') is p q =
     let same = one_answer (f.program i r) left left p.exchanges q.exchanges p.optimum q.optimum p.best q.best d d' is p.ends q.ends in
     let units : u ≡ u' = omega (arith, p.units, q.units, same.0) in
     let values : v ≡ v' = one_response f r i v v' p.response q.response in
     ap (λ x. Valued x v d) units ∙ ap (λ x. Valued u' x d) values ∙ ap (λ x. Valued u' v' x) same.3
-runs_once f r i left (Valued u v d) TooWide is p q = absurd (ends_not_wide (f.program i r) left left p.exchanges p.optimum p.best d is p.ends q)
-runs_once f r i left (Valued u v d) OutOfUnits is p q = absurd (ends_not_more (f.program i r) left p.exchanges p.optimum p.best d is p.ends q)
-runs_once f r i left TooWide (Valued u v d) is p q = absurd (ends_not_wide (f.program i r) left left q.exchanges q.optimum q.best d is q.ends p)
+runs_once f r i left (Valued u v d) TooWide is p q =
+    absurd (ends_not_wide (f.program i r) left left p.exchanges p.optimum p.best d is p.ends q)
+runs_once f r i left (Valued u v d) OutOfUnits is p q =
+    absurd (ends_not_more (f.program i r) left p.exchanges p.optimum p.best d is p.ends q)
+runs_once f r i left TooWide (Valued u v d) is p q =
+    absurd (ends_not_wide (f.program i r) left left q.exchanges q.optimum q.best d is q.ends p)
 runs_once f r i left TooWide TooWide is p q = refl
 runs_once f r i left TooWide OutOfUnits is p q = absurd (wide_not_more (f.program i r) left is p q)
-runs_once f r i left OutOfUnits (Valued u v d) is p q = absurd (ends_not_more (f.program i r) left q.exchanges q.optimum q.best d is q.ends p)
+runs_once f r i left OutOfUnits (Valued u v d) is p q =
+    absurd (ends_not_more (f.program i r) left q.exchanges q.optimum q.best d is q.ends p)
 runs_once f r i left OutOfUnits TooWide is p q = absurd (wide_not_more (f.program i r) left is q p)
 runs_once f r i left OutOfUnits OutOfUnits is p q = refl
 
@@ -51,12 +56,14 @@ round_value f r left found p i here =
     (subst (λ (v : ℕ). IsResponse f r i v) (sym t.here) t.run.ends.response, rw t.here most)
 
 -- Each program without columns takes one unit.
-one_unit_each : (f : SourceDef) (r : List ℕ) (left i : ℕ) (found : Found) → HasNoColumns f → i ≤ tasks_of f → Passes (rounds_of f) r left i found → found.used ≡ i
+one_unit_each : (f : SourceDef) (r : List ℕ) (left i : ℕ) (found : Found) → HasNoColumns f → i ≤ tasks_of f
+    → Passes (rounds_of f) r left i found → found.used ≡ i
 one_unit_each f r left zero found none most p = ap (λ x. x.used) p
 one_unit_each f r left (suc i) found none most (before, used, value, dual, passed, run, within, same) =
     let rest = one_unit_each f r left i before none (omega (arith, most)) passed in
     let solved = run.ends in
-    let no : solved.exchanges ≡ 0 = no_exchange (f.program i r) (left - before.used) solved.exchanges solved.optimum solved.best dual run.is_program (none i r (omega (arith, most))) solved.ends in
+    let no : solved.exchanges ≡ 0 = no_exchange (f.program i r) (left - before.used) solved.exchanges solved.optimum
+    solved.best dual run.is_program (none i r (omega (arith, most))) solved.ends in
     let sum : found.used ≡ before.used + used = ap (λ x. x.used) same in
     omega (arith, rest, no, solved.units, sum)
 
@@ -72,7 +79,8 @@ record IsOnTheWay (f : SourceDef) (k spent : ℕ) (r : List ℕ) : Type 0 where
 abbrev pub CostsFit : SourceDef → Type 0
 CostsFit f = (i : ℕ) → i < tasks_of f → (task_at f.set i).cost ≤ deadline_of f i
 
-on_the_way : (f : SourceDef) (a k spent : ℕ) (r : List ℕ) → HasNoColumns f → NeverFalls f → CostsFit f → Reaches (rounds_of f) a k spent r → IsOnTheWay f k spent r
+on_the_way : (f : SourceDef) (a k spent : ℕ) (r : List ℕ) → HasNoColumns f → NeverFalls f → CostsFit f
+    → Reaches (rounds_of f) a k spent r → IsOnTheWay f k spent r
 on_the_way f a zero spent r none monotone fit (nothing, first) =
     let at_first : IsOnTheWay f zero spent (costs_of f) = record {
       units = nothing ∙ omega arith;
@@ -111,9 +119,11 @@ pub never_short : (f : SourceDef) (a : ℕ) → HasNoColumns f → NeverFalls f 
 never_short f a none monotone fit enough (r, i, left, found, here, comes, run) =
     let n = tasks_of f in
     let way = on_the_way f a comes.rounds comes.spent r none monotone fit comes.reached in
-    let at_costs : total n (costs_of f) ≡ sum_below n (λ k. (task_at f.set k).cost) = sum_below-agree n _ _ (λ k below. cost_at f k below) in
+    let at_costs : total n (costs_of f) ≡ sum_below n (λ k. (task_at f.set k).cost) =
+    sum_below-agree n _ _ (λ k below. cost_at f k below) in
     let most : total n r ≤ sum_below n (deadline_of f) = sum_below-monotone n _ _ way.within in
-    let parts : sum_below n (λ k. (deadline_of f k - (task_at f.set k).cost) + (task_at f.set k).cost) ≡ slack_of f + sum_below n (λ k. (task_at f.set k).cost)
+    let parts : sum_below n (λ k. (deadline_of f k - (task_at f.set k).cost) + (task_at f.set k).cost)
+    ≡ slack_of f + sum_below n (λ k. (task_at f.set k).cost)
     = sum_below-plus n (λ k. deadline_of f k - (task_at f.set k).cost) (λ k. (task_at f.set k).cost) in
     let whole : sum_below n (λ k. (deadline_of f k - (task_at f.set k).cost) + (task_at f.set k).cost) ≡ sum_below n (deadline_of f)
     = sum_below-agree n _ _ (λ k below. omega (arith, fit k below)) in

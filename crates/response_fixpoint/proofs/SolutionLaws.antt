@@ -1,5 +1,6 @@
 -- Laws of solutions: what they say with other units than those they were found with, and of programs with the same limits.
-use Rattle.std.proofs.Common.{◌≡◌, ℕ, suc, ◌+◌, ◌-◌, ◌/◌, ◌^◌, ◌<◌, ◌≤◌, ◌↔◌, List, [], ◌∷◌, ◌++◌, length, unsigned_abs, refl, sym, ◌∙◌, ap, subst, arith, inl, inr, Some, Err}
+use Rattle.std.proofs.Common.{◌≡◌, ℕ, suc, ◌+◌, ◌-◌, ◌/◌, ◌^◌, ◌<◌, ◌≤◌, ◌↔◌, List, [], ◌∷◌, ◌++◌, length, unsigned_abs}
+use Rattle.std.proofs.Common.{refl, sym, ◌∙◌, ap, subst, arith, inl, inr, Some, Err}
 use Rattle.std.proofs.lemmas.Bool.{cases_lt}
 use Rattle.std.proofs.lemmas.List.{get_or_push, get_or_append_left, length-append}
 use Rattle.std.proofs.lemmas.Option.{slice_get_within, slice_get_read, get_or_from_slice_get}
@@ -49,7 +50,8 @@ wide_within p units more most w = record {
 pub needs_more : (p : ProgramDef) (s : Solution) (left : ℕ) → IsSolution p s → left < s.used → NeedsMoreThan p left
 needs_more p s left is few = elim (has_outcome p left is.is_program) [
   | inl ended ↦
-      let same = one_answer p s.used left is.exchanges ended.0 is.optimum ended.1 is.best ended.2 (dual_seen s.dual) ended.3 is.is_program is.ends ended.4 in
+      let same = one_answer p s.used left is.exchanges ended.0 is.optimum ended.1 is.best ended.2 (dual_seen s.dual)
+      ended.3 is.is_program is.ends ended.4 in
       absurd (omega (arith, same.0, ended.4.within, is.units, few))
   | inr stopped ↦ elim stopped [
     | inl wide ↦ absurd (ends_not_wide p s.used left is.exchanges is.optimum is.best (dual_seen s.dual) is.is_program is.ends wide)
@@ -62,7 +64,8 @@ pub still_needs_more : (p : ProgramDef) (units left : ℕ) → IsProgram p → l
 still_needs_more p units left is fewer more = elim (has_outcome p left is) [
   | inl ended ↦
       let enough : ended.0 < units = omega (arith, ended.4.within, fewer) in
-      absurd (ends_not_more p units ended.0 ended.1 ended.2 ended.3 is (ends_within p left units ended.0 ended.1 ended.2 ended.3 ended.4 enough) more)
+      absurd (ends_not_more p units ended.0 ended.1 ended.2 ended.3 is
+      (ends_within p left units ended.0 ended.1 ended.2 ended.3 ended.4 enough) more)
   | inr stopped ↦ elim stopped [
     | inl wide ↦ absurd (wide_not_more p units is (wide_within p left units fewer wide) more)
     | inr needs ↦ needs
@@ -96,7 +99,8 @@ stopped_solution p units solve_stop.Units is run = (is, run)
 stopped_solution p units solve_stop.Memory is run = tt
 
 -- A solution is one of every program that is the same.
-pub taken_solution : (p q : ProgramDef) (s t : Solution) → p ≡ q → IsSolution p s → t.limits.items ≡ q.limits → t.used ≡ s.used → t.blocking ≡ s.blocking
+pub taken_solution : (p q : ProgramDef) (s t : Solution) → p ≡ q → IsSolution p s → t.limits.items ≡ q.limits
+    → t.used ≡ s.used → t.blocking ≡ s.blocking
     → dual_seen t.dual ≡ dual_seen s.dual → IsSolution q t
 taken_solution p q s t same is limits used blocking dual =
     let moved = subst (λ (x : ProgramDef). IsSolution x s) same is in
@@ -123,20 +127,24 @@ same_lists p q costs rows limits =
     ∙ ap (λ x. record { costs = q.costs; rows = q.rows; limits = x }) limits
 
 -- Programs of one task with the same limits are the same.
-pub same_program : (f : SourceDef) (i : ℕ) (q r : List ℕ) → Rises f i → (f.program i q).limits ≡ (f.program i r).limits → f.program i q ≡ f.program i r
+pub same_program : (f : SourceDef) (i : ℕ) (q r : List ℕ) → Rises f i → (f.program i q).limits ≡ (f.program i r).limits
+    → f.program i q ≡ f.program i r
 same_program f i q r rises same =
     let from_q = rises [] q (λ k here. omega arith) in
     let from_r = rises [] r (λ k here. omega arith) in
     same_lists (f.program i q) (f.program i r) (sym from_q.same_costs ∙ from_r.same_costs) (sym from_q.same_rows ∙ from_r.same_rows) same
 
 -- An earlier solution with the limits of task i's program is one of that program.
-pub earlier_solution : (f : SourceDef) (i : ℕ) (r : List ℕ) (s t : Solution) → Rises f i → IsEarlier f i s → s.limits.items ≡ (f.program i r).limits
-    → t.limits.items ≡ (f.program i r).limits → t.used ≡ s.used → t.blocking ≡ s.blocking → dual_seen t.dual ≡ dual_seen s.dual → IsSolution (f.program i r) t
+pub earlier_solution : (f : SourceDef) (i : ℕ) (r : List ℕ) (s t : Solution) → Rises f i → IsEarlier f i s
+    → s.limits.items ≡ (f.program i r).limits
+    → t.limits.items ≡ (f.program i r).limits → t.used ≡ s.used → t.blocking ≡ s.blocking
+    → dual_seen t.dual ≡ dual_seen s.dual → IsSolution (f.program i r) t
 earlier_solution f i r s t rises (q, is) limits taken used blocking dual =
     taken_solution (f.program i q) (f.program i r) s t (same_program f i q r rises (sym is.limits ∙ limits)) is taken used blocking dual
 
 -- A run that ran out of units ahead of its place is out of units there too.
-pub units_from_ahead : (f : SourceDef) (r : List ℕ) (i left : ℕ) (ahead : Option (Result Solution SolveStop)) (o : Result Solution SolveStop) (e : SolveStop)
+pub units_from_ahead : (f : SourceDef) (r : List ℕ) (i left : ℕ) (ahead : Option (Result Solution SolveStop))
+    (o : Result Solution SolveStop) (e : SolveStop)
     → IfSome ahead (λ x. IsAhead f r i left x) → ahead ≡ Some o → o ≡ Err e → e ≡ solve_stop.Units
     → (IsProgram (f.program i r)) × NeedsMoreThan (f.program i r) left
 units_from_ahead f r i left ahead o e given is failed short =
@@ -164,17 +172,20 @@ solved_run f r i left value s is most response =
     }
 
 -- One whose units are not there is a task that is out of units.
-pub short_run : (f : SourceDef) (r : List ℕ) (i left : ℕ) (s : Solution) → IsSolution (f.program i r) s → left < s.used → TaskRuns f r i left OutOfUnits
+pub short_run : (f : SourceDef) (r : List ℕ) (i left : ℕ) (s : Solution) → IsSolution (f.program i r) s → left < s.used
+    → TaskRuns f r i left OutOfUnits
 short_run f r i left s is few = record { is_program = is.is_program; ends = needs_more (f.program i r) s left is few }
 
 -- And a program that stops is a task that stops.
-pub stopped_run : (f : SourceDef) (r : List ℕ) (i left : ℕ) (e : SolveStop) → GivesSolution (Err e) (f.program i r) left → GivesRun (Err e) f r i left
+pub stopped_run : (f : SourceDef) (r : List ℕ) (i left : ℕ) (e : SolveStop) → GivesSolution (Err e) (f.program i r) left
+    → GivesRun (Err e) f r i left
 stopped_run f r i left solve_stop.Wide (is, wide) = record { is_program = is; ends = wide }
 stopped_run f r i left solve_stop.Units (is, more) = record { is_program = is; ends = more }
 stopped_run f r i left solve_stop.Memory given = tt
 
 -- With the solution of the next task the solutions are earlier ones still.
-pub earlier_more : (f : SourceDef) (i : ℕ) (solutions : List Solution) (s : Solution) → length solutions ≡ i → AreEarlier f solutions → IsEarlier f i s
+pub earlier_more : (f : SourceDef) (i : ℕ) (solutions : List Solution) (s : Solution) → length solutions ≡ i
+    → AreEarlier f solutions → IsEarlier f i s
     → AreEarlier f (solutions ++ s ∷ [])
 earlier_more f i solutions s count old new = λ k x here.
     let most = slice_get_within (solutions ++ s ∷ []) k x here in
@@ -183,7 +194,8 @@ earlier_more f i solutions s count old new = λ k x here.
     elim (cases_lt k i) [
       | inl before ↦
           let there : k < length solutions = omega (arith, before, count) in
-          let left : slice_index_or (solutions ++ s ∷ []) k x ≡ slice_index_or solutions k x = get_or_append_left solutions (s ∷ []) x k there in
+          let left : slice_index_or (solutions ++ s ∷ []) k x ≡ slice_index_or solutions k x =
+          get_or_append_left solutions (s ∷ []) x k there in
           old k x (slice_get_read solutions (length solutions) k x refl there (sym at ∙ left))
       | inr behind ↦
           let last : i ≡ k = omega (arith, behind, most, grown, count) in
@@ -192,7 +204,8 @@ earlier_more f i solutions s count old new = λ k x here.
     ]
 
 -- The first of what was solved ahead is the next task's, and the rest is that of the tasks behind it.
-pub first_ahead : (f : SourceDef) (r : List ℕ) (n left used : ℕ) (outcomes rest : List (Result Solution SolveStop)) (first : Option (Result Solution SolveStop))
+pub first_ahead : (f : SourceDef) (r : List ℕ) (n left used : ℕ) (outcomes rest : List (Result Solution SolveStop))
+    (first : Option (Result Solution SolveStop))
     → outcomes ≡ option_to_list first ++ rest → AreAhead f r n left outcomes → IfSome first (λ o. IsAhead f r n (left - used) o)
 first_ahead f r n left used outcomes rest None same ahead = tt
 first_ahead f r n left used outcomes rest (Some o) same ahead =
@@ -201,7 +214,8 @@ first_ahead f r n left used outcomes rest (Some o) same ahead =
     let here : GivesSolution o (f.program n r) left = subst (λ (k : ℕ). GivesSolution o (f.program k r) left) first (ahead 0 o at) in
     (left, omega arith, here)
 
-pub rest_ahead : (f : SourceDef) (r : List ℕ) (n left count : ℕ) (outcomes rest : List (Result Solution SolveStop)) (first : Option (Result Solution SolveStop))
+pub rest_ahead : (f : SourceDef) (r : List ℕ) (n left count : ℕ) (outcomes rest : List (Result Solution SolveStop))
+    (first : Option (Result Solution SolveStop))
     → outcomes ≡ option_to_list first ++ rest → (IsSome first ↔ (0 < count)) → count ≡ length outcomes → AreAhead f r n left outcomes
     → AreAhead f r (n + 1) left rest
 rest_ahead f r n left count outcomes rest None same some are ahead k o here =

@@ -26,7 +26,8 @@ no_lists_is = record {
 -- No number above zero is reached.
 none_reached : (c : ℕ) → ReachesNumber no_lists c → c ≤ 0
 none_reached zero h = omega arith
-none_reached (suc c) h = absurd (let more : (suc c) * h.scale ≤ 0 = h.reached in let some : 0 < h.scale = h.is_point.positive in grind (arith, more, some))
+none_reached (suc c) h = absurd (let more : (suc c) * h.scale ≤ 0 = h.reached in
+    let some : 0 < h.scale = h.is_point.positive in grind (arith, more, some))
 
 abbrev no_dual : DualDef
 no_dual = record { den = 1; num = [] }
@@ -44,7 +45,8 @@ runs_alone f r i left v same some value = record {
     units = refl;
     response = record {
       blocking = 0;
-      greatest = subst (λ (p : ProgramDef). IsGreatestReached p 0) (sym same) (record { reached = zero_reached no_lists; greatest = none_reached });
+      greatest = subst (λ (p : ProgramDef). IsGreatestReached p 0) (sym same)
+          (record { reached = zero_reached no_lists; greatest = none_reached });
       response = value;
     };
   };
@@ -61,7 +63,8 @@ abbrev found_3 : ℕ → ℕ → Found
 found_3 second third = with_task (found_2 second) 1 third no_dual
 
 -- The first two tasks of a round whose bounds are these, and the whole round.
-two_alone : (r : List ℕ) (left second : ℕ) → 1 < left → 1 ≡ response_with source_alone r 0 0 → second ≡ response_with source_alone r 1 0 → second ≤ 6
+two_alone : (r : List ℕ) (left second : ℕ) → 1 < left → 1 ≡ response_with source_alone r 0 0
+    → second ≡ response_with source_alone r 1 0 → second ≤ 6
     → Passes (rounds_of source_alone) r left 2 (found_2 second)
 two_alone r left second enough first_is second_is second_fits =
     let one : Passes (rounds_of source_alone) r left 1 found_1 =
@@ -79,18 +82,48 @@ round_alone r left second third enough first_is second_is third_is second_fits t
 -- Three rounds go by, with three units each.
 pub reached_alone : (a : ℕ) → 9 ≤ a → Reaches (rounds_of source_alone) a 3 9 bounds_alone
 reached_alone a most =
-    let first : Reaches (rounds_of source_alone) a 1 3 (1 ∷ 3 ∷ 6 ∷ []) =
-    (0, (1 ∷ 2 ∷ 3 ∷ []), found_3 3 6, (refl, refl), round_alone _ _ 3 6 (omega (arith, most)) refl refl refl (omega arith) (omega arith), refl, (λ e. cc), refl) in
-    let second : Reaches (rounds_of source_alone) a 2 6 (1 ∷ 3 ∷ 9 ∷ []) =
-    (3, (1 ∷ 3 ∷ 6 ∷ []), found_3 3 9, first, round_alone _ _ 3 9 (omega (arith, most)) refl refl refl (omega arith) (omega arith), refl, (λ e. cc), refl) in
-    (6, (1 ∷ 3 ∷ 9 ∷ []), found_3 3 10, second, round_alone _ _ 3 10 (omega (arith, most)) refl refl refl (omega arith) (omega arith), refl, (λ e. cc), refl)
+    let first : Reaches (rounds_of source_alone) a 1 3 (1 ∷ 3 ∷ 6 ∷ []) = (
+      0,
+      (1 ∷ 2 ∷ 3 ∷ []),
+      found_3 3 6,
+      (refl, refl),
+      round_alone _ _ 3 6 (omega (arith, most)) refl refl refl (omega arith) (omega arith),
+      refl,
+      (λ e. cc),
+      refl,
+    ) in
+    let second : Reaches (rounds_of source_alone) a 2 6 (1 ∷ 3 ∷ 9 ∷ []) = (
+      3,
+      (1 ∷ 3 ∷ 6 ∷ []),
+      found_3 3 9,
+      first,
+      round_alone _ _ 3 9 (omega (arith, most)) refl refl refl (omega arith) (omega arith),
+      refl,
+      (λ e. cc),
+      refl,
+    ) in (
+      6,
+      (1 ∷ 3 ∷ 9 ∷ []),
+      found_3 3 10,
+      second,
+      round_alone _ _ 3 10 (omega (arith, most)) refl refl refl (omega arith) (omega arith),
+      refl,
+      (λ e. cc),
+      refl,
+    )
 
 -- The fourth changes nothing.
 pub ends_alone : EndsIn (rounds_of source_alone) 12 (Schedulable bounds_alone duals_alone)
 ends_alone = (
   0,
   found_3 3 10,
-  record { rounds = 3; spent = 9; reached = reached_alone 12 (omega arith); passed = round_alone _ _ 3 10 (omega arith) refl refl refl (omega arith) (omega arith); units = refl },
+  record {
+    rounds = 3;
+    spent = 9;
+    reached = reached_alone 12 (omega arith);
+    passed = round_alone _ _ 3 10 (omega arith) refl refl refl (omega arith) (omega arith);
+    units = refl;
+  },
   refl,
   refl,
 )
@@ -103,6 +136,12 @@ short_alone = (
   0,
   found_2 3,
   omega arith,
-  record { rounds = 3; spent = 9; reached = reached_alone 11 (omega arith); passed = two_alone _ _ 3 (omega arith) refl refl (omega arith); units = refl },
+  record {
+    rounds = 3;
+    spent = 9;
+    reached = reached_alone 11 (omega arith);
+    passed = two_alone _ _ 3 (omega arith) refl refl (omega arith);
+    units = refl;
+  },
   record { is_program = no_lists_is; ends = inl refl },
 )

@@ -27,7 +27,8 @@ none_kept p set i [] nothing known kept = refl
 none_kept p set i (c ∷ cs) nothing known kept =
     let here = All-head (IsKnown (length set.tasks) (length set.resources)) c cs known in
     let passes : is_column p set i c ≡ true = All-head (λ c. is_column p set i c ≡ true) c cs kept in
-    let user : is_user set c.resource c.task ≡ true = middle (not (c.task == i)) (is_user set c.resource c.task) (may_block p set i c.task c.resource c.class) passes in
+    let user : is_user set c.resource c.task ≡ true =
+    middle (not (c.task == i)) (is_user set c.resource c.task) (may_block p set i c.task c.resource c.class) passes in
     let zero : count_of set c.task c.resource ≡ 0 = nothing c.task c.resource here.0 here.1 in
     let none : is_user set c.resource c.task ≡ false = ap (λ k. nat_lt 0 k) zero in
     cc
@@ -35,7 +36,8 @@ none_kept p set i (c ∷ cs) nothing known kept =
 pub no_columns : (p : Protocol) (set : SetDef) → RequestsNothing set → HasNoColumns (written p set)
 no_columns p set nothing i r here =
     length-map (columns_of p set i) (cost_of set)
-    ∙ none_kept p set i (columns_of p set i) nothing (columns_known p set i) (filter_passes (is_column p set i) (all_columns (length set.tasks) (length set.resources)))
+    ∙ none_kept p set i (columns_of p set i) nothing (columns_known p set i)
+    (filter_passes (is_column p set i) (all_columns (length set.tasks) (length set.resources)))
 
 -- What comes up at some bounds, no less comes up at greater ones.
 pub written_above : (p : Protocol) (set : SetDef) → ComesUpAbove (written p set)

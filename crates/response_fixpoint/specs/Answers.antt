@@ -5,7 +5,8 @@ use Rattle.program_form.specs.Certificate.{DualDef, CertificateDef, dual_seen, c
 use Rattle.program_sources.specs.Recurrence.{SourceDef}
 use Rattle.program_sources.specs.Fitting.{AreFitting, AreLeastFitting, tasks_of, deadline_of}
 use Rattle.program_sources.specs.Valid.{AreOptimalDuals, IsValid, dual_at}
-use Rattle.response_fixpoint.specs.Rounds.{RunEnd, Valued, TooWide, OutOfUnits, Ending, Schedulable, NotShown, Wide, Allowance, Found, with_task, Passes, EndsIn}
+use Rattle.response_fixpoint.specs.Rounds.{RunEnd, Valued, TooWide, OutOfUnits, Ending, Schedulable, NotShown, Wide}
+use Rattle.response_fixpoint.specs.Rounds.{Allowance, Found, with_task, Passes, EndsIn}
 use Rattle.response_fixpoint.specs.Runs.{TaskRuns, rounds_of}
 use Rattle.response_fixpoint.specs.Solutions.{IsEarlier, AreEarlier}
 use Rattle.simplex.specs.declared.SolveStop.{SolveStop}
@@ -60,7 +61,8 @@ IsSchedulable (verdict.NotShown task bound) = ⊥
 
 -- Is this how the run of task i ends where so many units are left, and which solution it has? Want of memory says nothing.
 abbrev pub GivesRun : Result TaskRun SolveStop → SourceDef → List ℕ → ℕ → ℕ → Type 0
-GivesRun (Ok run) f r i left = (TaskRuns f r i left (Valued run.solution.used run.value (dual_seen run.solution.dual))) × IsEarlier f i run.solution
+GivesRun (Ok run) f r i left = (TaskRuns f r i left (Valued run.solution.used run.value (dual_seen run.solution.dual)))
+    × IsEarlier f i run.solution
 GivesRun (Err solve_stop.Wide) f r i left = TaskRuns f r i left TooWide
 GivesRun (Err solve_stop.Units) f r i left = TaskRuns f r i left OutOfUnits
 GivesRun (Err solve_stop.Memory) f r i left = Unit {0}
@@ -88,16 +90,19 @@ pub record Halts (f : SourceDef) (r : List ℕ) (left i : ℕ) (e : RunEnd) : Ty
 
 -- What such a round gives: what it has found of all tasks, or the task at which the rounds end.
 abbrev pub GivesRound : Result Round RoundStop → SourceDef → List ℕ → ℕ → Type 0
-GivesRound (Ok round) f r left = (Passes (rounds_of f) r left (tasks_of f) (found_of round)) × (round.used ≤ left) × (tasks_of f ≤ round.used)
+GivesRound (Ok round) f r left =
+    (Passes (rounds_of f) r left (tasks_of f) (found_of round)) × (round.used ≤ left) × (tasks_of f ≤ round.used)
     × AreEarlier f round.solutions.items
-GivesRound (Err (round_stop.NotShown task bound)) f r left = (deadline_of f task.0 < bound) × (used : ℕ) × (dual : DualDef) × Halts f r left task.0 (Valued used bound dual)
+GivesRound (Err (round_stop.NotShown task bound)) f r left =
+    (deadline_of f task.0 < bound) × (used : ℕ) × (dual : DualDef) × Halts f r left task.0 (Valued used bound dual)
 GivesRound (Err (round_stop.Wide task)) f r left = Halts f r left task.0 TooWide
 GivesRound (Err round_stop.Allowance) f r left = (i : ℕ) × Halts f r left i OutOfUnits
 GivesRound (Err round_stop.Memory) f r left = Unit {0}
 
 -- Are these bounds, with these duals, the certificate that is answered? But for want of memory there is no other answer.
 abbrev pub IsSettled : Result Verdict Stop → List ℕ → List DualDef → Type 0
-IsSettled (Ok (verdict.Schedulable certificate)) bounds duals = (certificate.bounds.items ≡ bounds) × (map dual_seen certificate.duals.items ≡ duals)
+IsSettled (Ok (verdict.Schedulable certificate)) bounds duals =
+    (certificate.bounds.items ≡ bounds) × (map dual_seen certificate.duals.items ≡ duals)
 IsSettled (Ok (verdict.NotShown task bound)) bounds duals = ⊥
 IsSettled (Err (stop.Wide task)) bounds duals = ⊥
 IsSettled (Err stop.Allowance) bounds duals = ⊥

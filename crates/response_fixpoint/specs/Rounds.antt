@@ -44,14 +44,16 @@ pub record RoundsOf : Type 1 where
 abbrev pub Passes : RoundsOf → List ℕ → ℕ → ℕ → Found → Type 0
 Passes o r left zero found = found ≡ nothing_found
 Passes o r left (suc i) found = (before : Found) × (used : ℕ) × (value : ℕ) × (dual : DualDef)
-    × (Passes o r left i before) × (o.runs r i (left - before.used) (Valued used value dual)) × (value ≤ o.deadline i) × (found ≡ with_task before used value dual)
+    × (Passes o r left i before) × (o.runs r i (left - before.used) (Valued used value dual)) × (value ≤ o.deadline i)
+    × (found ≡ with_task before used value dual)
 
 -- With this allowance of units, do k rounds go by of which each gives another vector than it began with, and
 -- is r the vector after them, and `used` the units of all of them?
 abbrev pub Reaches : RoundsOf → ℕ → ℕ → ℕ → List ℕ → Type 0
 Reaches o allowance zero used r = (used ≡ 0) × (r ≡ o.first)
 Reaches o allowance (suc k) used r = (before : ℕ) × (q : List ℕ) × (found : Found)
-    × (Reaches o allowance k before q) × (Passes o q (allowance - before) o.tasks found) × (r ≡ found.values) × (q ≢ r) × (used ≡ before + found.used)
+    × (Reaches o allowance k before q) × (Passes o q (allowance - before) o.tasks found) × (r ≡ found.values) × (q ≢ r)
+    × (used ≡ before + found.used)
 
 -- Do the rounds come to task i of a round at r, with `left` units, having found this in the round?
 pub record ComesTo (o : RoundsOf) (allowance : ℕ) (r : List ℕ) (i : ℕ) (left : ℕ) (found : Found) : Type 0 where
@@ -64,8 +66,11 @@ pub record ComesTo (o : RoundsOf) (allowance : ℕ) (r : List ℕ) (i : ℕ) (le
 -- Do the rounds end so? They end at the first of these: the run of a task's program wants more units than are
 -- left; it is too wide; its value passes the deadline; a round gives the vector that it began with.
 abbrev pub EndsIn : RoundsOf → ℕ → Ending → Type 0
-EndsIn o allowance (Schedulable bounds duals) = (left : ℕ) × (found : Found) × (ComesTo o allowance bounds o.tasks left found) × (found.values ≡ bounds) × (found.duals ≡ duals)
+EndsIn o allowance (Schedulable bounds duals) = (left : ℕ) × (found : Found)
+    × (ComesTo o allowance bounds o.tasks left found) × (found.values ≡ bounds) × (found.duals ≡ duals)
 EndsIn o allowance (NotShown i value) = (r : List ℕ) × (left : ℕ) × (found : Found) × (used : ℕ) × (dual : DualDef)
     × (i < o.tasks) × (ComesTo o allowance r i left found) × (o.runs r i left (Valued used value dual)) × (o.deadline i < value)
-EndsIn o allowance (Wide i) = (r : List ℕ) × (left : ℕ) × (found : Found) × (i < o.tasks) × (ComesTo o allowance r i left found) × (o.runs r i left TooWide)
-EndsIn o allowance Allowance = (r : List ℕ) × (i : ℕ) × (left : ℕ) × (found : Found) × (i < o.tasks) × (ComesTo o allowance r i left found) × (o.runs r i left OutOfUnits)
+EndsIn o allowance (Wide i) = (r : List ℕ) × (left : ℕ) × (found : Found) × (i < o.tasks)
+    × (ComesTo o allowance r i left found) × (o.runs r i left TooWide)
+EndsIn o allowance Allowance = (r : List ℕ) × (i : ℕ) × (left : ℕ) × (found : Found) × (i < o.tasks)
+    × (ComesTo o allowance r i left found) × (o.runs r i left OutOfUnits)

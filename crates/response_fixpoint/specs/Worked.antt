@@ -8,7 +8,15 @@ use Rattle.response_fixpoint.specs.Written.{written}
 
 -- A task of this name (one byte), period and cost, without requests.
 abbrev pub task_alone : ℕ → ℕ → ℕ → TaskDef
-task_alone name period cost = record { name = name ∷ []; processor = 1; period = period; deadline = period; cost = cost; local = cost; requests = [] }
+task_alone name period cost = record {
+  name = name ∷ [];
+  processor = 1;
+  period = period;
+  deadline = period;
+  cost = cost;
+  local = cost;
+  requests = [];
+}
 
 abbrev pub three_alone : SetDef
 three_alone = record { processors = 1; resources = []; tasks = task_alone 97 4 1 ∷ task_alone 98 6 2 ∷ task_alone 99 20 3 ∷ [] }

@@ -70,7 +70,11 @@ fn solve_number<P: ProgramSource>(
 ) -> Result<Solution, SolveStop>
     requires suits { P.suits protocol.now set.now }
     requires range { IsInRange set.now bounds.now }
-    requires earlier { AreEarlier (record { set = set.now; program = P.program_of protocol.now set.now; interfering = P.interfering protocol.now set.now }) earlier.now }
+    requires earlier { AreEarlier (record {
+      set = set.now;
+      program = P.program_of protocol.now set.now;
+      interfering = P.interfering protocol.now set.now;
+    }) earlier.now }
     requires task { i < length set.now.tasks }
     ensures { GivesSolution result (P.program_of protocol.now set.now i bounds.now) left }
 {
@@ -93,8 +97,16 @@ pub fn solve_ahead<R: Threads + Sync, P: ProgramSource + Sync>(
 ) -> Result<Vec<Result<Solution, SolveStop>>, AllocError>
     requires suits { P.suits protocol.now set.now }
     requires range { IsInRange set.now bounds.now }
-    requires earlier { AreEarlier (record { set = set.now; program = P.program_of protocol.now set.now; interfering = P.interfering protocol.now set.now }) earlier.now }
-    ensures { IfOk result (λ v. AreAhead (record { set = set.now; program = P.program_of protocol.now set.now; interfering = P.interfering protocol.now set.now }) bounds.now 0 left v.items) }
+    requires earlier { AreEarlier (record {
+      set = set.now;
+      program = P.program_of protocol.now set.now;
+      interfering = P.interfering protocol.now set.now;
+    }) earlier.now }
+    ensures { IfOk result (λ v. AreAhead (record {
+      set = set.now;
+      program = P.program_of protocol.now set.now;
+      interfering = P.interfering protocol.now set.now;
+    }) bounds.now 0 left v.items) }
 {
     if !is_worth_threads(set, earlier) {
         return Ok(Vec::new(alloc));

@@ -76,8 +76,16 @@ fn next_round<R: Threads + Sync, P: ProgramSource + Sync>(
 ) -> Result<Round, RoundStop>
     requires suits { P.suits protocol.now set.now }
     requires range { IsInRange set.now bounds.now }
-    requires earlier { AreEarlier (record { set = set.now; program = P.program_of protocol.now set.now; interfering = P.interfering protocol.now set.now }) earlier.now }
-    ensures { GivesRound result (record { set = set.now; program = P.program_of protocol.now set.now; interfering = P.interfering protocol.now set.now }) bounds.now left }
+    requires earlier { AreEarlier (record {
+      set = set.now;
+      program = P.program_of protocol.now set.now;
+      interfering = P.interfering protocol.now set.now;
+    }) earlier.now }
+    ensures { GivesRound result (record {
+      set = set.now;
+      program = P.program_of protocol.now set.now;
+      interfering = P.interfering protocol.now set.now;
+    }) bounds.now left }
 {
     let ahead = solve_ahead(rt, alloc, set, protocol, bounds, left, earlier)?;
     take_round(alloc, set, protocol, bounds, left, earlier, ahead)
@@ -92,7 +100,11 @@ fn take_rounds<R: Threads + Sync, P: ProgramSource + Sync>(
     allowance: u64,
 ) -> Result<Verdict, Stop>
     requires { P.suits protocol.now set.now }
-    ensures { Answers result (record { set = set.now; program = P.program_of protocol.now set.now; interfering = P.interfering protocol.now set.now }) allowance }
+    ensures { Answers result (record {
+      set = set.now;
+      program = P.program_of protocol.now set.now;
+      interfering = P.interfering protocol.now set.now;
+    }) allowance }
 {
     let mut bounds = costs(alloc, set)?;
     // a set has a task, so each round takes a unit, and the rounds end
@@ -139,20 +151,49 @@ pub fn analyse_with<R: Threads + Sync, P: ProgramSource + Sync>(
     requires suits { P.suits protocol.now set.now }
 
     // The answer, its stops among them, is how the rounds end.
-    ensures rounds { Answers result (record { set = set.now; program = P.program_of protocol.now set.now; interfering = P.interfering protocol.now set.now }) allowance }
+    ensures rounds { Answers result (record {
+      set = set.now;
+      program = P.program_of protocol.now set.now;
+      interfering = P.interfering protocol.now set.now;
+    }) allowance }
 
     // And each end of the rounds gives just that answer: each verdict and each stop comes exactly where they end so.
-    ensures only { (e : Ending) → EndsIn (rounds_of (record { set = set.now; program = P.program_of protocol.now set.now; interfering = P.interfering protocol.now set.now })) allowance e → IsAnswerOf result e }
+    ensures only { (e : Ending)
+        → EndsIn (rounds_of (record {
+          set = set.now;
+          program = P.program_of protocol.now set.now;
+          interfering = P.interfering protocol.now set.now;
+        })) allowance e → IsAnswerOf result e }
 
     // Schedulable: the least fitting bounds, with optimal duals. Not shown: nothing fits. So each comes exactly there.
-    ensures right { IfOk result (λ verdict. IsRight verdict (record { set = set.now; program = P.program_of protocol.now set.now; interfering = P.interfering protocol.now set.now })) }
-    ensures exactly { IfOk result (λ verdict. IsSchedulable verdict ↔ ((s : List ℕ) × AreFitting (record { set = set.now; program = P.program_of protocol.now set.now; interfering = P.interfering protocol.now set.now }) s)) }
+    ensures right { IfOk result (λ verdict. IsRight verdict (record {
+      set = set.now;
+      program = P.program_of protocol.now set.now;
+      interfering = P.interfering protocol.now set.now;
+    })) }
+    ensures exactly { IfOk result (λ verdict. IsSchedulable verdict ↔ ((s : List ℕ) × AreFitting (record {
+      set = set.now;
+      program = P.program_of protocol.now set.now;
+      interfering = P.interfering protocol.now set.now;
+    }) s)) }
 
     // The stops that don't come where no program has a column.
-    ensures never_wide { HasNoColumns (record { set = set.now; program = P.program_of protocol.now set.now; interfering = P.interfering protocol.now set.now })
+    ensures never_wide { HasNoColumns (record {
+      set = set.now;
+      program = P.program_of protocol.now set.now;
+      interfering = P.interfering protocol.now set.now;
+    })
         → (task : ℕ) → IsErrOf result (Stop.Wide (record { 0 = task })) → ⊥ }
-    ensures enough { HasNoColumns (record { set = set.now; program = P.program_of protocol.now set.now; interfering = P.interfering protocol.now set.now })
-        → length set.now.tasks * (1 + slack_of (record { set = set.now; program = P.program_of protocol.now set.now; interfering = P.interfering protocol.now set.now })) ≤ allowance
+    ensures enough { HasNoColumns (record {
+      set = set.now;
+      program = P.program_of protocol.now set.now;
+      interfering = P.interfering protocol.now set.now;
+    })
+        → length set.now.tasks * (1 + slack_of (record {
+          set = set.now;
+          program = P.program_of protocol.now set.now;
+          interfering = P.interfering protocol.now set.now;
+        })) ≤ allowance
         → IsErrOf result Stop.Allowance → ⊥ }
 {
     // the costs of a set are within its deadlines
@@ -177,7 +218,8 @@ pub fn analyse<R: Threads + Sync>(
 
     // The stops that don't come for a set that requests nothing.
     ensures never_wide { RequestsNothing set.now → (task : ℕ) → IsErrOf result (Stop.Wide (record { 0 = task })) → ⊥ }
-    ensures enough { RequestsNothing set.now → length set.now.tasks * (1 + slack_of (written protocol set.now)) ≤ allowance → IsErrOf result Stop.Allowance → ⊥ }
+    ensures enough { RequestsNothing set.now → length set.now.tasks * (1 + slack_of (written protocol set.now)) ≤ allowance
+        → IsErrOf result Stop.Allowance → ⊥ }
 {
     no_requests_no_columns();
     analyse_with(rt, alloc, set, &Written(protocol), allowance)

@@ -91,9 +91,21 @@ pub fn take_round<P: ProgramSource>(
 ) -> Result<Round, RoundStop>
     requires suits { P.suits protocol.now set.now }
     requires range { IsInRange set.now bounds.now }
-    requires earlier { AreEarlier (record { set = set.now; program = P.program_of protocol.now set.now; interfering = P.interfering protocol.now set.now }) earlier.now }
-    requires ahead { AreAhead (record { set = set.now; program = P.program_of protocol.now set.now; interfering = P.interfering protocol.now set.now }) bounds.now 0 left ahead.items }
-    ensures { GivesRound result (record { set = set.now; program = P.program_of protocol.now set.now; interfering = P.interfering protocol.now set.now }) bounds.now left }
+    requires earlier { AreEarlier (record {
+      set = set.now;
+      program = P.program_of protocol.now set.now;
+      interfering = P.interfering protocol.now set.now;
+    }) earlier.now }
+    requires ahead { AreAhead (record {
+      set = set.now;
+      program = P.program_of protocol.now set.now;
+      interfering = P.interfering protocol.now set.now;
+    }) bounds.now 0 left ahead.items }
+    ensures { GivesRound result (record {
+      set = set.now;
+      program = P.program_of protocol.now set.now;
+      interfering = P.interfering protocol.now set.now;
+    }) bounds.now left }
 {
     let mut round = Round {
         used: 0,

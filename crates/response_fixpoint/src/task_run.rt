@@ -106,7 +106,11 @@ pub fn solve_task<P: ProgramSource>(
     requires suits { P.suits protocol.now set.now }
     requires range { IsInRange set.now bounds.now }
     requires task { i.0 < length set.now.tasks }
-    requires earlier { IfSome earlier (λ s. IsEarlier (record { set = set.now; program = P.program_of protocol.now set.now; interfering = P.interfering protocol.now set.now }) i.0 s.now) }
+    requires earlier { IfSome earlier (λ s. IsEarlier (record {
+      set = set.now;
+      program = P.program_of protocol.now set.now;
+      interfering = P.interfering protocol.now set.now;
+    }) i.0 s.now) }
     ensures { GivesSolution result (P.program_of protocol.now set.now i.0 bounds.now) units }
 {
     let program = match protocol.program(alloc, set, i, bounds) {
@@ -139,7 +143,11 @@ fn response<P: ProgramSource>(
     requires range { IsInRange set.now bounds.now }
     requires task { i.0 < length set.now.tasks }
     requires most { blocking < 2 ^ 63 }
-    ensures { result ≡ response_with (record { set = set.now; program = P.program_of protocol.now set.now; interfering = P.interfering protocol.now set.now }) bounds.now i.0 blocking }
+    ensures { result ≡ response_with (record {
+      set = set.now;
+      program = P.program_of protocol.now set.now;
+      interfering = P.interfering protocol.now set.now;
+    }) bounds.now i.0 blocking }
 {
     // a set has at most 64 tasks and no cost is large, so the sum fits
     let _tasks = set.tasks();
@@ -163,8 +171,16 @@ fn solve_here<P: ProgramSource>(
     requires suits { P.suits protocol.now set.now }
     requires range { IsInRange set.now bounds.now }
     requires task { i.0 < length set.now.tasks }
-    requires earlier { IfSome earlier (λ s. IsEarlier (record { set = set.now; program = P.program_of protocol.now set.now; interfering = P.interfering protocol.now set.now }) i.0 s.now) }
-    requires ahead { IfSome ahead (λ o. IsAhead (record { set = set.now; program = P.program_of protocol.now set.now; interfering = P.interfering protocol.now set.now }) bounds.now i.0 left o) }
+    requires earlier { IfSome earlier (λ s. IsEarlier (record {
+      set = set.now;
+      program = P.program_of protocol.now set.now;
+      interfering = P.interfering protocol.now set.now;
+    }) i.0 s.now) }
+    requires ahead { IfSome ahead (λ o. IsAhead (record {
+      set = set.now;
+      program = P.program_of protocol.now set.now;
+      interfering = P.interfering protocol.now set.now;
+    }) bounds.now i.0 left o) }
     ensures { GivesSolution result (P.program_of protocol.now set.now i.0 bounds.now) left }
 {
     match ahead {
@@ -192,9 +208,21 @@ pub fn run_task<P: ProgramSource>(
     requires suits { P.suits protocol.now set.now }
     requires range { IsInRange set.now bounds.now }
     requires task { i.0 < length set.now.tasks }
-    requires earlier { IfSome earlier (λ s. IsEarlier (record { set = set.now; program = P.program_of protocol.now set.now; interfering = P.interfering protocol.now set.now }) i.0 s.now) }
-    requires ahead { IfSome ahead (λ o. IsAhead (record { set = set.now; program = P.program_of protocol.now set.now; interfering = P.interfering protocol.now set.now }) bounds.now i.0 left o) }
-    ensures { GivesRun result (record { set = set.now; program = P.program_of protocol.now set.now; interfering = P.interfering protocol.now set.now }) bounds.now i.0 left }
+    requires earlier { IfSome earlier (λ s. IsEarlier (record {
+      set = set.now;
+      program = P.program_of protocol.now set.now;
+      interfering = P.interfering protocol.now set.now;
+    }) i.0 s.now) }
+    requires ahead { IfSome ahead (λ o. IsAhead (record {
+      set = set.now;
+      program = P.program_of protocol.now set.now;
+      interfering = P.interfering protocol.now set.now;
+    }) bounds.now i.0 left o) }
+    ensures { GivesRun result (record {
+      set = set.now;
+      program = P.program_of protocol.now set.now;
+      interfering = P.interfering protocol.now set.now;
+    }) bounds.now i.0 left }
 {
     let solution = match solve_here(alloc, set, protocol, i, bounds, left, earlier, ahead) {
         Ok(solution) => solution,

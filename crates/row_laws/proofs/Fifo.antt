@@ -176,7 +176,8 @@ turn_row_met w bound n j x q window keeps s share fair =
             number = why.waits.number;
             resource = why.waits.resource;
             request = why.waits.request;
-            passes = eq-eqb why.waits.resource q (held_resource w t j h.charge.job h.number h.resource why.waits h.request ∙ (column t h).same);
+            passes = eq-eqb why.waits.resource q
+                (held_resource w t j h.charge.job h.number h.resource why.waits h.request ∙ (column t h).same);
           }
 
 -- The row of queues.

@@ -1,5 +1,6 @@
 -- Row of holdings, under MPCP: the parts by resource and by holder, summed.
-use Rattle.std.proofs.Common.{◌≡◌, ℕ, ◌+◌, ◌*◌, ◌<◌, ◌≤◌, ◌==◌, ◌&&◌, not, Bool, true, false, length, refl, sym, ap, ◌∙◌, arith, inl, inr, nat_lt}
+use Rattle.std.proofs.Common.{◌≡◌, ℕ, ◌+◌, ◌*◌, ◌<◌, ◌≤◌, ◌==◌, ◌&&◌, not, Bool, true, false, length, refl, sym, ap}
+use Rattle.std.proofs.Common.{◌∙◌, arith, inl, inr, nat_lt}
 use Rattle.std.proofs.Math.Nat.{mul_comm, mul-add, mul-le-mul_right}
 use Rattle.std.proofs.lemmas.Bool.{cases_lt, cases_Bool, both_ways, and_from, eqb-true, eq-eqb, ltb-false, not-true}
 use Rattle.bounded_sums.specs.Sums.{sum_below, only_if}
@@ -24,7 +25,8 @@ use Rattle.charge_model.specs.Windows.{window_end}
 use Rattle.row_laws.proofs.Brings.{Window, TicksMeet, only_if-parts, sum_below-passing}
 use Rattle.row_laws.proofs.JobRows.{product_turned, is_near, Near, near_is, active_near, near_jobs}
 use Rattle.row_laws.proofs.Holdings.{own_resource, first_holder}
-use Rattle.row_laws.proofs.HoldingParts.{Holding, amount, for_resource, is_low, low_part, high_part, task_part, ForResource, for_resource_is, low_paid, job_paid}
+use Rattle.row_laws.proofs.HoldingParts.{Holding, amount, for_resource, is_low, low_part, high_part, task_part}
+use Rattle.row_laws.proofs.HoldingParts.{ForResource, for_resource_is, low_paid, job_paid}
 
 -- What a tick that counts while y holds q says.
 record HeldBy (w : Trace) (j x : ℕ) (share : ℕ → ℕ → ℕ) (q y t : ℕ) : Type 0 where
@@ -143,7 +145,8 @@ lower_paid w bound n j x s share q c =
             let z : ℕ = first_holder w j t in
             let uses : is_user w.set q (task_of w z) ≡ true = ap (λ r. is_user w.set r (task_of w z)) (sym a.resource) ∙ a.facts.uses in
             absurd (both_ways (nat_lt (task_of w j) (task_of w z) && (is_beside w.set x (task_of w z) && is_user w.set q (task_of w z)))
-            (any_below-none (length w.set.tasks) (λ y. nat_lt (task_of w j) y && (is_beside w.set x y && is_user w.set q y)) off (task_of w z)
+            (any_below-none (length w.set.tasks)
+            (λ y. nat_lt (task_of w j) y && (is_beside w.set x y && is_user w.set q y)) off (task_of w z)
             (c.window.lawful.each z a.facts.listed).task)
             (and_from _ _ parts.0 (and_from _ _ a.facts.beside uses)))
       ]

@@ -1,6 +1,7 @@
 -- Row of homes, under DPCP: while a job is in a request at a processor no lower request is granted there, and of those that
 -- were granted before at most one runs.
-use Rattle.std.proofs.Common.{◌≡◌, ℕ, zero, suc, ◌*◌, ◌<◌, ◌≤◌, ◌==◌, ◌&&◌, not, true, false, refl, sym, ap, subst, ◌∙◌, arith, inl, inr, Some, nat_lt}
+use Rattle.std.proofs.Common.{◌≡◌, ℕ, zero, suc, ◌*◌, ◌<◌, ◌≤◌, ◌==◌, ◌&&◌, not, true, false, refl, sym, ap, subst, ◌∙◌}
+use Rattle.std.proofs.Common.{arith, inl, inr, Some, nat_lt}
 use Rattle.std.proofs.lemmas.Bool.{cases_lt, cases_Bool, and_parts, and_from, eqb-true, eq-eqb, ltb-true, not-true, not_from_false}
 use Rattle.bounded_sums.specs.Sums.{flag}
 use Rattle.schedule_model.specs.declared.rule.Rule.TheVariants as rule
@@ -30,7 +31,8 @@ use Rattle.row_laws.proofs.SlotRow.{OneRequest}
 use Rattle.row_laws.proofs.Requests.{one_request}
 use Rattle.row_laws.proofs.Numbers.{by_number}
 use Rattle.row_laws.proofs.LowerHolders.{Asks, asks_between}
-use Rattle.row_laws.proofs.Ordered.{HoldsAt, requester_facts, holder_facts, Granted, new_granted, LowRunner, runs_first, low_ceiling, ordered, kept_from}
+use Rattle.row_laws.proofs.Ordered.{HoldsAt, requester_facts, holder_facts, Granted, new_granted, LowRunner, runs_first}
+use Rattle.row_laws.proofs.Ordered.{low_ceiling, ordered, kept_from}
 
 -- Where job j is in a request at a processor, no lower job is granted one there.
 no_low_grant : (w : Trace) (t k q y j : ℕ) → AreLawfulJobs (jobs_of w) → Granted w t k y → is_requester w t q j ≡ true → home_of w q ≡ k
@@ -136,7 +138,9 @@ home_row_met w bound n j k window keeps s share fair =
     by_number dpcp_charge w bound n j s share f (λ q. home_in w.set q == k) window
     (record {
       fair = fair;
-      small = λ c. flag_times-at_most ((not (is_preemption c.class) && nat_lt (task_of w j) c.task) && (home_in w.set c.resource == k)) (share c.task c.resource);
+      small = λ c. flag_times-at_most
+          ((not (is_preemption c.class) && nat_lt (task_of w j) c.task) && (home_in w.set c.resource == k))
+          (share c.task c.resource);
     })
     (λ t l h. let b : HomeBlocked w t j h.charge.job = blocked t (omega arith) h in
     record {

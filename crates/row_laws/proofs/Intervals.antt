@@ -1,6 +1,7 @@
 -- Row of intervals: from one request of its own to the next a job is preempted by at most one request of a lower task of
 -- its processor, since that task runs no local tick meanwhile.
-use Rattle.std.proofs.Common.{◌≡◌, ℕ, suc, ◌+◌, ◌*◌, ◌<◌, ◌≤◌, ◌==◌, ◌&&◌, true, false, length, refl, sym, ap, subst, ◌∙◌, arith, inl, inr, Some}
+use Rattle.std.proofs.Common.{◌≡◌, ℕ, suc, ◌+◌, ◌*◌, ◌<◌, ◌≤◌, ◌==◌, ◌&&◌, true, false, length, refl, sym, ap, subst}
+use Rattle.std.proofs.Common.{◌∙◌, arith, inl, inr, Some}
 use Rattle.std.proofs.Math.Nat.{mul_comm, mul-le-mul_right}
 use Rattle.std.proofs.lemmas.Bool.{cases_Bool, both_ways, and_parts, eqb-true, ltb-true}
 use Rattle.bounded_sums.specs.Sums.{sum_below, flag}
@@ -24,7 +25,8 @@ use Rattle.schedule_model.specs.Keeping.{KeepsRow, KeepsBefore}
 use Rattle.schedule_laws.specs.Counting.{requests_in, requests_begun}
 use Rattle.schedule_laws.proofs.Ticks.{finished_true, finished_stays}
 use Rattle.schedule_laws.proofs.ActiveJobs.{Active, active_is, active_listed, active_stays, active_local_from, active_local_is, ActiveLocal}
-use Rattle.schedule_laws.proofs.Rows.{runs_where, ReadyHolder, ready_holder_is, ready_holder_from, ready_is, ready_local, ready_holding, ready_active}
+use Rattle.schedule_laws.proofs.Rows.{runs_where, ReadyHolder, ready_holder_is, ready_holder_from, ready_is}
+use Rattle.schedule_laws.proofs.Rows.{ready_local, ready_holding, ready_active}
 use Rattle.schedule_laws.proofs.Begun.{requests_begun_up, requests_begun_at_most, open_if_begun}
 use Rattle.schedule_laws.proofs.Holders.{shared_holder_stays}
 use Rattle.schedule_laws.proofs.OwnRequests.{all_requests}

@@ -25,7 +25,8 @@ use Rattle.direct_constraints.specs.Rows.{request_row, time_row}
 use Rattle.charge_model.specs.Charges.{Executes}
 use Rattle.charge_model.specs.Windows.{bound_end, window_end}
 use Rattle.charge_laws.proofs.Windows.{active_after}
-use Rattle.row_laws.proofs.Brings.{Charges, Window, brings, Hit, hit, column_with, blocker, blocker_is, TicksMeet, flag_times-at_most, flag_times-passes, only_if-parts, sum_below-passing}
+use Rattle.row_laws.proofs.Brings.{Charges, Window, brings, Hit, hit, column_with, blocker, blocker_is, TicksMeet}
+use Rattle.row_laws.proofs.Brings.{flag_times-at_most, flag_times-passes, only_if-parts, sum_below-passing}
 
 -- Is y a job of x that is released less than its bound before job j's window, or in it?
 abbrev pub is_near : Trace → (ℕ → ℕ) → ℕ → ℕ → ℕ → Bool

@@ -1,11 +1,13 @@
 -- Rows of which each request of the job itself pays for one: a tick's slot is the number of the request that it is in.
-use Rattle.std.proofs.Common.{◌≡◌, ℕ, zero, suc, ◌+◌, ◌*◌, ◌<◌, ◌≤◌, ◌==◌, Bool, true, false, List, [], ◌∷◌, length, get_or, refl, sym, ap, ◌∙◌, arith, inl, inr, Option, Some, None, nat_lt, count_by}
+use Rattle.std.proofs.Common.{◌≡◌, ℕ, zero, suc, ◌+◌, ◌*◌, ◌<◌, ◌≤◌, ◌==◌, Bool, true, false, List, [], ◌∷◌, length}
+use Rattle.std.proofs.Common.{get_or, refl, sym, ap, ◌∙◌, arith, inl, inr, Option, Some, None, nat_lt, count_by}
 use Rattle.std.specs.Option.{option_map_or}
 use Rattle.std.proofs.Math.Nat.{mul_comm, mul-le-mul_left, mul-le-mul_right}
 use Rattle.std.proofs.lemmas.Bool.{cases_Bool, and_parts, ltb-true, eq-eqb, eqb-true, ne_eqb}
 use Rattle.bounded_sums.specs.Sums.{sum_below, flag, only_if}
 use Rattle.bounded_sums.specs.Tests.{count_below}
-use Rattle.bounded_sums.proofs.SumLaws.{sum_below-agree, sum_below-plus, sum_below-monotone, sum_below-term, sum_below-zero, only_if-true, only_if-false}
+use Rattle.bounded_sums.proofs.SumLaws.{sum_below-agree, sum_below-plus, sum_below-monotone, sum_below-term}
+use Rattle.bounded_sums.proofs.SumLaws.{sum_below-zero, only_if-true, only_if-false}
 use Rattle.bounded_sums.proofs.ListCounts.{count_by-first, count_by-places}
 use Rattle.sporadic_model.specs.SetDef.{SetDef}
 use Rattle.sporadic_model.specs.Users.{count_of}

@@ -1,8 +1,10 @@
 -- Holders under DPCP: at each row, of two holders at one processor the higher one is strictly higher than the ceiling of the
 -- lower one's resource. So where a lower request runs while a job waits there, its resource's ceiling is no lower than the job.
-use Rattle.std.proofs.Common.{◌≡◌, ◌⊎◌, ℕ, zero, suc, ◌<◌, ◌≤◌, ◌==◌, ◌&&◌, ◌||◌, not, Bool, true, false, length, refl, sym, ap, ◌∙◌, arith, inl, inr, Option, Some, None, nat_le, unwrap_or}
+use Rattle.std.proofs.Common.{◌≡◌, ◌⊎◌, ℕ, zero, suc, ◌<◌, ◌≤◌, ◌==◌, ◌&&◌, ◌||◌, not, Bool, true, false, length, refl}
+use Rattle.std.proofs.Common.{sym, ap, ◌∙◌, arith, inl, inr, Option, Some, None, nat_le, unwrap_or}
 use Rattle.std.specs.Option.{option_map_or}
-use Rattle.std.proofs.lemmas.Bool.{cases_lt, cases_Bool, both_ways, and_parts, and_from, eq-eqb, eqb-true, le-leb, leb-true, ltb-true, leb-false, not-true, not_from_false}
+use Rattle.std.proofs.lemmas.Bool.{cases_lt, cases_Bool, both_ways, and_parts, and_from, eq-eqb, eqb-true, le-leb}
+use Rattle.std.proofs.lemmas.Bool.{leb-true, ltb-true, leb-false, not-true, not_from_false}
 use Rattle.bounded_sums.specs.Tests.{all_below, any_below}
 use Rattle.bounded_sums.proofs.TestLaws.{any_below-some, any_below-from, all_below-each, all_below-fails}
 use Rattle.sporadic_model.specs.SetDef.{SetDef}
@@ -17,7 +19,9 @@ use Rattle.schedule_model.specs.Phase.{phase_of}
 use Rattle.schedule_model.specs.Phase.Phase.{Asking}
 use Rattle.schedule_model.specs.Activity.{task_of, is_active, is_requester, holds_by}
 use Rattle.schedule_model.specs.SharedRules.{KeepsKeep}
-use Rattle.schedule_model.specs.DpcpRules.{home_of, ceiling_rank, has_request_at, has_requests, holds_at, is_kept, waits_at, is_first_waiting, is_barred, is_granted, KeepsGrant, RunsFirstHolder, KeepsPriority}
+use Rattle.schedule_model.specs.DpcpRules.{home_of, ceiling_rank, has_request_at, has_requests, holds_at, is_kept}
+use Rattle.schedule_model.specs.DpcpRules.{waits_at, is_first_waiting, is_barred, is_granted, KeepsGrant}
+use Rattle.schedule_model.specs.DpcpRules.{RunsFirstHolder, KeepsPriority}
 use Rattle.schedule_model.specs.Protocols.{dpcp_rule}
 use Rattle.schedule_model.specs.Keeping.{KeepsBefore}
 use Rattle.schedule_laws.proofs.ActiveJobs.{active_listed, one_active, Requester, requester_is, requester_from, requester_listed}
@@ -98,11 +102,13 @@ unfolding is_granted is_first_waiting is_barred
 granted_is w t k y h =
     record {
       waits = first.0;
-      first = λ i l waits. leb-true _ _ (passes_first (waits_at w t k i) (nat_le (task_of w y) (task_of w i)) (all_below-each (length w.jobs) _ first.1 i l) waits);
+      first = λ i l waits. leb-true _ _ (passes_first (waits_at w t k i) (nat_le (task_of w y) (task_of w i))
+          (all_below-each (length w.jobs) _ first.1 i l) waits);
       above = above;
     } where
       parts : ((waits_at w t k y && all_below (length w.jobs) (λ i. not (waits_at w t k i) || nat_le (task_of w y) (task_of w i))) ≡ true)
-          × (not (any_below (length w.set.resources) (λ q. (home_of w q == k) && (is_kept w t q && nat_le (ceiling_rank w q) (task_of w y))))
+          × (not (any_below (length w.set.resources)
+          (λ q. (home_of w q == k) && (is_kept w t q && nat_le (ceiling_rank w q) (task_of w y))))
           ≡ true)
       parts = and_parts _ _ h
 

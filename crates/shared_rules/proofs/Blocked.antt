@@ -38,4 +38,5 @@ pub blocked_shown : (m : MachineDef) (rows : ℕ → RowDef) (j : ℕ) → Shows
 unfolding blocked_now is_blocked is_shared_interference is_delayed runs_higher
 blocked_shown m rows j shows run =
     rw (active_shown m rows j shows, ← runs_here (under m rows) m.tick j run)
-    (three_tests (is_active (under m rows) m.tick j) (runs_in (rows m.tick) j) (is_higher_beside m j (running_on (rows m.tick) (processor_now m j))))
+    (three_tests (is_active (under m rows) m.tick j) (runs_in (rows m.tick) j)
+    (is_higher_beside m j (running_on (rows m.tick) (processor_now m j))))

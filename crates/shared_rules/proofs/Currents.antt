@@ -16,15 +16,19 @@ use Rattle.shared_rules.specs.Order.{GivesRanks}
 use Rattle.shared_rules.specs.RowTests.{is_local_now, holds_now, may_run_now, current_passes, each_current}
 
 -- Where the active job of each task passes, each active job does.
-pub each_is : (m : MachineDef) (rows : ℕ → RowDef) (p : ℕ → Bool) (i : ℕ) → Shows m rows → each_current m p ≡ true → is_active (under m rows) m.tick i ≡ true → p i ≡ true
+pub each_is : (m : MachineDef) (rows : ℕ → RowDef) (p : ℕ → Bool) (i : ℕ) → Shows m rows → each_current m p ≡ true
+    → is_active (under m rows) m.tick i ≡ true → p i ≡ true
 unfolding each_current
 each_is m rows p i shows h a =
-    let l : task_in m.list.jobs i < length m.list.set.tasks = task_listed m.list i shows.machine.lawful (active_listed (under m rows) m.tick i a) in
-    let passes : current_passes m p (task_in m.list.jobs i) ≡ true = all_below-each (length m.list.set.tasks) (current_passes m p) h (task_in m.list.jobs i) l in
+    let l : task_in m.list.jobs i < length m.list.set.tasks =
+    task_listed m.list i shows.machine.lawful (active_listed (under m rows) m.tick i a) in
+    let passes : current_passes m p (task_in m.list.jobs i) ≡ true =
+    all_below-each (length m.list.set.tasks) (current_passes m p) h (task_in m.list.jobs i) l in
     sym (ap (λ o. option_map_or p o true) (current_from m rows i shows a)) ∙ passes
 
 -- And where each active job passes, the active job of each task does.
-pub each_from : (m : MachineDef) (rows : ℕ → RowDef) (p : ℕ → Bool) → Shows m rows → ((i : ℕ) → is_active (under m rows) m.tick i ≡ true → p i ≡ true) → each_current m p ≡ true
+pub each_from : (m : MachineDef) (rows : ℕ → RowDef) (p : ℕ → Bool) → Shows m rows
+    → ((i : ℕ) → is_active (under m rows) m.tick i ≡ true → p i ≡ true) → each_current m p ≡ true
 unfolding each_current
 each_from m rows p shows h = all_below-from (length m.list.set.tasks) (current_passes m p) (λ x l. at_task x l (current_now m x) refl) where
   at_task : (x : ℕ) → x < length m.list.set.tasks → (o : Option ℕ) → current_now m x ≡ o → current_passes m p x ≡ true
@@ -32,7 +36,8 @@ each_from m rows p shows h = all_below-from (length m.list.set.tasks) (current_p
   at_task x l (Some i) e = ap (λ o. option_map_or p o true) e ∙ h i (current_shown m rows x i shows l e).0
 
 -- What the machine says of an active job.
-pub local_shown : (m : MachineDef) (rows : ℕ → RowDef) (j : ℕ) → Shows m rows → is_active (under m rows) m.tick j ≡ true → is_local_now m j ≡ is_active_local (under m rows) m.tick j
+pub local_shown : (m : MachineDef) (rows : ℕ → RowDef) (j : ℕ) → Shows m rows → is_active (under m rows) m.tick j ≡ true
+    → is_local_now m j ≡ is_active_local (under m rows) m.tick j
 unfolding is_active_local
 local_shown m rows j shows a = rw (a, phase_shown m rows j shows (active_listed (under m rows) m.tick j a)) refl
 
@@ -47,7 +52,8 @@ unfolding is_ready
 may_run_shown m rows j shows a = rw (local_shown m rows j shows a, holds_shown m rows j shows a) refl
 
 -- The number in the order of running holders, of a ready holder.
-pub run_given : (o : Ranks) (grants runs : MachineDef → ℕ → ℕ) (m : MachineDef) (rows : ℕ → RowDef) (j : ℕ) → GivesRanks o grants runs → Shows m rows
+pub run_given : (o : Ranks) (grants runs : MachineDef → ℕ → ℕ) (m : MachineDef) (rows : ℕ → RowDef) (j : ℕ)
+    → GivesRanks o grants runs → Shows m rows
     → is_ready_holder (under m rows) m.tick j ≡ true → runs m j ≡ o.run (under m rows) m.tick j
 run_given o grants runs m rows j gives shows h =
     let r : ReadyHolder (under m rows) m.tick j = ready_holder_is (under m rows) m.tick j h in

@@ -1,5 +1,6 @@
 -- The holders while the tasks ask, one after the other.
-use Rattle.std.proofs.Common.{◌≡◌, ◌⊎◌, ℕ, ◌+◌, ◌<◌, ◌≤◌, not, true, false, refl, sym, ap, ◌∙◌, arith, inl, inr, Option, Some, None, ltb, subst}
+use Rattle.std.proofs.Common.{◌≡◌, ◌⊎◌, ℕ, ◌+◌, ◌<◌, ◌≤◌, not, true, false, refl, sym, ap, ◌∙◌, arith, inl, inr, Option}
+use Rattle.std.proofs.Common.{Some, None, ltb, subst}
 use Rattle.std.proofs.lemmas.Bool.{cases_Bool, cases_lt, and_parts, and_from, and_cases, both_ways, not-true, ltb-true, ltb-false}
 use Rattle.schedule_model.specs.RowDef.{is_job}
 use Rattle.schedule_model.specs.Phase.{is_asking}
@@ -41,7 +42,8 @@ granted_first s held same = record {
 }
 
 -- What follows where the one who asks doesn't get the resource from its new holder.
-refused : (s : Scene) (q j h : ℕ) → takes s q j (Some h) ≡ false → is_asking q (s.phase j) ≡ true → (s.before q ≡ Some h → ⊥) → s.grant h ≤ s.grant j
+refused : (s : Scene) (q j h : ℕ) → takes s q j (Some h) ≡ false → is_asking q (s.phase j) ≡ true
+    → (s.before q ≡ Some h → ⊥) → s.grant h ≤ s.grant j
 refused s q j h fails asks new = elim (and_cases (is_asking q (s.phase j)) (gives_way s q j (Some h)) fails) [
   | inl other ↦ absurd (both_ways (is_asking q (s.phase j)) other asks)
   | inr stays ↦ elim (and_cases (not (is_job h (s.before q))) (ltb (s.grant j) (s.grant h)) stays) [
@@ -60,9 +62,14 @@ record Won (s : Scene) (q j h : ℕ) : Type 0 where
 
 won : (s : Scene) (q j h : ℕ) → takes s q j (Some h) ≡ true → Won s q j h
 won s q j h passes =
-    let p : (is_asking q (s.phase j) ≡ true) × (gives_way s q j (Some h) ≡ true) = and_parts (is_asking q (s.phase j)) (gives_way s q j (Some h)) passes in
-    let r : (not (is_job h (s.before q)) ≡ true) × (ltb (s.grant j) (s.grant h) ≡ true) = and_parts (not (is_job h (s.before q))) (ltb (s.grant j) (s.grant h)) p.1 in
-    record { new = λ e. both_ways (is_job h (s.before q)) (not-true _ r.0) (named_job h (s.before q) e); later = ltb-true (s.grant j) (s.grant h) r.1 }
+    let p : (is_asking q (s.phase j) ≡ true) × (gives_way s q j (Some h) ≡ true) =
+    and_parts (is_asking q (s.phase j)) (gives_way s q j (Some h)) passes in
+    let r : (not (is_job h (s.before q)) ≡ true) × (ltb (s.grant j) (s.grant h) ≡ true) =
+    and_parts (not (is_job h (s.before q))) (ltb (s.grant j) (s.grant h)) p.1 in
+    record {
+      new = λ e. both_ways (is_job h (s.before q)) (not-true _ r.0) (named_job h (s.before q) e);
+      later = ltb-true (s.grant j) (s.grant h) r.1;
+    }
 
 -- Who holds q then, by whether the one who asks gets it.
 record Taken (s : Scene) (held more : ℕ → Option ℕ) (q j : ℕ) : Type 0 where
@@ -79,7 +86,8 @@ taken_or s held more q j same = elim (cases_Bool (takes s q j (held q))) [
   | inr fails ↦ let e : more q ≡ held q = rw fails at same in inr (record { fails = fails; now = e })
 ]
 
-granted_some : (s : Scene) (x j : ℕ) (held more : ℕ → Option ℕ) → Granted s x held → IsActiveJob s x (Some j) → ((q : ℕ) → more q ≡ asked s j held q) → Granted s (x + 1) more
+granted_some : (s : Scene) (x j : ℕ) (held more : ℕ → Option ℕ) → Granted s x held → IsActiveJob s x (Some j)
+    → ((q : ℕ) → more q ≡ asked s j held q) → Granted s (x + 1) more
 granted_some s x j held more g own same = record {
   asks = asks;
   keeps = keeps;
@@ -92,7 +100,9 @@ granted_some s x j held more g own same = record {
 
   asks : (q i : ℕ) → more q ≡ Some i → requests s q i ≡ true
   asks q i e = elim (taken_or s held more q j (same q)) [
-    | inl t ↦ let two : Some j ≡ Some i = sym t.now ∙ e in let one : j ≡ i = cc in subst (λ k. requests s q k ≡ true) one (and_from (s.active j) (is_asking q (s.phase j)) own.0 (asking q t))
+    | inl t ↦ let two : Some j ≡ Some i = sym t.now ∙ e in
+        let one : j ≡ i = cc in
+        subst (λ k. requests s q k ≡ true) one (and_from (s.active j) (is_asking q (s.phase j)) own.0 (asking q t))
     | inr l ↦ g.asks q i (sym l.now ∙ e)
   ]
 
@@ -104,12 +114,14 @@ granted_some s x j held more g own same = record {
 
   early : (q i : ℕ) → more q ≡ Some i → (s.before q ≡ Some i → ⊥) → s.task i < x + 1
   early q i e new = elim (taken_or s held more q j (same q)) [
-    | inl t ↦ let two : Some j ≡ Some i = sym t.now ∙ e in let one : j ≡ i = cc in let own_task : s.task i ≡ x = sym (ap s.task one) ∙ own.1 in omega arith
+    | inl t ↦ let two : Some j ≡ Some i = sym t.now ∙ e in
+        let one : j ≡ i = cc in let own_task : s.task i ≡ x = sym (ap s.task one) ∙ own.1 in omega arith
     | inr l ↦ let a : s.task i < x = g.early q i (sym l.now ∙ e) new in omega arith
   ]
 
   -- The one who gets q leads those who have asked.
-  taker_leads : (q i : ℕ) (o : Option ℕ) → held q ≡ o → takes s q j o ≡ true → requests s q i ≡ true → s.task i < x → Leads s.grant s.task j i
+  taker_leads : (q i : ℕ) (o : Option ℕ) → held q ≡ o → takes s q j o ≡ true → requests s q i ≡ true → s.task i < x
+      → Leads s.grant s.task j i
   taker_leads q i None e passes h l = absurd (g.free q e i h l)
   taker_leads q i (Some k) e passes h l =
       let w : Won s q j k = won s q j k passes in
@@ -118,7 +130,8 @@ granted_some s x j held more g own same = record {
       let before : s.grant k ≤ s.grant i = a.first in
       record { first = omega arith; tie = λ f. absurd (omega arith) }
 
-  leads : (q i : ℕ) → more q ≡ Some i → (s.before q ≡ Some i → ⊥) → (k : ℕ) → requests s q k ≡ true → s.task k < x + 1 → Leads s.grant s.task i k
+  leads : (q i : ℕ) → more q ≡ Some i → (s.before q ≡ Some i → ⊥) → (k : ℕ) → requests s q k ≡ true → s.task k < x + 1
+      → Leads s.grant s.task i k
   leads q i e new k h l =
       let active : s.active k ≡ true = (and_parts (s.active k) (is_asking q (s.phase k)) h).0 in
       elim (taken_or s held more q j (same q)) [
@@ -154,21 +167,25 @@ granted_some s x j held more g own same = record {
               | inl earlier ↦ g.free q e2 i h earlier
               | inr self ↦
                   let ask : requests s q j ≡ true = subst (λ y. requests s q y ≡ true) self h in
-                  let passes : takes s q j None ≡ true = and_from (is_asking q (s.phase j)) true (and_parts (s.active j) (is_asking q (s.phase j)) ask).1 refl in
+                  let passes : takes s q j None ≡ true = and_from (is_asking q (s.phase j)) true
+                  (and_parts (s.active j) (is_asking q (s.phase j)) ask).1 refl in
                   both_ways (takes s q j (held q)) a.fails (ap (takes s q j) e2 ∙ passes)
             ]
       ]
 
-granted_none : (s : Scene) (x : ℕ) (held more : ℕ → Option ℕ) → Granted s x held → IsActiveJob s x None → ((q : ℕ) → more q ≡ held q) → Granted s (x + 1) more
+granted_none : (s : Scene) (x : ℕ) (held more : ℕ → Option ℕ) → Granted s x held → IsActiveJob s x None
+    → ((q : ℕ) → more q ≡ held q) → Granted s (x + 1) more
 granted_none s x held more g none same = record {
   asks = λ q j e. g.asks q j (sym (same q) ∙ e);
   keeps = λ q j e h. same q ∙ g.keeps q j e h;
   early = λ q j e new. let a : s.task j < x = g.early q j (sym (same q) ∙ e) new in omega arith;
-  leads = λ q j e new i h l. g.leads q j (sym (same q) ∙ e) new i h (earlier_only s x i none (and_parts (s.active i) (is_asking q (s.phase i)) h).0 l);
+  leads = λ q j e new i h l. g.leads q j (sym (same q) ∙ e) new i h
+      (earlier_only s x i none (and_parts (s.active i) (is_asking q (s.phase i)) h).0 l);
   free = λ q e i h l. g.free q (sym (same q) ∙ e) i h (earlier_only s x i none (and_parts (s.active i) (is_asking q (s.phase i)) h).0 l);
 }
 
 -- One task more has asked.
-pub granted_next : (s : Scene) (x : ℕ) (o : Option ℕ) (held more : ℕ → Option ℕ) → Granted s x held → IsActiveJob s x o → ((q : ℕ) → more q ≡ held_after s o held q) → Granted s (x + 1) more
+pub granted_next : (s : Scene) (x : ℕ) (o : Option ℕ) (held more : ℕ → Option ℕ) → Granted s x held → IsActiveJob s x o
+    → ((q : ℕ) → more q ≡ held_after s o held q) → Granted s (x + 1) more
 granted_next s x None held more g own same = granted_none s x held more g own same
 granted_next s x (Some j) held more g own same = granted_some s x j held more g own same

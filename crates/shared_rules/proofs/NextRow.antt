@@ -1,5 +1,6 @@
 -- After any rows there is a chosen row.
-use Rattle.std.proofs.Common.{◌≡◌, ℕ, ◌<◌, ◌≤◌, ◌==◌, true, false, length, List, zero, suc, refl, sym, ◌∙◌, arith, inl, inr, Option, Some, None, get_or, map, subst, add-one, cond}
+use Rattle.std.proofs.Common.{◌≡◌, ℕ, ◌<◌, ◌≤◌, ◌==◌, true, false, length, List, zero, suc, refl, sym, ◌∙◌, arith, inl}
+use Rattle.std.proofs.Common.{inr, Option, Some, None, get_or, map, subst, add-one, cond}
 use Rattle.std.specs.List.{range_with_len}
 use Rattle.std.proofs.lemmas.Bool.{cases_lt, eq-eqb, ne_eqb}
 use Rattle.std.proofs.lemmas.List.{get_or_past}
@@ -14,7 +15,8 @@ use Rattle.schedule_model.specs.Chosen.{IsSized}
 use Rattle.schedule_laws.specs.Agreement.{AgreeBefore}
 use Rattle.schedule_laws.proofs.Agreement.{phase_agree, active_agree, held_before_agree}
 use Rattle.schedule_laws.proofs.SharedAgreement.{RanksAgree, mpcp_agree, fmlp_plus_agree}
-use Rattle.schedule_laws.proofs.ActiveJobs.{active_listed, one_active, active_job_is, active_job_none, Requester, requester_is, requester_listed}
+use Rattle.schedule_laws.proofs.ActiveJobs.{active_listed, one_active, active_job_is, active_job_none, Requester}
+use Rattle.schedule_laws.proofs.ActiveJobs.{requester_is, requester_listed}
 use Rattle.schedule_laws.proofs.Segments.{open_resource}
 use Rattle.phase_machine.proofs.Lawful.{task_listed}
 use Rattle.shared_rules.specs.Scene.{Scene, scene_at, IsActiveJob, kept, held_after, running_after, place_in}
@@ -41,12 +43,14 @@ granted_at s current own (suc x) =
     subst (λ n. Granted s n (held_at s current (suc x))) (add-one x)
     (granted_next s x (current x) (held_at s current x) (held_at s current (suc x)) (granted_at s current own x) (own x) (λ q. refl))
 
-placed_at : (s : Scene) (held current : ℕ → Option ℕ) → ((x : ℕ) → IsActiveJob s x (current x)) → (x : ℕ) → Placed s held x (running_at s held current x)
+placed_at : (s : Scene) (held current : ℕ → Option ℕ) → ((x : ℕ) → IsActiveJob s x (current x)) → (x : ℕ)
+    → Placed s held x (running_at s held current x)
 unfolding running_at
 placed_at s held current own zero = placed_first s held (running_at s held current zero) (λ k. refl)
 placed_at s held current own (suc x) =
     subst (λ n. Placed s held n (running_at s held current (suc x))) (add-one x)
-    (placed_next s held x (current x) (running_at s held current x) (running_at s held current (suc x)) (placed_at s held current own x) (own x) (λ k. refl))
+    (placed_next s held x (current x) (running_at s held current x) (running_at s held current (suc x))
+    (placed_at s held current own x) (own x) (λ k. refl))
 
 -- The active jobs of the tasks.
 active_job_at : (o : Ranks) (w : Trace) (t x : ℕ) → IsActiveJob (scene_at o w t) x (active_job_of w t x)
@@ -68,7 +72,8 @@ pub place_of_list : (f : ℕ → Option ℕ) (n k : ℕ) → ((j : ℕ) → f k 
 unfolding places_of
 place_of_list f n k within = elim (cases_lt k n) [
   | inl below ↦ get_or-map-range_with_len f 0 n k k None below (omega arith)
-  | inr past ↦ let l : length (map f (range_with_len 0 n)) ≤ k = omega (arith, length-map-range_with_len f 0 n) in get_or_past (map f (range_with_len 0 n)) k None l ∙ nothing (f k) refl past
+  | inr past ↦ let l : length (map f (range_with_len 0 n)) ≤ k = omega (arith, length-map-range_with_len f 0 n) in
+      get_or_past (map f (range_with_len 0 n)) k None l ∙ nothing (f k) refl past
 ] where
   nothing : (p : Option ℕ) → f k ≡ p → n ≤ k → None ≡ f k
   nothing None e past = sym e
@@ -96,9 +101,11 @@ same_before w t row = record { set = refl; jobs = refl; rows = λ u l. sym (earl
 pub row_there : (w : Trace) (t : ℕ) (row : RowDef) → (with_row w t row).row t ≡ row
 row_there w t row = let e : (t == t) ≡ true = eq-eqb t t refl in rw e refl
 
-scene_stays : (o : Ranks) (w : Trace) (t : ℕ) (row : RowDef) → AreLawfulJobs (jobs_of w) → RanksAgree o w (with_row w t row) t → IsSceneOf o (scene_at o w t) (with_row w t row) t
+scene_stays : (o : Ranks) (w : Trace) (t : ℕ) (row : RowDef) → AreLawfulJobs (jobs_of w)
+    → RanksAgree o w (with_row w t row) t → IsSceneOf o (scene_at o w t) (with_row w t row) t
 scene_stays o w t row lawful ranks = record {
-  within = λ j a. task_listed (jobs_of w) j lawful (active_listed w t j (active_agree w (with_row w t row) t t j (same_before w t row) (omega arith) ∙ a));
+  within = λ j a. task_listed (jobs_of w) j lawful
+      (active_listed w t j (active_agree w (with_row w t row) t t j (same_before w t row) (omega arith) ∙ a));
   actives = λ j. active_agree w (with_row w t row) t t j (same_before w t row) (omega arith);
   own = λ j. refl;
   column = λ j. refl;
@@ -109,29 +116,35 @@ scene_stays o w t row lawful ranks = record {
 }
 
 -- What holds is a resource of the set, and what runs is on a processor of the set.
-resource_within : (o : Ranks) (w : Trace) (t x q j : ℕ) (held : ℕ → Option ℕ) → AreLawfulJobs (jobs_of w) → Granted (scene_at o w t) x held → held q ≡ Some j → q < length w.set.resources
+resource_within : (o : Ranks) (w : Trace) (t x q j : ℕ) (held : ℕ → Option ℕ) → AreLawfulJobs (jobs_of w)
+    → Granted (scene_at o w t) x held → held q ≡ Some j → q < length w.set.resources
 unfolding is_requester
 resource_within o w t x q j held lawful g e =
     let asks : is_requester w t q j ≡ true = g.asks q j e in
     let r : Requester w t q j = requester_is w t q j asks in
     open_resource w.set w t j r.number q (lawful.each j (requester_listed w t q j asks)) r.phase
 
-processor_within : (o : Ranks) (w : Trace) (t x k r : ℕ) (held running : ℕ → Option ℕ) → AreLawfulJobs (jobs_of w) → ((y : ℕ) → y < length w.set.tasks → TaskNumbers w.set y)
+processor_within : (o : Ranks) (w : Trace) (t x k r : ℕ) (held running : ℕ → Option ℕ) → AreLawfulJobs (jobs_of w)
+    → ((y : ℕ) → y < length w.set.tasks → TaskNumbers w.set y)
     → Placed (scene_at o w t) held x running → running k ≡ Some r → (1 ≤ k) × (k ≤ w.set.processors)
 processor_within o w t x k r held running lawful numbers p e =
-    let n : TaskNumbers w.set (task_of w r) = numbers (task_of w r) (task_listed (jobs_of w) r lawful (active_listed w t r (p.active k r e))) in
+    let n : TaskNumbers w.set (task_of w r) =
+    numbers (task_of w r) (task_listed (jobs_of w) r lawful (active_listed w t r (p.active k r e))) in
     (omega (arith, n.processor_from, p.column k r e), omega (arith, n.processor_to, p.column k r e))
 
 numbers_of : (w : Trace) → IsAccepted w.set → (y : ℕ) → y < length w.set.tasks → TaskNumbers w.set y
 unfolding IsAccepted
 numbers_of w accepted = accepted.numbers
 
-pub next_row : (o : Ranks) (w : Trace) (t : ℕ) → IsAccepted w.set → AreLawfulJobs (jobs_of w) → ((row : RowDef) → RanksAgree o w (with_row w t row) t) → HasChoice o w t
+pub next_row : (o : Ranks) (w : Trace) (t : ℕ) → IsAccepted w.set → AreLawfulJobs (jobs_of w)
+    → ((row : RowDef) → RanksAgree o w (with_row w t row) t) → HasChoice o w t
 next_row o w t accepted lawful ranks = record {
   row = row;
-  chosen = chosen_from o s (with_row w t row) t (scene_stays o w t row lawful (ranks row)) (subst (IsSized w.set) (sym (row_there w t row)) sized)
+  chosen = chosen_from o s (with_row w t row) t (scene_stays o w t row lawful (ranks row))
+      (subst (IsSized w.set) (sym (row_there w t row)) sized)
       (subst (λ r. Granted s s.tasks (holder_in r)) (sym (row_there w t row)) granted)
-      (subst (λ r. Placed s (holder_in r) s.tasks (running_on r)) (sym (row_there w t row)) (placed_same s (place_in row.holders) s.tasks runs (running_on row) placed runs_there));
+      (subst (λ r. Placed s (holder_in r) s.tasks (running_on r)) (sym (row_there w t row))
+      (placed_same s (place_in row.holders) s.tasks runs (running_on row) placed runs_there));
 } where
   s : Scene
   s = scene_at o w t
@@ -155,7 +168,10 @@ next_row o w t accepted lawful ranks = record {
   row = record { running = places_of (λ c. runs (suc c)) w.set.processors; holders = holders }
 
   sized : IsSized w.set row
-  sized = record { processors = places_length (λ c. runs (suc c)) w.set.processors; resources = places_length held (length w.set.resources) }
+  sized = record {
+    processors = places_length (λ c. runs (suc c)) w.set.processors;
+    resources = places_length held (length w.set.resources);
+  }
 
   granted : Granted s (length w.set.tasks) (place_in holders)
   granted = granted_same s (length w.set.tasks) held (place_in holders) all_granted
@@ -170,10 +186,13 @@ next_row o w t accepted lawful ranks = record {
 
   runs_there : (k : ℕ) → running_on row k ≡ runs k
   runs_there zero = at_zero (runs 0) refl
-  runs_there (suc c) = place_of_list (λ y. runs (suc y)) w.set.processors c (λ r e. let b : (1 ≤ suc c) × (suc c ≤ w.set.processors) = within (suc c) r e in omega (arith, b.1))
+  runs_there (suc c) = place_of_list (λ y. runs (suc y)) w.set.processors c
+      (λ r e. let b : (1 ≤ suc c) × (suc c ≤ w.set.processors) = within (suc c) r e in omega (arith, b.1))
 
 pub next_row_mpcp : (w : Trace) (t : ℕ) → IsAccepted w.set → AreLawfulJobs (jobs_of w) → HasChoice mpcp w t
-next_row_mpcp w t accepted lawful = next_row mpcp w t accepted lawful (λ row. mpcp_agree w (with_row w t row) t t (same_before w t row) (omega arith))
+next_row_mpcp w t accepted lawful =
+    next_row mpcp w t accepted lawful (λ row. mpcp_agree w (with_row w t row) t t (same_before w t row) (omega arith))
 
 pub next_row_fmlp_plus : (w : Trace) (t : ℕ) → IsAccepted w.set → AreLawfulJobs (jobs_of w) → HasChoice fmlp_plus w t
-next_row_fmlp_plus w t accepted lawful = next_row fmlp_plus w t accepted lawful (λ row. fmlp_plus_agree w (with_row w t row) t t (same_before w t row) (omega arith))
+next_row_fmlp_plus w t accepted lawful = next_row fmlp_plus w t accepted lawful
+    (λ row. fmlp_plus_agree w (with_row w t row) t t (same_before w t row) (omega arith))

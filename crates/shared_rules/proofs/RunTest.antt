@@ -1,5 +1,6 @@
 -- The test of Run says that the row keeps it.
-use Rattle.std.proofs.Common.{◌≡◌, ℕ, ◌+◌, ◌<◌, zero, suc, true, length, List, refl, sym, ap, ◌∙◌, arith, inl, inr, Option, Some, None, get_or}
+use Rattle.std.proofs.Common.{◌≡◌, ℕ, ◌+◌, ◌<◌, zero, suc, true, length, List, refl, sym, ap, ◌∙◌, arith, inl, inr}
+use Rattle.std.proofs.Common.{Option, Some, None, get_or}
 use Rattle.std.specs.Option.{option_map_or}
 use Rattle.std.proofs.lemmas.Bool.{cases_lt, and_parts, and_from, eq-eqb, eqb-true}
 use Rattle.std.proofs.lemmas.List.{get_or_past}
@@ -49,15 +50,17 @@ run_is m rows shows h = record {
 
 pub run_from : (m : MachineDef) (rows : ℕ → RowDef) → Shows m rows → KeepsRun (under m rows) m.tick → passes_run m (rows m.tick) ≡ true
 unfolding passes_run
-run_from m rows shows run = all_below-from (length (rows m.tick).running) (column_passes m (rows m.tick)) (λ c l. at_column c (get_or (rows m.tick).running c None) refl) where
-  stand : (c j : ℕ) → get_or (rows m.tick).running c None ≡ Some j → may_stand m (rows m.tick) c j ≡ true
-  stand c j e =
-      let ready : is_ready (under m rows) m.tick j ≡ true = run.ready (suc c) j e in
-      let active : is_active (under m rows) m.tick j ≡ true = ready_active (under m rows) m.tick j ready in
-      let column : suc c ≡ processor_now m j = run.column (suc c) j e in
-      let own : processor_now m j ≡ c + 1 = omega arith in
-      and_from _ _ (active_shown m rows j shows ∙ active) (and_from _ _ (may_run_shown m rows j shows active ∙ ready) (eq-eqb _ _ own))
+run_from m rows shows run = all_below-from (length (rows m.tick).running) (column_passes m (rows m.tick))
+    (λ c l. at_column c (get_or (rows m.tick).running c None) refl)
+  where
+    stand : (c j : ℕ) → get_or (rows m.tick).running c None ≡ Some j → may_stand m (rows m.tick) c j ≡ true
+    stand c j e =
+        let ready : is_ready (under m rows) m.tick j ≡ true = run.ready (suc c) j e in
+        let active : is_active (under m rows) m.tick j ≡ true = ready_active (under m rows) m.tick j ready in
+        let column : suc c ≡ processor_now m j = run.column (suc c) j e in
+        let own : processor_now m j ≡ c + 1 = omega arith in
+        and_from _ _ (active_shown m rows j shows ∙ active) (and_from _ _ (may_run_shown m rows j shows active ∙ ready) (eq-eqb _ _ own))
 
-  at_column : (c : ℕ) (o : Option ℕ) → get_or (rows m.tick).running c None ≡ o → column_passes m (rows m.tick) c ≡ true
-  at_column c None e = ap (λ o. option_map_or (may_stand m (rows m.tick) c) o true) e
-  at_column c (Some j) e = ap (λ o. option_map_or (may_stand m (rows m.tick) c) o true) e ∙ stand c j e
+    at_column : (c : ℕ) (o : Option ℕ) → get_or (rows m.tick).running c None ≡ o → column_passes m (rows m.tick) c ≡ true
+    at_column c None e = ap (λ o. option_map_or (may_stand m (rows m.tick) c) o true) e
+    at_column c (Some j) e = ap (λ o. option_map_or (may_stand m (rows m.tick) c) o true) e ∙ stand c j e

@@ -1,5 +1,6 @@
 -- The scene at a machine, and how one job's coming shows in it.
-use Rattle.std.proofs.Common.{◌≡◌, ℕ, ◌<◌, ◌≤◌, ◌==◌, ◌&&◌, true, false, length, List, [], ◌∷◌, zero, suc, refl, sym, ap, ◌∙◌, inl, inr, Option, Some, None, cond, get_or, map, subst}
+use Rattle.std.proofs.Common.{◌≡◌, ℕ, ◌<◌, ◌≤◌, ◌==◌, ◌&&◌, true, false, length, List, [], ◌∷◌, zero, suc, refl, sym}
+use Rattle.std.proofs.Common.{ap, ◌∙◌, inl, inr, Option, Some, None, cond, get_or, map, subst}
 use Rattle.std.proofs.lemmas.Bool.{eq-eqb, eqb-true, cases_Bool}
 use Rattle.schedule_model.specs.declared.job.JobId.{JobId}
 use Rattle.schedule_model.specs.JobDef.{job_of}
@@ -16,11 +17,13 @@ use Rattle.phase_machine.specs.Shows.{Shows}
 use Rattle.phase_machine.proofs.Lawful.{task_listed}
 use Rattle.phase_machine.proofs.Facts.{phase_shown, active_shown, active_current, current_some}
 use Rattle.shared_rules.specs.Order.{GivesRanks}
-use Rattle.shared_rules.specs.Scene.{Scene, scene_now, IsActiveJob, gives_way, asked, stays, kept, may_run, is_outrun, entered, running_in, resource_in}
+use Rattle.shared_rules.specs.Scene.{Scene, scene_now, IsActiveJob, gives_way, asked, stays, kept, may_run, is_outrun}
+use Rattle.shared_rules.specs.Scene.{entered, running_in, resource_in}
 use Rattle.shared_rules.proofs.Chosen.{IsSceneOf}
 
 -- The scene at a machine is that of each schedule that it shows.
-pub scene_shown : (o : Ranks) (grants runs : MachineDef → ℕ → ℕ) (m : MachineDef) (rows : ℕ → RowDef) → GivesRanks o grants runs → Shows m rows
+pub scene_shown : (o : Ranks) (grants runs : MachineDef → ℕ → ℕ) (m : MachineDef) (rows : ℕ → RowDef)
+    → GivesRanks o grants runs → Shows m rows
     → IsSceneOf o (scene_now (grants m) (runs m) m) (under m rows) m.tick
 scene_shown o grants runs m rows gives shows = record {
   within = λ j a. task_listed m.list j shows.machine.lawful (active_listed (under m rows) m.tick j a);
@@ -37,11 +40,13 @@ scene_shown o grants runs m rows gives shows = record {
 current_own : (m : MachineDef) (x j : ℕ) → IsMachine m → x < length m.list.set.tasks → current_now m x ≡ Some j → task_in m.list.jobs j ≡ x
 unfolding current_now
 current_own m x j machine l e =
-    let parts : ((place_of m x).job ≡ j) × ((place_of m x).job < length m.list.jobs) × ((job_of m.list.jobs (place_of m x).job).release ≤ m.tick) = current_some m.list.jobs m.tick (place_of m x) j e in
+    let parts : ((place_of m x).job ≡ j) × ((place_of m x).job < length m.list.jobs)
+    × ((job_of m.list.jobs (place_of m x).job).release ≤ m.tick) = current_some m.list.jobs m.tick (place_of m x) j e in
     let p : IsPlace m.list.jobs x (place_of m x) = machine.place x l in
     subst (λ y. task_in m.list.jobs y ≡ x) parts.0 (p.own parts.1)
 
-pub active_job_now : (m : MachineDef) (grant run : ℕ → ℕ) (x : ℕ) → IsMachine m → x < length m.list.set.tasks → IsActiveJob (scene_now grant run m) x (current_now m x)
+pub active_job_now : (m : MachineDef) (grant run : ℕ → ℕ) (x : ℕ) → IsMachine m → x < length m.list.set.tasks
+    → IsActiveJob (scene_now grant run m) x (current_now m x)
 unfolding active_now
 active_job_now m grant run x machine l = go (current_now m x) refl where
   the_one : (i : ℕ) → active_now m i ≡ true → task_in m.list.jobs i ≡ x → current_now m x ≡ Some i
@@ -72,7 +77,8 @@ place_shown (o ∷ places) zero = refl
 place_shown (o ∷ places) (suc k) = place_shown places k
 
 -- What a job's asking does to the holders: where it requests nothing, and where it requests q.
-pub asked_nothing : (s : Scene) (j : ℕ) (held more : ℕ → Option ℕ) → resource_in (s.phase j) ≡ None → ((q : ℕ) → more q ≡ held q) → (q : ℕ) → more q ≡ asked s j held q
+pub asked_nothing : (s : Scene) (j : ℕ) (held more : ℕ → Option ℕ) → resource_in (s.phase j) ≡ None
+    → ((q : ℕ) → more q ≡ held q) → (q : ℕ) → more q ≡ asked s j held q
 asked_nothing s j held more nothing same q = same q ∙ go (s.phase j) refl where
   go : (p : Phase) → s.phase j ≡ p → held q ≡ asked s j held q
   go Local e = rw e refl
@@ -84,7 +90,8 @@ asking_of q Local e r = absurd (cc)
 asking_of q Finished e r = absurd (cc)
 asking_of q (Asking n y) e r = let same : y ≡ q = cc in ap (λ z. z == r) same
 
-pub asked_one : (s : Scene) (j q : ℕ) (held more : ℕ → Option ℕ) → resource_in (s.phase j) ≡ Some q → more q ≡ cond (gives_way s q j (held q)) (Some j) (held q)
+pub asked_one : (s : Scene) (j q : ℕ) (held more : ℕ → Option ℕ) → resource_in (s.phase j) ≡ Some q
+    → more q ≡ cond (gives_way s q j (held q)) (Some j) (held q)
     → ((r : ℕ) → (r ≡ q → ⊥) → more r ≡ held r) → (r : ℕ) → more r ≡ asked s j held r
 asked_one s j q held more asks here others r = elim (cases_Bool (q == r)) [
   | inl same ↦ let e : q ≡ r = eqb-true q r same in subst (λ y. more y ≡ asked s j held y) e (at_q)
@@ -101,7 +108,8 @@ asked_one s j q held more asks here others r = elim (cases_Bool (q == r)) [
 
 -- What a job's coming does to what runs, k being its processor.
 pub entered_one : (s : Scene) (held : ℕ → Option ℕ) (j k : ℕ) (running more : ℕ → Option ℕ) → s.processor j ≡ k
-    → more k ≡ cond (may_run s held j && is_outrun s held j (running k)) (Some j) (running k) → ((r : ℕ) → (r ≡ k → ⊥) → more r ≡ running r) → (r : ℕ) → more r ≡ entered s held j running r
+    → more k ≡ cond (may_run s held j && is_outrun s held j (running k)) (Some j) (running k)
+    → ((r : ℕ) → (r ≡ k → ⊥) → more r ≡ running r) → (r : ℕ) → more r ≡ entered s held j running r
 entered_one s held j k running more own here others r = elim (cases_Bool (s.processor j == r)) [
   | inl same ↦ let e : k ≡ r = sym own ∙ eqb-true (s.processor j) r same in subst (λ y. more y ≡ entered s held j running y) e at_k
   | inr other ↦

@@ -30,9 +30,11 @@ pub record Tests (keeps : Rule → Trace → ℕ → Type 0) (w : Trace) (t : �
 
 abbrev pub first_of : Bool → Bool → Bool → Bool → Bool → Option Rule
 first_of a b c d e =
-    cond (not a) (Some rule.Run) (cond (not b) (Some rule.Keep) (cond (not c) (Some rule.Grant) (cond (not d) (Some rule.Idle) (cond (not e) (Some rule.Priority) None))))
+    cond (not a) (Some rule.Run) (cond (not b) (Some rule.Keep)
+    (cond (not c) (Some rule.Grant) (cond (not d) (Some rule.Idle) (cond (not e) (Some rule.Priority) None))))
 
-pub all_kept : (keeps : Rule → Trace → ℕ → Type 0) (w : Trace) (t : ℕ) (a b c d e : Bool) → Tests keeps w t a b c d e → first_of a b c d e ≡ None → KeepsRow keeps w t
+pub all_kept : (keeps : Rule → Trace → ℕ → Type 0) (w : Trace) (t : ℕ) (a b c d e : Bool) → Tests keeps w t a b c d e
+    → first_of a b c d e ≡ None → KeepsRow keeps w t
 all_kept keeps w t false b c d e tests h = absurd (cc)
 all_kept keeps w t true false c d e tests h = absurd (cc)
 all_kept keeps w t true true false d e tests h = absurd (cc)
@@ -47,7 +49,8 @@ all_kept keeps w t true true true true true tests h = λ r. each r where
   each rule.Priority = tests.priority_is refl refl
 
 -- The rules before one of the five, where those before it are kept.
-up_to : (keeps : Rule → Trace → ℕ → Type 0) (w : Trace) (t n : ℕ) → (1 < n → keeps rule.Run w t) → (2 < n → keeps rule.Keep w t) → (3 < n → keeps rule.Grant w t) → (4 < n → keeps rule.Idle w t)
+up_to : (keeps : Rule → Trace → ℕ → Type 0) (w : Trace) (t n : ℕ) → (1 < n → keeps rule.Run w t)
+    → (2 < n → keeps rule.Keep w t) → (3 < n → keeps rule.Grant w t) → (4 < n → keeps rule.Idle w t)
     → n < 6 → (s : Rule) → rule_number s < n → keeps s w t
 up_to keeps w t n a b c d most rule.Run l = a l
 up_to keeps w t n a b c d most rule.Keep l = b l
@@ -55,41 +58,49 @@ up_to keeps w t n a b c d most rule.Grant l = c l
 up_to keeps w t n a b c d most rule.Idle l = d l
 up_to keeps w t n a b c d most rule.Priority l = absurd (omega arith)
 
-pub first_broken : (keeps : Rule → Trace → ℕ → Type 0) (w : Trace) (t : ℕ) (a b c d e : Bool) (r : Rule) → Tests keeps w t a b c d e → first_of a b c d e ≡ Some r → Breaks keeps w t r
+pub first_broken : (keeps : Rule → Trace → ℕ → Type 0) (w : Trace) (t : ℕ) (a b c d e : Bool) (r : Rule)
+    → Tests keeps w t a b c d e → first_of a b c d e ≡ Some r → Breaks keeps w t r
 first_broken keeps w t false b c d e r tests h =
     let same : rule.Run ≡ r = cc in
     subst (λ s. Breaks keeps w t s) same (record {
-      earlier = up_to keeps w t 1 (λ l. absurd (omega arith)) (λ l. absurd (omega arith)) (λ l. absurd (omega arith)) (λ l. absurd (omega arith)) (omega arith);
+      earlier = up_to keeps w t 1 (λ l. absurd (omega arith)) (λ l. absurd (omega arith)) (λ l. absurd (omega arith))
+          (λ l. absurd (omega arith)) (omega arith);
       broken = λ k. let x : false ≡ true = tests.run_from k in absurd (cc);
     })
 first_broken keeps w t true false c d e r tests h =
     let same : rule.Keep ≡ r = cc in
     subst (λ s. Breaks keeps w t s) same (record {
-      earlier = up_to keeps w t 2 (λ l. tests.run_is refl) (λ l. absurd (omega arith)) (λ l. absurd (omega arith)) (λ l. absurd (omega arith)) (omega arith);
+      earlier = up_to keeps w t 2 (λ l. tests.run_is refl) (λ l. absurd (omega arith)) (λ l. absurd (omega arith))
+          (λ l. absurd (omega arith)) (omega arith);
       broken = λ k. let x : false ≡ true = tests.keep_from k in absurd (cc);
     })
 first_broken keeps w t true true false d e r tests h =
     let same : rule.Grant ≡ r = cc in
     subst (λ s. Breaks keeps w t s) same (record {
-      earlier = up_to keeps w t 3 (λ l. tests.run_is refl) (λ l. tests.keep_is refl) (λ l. absurd (omega arith)) (λ l. absurd (omega arith)) (omega arith);
+      earlier = up_to keeps w t 3 (λ l. tests.run_is refl) (λ l. tests.keep_is refl) (λ l. absurd (omega arith))
+          (λ l. absurd (omega arith)) (omega arith);
       broken = λ k. let x : false ≡ true = tests.grant_from k in absurd (cc);
     })
 first_broken keeps w t true true true false e r tests h =
     let same : rule.Idle ≡ r = cc in
     subst (λ s. Breaks keeps w t s) same (record {
-      earlier = up_to keeps w t 4 (λ l. tests.run_is refl) (λ l. tests.keep_is refl) (λ l. tests.grant_is refl) (λ l. absurd (omega arith)) (omega arith);
+      earlier = up_to keeps w t 4 (λ l. tests.run_is refl) (λ l. tests.keep_is refl) (λ l. tests.grant_is refl)
+          (λ l. absurd (omega arith)) (omega arith);
       broken = λ k. let x : false ≡ true = tests.idle_from k in absurd (cc);
     })
 first_broken keeps w t true true true true false r tests h =
     let same : rule.Priority ≡ r = cc in
     subst (λ s. Breaks keeps w t s) same (record {
-      earlier = up_to keeps w t 5 (λ l. tests.run_is refl) (λ l. tests.keep_is refl) (λ l. tests.grant_is refl) (λ l. tests.idle_is refl) (omega arith);
+      earlier = up_to keeps w t 5 (λ l. tests.run_is refl) (λ l. tests.keep_is refl) (λ l. tests.grant_is refl)
+          (λ l. tests.idle_is refl) (omega arith);
       broken = λ k. let x : false ≡ true = tests.priority_from (tests.run_is refl) k in absurd (cc);
     })
 first_broken keeps w t true true true true true r tests h = absurd (cc)
 
-tests_say : (o : Ranks) (grants runs : MachineDef → ℕ → ℕ) (m : MachineDef) (rows : ℕ → RowDef) → GivesRanks o grants runs → Shows m rows → IsRowFor m.list (rows m.tick)
-    → Tests (shared_rule o) (under m rows) m.tick (passes_run m (rows m.tick)) (passes_keep m (rows m.tick)) (passes_grant m (grants m) (rows m.tick)) (passes_idle m (rows m.tick)) (passes_priority m (runs m) (rows m.tick))
+tests_say : (o : Ranks) (grants runs : MachineDef → ℕ → ℕ) (m : MachineDef) (rows : ℕ → RowDef)
+    → GivesRanks o grants runs → Shows m rows → IsRowFor m.list (rows m.tick)
+    → Tests (shared_rule o) (under m rows) m.tick (passes_run m (rows m.tick)) (passes_keep m (rows m.tick))
+    (passes_grant m (grants m) (rows m.tick)) (passes_idle m (rows m.tick)) (passes_priority m (runs m) (rows m.tick))
 tests_say o grants runs m rows gives shows fits = record {
   run_is = run_is m rows shows;
   run_from = run_from m rows shows;
@@ -105,16 +116,20 @@ tests_say o grants runs m rows gives shows fits = record {
   within : (q j : ℕ) → holder_in (rows m.tick) q ≡ Some j → q < length m.list.set.resources
   within q j e = omega (arith, some_within (rows m.tick).holders q j e, fits.sized.resources)
 
-pub judged_none : (o : Ranks) (grants runs : MachineDef → ℕ → ℕ) (m : MachineDef) (rows : ℕ → RowDef) (row : RowDef) → GivesRanks o grants runs → Shows m rows → IsRowFor m.list row
+pub judged_none : (o : Ranks) (grants runs : MachineDef → ℕ → ℕ) (m : MachineDef) (rows : ℕ → RowDef) (row : RowDef)
+    → GivesRanks o grants runs → Shows m rows → IsRowFor m.list row
     → rows m.tick ≡ row → first_failed m (grants m) (runs m) row ≡ None → KeepsRow (shared_rule o) (under m rows) m.tick
 judged_none o grants runs m rows row gives shows fits e h =
-    all_kept (shared_rule o) (under m rows) m.tick (passes_run m (rows m.tick)) (passes_keep m (rows m.tick)) (passes_grant m (grants m) (rows m.tick)) (passes_idle m (rows m.tick))
+    all_kept (shared_rule o) (under m rows) m.tick (passes_run m (rows m.tick)) (passes_keep m (rows m.tick))
+    (passes_grant m (grants m) (rows m.tick)) (passes_idle m (rows m.tick))
     (passes_priority m (runs m) (rows m.tick)) (tests_say o grants runs m rows gives shows (subst (λ r. IsRowFor m.list r) (sym e) fits))
     (subst (λ r. first_failed m (grants m) (runs m) r ≡ None) (sym e) h)
 
-pub judged_some : (o : Ranks) (grants runs : MachineDef → ℕ → ℕ) (m : MachineDef) (rows : ℕ → RowDef) (row : RowDef) (r : Rule) → GivesRanks o grants runs → Shows m rows → IsRowFor m.list row
+pub judged_some : (o : Ranks) (grants runs : MachineDef → ℕ → ℕ) (m : MachineDef) (rows : ℕ → RowDef) (row : RowDef)
+    (r : Rule) → GivesRanks o grants runs → Shows m rows → IsRowFor m.list row
     → rows m.tick ≡ row → first_failed m (grants m) (runs m) row ≡ Some r → Breaks (shared_rule o) (under m rows) m.tick r
 judged_some o grants runs m rows row r gives shows fits e h =
-    first_broken (shared_rule o) (under m rows) m.tick (passes_run m (rows m.tick)) (passes_keep m (rows m.tick)) (passes_grant m (grants m) (rows m.tick)) (passes_idle m (rows m.tick))
+    first_broken (shared_rule o) (under m rows) m.tick (passes_run m (rows m.tick)) (passes_keep m (rows m.tick))
+    (passes_grant m (grants m) (rows m.tick)) (passes_idle m (rows m.tick))
     (passes_priority m (runs m) (rows m.tick)) r (tests_say o grants runs m rows gives shows (subst (λ r. IsRowFor m.list r) (sym e) fits))
     (subst (λ s. first_failed m (grants m) (runs m) s ≡ Some r) (sym e) h)

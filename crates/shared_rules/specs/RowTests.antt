@@ -1,6 +1,7 @@
 -- The rules of a row as tests: what they look at is a machine's value and the row that comes next. The orders of grants
 -- and runs stand as numbers of jobs.
-use Rattle.std.specs.Prelude.{ℕ, ◌+◌, ◌==◌, ◌&&◌, ◌||◌, not, Bool, true, false, nat_le, if◌then◌else◌, length, Option, None, Some, is_some, slice_index_or}
+use Rattle.std.specs.Prelude.{ℕ, ◌+◌, ◌==◌, ◌&&◌, ◌||◌, not, Bool, true, false, nat_le, if◌then◌else◌, length, Option}
+use Rattle.std.specs.Prelude.{None, Some, is_some, slice_index_or}
 use Rattle.std.specs.Option.{option_map_or}
 use Rattle.bounded_sums.specs.Tests.{all_below}
 use Rattle.sporadic_model.specs.SetDef.{task_at}

@@ -1,6 +1,7 @@
 -- What the choice of a row looks at: the active jobs, what they do next, who held what, and the orders of grants and
 -- runs as numbers of jobs.
-use Rattle.std.specs.Prelude.{◌≡◌, ℕ, ◌<◌, ◌==◌, ◌&&◌, ◌||◌, not, Bool, true, nat_lt, if◌then◌else◌, Option, None, Some, length, List, [], slice_index_or}
+use Rattle.std.specs.Prelude.{◌≡◌, ℕ, ◌<◌, ◌==◌, ◌&&◌, ◌||◌, not, Bool, true, nat_lt, if◌then◌else◌, Option, None, Some}
+use Rattle.std.specs.Prelude.{length, List, [], slice_index_or}
 use Rattle.schedule_model.specs.RowDef.{Trace, is_job, running_on, held_before}
 use Rattle.schedule_model.specs.Phase.{Phase, is_local, is_asking, phase_of}
 use Rattle.schedule_model.specs.Phase.Phase.{Asking}

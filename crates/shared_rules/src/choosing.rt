@@ -1,4 +1,5 @@
-ghost use Rattle.std.specs.Prelude.{◌≡◌, ℕ, ◌<◌, ◌≤◌, ◌&&◌, if◌then◌else◌, length, map, Option, Some, None, IfSome, IfNone, slice_index_or, option_map};
+ghost use Rattle.std.specs.Prelude.{◌≡◌, ℕ, ◌<◌, ◌≤◌, ◌&&◌, if◌then◌else◌, length, map, Option, Some, None, IfSome};
+ghost use Rattle.std.specs.Prelude.{IfNone, slice_index_or, option_map};
 ghost use Rattle.schedule_model.specs.RowDef.{RowDef};
 ghost use Rattle.schedule_model.specs.Chosen.{IsSized, IsSharedChoice};
 ghost use Rattle.schedule_model.specs.Seen.{row_seen, place_seen};
@@ -6,7 +7,8 @@ ghost use Rattle.phase_machine.specs.MachineDef.{MachineDef, under};
 ghost use Rattle.phase_machine.specs.Now.{phase_now, current_now, holder_now, requester_now};
 ghost use Rattle.phase_machine.specs.Shows.{Shows};
 ghost use Rattle.shared_rules.specs.RowTests.{processor_now};
-ghost use Rattle.shared_rules.specs.Scene.{scene_now, gives_way, asked, held_after, stays, may_run, is_outrun, entered, running_after, place_in, running_in, NamesBelow, resource_in};
+ghost use Rattle.shared_rules.specs.Scene.{scene_now, gives_way, asked, held_after, stays, may_run, is_outrun, entered};
+ghost use Rattle.shared_rules.specs.Scene.{running_after, place_in, running_in, NamesBelow, resource_in};
 ghost use Rattle.shared_rules.specs.Choosing.{Granted, Placed};
 
 use crate::lookup::{holds, may_run, processor_of, requests, resources_of, tasks_of};
@@ -149,7 +151,8 @@ fn ask_for<O: Order>(order: &O, machine: &Machine, x: TaskId, holders: &mut [Opt
     requires named { NamesBelow (length machine.now.list.jobs) (map place_seen holders.old) }
     ensures len { length holders.new ≡ length holders.old }
     ensures held { (q : ℕ) → place_in (map place_seen holders.new) q
-        ≡ held_after (scene_now (O.grant order.now machine.now) (O.run order.now machine.now) machine.now) (current_now machine.now x.0) (place_in (map place_seen holders.old)) q }
+        ≡ held_after (scene_now (O.grant order.now machine.now) (O.run order.now machine.now) machine.now)
+        (current_now machine.now x.0) (place_in (map place_seen holders.old)) q }
 {
     match machine.current(x) {
         Some(j) => ask(order, machine, j, holders),

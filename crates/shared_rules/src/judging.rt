@@ -8,7 +8,11 @@ ghost use Rattle.phase_machine.specs.Now.{requester_now};
 ghost use Rattle.phase_machine.specs.Shows.{Shows};
 ghost use Rattle.phase_machine.specs.Taking.{IsRowFor};
 ghost use Rattle.phase_machine.specs.Judged.{Judged};
-ghost use Rattle.shared_rules.specs.RowTests.{processor_now, current_passes, each_current, is_local_now, holds_now, may_run_now, may_stand, column_passes, stays_holder, kept_passes, holder_passes, goes_before, request_passes, idle_passes, runs_before, priority_passes, passes_run, passes_keep, passes_grant, passes_idle, passes_priority, first_failed};
+ghost use Rattle.shared_rules.specs.RowTests.{processor_now, current_passes, each_current, is_local_now, holds_now};
+ghost use Rattle.shared_rules.specs.RowTests.{may_run_now, may_stand, column_passes, stays_holder, kept_passes};
+ghost use Rattle.shared_rules.specs.RowTests.{holder_passes, goes_before, request_passes, idle_passes, runs_before};
+ghost use Rattle.shared_rules.specs.RowTests.{priority_passes, passes_run, passes_keep, passes_grant, passes_idle};
+ghost use Rattle.shared_rules.specs.RowTests.{passes_priority, first_failed};
 
 use crate::lookup::{
     column_at, holder_at, holds, is_local, may_run, processor_of, requests, resources_of,

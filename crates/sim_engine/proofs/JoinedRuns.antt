@@ -24,13 +24,15 @@ joined_rest run (next ∷ runs) joined = joined.1
 abbrev pub SameRows : List RunDef → List RunDef → ℕ → Type 0
 SameRows a b n = (t : ℕ) → t < n → row_in a t ≡ row_in b t
 
-same_first : (x y : RunDef) (a b : List RunDef) → EachLasts (x ∷ a) → EachLasts (y ∷ b) → SameRows (x ∷ a) (y ∷ b) (ticks_of (x ∷ a)) → x.row ≡ y.row
+same_first : (x y : RunDef) (a b : List RunDef) → EachLasts (x ∷ a) → EachLasts (y ∷ b)
+    → SameRows (x ∷ a) (y ∷ b) (ticks_of (x ∷ a)) → x.row ≡ y.row
 same_first x y a b l m same =
     let some : 0 < ticks_of (x ∷ a) = omega (arith, ticks_first x a, l.0) in
     sym (row_first x a 0 (omega (arith, l.0))) ∙ same 0 some ∙ row_first y b 0 (omega (arith, m.0))
 
 -- Where the rows are the same, the first run of the one doesn't end before that of the other.
-not_shorter : (x y : RunDef) (a b : List RunDef) → EachLasts a → AreJoined (x ∷ a) → ticks_of (x ∷ a) ≡ ticks_of (y ∷ b) → SameRows (x ∷ a) (y ∷ b) (ticks_of (x ∷ a)) → x.row ≡ y.row → x.ticks < y.ticks → ⊥
+not_shorter : (x y : RunDef) (a b : List RunDef) → EachLasts a → AreJoined (x ∷ a) → ticks_of (x ∷ a) ≡ ticks_of (y ∷ b)
+    → SameRows (x ∷ a) (y ∷ b) (ticks_of (x ∷ a)) → x.row ≡ y.row → x.ticks < y.ticks → ⊥
 not_shorter x y [] b l joined total same rows less = absurd (omega (arith, total, ticks_first x [], ticks_first y b, less))
 not_shorter x y (z ∷ a) b l joined total same rows less =
     let within : x.ticks + 0 < ticks_of (x ∷ z ∷ a) = omega (arith, ticks_first x (z ∷ a), ticks_first z a, l.0) in
@@ -38,7 +40,8 @@ not_shorter x y (z ∷ a) b l joined total same rows less =
     let here : row_in (y ∷ b) (x.ticks + 0) ≡ y.row = row_first y b (x.ticks + 0) (omega (arith, less)) in
     joined.0 (rows ∙ sym here ∙ sym (same (x.ticks + 0) within) ∙ there)
 
-same_ticks : (x y : RunDef) (a b : List RunDef) → EachLasts (x ∷ a) → EachLasts (y ∷ b) → AreJoined (x ∷ a) → AreJoined (y ∷ b) → ticks_of (x ∷ a) ≡ ticks_of (y ∷ b)
+same_ticks : (x y : RunDef) (a b : List RunDef) → EachLasts (x ∷ a) → EachLasts (y ∷ b) → AreJoined (x ∷ a)
+    → AreJoined (y ∷ b) → ticks_of (x ∷ a) ≡ ticks_of (y ∷ b)
     → SameRows (x ∷ a) (y ∷ b) (ticks_of (x ∷ a)) → x.ticks ≡ y.ticks
 same_ticks x y a b l m joined joined' total same =
     let rows = same_first x y a b l m same in
@@ -60,7 +63,8 @@ same_rest x y a b ticks same t l =
     sym (row_later x a t) ∙ same (x.ticks + t) within ∙ ap (λ n. row_in (y ∷ b) (n + t)) ticks ∙ row_later y b t
 
 -- Lists of joined runs with the same rows at all their ticks are one.
-pub joined_once : (a b : List RunDef) → EachLasts a → EachLasts b → AreJoined a → AreJoined b → ticks_of a ≡ ticks_of b → SameRows a b (ticks_of a) → a ≡ b
+pub joined_once : (a b : List RunDef) → EachLasts a → EachLasts b → AreJoined a → AreJoined b → ticks_of a ≡ ticks_of b
+    → SameRows a b (ticks_of a) → a ≡ b
 joined_once [] [] l m joined joined' total same = refl
 joined_once [] (y ∷ b) l m joined joined' total same = absurd (omega (arith, total, ticks_first y b, m.0))
 joined_once (x ∷ a) [] l m joined joined' total same = absurd (omega (arith, total, ticks_first x a, l.0))

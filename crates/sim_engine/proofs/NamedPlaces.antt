@@ -30,14 +30,16 @@ places_told (x ∷ xs) (y ∷ ys) e =
     rw (one, rest) refl
 
 -- A test of jobs that tells whether they are equal does so of places,
-place_decides : (E : JobId → JobId → Bool) → ((a b : JobId) → Decides (E a b) (a ≡ b)) → (a b : Option JobId) → Decides (option_eq E a b) (a ≡ b)
+place_decides : (E : JobId → JobId → Bool) → ((a b : JobId) → Decides (E a b) (a ≡ b)) → (a b : Option JobId)
+    → Decides (option_eq E a b) (a ≡ b)
 place_decides E h None None = (λ e. refl, λ e. refl)
 place_decides E h None (Some b) = (λ e. absurd (cc), λ e. absurd (cc))
 place_decides E h (Some a) None = (λ e. absurd (cc), λ e. absurd (cc))
 place_decides E h (Some a) (Some b) = (λ e. ap (λ j. Some j) ((h a b).0 e), λ e. (h a b).1 (cc))
 
 -- and of lists of places.
-pub places_decide : (E : JobId → JobId → Bool) → ((a b : JobId) → Decides (E a b) (a ≡ b)) → (xs ys : List (Option JobId)) (r : Bool) → r ≡ pointwise (option_eq E) xs ys
+pub places_decide : (E : JobId → JobId → Bool) → ((a b : JobId) → Decides (E a b) (a ≡ b))
+    → (xs ys : List (Option JobId)) (r : Bool) → r ≡ pointwise (option_eq E) xs ys
     → Decides r (map place_seen xs ≡ map place_seen ys)
 places_decide E h xs ys r e =
     let same : Decides r (xs ≡ ys) = slice_eq-Decides (place_decides E h) xs ys r e in

@@ -17,7 +17,8 @@ choice_one protocol.Mpcp v w t same c d = mpcp_choice_one v w t same c d
 choice_one protocol.FmlpPlus v w t same c d = fmlp_plus_choice_one v w t same c d
 choice_one protocol.Dpcp v w t same c d = dpcp_choice_one v w t same c d
 
-pub simulated_once : (p : Protocol) (jobs : JobsDef) (n : ℕ) (a b : List RunDef) → IsSimulated (choice_of p) jobs n a → IsSimulated (choice_of p) jobs n b → a ≡ b
+pub simulated_once : (p : Protocol) (jobs : JobsDef) (n : ℕ) (a b : List RunDef) → IsSimulated (choice_of p) jobs n a
+    → IsSimulated (choice_of p) jobs n b → a ≡ b
 simulated_once p jobs n a b s r =
     let v = trace_in jobs a in
     let w = trace_in jobs b in

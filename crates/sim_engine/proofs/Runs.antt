@@ -16,27 +16,34 @@ ticks_with runs run = omega (arith, sum_by-append (λ (r : RunDef). r.ticks) run
 pub longer_before : (list : JobsDef) (runs : List RunDef) (row : RowDef) (a b t : ℕ) → a ≤ b → t < ticks_of runs + a
     → row_in (runs ++ record { ticks = a; row = row } ∷ []) t ≡ row_in (runs ++ record { ticks = b; row = row } ∷ []) t
 longer_before list runs row a b t h l = elim (cases_lt t (ticks_of runs)) [
-  | inl early ↦ (runs_agree list runs (record { ticks = a; row = row } ∷ [])).rows t early ∙ sym ((runs_agree list runs (record { ticks = b; row = row } ∷ [])).rows t early)
+  | inl early ↦ (runs_agree list runs (record { ticks = a; row = row } ∷ [])).rows t early
+      ∙ sym ((runs_agree list runs (record { ticks = b; row = row } ∷ [])).rows t early)
   | inr late ↦
-      run_added list runs (record { ticks = a; row = row }) [] t late (omega arith) ∙ sym (run_added list runs (record { ticks = b; row = row }) [] t late (omega arith))
+      run_added list runs (record { ticks = a; row = row }) [] t late (omega arith)
+      ∙ sym (run_added list runs (record { ticks = b; row = row }) [] t late (omega arith))
 ]
 
 -- Nor does a run that is added.
-pub added_before : (list : JobsDef) (runs : List RunDef) (run : RunDef) (t : ℕ) → t < ticks_of runs → row_in runs t ≡ row_in (runs ++ run ∷ []) t
+pub added_before : (list : JobsDef) (runs : List RunDef) (run : RunDef) (t : ℕ) → t < ticks_of runs
+    → row_in runs t ≡ row_in (runs ++ run ∷ []) t
 added_before list runs run t l = sym ((runs_agree list runs (run ∷ [])).rows t l)
 
 -- It stands at its ticks.
-pub added_here : (list : JobsDef) (runs : List RunDef) (run : RunDef) (t : ℕ) → ticks_of runs ≤ t → t < ticks_of runs + run.ticks → row_in (runs ++ run ∷ []) t ≡ run.row
+pub added_here : (list : JobsDef) (runs : List RunDef) (run : RunDef) (t : ℕ) → ticks_of runs ≤ t
+    → t < ticks_of runs + run.ticks → row_in (runs ++ run ∷ []) t ≡ run.row
 added_here list runs run t l h = run_added list runs run [] t l h
 
 -- How long runs last doesn't matter for whether they are joined.
-pub joined_longer : (runs : List RunDef) (row : RowDef) (a b : ℕ) → AreJoined (runs ++ record { ticks = a; row = row } ∷ []) → AreJoined (runs ++ record { ticks = b; row = row } ∷ [])
+pub joined_longer : (runs : List RunDef) (row : RowDef) (a b : ℕ)
+    → AreJoined (runs ++ record { ticks = a; row = row } ∷ [])
+    → AreJoined (runs ++ record { ticks = b; row = row } ∷ [])
 joined_longer [] row a b joined = tt
 joined_longer (x ∷ []) row a b joined = (joined.0, tt)
 joined_longer (x ∷ y ∷ runs) row a b joined = (joined.0, joined_longer (y ∷ runs) row a b joined.1)
 
 -- A run of another row may follow.
-pub joined_more : (runs : List RunDef) (last next : RunDef) → AreJoined (runs ++ last ∷ []) → last.row ≢ next.row → AreJoined ((runs ++ last ∷ []) ++ next ∷ [])
+pub joined_more : (runs : List RunDef) (last next : RunDef) → AreJoined (runs ++ last ∷ []) → last.row ≢ next.row
+    → AreJoined ((runs ++ last ∷ []) ++ next ∷ [])
 joined_more [] last next joined other = (other, tt)
 joined_more (x ∷ []) last next joined other = (joined.0, (other, tt))
 joined_more (x ∷ y ∷ runs) last next joined other = (joined.0, joined_more (y ∷ runs) last next joined.1 other)

@@ -11,7 +11,12 @@ use Rattle.sim_engine.specs.Choosing.{AreChosenSoFar}
 
 -- The list of these runs that is made for the jobs.
 abbrev pub rows_with : JobsDef → List RunDef → RowsDef
-rows_with list runs = record { processors = list.set.processors; resources = length list.set.resources; jobs = length list.jobs; runs = runs }
+rows_with list runs = record {
+  processors = list.set.processors;
+  resources = length list.set.resources;
+  jobs = length list.jobs;
+  runs = runs;
+}
 
 -- The runs with the one that still goes on.
 abbrev pub all_runs : RowsDef → RunDef → List RunDef

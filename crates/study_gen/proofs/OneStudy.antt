@@ -30,8 +30,10 @@ pub step_once : (seed sets : ℕ) (c d : StudyCounts) → IsStudy seed sets c �
     × (slice_index (slice_index_or c.counts.items i []) 2 ≡ slice_index (slice_index_or d.counts.items i []) 2)
 step_once seed sets c d p q i here =
     let s : ℕ = step_begins seed sets i in
-    let mine : IsStepCount seed sets i (slice_index_or c.counts.items i []) = p.shown i _ (slice_get-get_or c.counts.items i [] (omega (arith, here, p.steps))) in
-    let other : IsStepCount seed sets i (slice_index_or d.counts.items i []) = q.shown i _ (slice_get-get_or d.counts.items i [] (omega (arith, here, q.steps))) in (
+    let mine : IsStepCount seed sets i (slice_index_or c.counts.items i []) =
+    p.shown i _ (slice_get-get_or c.counts.items i [] (omega (arith, here, p.steps))) in
+    let other : IsStepCount seed sets i (slice_index_or d.counts.items i []) =
+    q.shown i _ (slice_get-get_or d.counts.items i [] (omega (arith, here, q.steps))) in (
       counts_once (λ k. IsShown protocol.Mpcp (set_of_step (i + 1) s k)) sets _ _ mine.mpcp other.mpcp,
       counts_once (λ k. IsShown protocol.FmlpPlus (set_of_step (i + 1) s k)) sets _ _ mine.fmlp other.fmlp,
       counts_once (λ k. IsShown protocol.Dpcp (set_of_step (i + 1) s k)) sets _ _ mine.dpcp other.dpcp,

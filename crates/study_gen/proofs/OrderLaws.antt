@@ -1,5 +1,7 @@
 -- Tasks in the order of their periods: a task more goes before the first of a longer period.
-use Rattle.std.proofs.Common.{◌≡◌, ◌≢◌, ◌⊎◌, ℕ, suc, ◌+◌, ◌<◌, ◌≤◌, ◌==◌, nat_lt, not, cond, Bool, true, false, Option, Some, None, map, zero, List, [], ◌∷◌, ◌++◌, length, take, drop, refl, sym, ◌∙◌, ap, subst, arith, inl, inr}
+use Rattle.std.proofs.Common.{◌≡◌, ◌≢◌, ◌⊎◌, ℕ, suc, ◌+◌, ◌<◌, ◌≤◌, ◌==◌, nat_lt, not, cond, Bool, true, false, Option}
+use Rattle.std.proofs.Common.{Some, None, map, zero, List, [], ◌∷◌, ◌++◌, length, take, drop, refl, sym, ◌∙◌, ap, subst}
+use Rattle.std.proofs.Common.{arith, inl, inr}
 use Rattle.std.proofs.lemmas.Bool.{cond-true, cond-false, cond_both, eq-eqb, ne_eqb, eqb-true, lt-ltb, le-ltb, ltb-false}
 use Rattle.std.proofs.lemmas.List.{append_assoc}
 use Rattle.std.proofs.lemmas.List.Kept.{AllPairs-cons}
@@ -22,18 +24,21 @@ in_place_is_put [] t = refl
 in_place_is_put (x ∷ xs) t =
     let n : ℕ = position_or_len (λ (y : TaskDef). nat_lt t.period y.period) xs in
     let one : 1 + n ≡ suc n = omega arith in
-    elim (nat_lt t.period x.period) as (λ b. take (cond (not b) (1 + n) 0) (x ∷ xs) ++ t ∷ drop (cond (not b) (1 + n) 0) (x ∷ xs) ≡ cond b (t ∷ x ∷ xs) (x ∷ put t xs))
+    elim (nat_lt t.period x.period) as (λ b. take (cond (not b) (1 + n) 0) (x ∷ xs) ++ t
+    ∷ drop (cond (not b) (1 + n) 0) (x ∷ xs) ≡ cond b (t ∷ x ∷ xs) (x ∷ put t xs))
     [ true ↦ refl | false ↦ rw one (ap (λ (l : List TaskDef). x ∷ l) (in_place_is_put xs t)) ]
 
 pub each_put : (P : TaskDef → Type 0) (t : TaskDef) (xs : List TaskDef) → P t → Each P xs → Each P (put t xs)
 each_put P t [] here all = (here, tt)
 each_put P t (x ∷ xs) here (first, rest) =
-    cond_both (nat_lt t.period x.period) (t ∷ x ∷ xs) (x ∷ put t xs) (λ l. Each P l) (λ e. (here, (first, rest))) (λ e. (first, each_put P t xs here rest))
+    cond_both (nat_lt t.period x.period) (t ∷ x ∷ xs) (x ∷ put t xs) (λ l. Each P l) (λ e. (here, (first, rest)))
+    (λ e. (first, each_put P t xs here rest))
 
 pub length-put : (t : TaskDef) (xs : List TaskDef) → length (put t xs) ≡ suc (length xs)
 length-put t [] = refl
 length-put t (x ∷ xs) =
-    cond_both (nat_lt t.period x.period) (t ∷ x ∷ xs) (x ∷ put t xs) (λ l. length l ≡ suc (suc (length xs))) (λ e. refl) (λ e. ap suc (length-put t xs))
+    cond_both (nat_lt t.period x.period) (t ∷ x ∷ xs) (x ∷ put t xs) (λ l. length l ≡ suc (suc (length xs))) (λ e. refl)
+    (λ e. ap suc (length-put t xs))
 
 -- Has no task the name of a later one?
 abbrev pub AreApart : List TaskDef → Type 0
@@ -53,17 +58,20 @@ apart-put t (x ∷ xs) (first, rest) (here, apart) =
 
 pub apart_pairs : (xs : List TaskDef) → AreApart xs → AllPairs (λ x y. x.name ≢ y.name) xs
 apart_pairs [] apart = λ i j d before within. absurd (omega arith)
-apart_pairs (x ∷ xs) (here, apart) = AllPairs-cons (λ x y. x.name ≢ y.name) x xs (each_all (λ y. x.name ≢ y.name) xs here) (apart_pairs xs apart)
+apart_pairs (x ∷ xs) (here, apart) =
+    AllPairs-cons (λ x y. x.name ≢ y.name) x xs (each_all (λ y. x.name ≢ y.name) xs here) (apart_pairs xs apart)
 
 -- Tasks with these periods, in the order of the list of periods.
 abbrev pub ordered : List ℕ → List TaskDef → List TaskDef
 ordered ps tasks = flat_map (λ p. filter (λ t. t.period == p) tasks) ps
 
-drops : (p : ℕ) (ts : List TaskDef) (t : TaskDef) → (t.period ≡ p → ⊥) → filter (λ x. x.period == p) (ts ++ t ∷ []) ≡ filter (λ x. x.period == p) ts
+drops : (p : ℕ) (ts : List TaskDef) (t : TaskDef) → (t.period ≡ p → ⊥)
+    → filter (λ x. x.period == p) (ts ++ t ∷ []) ≡ filter (λ x. x.period == p) ts
 drops p [] t other = cond-false (t.period == p) (t ∷ []) [] (ne_eqb t.period p other)
 drops p (x ∷ xs) t other = ap (λ (l : List TaskDef). cond (x.period == p) (x ∷ l) l) (drops p xs t other)
 
-keeps : (p : ℕ) (ts : List TaskDef) (t : TaskDef) → t.period ≡ p → filter (λ x. x.period == p) (ts ++ t ∷ []) ≡ filter (λ x. x.period == p) ts ++ t ∷ []
+keeps : (p : ℕ) (ts : List TaskDef) (t : TaskDef) → t.period ≡ p
+    → filter (λ x. x.period == p) (ts ++ t ∷ []) ≡ filter (λ x. x.period == p) ts ++ t ∷ []
 keeps p [] t same = cond-true (t.period == p) (t ∷ []) [] (eq-eqb t.period p same)
 keeps p (x ∷ xs) t same =
     let rest = keeps p xs t same in
@@ -115,13 +123,15 @@ among_above q p (k ∷ ks) (first, rest) (inl same) = omega (arith, same, first)
 among_above q p (k ∷ ks) (first, rest) (inr later) = among_above q p ks rest later
 
 -- The order of tasks with one more is the order of the tasks with that one put in its place.
-pub ordered_more : (ps : List ℕ) (ts : List TaskDef) (t : TaskDef) → IsRising ps → IsAmong t.period ps → ordered ps (ts ++ t ∷ []) ≡ put t (ordered ps ts)
+pub ordered_more : (ps : List ℕ) (ts : List TaskDef) (t : TaskDef) → IsRising ps → IsAmong t.period ps
+    → ordered ps (ts ++ t ∷ []) ≡ put t (ordered ps ts)
 ordered_more [] ts t rising among = absurd among
 ordered_more (p ∷ ps) ts t (low, rising) (inl same) =
     let here : List TaskDef = filter (λ x. x.period == p) ts in
     let longer : Each (λ k. t.period < k) ps = subst (λ (k : ℕ). Each (λ q. k < q) ps) (sym same) low in
     let left : ordered (p ∷ ps) (ts ++ t ∷ []) ≡ (here ++ t ∷ []) ++ ordered ps ts =
-    ap (λ (l : List TaskDef). l ++ ordered ps (ts ++ t ∷ [])) (keeps p ts t same) ∙ ap (λ (l : List TaskDef). (here ++ t ∷ []) ++ l) (absent ps ts t longer) in
+    ap (λ (l : List TaskDef). l ++ ordered ps (ts ++ t ∷ [])) (keeps p ts t same)
+    ∙ ap (λ (l : List TaskDef). (here ++ t ∷ []) ++ l) (absent ps ts t longer) in
     let behind : put t (here ++ ordered ps ts) ≡ here ++ put t (ordered ps ts) =
     put_behind t here (ordered ps ts) (filtered (λ k. k ≤ t.period) p ts (omega (arith, same))) in
     let first : put t (ordered ps ts) ≡ t ∷ ordered ps ts = put_first t (ordered ps ts) (above t.period ps ts longer) in
@@ -147,23 +157,28 @@ first_or_end : (test : TaskPart → Bool) (xs : List TaskPart) → unwrap_or (po
 first_or_end test xs =
     let n : ℕ = position_or_len test xs in
     let most : n ≤ length xs = first_within test xs in
-    cond_both (nat_lt n (length xs)) (Some n) None (λ o. unwrap_or o (length xs) ≡ n) (λ e. refl) (λ e. omega (arith, most, ltb-false n (length xs) e))
+    cond_both (nat_lt n (length xs)) (Some n) None (λ o. unwrap_or o (length xs) ≡ n) (λ e. refl)
+    (λ e. omega (arith, most, ltb-false n (length xs) e))
 
-pub place_is : (place period : ℕ) (tasks : List TaskPart) (found : Option ℕ) → found ≡ position (λ t. nat_lt period t.period) tasks → place ≡ unwrap_or found (length tasks)
+pub place_is : (place period : ℕ) (tasks : List TaskPart) (found : Option ℕ)
+    → found ≡ position (λ t. nat_lt period t.period) tasks → place ≡ unwrap_or found (length tasks)
     → place ≡ position_or_len (λ t. nat_lt period t.period) (map task_seen tasks)
 place_is place period tasks found is or_end =
     or_end ∙ ap (λ (o : Option ℕ). unwrap_or o (length tasks)) is ∙ first_or_end (λ t. nat_lt period t.period) tasks
     ∙ sym (position_or_len-map task_seen (λ t. nat_lt period t.period) tasks)
 
-seen_insert : (xs : List TaskPart) (n : ℕ) (x : TaskPart) → map task_seen (take n xs ++ x ∷ drop n xs) ≡ take n (map task_seen xs) ++ task_seen x ∷ drop n (map task_seen xs)
+seen_insert : (xs : List TaskPart) (n : ℕ) (x : TaskPart)
+    → map task_seen (take n xs ++ x ∷ drop n xs) ≡ take n (map task_seen xs) ++ task_seen x ∷ drop n (map task_seen xs)
 seen_insert [] zero x = refl
 seen_insert [] (suc n) x = refl
 seen_insert (y ∷ ys) zero x = refl
 seen_insert (y ∷ ys) (suc n) x = ap (λ (l : List TaskDef). task_seen y ∷ l) (seen_insert ys n x)
 
 -- A task that is inserted at its place.
-pub inserted : (xs ys : List TaskPart) (n : ℕ) (x : TaskPart) → n ≡ position_or_len (λ t. nat_lt x.period t.period) (map task_seen xs) → ys ≡ insert xs n x
+pub inserted : (xs ys : List TaskPart) (n : ℕ) (x : TaskPart)
+    → n ≡ position_or_len (λ t. nat_lt x.period t.period) (map task_seen xs) → ys ≡ insert xs n x
     → map task_seen ys ≡ with_task_in_place (map task_seen xs) (task_seen x)
 inserted xs ys n x at is =
-    let seen : map task_seen ys ≡ take n (map task_seen xs) ++ task_seen x ∷ drop n (map task_seen xs) = ap (λ (l : List TaskPart). map task_seen l) is ∙ seen_insert xs n x in
+    let seen : map task_seen ys ≡ take n (map task_seen xs) ++ task_seen x ∷ drop n (map task_seen xs) =
+    ap (λ (l : List TaskPart). map task_seen l) is ∙ seen_insert xs n x in
     seen ∙ ap (λ (k : ℕ). take k (map task_seen xs) ++ task_seen x ∷ drop k (map task_seen xs)) at

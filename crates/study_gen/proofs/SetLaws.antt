@@ -1,5 +1,7 @@
 -- Every set of a study is accepted: what holds of each task that is drawn holds of the tasks in order.
-use Rattle.std.proofs.Common.{◌≡◌, ◌≢◌, ℕ, zero, suc, ◌+◌, ◌-◌, ◌*◌, ◌/◌, ◌%◌, ◌<◌, ◌≤◌, Bool, true, false, cond, List, [], ◌∷◌, ◌++◌, length, drop, codes, decimal, IsTrue, IsSome, Some, refl, sym, ◌∙◌, ap, subst, arith, inl, inr}
+use Rattle.std.proofs.Common.{◌≡◌, ◌≢◌, ℕ, zero, suc, ◌+◌, ◌-◌, ◌*◌, ◌/◌, ◌%◌, ◌<◌, ◌≤◌, Bool, true, false, cond, List}
+use Rattle.std.proofs.Common.{[], ◌∷◌, ◌++◌, length, drop, codes, decimal, IsTrue, IsSome, Some, refl, sym, ◌∙◌, ap}
+use Rattle.std.proofs.Common.{subst, arith, inl, inr}
 use Rattle.std.specs.Prelude.{slice_index, slice_index_or}
 use Rattle.std.specs.List.{AllPairs}
 use Rattle.std.proofs.Math.Nat.{mod-lt, le-div_iff_mul-le, div-le_of_le-mul, mul-le-mul_left, mul-le-mul_right}
@@ -11,11 +13,15 @@ use Rattle.sporadic_model.specs.SetDef.{SetDef, TaskDef, RequestDef, ResourceDef
 use Rattle.sporadic_model.specs.Names.{is_name}
 use Rattle.sporadic_model.specs.Accepted.{IsAccepted, KeepsRanges, SetSizes}
 use Rattle.sporadic_model.specs.Homes.{EachHasHome}
-use Rattle.sporadic_model.specs.declared.limits.TheConstants.{MOST_PROCESSORS, MOST_TASKS, MOST_RESOURCES, MOST_REQUESTS, MOST_TICKS, MOST_COUNT}
+use Rattle.sporadic_model.specs.declared.limits.TheConstants.{MOST_PROCESSORS, MOST_TASKS, MOST_RESOURCES}
+use Rattle.sporadic_model.specs.declared.limits.TheConstants.{MOST_REQUESTS, MOST_TICKS, MOST_COUNT}
 use Rattle.study_gen.specs.Generator.{next_state, drawn, picked}
-use Rattle.study_gen.specs.Sets.{periods, resources, is_asked, entry_at, behind_entry, entries_at, period_at, task_drawn, behind_task, behind_tasks, tasks_drawn, in_period_order, with_task_in_place, set_made}
+use Rattle.study_gen.specs.Sets.{periods, resources, is_asked, entry_at, behind_entry, entries_at, period_at}
+use Rattle.study_gen.specs.Sets.{task_drawn, behind_task, behind_tasks, tasks_drawn, in_period_order}
+use Rattle.study_gen.specs.Sets.{with_task_in_place, set_made}
 use Rattle.study_gen.proofs.EachLaws.{Each, each_at, each_all, each_append}
-use Rattle.study_gen.proofs.OrderLaws.{put, in_place_is_put, each_put, length-put, AreApart, apart-put, apart_pairs, IsRising, IsAmong, ordered_more}
+use Rattle.study_gen.proofs.OrderLaws.{put, in_place_is_put, each_put, length-put, AreApart, apart-put, apart_pairs}
+use Rattle.study_gen.proofs.OrderLaws.{IsRising, IsAmong, ordered_more}
 
 -- A number that is picked stands between its ends.
 pub picked_from : (s least most : ℕ) → least ≤ picked s least most
@@ -38,9 +44,12 @@ a_period (suc zero) h = record { among = inr (inl refl); from = omega arith; to 
 a_period (suc (suc zero)) h = record { among = inr (inr (inl refl)); from = omega arith; to = omega arith }
 a_period (suc (suc (suc zero))) h = record { among = inr (inr (inr (inl refl))); from = omega arith; to = omega arith }
 a_period (suc (suc (suc (suc zero)))) h = record { among = inr (inr (inr (inr (inl refl)))); from = omega arith; to = omega arith }
-a_period (suc (suc (suc (suc (suc zero))))) h = record { among = inr (inr (inr (inr (inr (inl refl))))); from = omega arith; to = omega arith }
-a_period (suc (suc (suc (suc (suc (suc zero)))))) h = record { among = inr (inr (inr (inr (inr (inr (inl refl)))))); from = omega arith; to = omega arith }
-a_period (suc (suc (suc (suc (suc (suc (suc zero))))))) h = record { among = inr (inr (inr (inr (inr (inr (inr (inl refl))))))); from = omega arith; to = omega arith }
+a_period (suc (suc (suc (suc (suc zero))))) h =
+    record { among = inr (inr (inr (inr (inr (inl refl))))); from = omega arith; to = omega arith }
+a_period (suc (suc (suc (suc (suc (suc zero)))))) h =
+    record { among = inr (inr (inr (inr (inr (inr (inl refl)))))); from = omega arith; to = omega arith }
+a_period (suc (suc (suc (suc (suc (suc (suc zero))))))) h =
+    record { among = inr (inr (inr (inr (inr (inr (inr (inl refl))))))); from = omega arith; to = omega arith }
 a_period (suc (suc (suc (suc (suc (suc (suc (suc k)))))))) h = absurd (omega (arith, h))
 
 is_period : (s : ℕ) → IsPeriod (period_at s)
@@ -88,7 +97,9 @@ record IsEntry (e : RequestDef) : Type 0 where
 
 entry_is : (q : ℕ) (name : List ℕ) (s : ℕ) → q < 3 → (slice_index_or resources q no_resource).name ≡ name → Each IsEntry (entry_at name s)
 entry_is q name s here named =
-    let one : List RequestDef = record { resource = name; count = picked (next_state s) 1 2; length = picked (next_state (next_state s)) 1 100 } ∷ [] in
+    let one : List RequestDef =
+    record { resource = name; count = picked (next_state s) 1 2; length = picked (next_state (next_state s)) 1 100 }
+    ∷ [] in
     cond_both (is_asked s) one [] (λ l. Each IsEntry l)
     (λ e. (
       record {
@@ -108,8 +119,10 @@ entries_are : (s : ℕ) → Each IsEntry (entries_at s)
 entries_are s =
     let second : ℕ = behind_entry s in
     let third : ℕ = behind_entry second in
-    each_append IsEntry (entry_at (codes "r1") s) (entry_at (codes "r2") second ++ entry_at (codes "r3") third) (entry_is 0 (codes "r1") s (omega arith) refl)
-    (each_append IsEntry (entry_at (codes "r2") second) (entry_at (codes "r3") third) (entry_is 1 (codes "r2") second (omega arith) refl) (entry_is 2 (codes "r3") third (omega arith) refl))
+    each_append IsEntry (entry_at (codes "r1") s) (entry_at (codes "r2") second ++ entry_at (codes "r3") third)
+    (entry_is 0 (codes "r1") s (omega arith) refl)
+    (each_append IsEntry (entry_at (codes "r2") second) (entry_at (codes "r3") third)
+    (entry_is 1 (codes "r2") second (omega arith) refl) (entry_is 2 (codes "r3") third (omega arith) refl))
 
 -- Entries of three resources, each there or not: there are at most three, and no two of one resource.
 abbrev AreOther : List RequestDef → Type 0
@@ -119,7 +132,8 @@ no_pair : AreOther []
 no_pair = λ i j d before within. absurd (omega arith)
 
 at_most_three : (b c d : Bool) (e f g : RequestDef) → e.resource ≢ f.resource → e.resource ≢ g.resource → f.resource ≢ g.resource
-    → (AreOther (cond b (e ∷ []) [] ++ (cond c (f ∷ []) [] ++ cond d (g ∷ []) []))) × (length (cond b (e ∷ []) [] ++ (cond c (f ∷ []) [] ++ cond d (g ∷ []) [])) ≤ 3)
+    → (AreOther (cond b (e ∷ []) [] ++ (cond c (f ∷ []) [] ++ cond d (g ∷ []) [])))
+    × (length (cond b (e ∷ []) [] ++ (cond c (f ∷ []) [] ++ cond d (g ∷ []) [])) ≤ 3)
 at_most_three b c d e f g ef eg fg = (first b c d, few b c d) where
   R : RequestDef → RequestDef → Type 0
   R x y = x.resource ≢ y.resource
@@ -141,7 +155,8 @@ at_most_three b c d e f g ef eg fg = (first b c d, few b c d) where
   of_second false d = of_third d e eg
 
   first : (b c d : Bool) → AreOther (cond b (e ∷ []) [] ++ (cond c (f ∷ []) [] ++ cond d (g ∷ []) []))
-  first true c d = AllPairs-cons R e (cond c (f ∷ []) [] ++ cond d (g ∷ []) []) (each_all (R e) (cond c (f ∷ []) [] ++ cond d (g ∷ []) []) (of_second c d)) (second c d)
+  first true c d = AllPairs-cons R e (cond c (f ∷ []) [] ++ cond d (g ∷ []) [])
+      (each_all (R e) (cond c (f ∷ []) [] ++ cond d (g ∷ []) []) (of_second c d)) (second c d)
   first false c d = second c d
 
   few : (b c d : Bool) → length (cond b (e ∷ []) [] ++ (cond c (f ∷ []) [] ++ cond d (g ∷ []) [])) ≤ 3
@@ -202,8 +217,10 @@ name_is j h = rw (decimal_digit j (omega (arith, h))) (digit_named j h)
 cost_range : (p load : ℕ) → 10000 ≤ p → 25 ≤ load → load ≤ 600 → (250 ≤ p * load / 1000) × (p * load / 1000 ≤ p)
 cost_range p load low least most =
     let some : 10000 * load ≤ p * load = mul-le-mul_right load low in
-    let all : p * load ≤ p * 600 = mul-le-mul_left p most in
-    ((le-div_iff_mul-le {k = 1000} {x = 250} {y = p * load} (omega arith)).1 (omega (arith, some, least)), div-le_of_le-mul 1000 {m = p * load} {n = p} (omega (arith, all)))
+    let all : p * load ≤ p * 600 = mul-le-mul_left p most in (
+      (le-div_iff_mul-le {k = 1000} {x = 250} {y = p * load} (omega arith)).1 (omega (arith, some, least)),
+      div-le_of_le-mul 1000 {m = p * load} {n = p} (omega (arith, all)),
+    )
 
 task_is : (step j s : ℕ) → 1 ≤ step → step ≤ 8 → j < 8 → IsTask (task_drawn step j s)
 task_is step j s from to here =
@@ -243,9 +260,11 @@ record AreTasks (n : ℕ) (tasks : List TaskDef) : Type 0 where
 
 still_below : (n : ℕ) (tasks : List TaskDef) → Each (IsBelow n) tasks → Each (IsBelow (suc n)) tasks
 still_below n [] all = tt
-still_below n (t ∷ ts) (first, rest) = (record { number = first.number; within = omega (arith, first.within); named = first.named }, still_below n ts rest)
+still_below n (t ∷ ts) (first, rest) =
+    (record { number = first.number; within = omega (arith, first.within); named = first.named }, still_below n ts rest)
 
-new_name : (n : ℕ) (tasks : List TaskDef) (name : List ℕ) → n < 8 → name ≡ codes "g" ++ decimal n → Each (IsBelow n) tasks → Each (λ x. x.name ≢ name) tasks
+new_name : (n : ℕ) (tasks : List TaskDef) (name : List ℕ) → n < 8 → name ≡ codes "g" ++ decimal n
+    → Each (IsBelow n) tasks → Each (λ x. x.name ≢ name) tasks
 new_name n [] name few is all = tt
 new_name n (t ∷ ts) name few is (first, rest) = (
   (λ same.
@@ -257,8 +276,10 @@ new_name n (t ∷ ts) name few is (first, rest) = (
 )
 
 -- The order of the first tasks with the next one.
-pub order_more : (step s j : ℕ) → in_period_order (tasks_drawn step s (suc j)) ≡ put (task_drawn step j (behind_tasks s j)) (in_period_order (tasks_drawn step s j))
-order_more step s j = ordered_more periods (tasks_drawn step s j) (task_drawn step j (behind_tasks s j)) periods_rise (is_period (behind_tasks s j)).among
+pub order_more : (step s j : ℕ) → in_period_order (tasks_drawn step s (suc j))
+    ≡ put (task_drawn step j (behind_tasks s j)) (in_period_order (tasks_drawn step s j))
+order_more step s j = ordered_more periods (tasks_drawn step s j) (task_drawn step j (behind_tasks s j)) periods_rise
+    (is_period (behind_tasks s j)).among
 
 pub placed_more : (step s j : ℕ) (made : List TaskDef) (t : TaskDef) → made ≡ with_task_in_place (in_period_order (tasks_drawn step s j)) t
     → t ≡ task_drawn step j (behind_tasks s j) → made ≡ in_period_order (tasks_drawn step s (j + 1))
@@ -279,12 +300,14 @@ are_tasks step s (suc n) from to most =
     let more : AreTasks (suc n) (put t tasks) = record {
       all = each_put IsTask t tasks (task_is step n (behind_tasks s n) from to few) old.all;
       count = length-put t tasks ∙ ap suc old.count;
-      names = each_put (IsBelow (suc n)) t tasks (record { number = n; within = omega arith; named = refl }) (still_below n tasks old.names);
+      names = each_put (IsBelow (suc n)) t tasks (record { number = n; within = omega arith; named = refl })
+          (still_below n tasks old.names);
       apart = apart-put t tasks (new_name n tasks t.name few refl old.names) old.apart;
     } in
     subst (λ (l : List TaskDef). AreTasks (suc n) l) (sym (order_more step s n)) more
 
-known_limits : (MOST_PROCESSORS ≡ 64) × (MOST_TASKS ≡ 64) × (MOST_RESOURCES ≡ 32) × (MOST_REQUESTS ≡ 256) × (MOST_TICKS ≡ 1000000000) × (MOST_COUNT ≡ 1000)
+known_limits : (MOST_PROCESSORS ≡ 64) × (MOST_TASKS ≡ 64) × (MOST_RESOURCES ≡ 32) × (MOST_REQUESTS ≡ 256)
+    × (MOST_TICKS ≡ 1000000000) × (MOST_COUNT ≡ 1000)
 known_limits = (refl, refl, refl, refl, refl, refl)
 
 few_of : (tasks : List TaskDef) → Each IsTask tasks → Each (λ t. length t.requests ≤ 3) tasks
@@ -293,7 +316,8 @@ few_of (t ∷ ts) (first, rest) = (first.few, few_of ts rest)
 
 sizes_of : (set : SetDef) → set.processors ≡ 4 → length set.resources ≡ 3 → length set.tasks ≡ 8 → Each IsTask set.tasks → SetSizes set
 sizes_of set processors three eight all =
-    let requests : request_count set ≤ length set.tasks * 3 = sum_by-le (λ (t : TaskDef). length t.requests) 3 set.tasks (each_all (λ t. length t.requests ≤ 3) set.tasks (few_of set.tasks all)) in
+    let requests : request_count set ≤ length set.tasks * 3 = sum_by-le (λ (t : TaskDef). length t.requests) 3 set.tasks
+    (each_all (λ t. length t.requests ≤ 3) set.tasks (few_of set.tasks all)) in
     record {
       processors_from = omega (arith, processors);
       processors_to = omega (arith, processors, known_limits.0);
@@ -336,7 +360,8 @@ keeps step s from to =
     let set : SetDef = set_made step s in
     let known = are_tasks step s 8 from to (omega arith) in
     let is : (x : ℕ) → x < length set.tasks → IsTask (task_at set x) = λ x here. each_at IsTask set.tasks x no_task here known.all in
-    let entry : (x j : ℕ) → x < length set.tasks → j < length (task_at set x).requests → IsEntry (slice_index_or (task_at set x).requests j no_request) =
+    let entry : (x j : ℕ) → x < length set.tasks → j < length (task_at set x).requests
+    → IsEntry (slice_index_or (task_at set x).requests j no_request) =
     λ x j here within. each_at IsEntry (task_at set x).requests j no_request within (is x here).entries in
     record {
       sizes = sizes_of set refl refl known.count known.all;
@@ -387,7 +412,8 @@ pub set_has_homes : (step s : ℕ) → EachHasHome (set_made step s)
 set_has_homes step s = has_home
 
 -- Parts with the three resources and all eight tasks are the set.
-pub made_parts : (step s j : ℕ) (rs : List ResourceDef) (ts : List TaskDef) → rs ≡ resources → ts ≡ in_period_order (tasks_drawn step s j) → j ≡ 8
+pub made_parts : (step s j : ℕ) (rs : List ResourceDef) (ts : List TaskDef) → rs ≡ resources
+    → ts ≡ in_period_order (tasks_drawn step s j) → j ≡ 8
     → (record { processors = 4; resources = rs; tasks = ts }) ≡ set_made step s
 made_parts step s j rs ts three order eight =
     let tasks : ts ≡ in_period_order (tasks_drawn step s 8) = order ∙ ap (λ (k : ℕ). in_period_order (tasks_drawn step s k)) eight in

@@ -1,5 +1,6 @@
 -- How tallies follow from the answers of analyses, and how they grow.
-use Rattle.std.proofs.Common.{◌≡◌, ℕ, suc, ◌+◌, ◌<◌, ◌≤◌, List, [], ◌∷◌, ◌++◌, length, map, Some, Ok, Err, refl, sym, ◌∙◌, ap, subst, arith, inl, inr, length-append}
+use Rattle.std.proofs.Common.{◌≡◌, ℕ, suc, ◌+◌, ◌<◌, ◌≤◌, List, [], ◌∷◌, ◌++◌, length, map, Some, Ok, Err, refl, sym}
+use Rattle.std.proofs.Common.{◌∙◌, ap, subst, arith, inl, inr, length-append}
 use Rattle.std.specs.Prelude.{Result, slice_get, slice_index_or}
 use Rattle.std.proofs.lemmas.Bool.{cases_lt}
 use Rattle.std.proofs.lemmas.List.{get_or_push, get_or_append_left}
@@ -35,12 +36,17 @@ SaysOutcome (Err (stop.Wide task)) p set = IsOutcome outcome.Stopped p set
 SaysOutcome (Err stop.Allowance) p set = IsOutcome outcome.Stopped p set
 SaysOutcome (Err stop.Memory) p set = Unit {0}
 
-pub says_outcome : (p : Protocol) (set : SetDef) (r : Result Verdict Stop) → Answers r (written p set) 1000000 → Only r p set → SaysOutcome r p set
+pub says_outcome : (p : Protocol) (set : SetDef) (r : Result Verdict Stop) → Answers r (written p set) 1000000
+    → Only r p set → SaysOutcome r p set
 says_outcome p set (Ok (verdict.Schedulable certificate)) ends only = (
   (certificate.bounds.items, map dual_seen certificate.duals.items, ends),
   (λ stopped. elim stopped [
-    | inl wide ↦ (let no : Wide wide.0 ≡ Schedulable certificate.bounds.items (map dual_seen certificate.duals.items) = only (Wide wide.0) wide.1 in cc)
-    | inr short ↦ (let no : Allowance ≡ Schedulable certificate.bounds.items (map dual_seen certificate.duals.items) = only Allowance short in cc)
+    | inl wide ↦ (let no : Wide wide.0 ≡ Schedulable certificate.bounds.items (map dual_seen certificate.duals.items) =
+        only (Wide wide.0) wide.1 in
+        cc)
+    | inr short ↦ (let no : Allowance ≡ Schedulable certificate.bounds.items (map dual_seen certificate.duals.items) =
+        only Allowance short in
+        cc)
   ]),
 )
 says_outcome p set (Ok (verdict.NotShown task bound)) ends only = (
@@ -61,18 +67,22 @@ says_outcome p set (Err stop.Allowance) ends only = (
 says_outcome p set (Err stop.Memory) ends only = tt
 
 -- The same of a verdict, and of a stop, that the answer is.
-pub verdict_says : (p : Protocol) (set : SetDef) (r : Result Verdict Stop) (v w : Verdict) → Answers r (written p set) 1000000 → Only r p set
+pub verdict_says : (p : Protocol) (set : SetDef) (r : Result Verdict Stop) (v w : Verdict)
+    → Answers r (written p set) 1000000 → Only r p set
     → r ≡ Ok v → v ≡ w → SaysOutcome (Ok w) p set
 verdict_says p set r v w ends only is same =
-    subst (λ (x : Verdict). SaysOutcome (Ok x) p set) same (subst (λ (x : Result Verdict Stop). SaysOutcome x p set) is (says_outcome p set r ends only))
+    subst (λ (x : Verdict). SaysOutcome (Ok x) p set) same
+    (subst (λ (x : Result Verdict Stop). SaysOutcome x p set) is (says_outcome p set r ends only))
 
 pub stop_says : (p : Protocol) (set : SetDef) (r : Result Verdict Stop) (e f : Stop) → Answers r (written p set) 1000000 → Only r p set
     → r ≡ Err e → e ≡ f → SaysOutcome (Err f) p set
 stop_says p set r e f ends only is same =
-    subst (λ (x : Stop). SaysOutcome (Err x) p set) same (subst (λ (x : Result Verdict Stop). SaysOutcome x p set) is (says_outcome p set r ends only))
+    subst (λ (x : Stop). SaysOutcome (Err x) p set) same
+    (subst (λ (x : Result Verdict Stop). SaysOutcome x p set) is (says_outcome p set r ends only))
 
 -- One more set grows the tally of a protocol.
-pub tally_more : (p : Protocol) (step s n : ℕ) (before after : Tally) → IsTally p step s n before → Adds before after p (set_of_step step s n)
+pub tally_more : (p : Protocol) (step s n : ℕ) (before after : Tally) → IsTally p step s n before
+    → Adds before after p (set_of_step step s n)
     → IsTally p step s (suc n) after
 tally_more p step s n before after old (outcome.Shown, is, grown) =
     let shown : after.shown ≡ before.shown + 1 = ap (λ (t : Tally). t.shown) grown in
@@ -108,9 +118,12 @@ step_more step s n before after old adds =
     let at : set_made step before.state ≡ set_of_step step s n = ap (λ (k : ℕ). set_made step k) old.state in
     let count : suc n ≡ n + 1 = omega arith in
     let next : IsStepTally step s (suc n) after = record {
-      mpcp = tally_more protocol.Mpcp step s n before.mpcp after.mpcp old.mpcp (subst (λ (x : SetDef). Adds before.mpcp after.mpcp protocol.Mpcp x) at adds.mpcp);
-      fmlp = tally_more protocol.FmlpPlus step s n before.fmlp after.fmlp old.fmlp (subst (λ (x : SetDef). Adds before.fmlp after.fmlp protocol.FmlpPlus x) at adds.fmlp);
-      dpcp = tally_more protocol.Dpcp step s n before.dpcp after.dpcp old.dpcp (subst (λ (x : SetDef). Adds before.dpcp after.dpcp protocol.Dpcp x) at adds.dpcp);
+      mpcp = tally_more protocol.Mpcp step s n before.mpcp after.mpcp old.mpcp
+          (subst (λ (x : SetDef). Adds before.mpcp after.mpcp protocol.Mpcp x) at adds.mpcp);
+      fmlp = tally_more protocol.FmlpPlus step s n before.fmlp after.fmlp old.fmlp
+          (subst (λ (x : SetDef). Adds before.fmlp after.fmlp protocol.FmlpPlus x) at adds.fmlp);
+      dpcp = tally_more protocol.Dpcp step s n before.dpcp after.dpcp old.dpcp
+          (subst (λ (x : SetDef). Adds before.dpcp after.dpcp protocol.Dpcp x) at adds.dpcp);
       state = adds.state ∙ ap behind_set old.state;
     } in
     subst (λ (k : ℕ). IsStepTally step s k after) count next
@@ -122,7 +135,8 @@ AreRows seed sets rows = (i : ℕ) (row : List ℕ) → slice_get rows i ≡ Som
 pub no_rows : (seed sets : ℕ) → AreRows seed sets []
 no_rows seed sets = λ i row here. cc
 
-pub rows_more : (seed sets n : ℕ) (rows : List (List ℕ)) (row : List ℕ) → length rows ≡ n → AreRows seed sets rows → IsStepCount seed sets n row
+pub rows_more : (seed sets n : ℕ) (rows : List (List ℕ)) (row : List ℕ) → length rows ≡ n → AreRows seed sets rows
+    → IsStepCount seed sets n row
     → AreRows seed sets (rows ++ row ∷ [])
 rows_more seed sets n rows row count old new = λ k x here.
     let most = slice_get_within (rows ++ row ∷ []) k x here in
@@ -147,7 +161,8 @@ step_counts seed sets i s t is at =
     record { mpcp = here.mpcp.shown; fmlp = here.fmlp.shown; dpcp = here.dpcp.shown }
 
 pub stopped_more : (seed sets i s before now : ℕ) (t : StepTally) → IsStepTally (i + 1) s sets t → s ≡ step_begins seed sets i
-    → StoppedBefore seed sets i before → now ≡ before + (t.mpcp.stopped + t.fmlp.stopped + t.dpcp.stopped) → StoppedBefore seed sets (i + 1) now
+    → StoppedBefore seed sets i before → now ≡ before + (t.mpcp.stopped + t.fmlp.stopped + t.dpcp.stopped)
+    → StoppedBefore seed sets (i + 1) now
 stopped_more seed sets i s before now t is at old sum =
     let here = subst (λ (k : ℕ). IsStepTally (i + 1) k sets t) at is in
     let count : suc i ≡ i + 1 = omega arith in
@@ -155,17 +170,26 @@ stopped_more seed sets i s before now t is at old sum =
     subst (λ (k : ℕ). StoppedBefore seed sets k now) count
     (before, t.mpcp.stopped, t.fmlp.stopped, t.dpcp.stopped, old, here.mpcp.stopped, here.fmlp.stopped, here.dpcp.stopped, whole)
 
-pub begins_more : (seed sets i s : ℕ) (t : StepTally) → IsStepTally (i + 1) s sets t → s ≡ step_begins seed sets i → t.state ≡ step_begins seed sets (i + 1)
+pub begins_more : (seed sets i s : ℕ) (t : StepTally) → IsStepTally (i + 1) s sets t → s ≡ step_begins seed sets i
+    → t.state ≡ step_begins seed sets (i + 1)
 begins_more seed sets i s t is at =
     let count : suc i ≡ i + 1 = omega arith in
     subst (λ (k : ℕ). t.state ≡ step_begins seed sets k) count (is.state ∙ ap (λ (k : ℕ). behind_sets k sets) at)
 
-pub stopped_most : (i s sets : ℕ) (t : StepTally) → IsStepTally (i + 1) s sets t → sets ≤ 1000 → t.mpcp.stopped + t.fmlp.stopped + t.dpcp.stopped ≤ 3000
+pub stopped_most : (i s sets : ℕ) (t : StepTally) → IsStepTally (i + 1) s sets t → sets ≤ 1000
+    → t.mpcp.stopped + t.fmlp.stopped + t.dpcp.stopped ≤ 3000
 stopped_most i s sets t is most = omega (arith, is.mpcp.stopped_most, is.fmlp.stopped_most, is.dpcp.stopped_most, most)
 
 -- The tallies of no set.
-pub no_tally : (step s : ℕ) (t : StepTally) → t.mpcp ≡ record { shown = 0; stopped = 0 } → t.fmlp ≡ record { shown = 0; stopped = 0 } → t.dpcp ≡ record { shown = 0; stopped = 0 } → t.state ≡ s → IsStepTally step s 0 t
-no_tally step s t a b d at = record { mpcp = none protocol.Mpcp t.mpcp a; fmlp = none protocol.FmlpPlus t.fmlp b; dpcp = none protocol.Dpcp t.dpcp d; state = at } where
+pub no_tally : (step s : ℕ) (t : StepTally) → t.mpcp ≡ record { shown = 0; stopped = 0 }
+    → t.fmlp ≡ record { shown = 0; stopped = 0 } → t.dpcp ≡ record { shown = 0; stopped = 0 } → t.state ≡ s
+    → IsStepTally step s 0 t
+no_tally step s t a b d at = record {
+  mpcp = none protocol.Mpcp t.mpcp a;
+  fmlp = none protocol.FmlpPlus t.fmlp b;
+  dpcp = none protocol.Dpcp t.dpcp d;
+  state = at;
+} where
   none : (p : Protocol) (x : Tally) → x ≡ record { shown = 0; stopped = 0 } → IsTally p step s 0 x
   none p x is =
       let shown : x.shown ≡ 0 = ap (λ (y : Tally). y.shown) is in

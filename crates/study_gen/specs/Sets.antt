@@ -1,5 +1,6 @@
 -- The task sets of a study, as functions of the generator's state and of the step, which says how great loads are.
-use Rattle.std.specs.Prelude.{ℕ, zero, suc, ◌+◌, ◌*◌, ◌/◌, ◌%◌, ◌==◌, Bool, nat_lt, if◌then◌else◌, List, [], ◌∷◌, ◌++◌, take, drop, codes, decimal, slice_index, Some}
+use Rattle.std.specs.Prelude.{ℕ, zero, suc, ◌+◌, ◌*◌, ◌/◌, ◌%◌, ◌==◌, Bool, nat_lt, if◌then◌else◌, List, [], ◌∷◌, ◌++◌}
+use Rattle.std.specs.Prelude.{take, drop, codes, decimal, slice_index, Some}
 use Rattle.std.specs.List.{filter, flat_map, position_or_len}
 use Rattle.sporadic_model.specs.SetDef.{RequestDef, TaskDef, ResourceDef, SetDef}
 use Rattle.study_gen.specs.Generator.{next_state, picked}
@@ -10,7 +11,8 @@ periods = 10000 ∷ 20000 ∷ 25000 ∷ 40000 ∷ 50000 ∷ 100000 ∷ 200000 �
 
 -- Three resources, with their homes on the first three processors.
 abbrev pub resources : List ResourceDef
-resources = record { name = codes "r1"; home = Some 1 } ∷ record { name = codes "r2"; home = Some 2 } ∷ record { name = codes "r3"; home = Some 3 } ∷ []
+resources = record { name = codes "r1"; home = Some 1 } ∷ record { name = codes "r2"; home = Some 2 }
+    ∷ record { name = codes "r3"; home = Some 3 } ∷ []
 
 -- Has a task an entry for the resource whose draws begin at this state? One in four.
 abbrev pub is_asked : ℕ → Bool
@@ -18,7 +20,13 @@ is_asked s = picked s 0 3 == 0
 
 -- The entry for a resource of this name: a count and a length in ticks are drawn where there is one.
 abbrev pub entry_at : List ℕ → ℕ → List RequestDef
-entry_at name s = if is_asked s then record { resource = name; count = picked (next_state s) 1 2; length = picked (next_state (next_state s)) 1 100 } ∷ [] else []
+entry_at name s = if is_asked s
+    then record {
+      resource = name;
+      count = picked (next_state s) 1 2;
+      length = picked (next_state (next_state s)) 1 100;
+    } ∷ []
+    else []
 
 -- The state behind the draws of a resource.
 abbrev pub behind_entry : ℕ → ℕ
@@ -67,7 +75,8 @@ in_period_order tasks = flat_map (λ p. filter (λ t. t.period == p) tasks) peri
 -- Tasks with one more, before the first of a longer period.
 abbrev pub with_task_in_place : List TaskDef → TaskDef → List TaskDef
 with_task_in_place tasks t =
-    take (position_or_len (λ x. nat_lt t.period x.period) tasks) tasks ++ t ∷ drop (position_or_len (λ x. nat_lt t.period x.period) tasks) tasks
+    take (position_or_len (λ x. nat_lt t.period x.period) tasks) tasks ++ t
+    ∷ drop (position_or_len (λ x. nat_lt t.period x.period) tasks) tasks
 
 -- The set of a step that is made at a state: eight tasks on four processors.
 abbrev pub set_made : ℕ → ℕ → SetDef

@@ -4,7 +4,8 @@ ghost use Rattle.sporadic_model.specs.Accepted.{IsAccepted};
 ghost use Rattle.sporadic_model.specs.Homes.{EachHasHome};
 ghost use Rattle.sporadic_model.specs.Seen.{parts_seen, request_seen, resource_seen, task_seen};
 ghost use Rattle.study_gen.specs.Generator.{next_state};
-ghost use Rattle.study_gen.specs.Sets.{resources, entry_at, behind_entry, entries_at, period_at, task_drawn, behind_task, with_task_in_place, set_made, behind_set};
+ghost use Rattle.study_gen.specs.Sets.{resources, entry_at, behind_entry, entries_at, period_at, task_drawn};
+ghost use Rattle.study_gen.specs.Sets.{behind_task, with_task_in_place, set_made, behind_set};
 
 use crate::generator::Generator;
 use sporadic_model::{Parts, RequestPart, ResourcePart, TaskPart};
@@ -46,7 +47,8 @@ fn draw_entry(
     name: &str,
     entries: &mut Vec<RequestPart>,
 ) -> Result<(), AllocError>
-    ensures entries { OnOk result (map request_seen entries.new.items ≡ map request_seen entries.old.items ++ entry_at name.now generator.old.state) }
+    ensures entries { OnOk result (map request_seen entries.new.items
+        ≡ map request_seen entries.old.items ++ entry_at name.now generator.old.state) }
     ensures state { OnOk result (generator.new.state ≡ behind_entry generator.old.state) }
 {
     if generator.pick(0, 3) == 0 {

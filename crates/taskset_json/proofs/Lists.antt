@@ -1,5 +1,6 @@
 -- Laws of lists.
-use Rattle.std.proofs.Common.{◌∙◌, ap, ◌≡◌, ℕ, zero, suc, ◌<◌, Bool, true, false, List, [], ◌∷◌, length, map, Some, None, refl, get_or, arith}
+use Rattle.std.proofs.Common.{◌∙◌, ap, ◌≡◌, ℕ, zero, suc, ◌<◌, Bool, true, false, List, [], ◌∷◌, length, map, Some}
+use Rattle.std.proofs.Common.{None, refl, get_or, arith}
 use Rattle.std.proofs.lemmas.Bool.{lt-ltb, le-ltb}
 use Rattle.std.specs.List.{list_any, position, position_or_len}
 
@@ -7,7 +8,8 @@ pub list_any-map : {X Y : Type 0} (p : Y → Bool) (h : X → Y) (xs : List X) �
 list_any-map p h [] = refl
 list_any-map p h (x ∷ xs) = rw (list_any-map p h xs)
 
-first_at : {X : Type 0} (p : X → Bool) (xs : List X) (q : ℕ) (d : X) → q < length xs → ((k : ℕ) → k < q → p (get_or xs k d) ≡ false) → p (get_or xs q d) ≡ true → position_or_len p xs ≡ q
+first_at : {X : Type 0} (p : X → Bool) (xs : List X) (q : ℕ) (d : X) → q < length xs
+    → ((k : ℕ) → k < q → p (get_or xs k d) ≡ false) → p (get_or xs q d) ≡ true → position_or_len p xs ≡ q
 first_at p [] q d below before hit = let never : ⊥ = omega arith in absurd never
 first_at p (x ∷ xs) zero d below before hit = let e : p x ≡ true = hit in rw e
 first_at p (x ∷ xs) (suc q) d below before hit =
@@ -15,7 +17,8 @@ first_at p (x ∷ xs) (suc q) d below before hit =
     let again : position_or_len p xs ≡ q = first_at p xs q d (omega arith) (λ k less. before (suc k) (omega arith)) hit in
     rw e (omega (arith, again))
 
-none_at : {X : Type 0} (p : X → Bool) (xs : List X) (d : X) → ((k : ℕ) → k < length xs → p (get_or xs k d) ≡ false) → position_or_len p xs ≡ length xs
+none_at : {X : Type 0} (p : X → Bool) (xs : List X) (d : X) → ((k : ℕ) → k < length xs → p (get_or xs k d) ≡ false)
+    → position_or_len p xs ≡ length xs
 none_at p [] d before = refl
 none_at p (x ∷ xs) d before =
     let e : p x ≡ false = before 0 (omega arith) in
@@ -23,10 +26,12 @@ none_at p (x ∷ xs) d before =
     rw e (omega (arith, again))
 
 -- The test passes here, and not before.
-pub position_here : {X : Type 0} (p : X → Bool) (xs : List X) (q : ℕ) (d : X) → q < length xs → ((k : ℕ) → k < q → p (get_or xs k d) ≡ false) → p (get_or xs q d) ≡ true → position p xs ≡ Some q
+pub position_here : {X : Type 0} (p : X → Bool) (xs : List X) (q : ℕ) (d : X) → q < length xs
+    → ((k : ℕ) → k < q → p (get_or xs k d) ≡ false) → p (get_or xs q d) ≡ true → position p xs ≡ Some q
 position_here p xs q d below before hit = rw (first_at p xs q d below before hit) (rw (lt-ltb q (length xs) below))
 
-pub position_none : {X : Type 0} (p : X → Bool) (xs : List X) (d : X) → ((k : ℕ) → k < length xs → p (get_or xs k d) ≡ false) → position p xs ≡ None
+pub position_none : {X : Type 0} (p : X → Bool) (xs : List X) (d : X)
+    → ((k : ℕ) → k < length xs → p (get_or xs k d) ≡ false) → position p xs ≡ None
 position_none p xs d before = rw (none_at p xs d before, le-ltb (length xs) (length xs) (omega arith))
 
 pub cons_same : {X : Type 0} {x y : X} {xs ys : List X} → x ≡ y → xs ≡ ys → x ∷ xs ≡ y ∷ ys

@@ -1,5 +1,6 @@
 -- How many values a value has: at most one more than its text has bytes, and at least those of each list in it.
-use Rattle.std.proofs.Common.{◌≡◌, ℕ, zero, suc, ◌+◌, ◌<◌, ◌≤◌, List, [], ◌∷◌, length, map, Option, Some, None, option_map, option_and_then, refl, subst, ap, get_or, arith}
+use Rattle.std.proofs.Common.{◌≡◌, ℕ, zero, suc, ◌+◌, ◌<◌, ◌≤◌, List, [], ◌∷◌, length, map, Option, Some, None}
+use Rattle.std.proofs.Common.{option_map, option_and_then, refl, subst, ap, get_or, arith}
 use Rattle.std.specs.Ordering.{nat_cmp, match_ordering}
 use Rattle.std.specs.declared.cmp.Ordering.{Ordering}
 use Rattle.std.specs.declared.cmp.Ordering.TheVariants as ordering
@@ -7,7 +8,8 @@ use Rattle.std.specs.Cmp.Lexicographic.{slice_cmp}
 use Rattle.json.specs.Token.{Token}
 use Rattle.json.specs.Lex.{tokens}
 use Rattle.json.specs.Json as json
-use Rattle.serde_json.specs.Data.{Num, Data, null, boolean, number, string, array, object, Items, no_items, item, Members, no_members, member, put}
+use Rattle.serde_json.specs.Data.{Num, Data, null, boolean, number, string, array, object, Items, no_items, item}
+use Rattle.serde_json.specs.Data.{Members, no_members, member, put}
 use Rattle.serde_json.specs.Find.{get, get_member, as_array}
 use Rattle.serde_json.specs.Read.{number_of, of_json, of_items, of_members, max_depth, read}
 use Rattle.serde_json.specs.View.{view}
@@ -45,11 +47,13 @@ object_size : (n m : ℕ) → n ≤ m → (o : Option Members) → AtMost member
 object_size n m le None h = tt
 object_size n m le (Some ms) h = omega arith
 
-item_size : (d : Data) (k n : ℕ) → size d ≤ k → (o : Option Items) → AtMost items_size n o → AtMost items_size (k + n) (option_map (item d) o)
+item_size : (d : Data) (k n : ℕ) → size d ≤ k → (o : Option Items) → AtMost items_size n o
+    → AtMost items_size (k + n) (option_map (item d) o)
 item_size d k n le None h = tt
 item_size d k n le (Some ds) h = omega arith
 
-items_turn : (k n : ℕ) (o : Option Data) (rest : Option Items) → AtMost size k o → AtMost items_size n rest → AtMost items_size (k + n) (option_and_then (λ d. option_map (item d) rest) o)
+items_turn : (k n : ℕ) (o : Option Data) (rest : Option Items) → AtMost size k o → AtMost items_size n rest
+    → AtMost items_size (k + n) (option_and_then (λ d. option_map (item d) rest) o)
 items_turn k n None rest h r = tt
 items_turn k n (Some d) rest h r = item_size d k n h rest r
 
@@ -57,8 +61,10 @@ wider : {A : Type 0} (f : A → ℕ) (n m : ℕ) → n ≤ m → (o : Option A) 
 wider f n m le None h = tt
 wider f n m le (Some a) h = omega arith
 
-members_turn : (k n : ℕ) (name : List ℕ) (found : Members) (more : Members → Option Members) → ((old : Members) → AtMost members_size (n + members_size old) (more old))
-    → (o : Option Data) → AtMost size k o → AtMost members_size (k + n + members_size found) (option_and_then (λ d. more (put name d found)) o)
+members_turn : (k n : ℕ) (name : List ℕ) (found : Members) (more : Members → Option Members)
+    → ((old : Members) → AtMost members_size (n + members_size old) (more old))
+    → (o : Option Data) → AtMost size k o
+    → AtMost members_size (k + n + members_size found) (option_and_then (λ d. more (put name d found)) o)
 members_turn k n name found more again None h = tt
 members_turn k n name found more again (Some d) h =
     let le : n + members_size (put name d found) ≤ k + n + members_size found = omega (arith, put-size name d found) in
@@ -71,17 +77,22 @@ mutual
   of_json-size (json.number s) = number_size (number_of s)
   of_json-size (json.string s) = omega arith
   of_json-size (json.array js) = array_size (json_items_size js) (of_items js) (of_items-size js)
-  of_json-size (json.object ms) = let le : json_members_size ms + 0 ≤ json_members_size ms = omega arith in object_size _ _ le (of_members ms no_members) (of_members-size ms no_members)
+  of_json-size (json.object ms) = let le : json_members_size ms + 0 ≤ json_members_size ms = omega arith in
+      object_size _ _ le (of_members ms no_members) (of_members-size ms no_members)
 
   of_items-size : (js : json.Items) → AtMost items_size (json_items_size js) (of_items js)
   of_items-size json.no_items = omega arith
-  of_items-size (json.item j js) = items_turn (json_size j) (json_items_size js) (of_json j) (of_items js) (of_json-size j) (of_items-size js)
+  of_items-size (json.item j js) =
+      items_turn (json_size j) (json_items_size js) (of_json j) (of_items js) (of_json-size j) (of_items-size js)
 
-  of_members-size : (ms : json.Members) (found : Members) → AtMost members_size (json_members_size ms + members_size found) (of_members ms found)
+  of_members-size : (ms : json.Members) (found : Members)
+      → AtMost members_size (json_members_size ms + members_size found) (of_members ms found)
   of_members-size json.no_members found = omega arith
-  of_members-size (json.member k j ms) found = members_turn (json_size j) (json_members_size ms) k found (of_members ms) (of_members-size ms) (of_json j) (of_json-size j)
+  of_members-size (json.member k j ms) found = members_turn (json_size j) (json_members_size ms) k found (of_members ms)
+      (of_members-size ms) (of_json j) (of_json-size j)
 
-last_size : (n : ℕ) (o : Option (json.Json × List Token)) → Within json_size n o → AtMost json_size n (option_and_then (λ p. json.if_last p.0 p.1) o)
+last_size : (n : ℕ) (o : Option (json.Json × List Token)) → Within json_size n o
+    → AtMost json_size n (option_and_then (λ p. json.if_last p.0 p.1) o)
 last_size n None h = tt
 last_size n (Some (j, [])) h = omega arith
 last_size n (Some (j, t ∷ ts)) h = tt
@@ -94,7 +105,8 @@ pub read-size : (text : List ℕ) (d : Data) → read text ≡ Some d → size d
 read-size text d e =
     let ts : List Token = tokens text in
     let le : length ts ≤ suc (length text) = tokens-length text in
-    subst (AtMost size (suc (length text))) e (wider size (length ts) (suc (length text)) le (read text) (data_size (length ts) _ (last_size (length ts) _ (Takes-value max_depth ts))))
+    subst (AtMost size (suc (length text))) e (wider size (length ts) (suc (length text)) le (read text)
+    (data_size (length ts) _ (last_size (length ts) _ (Takes-value max_depth ts))))
 
 -- ---- of the lists in a value
 
@@ -123,7 +135,8 @@ list_size n (Some (string s)) h = omega arith
 list_size n (Some (array ds)) h = omega (arith, values_of-size ds)
 list_size n (Some (object ms)) h = omega arith
 
-found_at : (o : Ordering) (e : Data) (ms : Members) (rest : Option Data) → AtMost size (members_size ms) rest → AtMost size (size e + members_size ms) (match_ordering o rest (Some e) rest)
+found_at : (o : Ordering) (e : Data) (ms : Members) (rest : Option Data) → AtMost size (members_size ms) rest
+    → AtMost size (size e + members_size ms) (match_ordering o rest (Some e) rest)
 found_at ordering.Less e ms rest h = wider size (members_size ms) (size e + members_size ms) (omega arith) rest h
 found_at ordering.Equal e ms rest h = omega arith
 found_at ordering.Greater e ms rest h = wider size (members_size ms) (size e + members_size ms) (omega arith) rest h
@@ -138,7 +151,8 @@ get-size name (boolean b) = tt
 get-size name (number n) = tt
 get-size name (string s) = tt
 get-size name (array ds) = tt
-get-size name (object ms) = wider size (members_size ms) (suc (members_size ms)) (omega arith) (get_member name ms) (get_member-size name ms)
+get-size name (object ms) =
+    wider size (members_size ms) (suc (members_size ms)) (omega arith) (get_member name ms) (get_member-size name ms)
 
 pub list_at-sizes : (name : List ℕ) (d : Data) → sizes (list_at name d) ≤ size d
 list_at-sizes name d = list_size (size d) (get name d) (get-size name d)
@@ -155,4 +169,5 @@ value_within (w ∷ vs) zero v h = omega arith
 value_within (w ∷ vs) (suc i) v h = omega (arith, value_within vs i v (omega arith))
 
 pub listed_within : (name : List ℕ) (d : Data) (vs : List Value) → map view vs ≡ list_at name d → length vs ≤ size d
-listed_within name d vs e = let same : sizes (map view vs) ≡ sizes (list_at name d) = ap sizes e in omega (arith, length-values vs, list_at-sizes name d, same)
+listed_within name d vs e = let same : sizes (map view vs) ≡ sizes (list_at name d) = ap sizes e in
+    omega (arith, length-values vs, list_at-sizes name d, same)

@@ -17,6 +17,7 @@ values_of-items_view [] = refl
 values_of-items_view (v ∷ vs) = ap (λ ds. view v ∷ ds) (values_of-items_view vs)
 
 pub each_listed : (form : List Member) (es : List (String Global × Value))
-    → list_all (λ name. list_any (λ m. bytes_eq m.name.now (string_bytes name)) form) (keys_of es) ≡ list_all (is_listed (map member_seen form)) (names_of (members_view es))
+    → list_all (λ name. list_any (λ m. bytes_eq m.name.now (string_bytes name)) form) (keys_of es)
+    ≡ list_all (is_listed (map member_seen form)) (names_of (members_view es))
 each_listed form [] = refl
 each_listed form (e ∷ es) = rw (each_listed form es, list_any-map (λ m. bytes_eq m.name (string_bytes e.0)) member_seen form)

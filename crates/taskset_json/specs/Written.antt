@@ -10,7 +10,11 @@ abbrev pub resource_written : Data → ResourceDef
 resource_written d = record { name = text_at (codes "name") d; home = whole_at (codes "home") d }
 
 abbrev pub request_written : Data → RequestDef
-request_written d = record { resource = text_at (codes "resource") d; count = whole_or 0 (codes "count") d; length = whole_or 0 (codes "length") d }
+request_written d = record {
+  resource = text_at (codes "resource") d;
+  count = whole_or 0 (codes "count") d;
+  length = whole_or 0 (codes "length") d;
+}
 
 abbrev pub task_written : Data → TaskDef
 task_written d =

@@ -6,7 +6,8 @@ ghost use Rattle.std.specs.Str.{bytes_eq};
 ghost use Rattle.std.specs.BTreeMap.{keys};
 ghost use Rattle.serde_json.specs.Find.{as_object};
 ghost use Rattle.taskset_json.specs.Members.{names_of};
-ghost use Rattle.taskset_json.specs.Form.{must, may, is_of_kind, gives, is_listed, is_object_of, set_form, resource_form, task_form, request_form};
+ghost use Rattle.taskset_json.specs.Form.{must, may, is_of_kind, gives, is_listed, is_object_of, set_form};
+ghost use Rattle.taskset_json.specs.Form.{resource_form, task_form, request_form};
 ghost use Rattle.taskset_json.specs.Seen.{member_seen};
 
 use serde_json::{Map, Value};
@@ -103,7 +104,8 @@ fn lists_all(form: &[Member], members: &Map<String, Value>) -> bool
 
 /// Is the value an object with no members but those of the form?
 fn has_listed_only(value: &Value, form: &[Member]) -> bool
-    ensures { result ≡ option_map_or (λ ms. list_all (is_listed (map member_seen form.now)) (names_of ms)) (as_object (view value.now)) false }
+    ensures { result ≡ option_map_or (λ ms. list_all (is_listed (map member_seen form.now)) (names_of ms))
+        (as_object (view value.now)) false }
 {
     value
         .as_object()

@@ -1,5 +1,6 @@
 -- The measures by the counts are those of the schedule.
-use Rattle.std.proofs.Common.{◌≡◌, ℕ, zero, suc, ◌+◌, ◌-◌, ◌<◌, ◌==◌, ◌&&◌, Bool, true, false, List, length, refl, ap, ◌∙◌, subst, arith, get_or, None, Some, max}
+use Rattle.std.proofs.Common.{◌≡◌, ℕ, zero, suc, ◌+◌, ◌-◌, ◌<◌, ◌==◌, ◌&&◌, Bool, true, false, List, length, refl, ap}
+use Rattle.std.proofs.Common.{◌∙◌, subst, arith, get_or, None, Some, max}
 use Rattle.std.specs.Prelude.{if◌then◌else◌}
 use Rattle.std.proofs.lemmas.Bool.{and_parts}
 use Rattle.bounded_sums.specs.Sums.{only_if}
@@ -11,7 +12,8 @@ use Rattle.schedule_model.specs.RowDef.{Trace, RowDef, RunDef, row_in, ticks_of,
 use Rattle.schedule_model.specs.Keeping.{KeepsBefore}
 use Rattle.schedule_model.specs.declared.rule.Rule.{Rule}
 use Rattle.schedule_model.specs.Phase.{is_finished}
-use Rattle.schedule_model.specs.Measures.{MeasuresDef, greatest_below, has_finished, response_of, blocking_of, counts_for, finished_jobs, measures_of}
+use Rattle.schedule_model.specs.Measures.{MeasuresDef, greatest_below, has_finished, response_of, blocking_of}
+use Rattle.schedule_model.specs.Measures.{counts_for, finished_jobs, measures_of}
 use Rattle.phase_machine.specs.MachineDef.{MachineDef, task_in, under}
 use Rattle.phase_machine.specs.Shows.{Shows}
 use Rattle.phase_machine.proofs.Facts.{phase_shown}
@@ -29,7 +31,8 @@ greatest_next n f = let e : n + 1 ≡ suc n = omega arith in ap (λ k. greatest_
 
 greatest_agree : (n : ℕ) (f g : ℕ → ℕ) → ((k : ℕ) → k < n → f k ≡ g k) → greatest_below n f ≡ greatest_below n g
 greatest_agree zero f g h = refl
-greatest_agree (suc n) f g h = ap (λ a. max a (f n)) (greatest_agree n f g (λ k l. h k (omega arith))) ∙ ap (max (greatest_below n g)) (h n (omega arith))
+greatest_agree (suc n) f g h = ap (λ a. max a (f n)) (greatest_agree n f g (λ k l. h k (omega arith)))
+    ∙ ap (max (greatest_below n g)) (h n (omega arith))
 
 only_same : (b : Bool) (n m : ℕ) → (b ≡ true → n ≡ m) → only_if b n ≡ only_if b m
 only_same true n m h = h refl
@@ -37,9 +40,11 @@ only_same false n m h = refl
 
 -- The measures made of these numbers.
 abbrev measures_from : ℕ → ℕ → ℕ → MeasuresDef
-measures_from finished response blocking = record { finished = finished; response = if finished == 0 then None else Some response; blocking = blocking }
+measures_from finished response blocking =
+    record { finished = finished; response = if finished == 0 then None else Some response; blocking = blocking }
 
-counts_shown : (m : MachineDef) (rows : ℕ → RowDef) (x j : ℕ) → Shows m rows → j < length m.list.jobs → counts_now m x j ≡ counts_for (under m rows) m.tick x j
+counts_shown : (m : MachineDef) (rows : ℕ → RowDef) (x j : ℕ) → Shows m rows → j < length m.list.jobs
+    → counts_now m x j ≡ counts_for (under m rows) m.tick x j
 unfolding counts_now counts_for has_finished
 counts_shown m rows x j shows l = ap (λ p. (task_in m.list.jobs j == x) && is_finished p) (phase_shown m rows j shows l)
 
@@ -47,37 +52,49 @@ finished_of : (w : Trace) (n x j : ℕ) → counts_for w n x j ≡ true → has_
 unfolding counts_for
 finished_of w n x j h = (and_parts _ _ h).1
 
-response_shown : (interferes : Trace → ℕ → ℕ → Bool) (m : MachineDef) (rows : ℕ → RowDef) (counts : List JobCount) (x j : ℕ) → Shows m rows → AreCounts interferes (under m rows) m.tick counts → j < length m.list.jobs
+response_shown : (interferes : Trace → ℕ → ℕ → Bool) (m : MachineDef) (rows : ℕ → RowDef) (counts : List JobCount)
+    (x j : ℕ) → Shows m rows → AreCounts interferes (under m rows) m.tick counts → j < length m.list.jobs
     → response_now m counts x j ≡ only_if (counts_for (under m rows) m.tick x j) (response_of (under m rows) m.tick j)
 unfolding response_now response_of
 response_shown interferes m rows counts x j shows are l =
     ap (λ b. only_if b ((count_at counts j).end - (job_of m.list.jobs j).release)) (counts_shown m rows x j shows l)
-    ∙ only_same (counts_for (under m rows) m.tick x j) _ _ (λ h. ap (λ e. e - (job_of m.list.jobs j).release) (are.end j l (finished_of (under m rows) m.tick x j h)))
+    ∙ only_same (counts_for (under m rows) m.tick x j) _ _
+    (λ h. ap (λ e. e - (job_of m.list.jobs j).release) (are.end j l (finished_of (under m rows) m.tick x j h)))
 
-blocking_shown : (interferes : Trace → ℕ → ℕ → Bool) (m : MachineDef) (rows : ℕ → RowDef) (counts : List JobCount) (x j : ℕ) → AreCounts interferes (under m rows) m.tick counts → j < length m.list.jobs
+blocking_shown : (interferes : Trace → ℕ → ℕ → Bool) (m : MachineDef) (rows : ℕ → RowDef) (counts : List JobCount)
+    (x j : ℕ) → AreCounts interferes (under m rows) m.tick counts → j < length m.list.jobs
     → blocking_now m counts x j ≡ only_if (task_in m.list.jobs j == x) (blocking_of interferes (under m rows) m.tick j)
 unfolding blocking_now
 blocking_shown interferes m rows counts x j are l = ap (only_if (task_in m.list.jobs j == x)) (are.blocked j l)
 
 -- The measures of task x.
-pub measured : (interferes : Trace → ℕ → ℕ → Bool) (m : MachineDef) (rows : ℕ → RowDef) (counts : List JobCount) (x : ℕ) → Shows m rows → AreCounts interferes (under m rows) m.tick counts
+pub measured : (interferes : Trace → ℕ → ℕ → Bool) (m : MachineDef) (rows : ℕ → RowDef) (counts : List JobCount) (x : ℕ)
+    → Shows m rows → AreCounts interferes (under m rows) m.tick counts
     → measures_now m counts x ≡ measures_of interferes (under m rows) m.tick x
 unfolding measures_now measures_of finished_jobs
 measured interferes m rows counts x shows are =
     let a : count_below (length m.list.jobs) (counts_now m x) ≡ count_below (length m.list.jobs) (counts_for (under m rows) m.tick x) =
     count_below-agree (length m.list.jobs) (counts_now m x) (counts_for (under m rows) m.tick x) (λ j l. counts_shown m rows x j shows l) in
-    let b : greatest_below (length m.list.jobs) (response_now m counts x) ≡ greatest_below (length m.list.jobs) (λ j. only_if (counts_for (under m rows) m.tick x j) (response_of (under m rows) m.tick j)) =
+    let b : greatest_below (length m.list.jobs) (response_now m counts x) ≡ greatest_below (length m.list.jobs)
+    (λ j. only_if (counts_for (under m rows) m.tick x j) (response_of (under m rows) m.tick j)) =
     greatest_agree (length m.list.jobs) _ _ (λ j l. response_shown interferes m rows counts x j shows are l) in
-    let c : greatest_below (length m.list.jobs) (blocking_now m counts x) ≡ greatest_below (length m.list.jobs) (λ j. only_if (task_in m.list.jobs j == x) (blocking_of interferes (under m rows) m.tick j)) =
+    let c : greatest_below (length m.list.jobs) (blocking_now m counts x) ≡ greatest_below (length m.list.jobs)
+    (λ j. only_if (task_in m.list.jobs j == x) (blocking_of interferes (under m rows) m.tick j)) =
     greatest_agree (length m.list.jobs) _ _ (λ j l. blocking_shown interferes m rows counts x j are l) in
-    ap (λ n. measures_from n (greatest_below (length m.list.jobs) (response_now m counts x)) (greatest_below (length m.list.jobs) (blocking_now m counts x))) a
-    ∙ ap (λ n. measures_from (count_below (length m.list.jobs) (counts_for (under m rows) m.tick x)) n (greatest_below (length m.list.jobs) (blocking_now m counts x))) b
+    ap
+    (λ n. measures_from n (greatest_below (length m.list.jobs) (response_now m counts x))
+    (greatest_below (length m.list.jobs) (blocking_now m counts x))) a
+    ∙ ap
+    (λ n. measures_from (count_below (length m.list.jobs) (counts_for (under m rows) m.tick x)) n
+    (greatest_below (length m.list.jobs) (blocking_now m counts x))) b
     ∙ ap (measures_from (count_below (length m.list.jobs) (counts_for (under m rows) m.tick x))
     (greatest_below (length m.list.jobs) (λ j. only_if (counts_for (under m rows) m.tick x j) (response_of (under m rows) m.tick j)))) c
 
 -- What a schedule that was judged to its end conforms to.
-pub conforming : (keeps : Rule → Trace → ℕ → Type 0) (interferes : Trace → ℕ → ℕ → Bool) (jobs : JobsDef) (runs : List RunDef) (m : MachineDef) (counts seen : List JobCount) (answer : Measured)
-    → m.list ≡ jobs → m.tick ≡ ticks_of runs → IsReached keeps interferes (row_in runs) m counts → seen ≡ counts → length answer.tasks.items ≡ length m.list.set.tasks
+pub conforming : (keeps : Rule → Trace → ℕ → Type 0) (interferes : Trace → ℕ → ℕ → Bool) (jobs : JobsDef)
+    (runs : List RunDef) (m : MachineDef) (counts seen : List JobCount) (answer : Measured)
+    → m.list ≡ jobs → m.tick ≡ ticks_of runs → IsReached keeps interferes (row_in runs) m counts → seen ≡ counts
+    → length answer.tasks.items ≡ length m.list.set.tasks
     → ((x : ℕ) → x < length m.list.set.tasks → measure_seen (get_or answer.tasks.items x no_measure) ≡ measures_now m seen x)
     → KeepsBefore keeps (trace_in jobs runs) (ticks_of runs) × AreMeasures interferes (trace_in jobs runs) (ticks_of runs) answer
 conforming keeps interferes jobs runs m counts seen answer list tick reached same size each =
@@ -86,6 +103,8 @@ conforming keeps interferes jobs runs m counts seen answer list tick reached sam
       size = size;
       each = λ x l. each x l ∙ ap (λ c. measures_now m c x) same ∙ measured interferes m rows counts x reached.shows reached.counted;
     } in (
-      subst (λ (t : ℕ). KeepsBefore keeps (over jobs rows) t) tick (subst (λ (l : JobsDef). KeepsBefore keeps (over l rows) m.tick) list reached.keeps_before),
-      subst (λ (t : ℕ). AreMeasures interferes (over jobs rows) t answer) tick (subst (λ (l : JobsDef). AreMeasures interferes (over l rows) m.tick answer) list measures),
+      subst (λ (t : ℕ). KeepsBefore keeps (over jobs rows) t) tick
+          (subst (λ (l : JobsDef). KeepsBefore keeps (over l rows) m.tick) list reached.keeps_before),
+      subst (λ (t : ℕ). AreMeasures interferes (over jobs rows) t answer) tick
+          (subst (λ (l : JobsDef). AreMeasures interferes (over l rows) m.tick answer) list measures),
     )

@@ -53,7 +53,8 @@ pub fn conform_with<P: Judge>(
 ) -> Result<Measured, Unlawful>
     requires suits { P.suits protocol.now jobs.now.set }
     requires fits { is_fitting rows.now jobs.now ≡ true }
-    ensures { Conforms (P.keeps protocol.now) (P.interferes protocol.now) (trace_in jobs.now rows.now.runs) (ticks_of rows.now.runs) result }
+    ensures { Conforms (P.keeps protocol.now) (P.interferes protocol.now) (trace_in jobs.now rows.now.runs)
+        (ticks_of rows.now.runs) result }
 {
     let mut machine = Machine::new(alloc, jobs)?;
     let mut counts = no_counts(alloc, jobs.len())?;

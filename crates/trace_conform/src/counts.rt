@@ -53,7 +53,8 @@ fn counted<P: Judge>(
     requires listed { j.0 < length machine.now.list.jobs }
     requires room { count.blocked + ticks ≤ MOST_TICKS }
     ensures { result ≡ counted_on
-        (is_blocked (P.interferes protocol.now) (under machine.now (row_in rows.now.runs)) machine.now.tick j.0) machine.now.tick ticks count }
+        (is_blocked (P.interferes protocol.now) (under machine.now (row_in rows.now.runs)) machine.now.tick j.0)
+        machine.now.tick ticks count }
 {
     let end = machine.tick() + ticks;
     if protocol.blocked(machine, &run_at(rows, i).row, j) {
@@ -117,7 +118,8 @@ pub(crate) fn count_ticks<P: Judge>(
     requires keeps { KeepsRow (P.keeps protocol.now) (under machine.now (row_in rows.now.runs)) machine.now.tick }
     requires size { length counts.old ≡ length machine.now.list.jobs }
     requires room { (j : ℕ) → j < length machine.now.list.jobs → (count_at counts.old j).blocked + ticks ≤ MOST_TICKS }
-    ensures { AddsTicks (P.interferes protocol.now) (under machine.now (row_in rows.now.runs)) machine.now.tick ticks counts.old counts.new }
+    ensures { AddsTicks (P.interferes protocol.now) (under machine.now (row_in rows.now.runs)) machine.now.tick ticks
+        counts.old counts.new }
 {
     for x in 0..tasks_of(machine) {
         if let Some(j) = machine.current(TaskId(x)) {

@@ -1,5 +1,6 @@
 -- What `decimal` writes is read as the same number.
-use Rattle.std.proofs.Common.{◌≡◌, ◌<◌, ◌+◌, ◌^◌, ◌==◌, ◌&&◌, ℕ, zero, suc, true, List, [], ◌∷◌, length, map, Option, None, Some, refl, ap, arith}
+use Rattle.std.proofs.Common.{◌≡◌, ◌<◌, ◌+◌, ◌^◌, ◌==◌, ◌&&◌, ℕ, zero, suc, true, List, [], ◌∷◌, length, map, Option}
+use Rattle.std.proofs.Common.{None, Some, refl, ap, arith}
 use Rattle.std.specs.Prelude.{decimal, nat_le, slice_index}
 use Rattle.std.specs.Int.{is_in_range}
 use Rattle.std.specs.List.{list_all}
@@ -18,7 +19,8 @@ AreDigits ds = list_all is_digit ds ≡ true
 tells : IsDigitsTest AreDigits
 tells = record {
   empty = refl;
-  parts = λ c cs e. let k = and_parts (is_digit c) (list_all is_digit cs) e in let m = and_parts (nat_le 48 c) (nat_le c 57) k.0 in ((leb-true 48 c m.0, leb-true c 57 m.1), k.1);
+  parts = λ c cs e. let k = and_parts (is_digit c) (list_all is_digit cs) e in
+      let m = and_parts (nat_le 48 c) (nat_le c 57) k.0 in ((leb-true 48 c m.0, leb-true c 57 m.1), k.1);
   more = λ c cs k e i. (le-leb 48 c k.0 i && le-leb c 57 k.1 i) && e i;
 }
 
@@ -30,7 +32,11 @@ decimal_form zero h = rw (decimal_digit 0 (omega arith)) refl
 decimal_form (suc m) h =
     let some = decimal_nonempty (suc m) h in
     let first = first_decimal (suc m) (omega arith) h in
-    rw (ne_eqb (length (decimal (suc m))) 0 (λ e. omega arith), digits_decimal own (suc m) h, ne_eqb (slice_index (decimal (suc m)) 0) 48 (λ e. omega arith)) refl
+    rw (
+      ne_eqb (length (decimal (suc m))) 0 (λ e. omega arith),
+      digits_decimal own (suc m) h,
+      ne_eqb (slice_index (decimal (suc m)) 0) 48 (λ e. omega arith),
+    ) refl
 
 pub number_of_decimal : (n : ℕ) → n < 2 ^ 64 → number_in (decimal n) ≡ Some n
 number_of_decimal n h = rw (decimal_form n h) (ap (λ (m : ℕ). Some m) (digits_value-decimal own n h))

@@ -5,7 +5,8 @@ use Rattle.std.proofs.lemmas.List.{drop_all}
 use Rattle.std.specs.Prelude.{nat_lt, position}
 use Rattle.std.specs.List.{list_any, after_first, position_or_len}
 
-found : (p : ℕ → Bool) (xs : List ℕ) → ((list_any p xs ≡ true) × (position_or_len p xs < length xs)) ⊎ ((list_any p xs ≡ false) × (position_or_len p xs ≡ length xs))
+found : (p : ℕ → Bool) (xs : List ℕ) → ((list_any p xs ≡ true) × (position_or_len p xs < length xs))
+    ⊎ ((list_any p xs ≡ false) × (position_or_len p xs ≡ length xs))
 found p [] = inr (refl, refl)
 found p (x ∷ xs) = elim (cases_Bool (p x)) [
   | inl here ↦ inl (rw here refl, rw here (omega arith))

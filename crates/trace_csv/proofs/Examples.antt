@@ -25,10 +25,13 @@ past_the_range : number_between 1 9 (codes "10") ≡ None
 past_the_range = refl
 
 -- A script may end with a request, and a request has one colon.
-two_parts : script_in (codes "1 q:2 30") ≡ Some (record { local = 1; request = Some (record { resource = codes "q"; ticks = 2 }) } ∷ record { local = 30; request = None } ∷ [])
+two_parts : script_in (codes "1 q:2 30")
+    ≡ Some (record { local = 1; request = Some (record { resource = codes "q"; ticks = 2 }) }
+    ∷ record { local = 30; request = None } ∷ [])
 two_parts = refl
 
-ends_with_request : script_in (codes "1 q:2") ≡ Some (record { local = 1; request = Some (record { resource = codes "q"; ticks = 2 }) } ∷ [])
+ends_with_request : script_in (codes "1 q:2")
+    ≡ Some (record { local = 1; request = Some (record { resource = codes "q"; ticks = 2 }) } ∷ [])
 ends_with_request = refl
 
 second_colon : script_in (codes "1 q:1:1") ≡ None

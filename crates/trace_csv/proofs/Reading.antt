@@ -1,5 +1,6 @@
 -- The records that a reader gave one after another are the records of the text.
-use Rattle.std.proofs.Common.{◌≡◌, ◌<◌, ◌≤◌, ◌+◌, ◌++◌, ℕ, zero, suc, List, [], ◌∷◌, length, true, false, None, Some, refl, sym, ap, ◌∙◌, arith, ◌==◌, inl, inr}
+use Rattle.std.proofs.Common.{◌≡◌, ◌<◌, ◌≤◌, ◌+◌, ◌++◌, ℕ, zero, suc, List, [], ◌∷◌, length, true, false, None, Some}
+use Rattle.std.proofs.Common.{refl, sym, ap, ◌∙◌, arith, ◌==◌, inl, inr}
 use Rattle.std.proofs.lemmas.Bool.{cases_Bool, false≢true}
 use Rattle.csv.specs.Machine.{Read, next_record, step, is_end, ends_at_end, fields_after, field_after}
 use Rattle.csv.specs.Reading.{AreRecords, Reached, default_config, records, records_from}
@@ -83,7 +84,8 @@ record IsTaken (s t : State) (xs ys : List ℕ) : Type 0 where
 same_read : (p q : Read) → Some p ≡ Some q → p ≡ q
 same_read p q e = cc
 
-takes : (s : State) (fields : List (List ℕ)) (field xs : List ℕ) (p : Read) → next_record default_config s fields field xs ≡ Some p → IsTaken s p.1 xs p.2
+takes : (s : State) (fields : List (List ℕ)) (field xs : List ℕ) (p : Read)
+    → next_record default_config s fields field xs ≡ Some p → IsTaken s p.1 xs p.2
 unfolding next_record
 takes s fields field [] p e = elim (cases_Bool (ends_at_end s)) [
   | inl ends ↦
@@ -100,14 +102,16 @@ takes s fields field [] p e = elim (cases_Bool (ends_at_end s)) [
     no_read p e = cc
 takes s fields field (c ∷ rest) p e = elim (cases_Bool (is_end (step default_config s c).1)) [
   | inl ends ↦
-      let q : (fields_after (step default_config s c).1 fields field, (step default_config s c).0, rest) ≡ p = same_read _ p (rw ends at e) in
+      let q : (fields_after (step default_config s c).1 fields field, (step default_config s c).0, rest) ≡ p =
+      same_read _ p (rw ends at e) in
       record {
         between = sym (ap (λ (r : Read). ends_at_end r.1) q) ∙ ends_between s c ends;
         some = λ stays. omega (arith, ap (λ (r : Read). length r.2) q);
         most = omega (arith, ap (λ (r : Read). length r.2) q);
       }
   | inr goes ↦
-      let more = takes (step default_config s c).0 (fields_after (step default_config s c).1 fields field) (field_after (step default_config s c).1 c field) rest p (rw goes at e) in
+      let more = takes (step default_config s c).0 (fields_after (step default_config s c).1 fields field)
+      (field_after (step default_config s c).1 c field) rest p (rw goes at e) in
       record { between = more.between; some = λ stays. omega (arith, more.most); most = omega (arith, more.most) }
 ]
 
@@ -130,6 +134,7 @@ all_from (suc n) s xs (row ∷ rows) t ys below h none =
     rw (h.1) (ap (λ (f : List (List ℕ)). f ∷ records_from default_config n h.0.1 h.0.2) (sym h.2)
     ∙ ap (λ (more : List (List (List ℕ))). row ∷ more) (all_from n h.0.1 h.0.2 rows t ys (omega arith) h.3 none))
 
-pub records_are : (xs : List ℕ) (rows : List (List (List ℕ))) → AreRecords default_config st.StartRecord xs rows → records default_config xs ≡ rows
+pub records_are : (xs : List ℕ) (rows : List (List (List ℕ))) → AreRecords default_config st.StartRecord xs rows
+    → records default_config xs ≡ rows
 records_are xs rows h =
     all_from (length xs + 1) st.StartRecord xs rows h.0 h.1 (omega (arith, most_records st.StartRecord xs rows h.0 h.1 refl h.2)) h.2 h.3

@@ -7,7 +7,8 @@ module _ {A : Type 0} where
   rest_of xs i x h e = rw (add-one, drop-cons xs i x) (ap (λ (y : A). y ∷ drop (suc i) xs) (sym e))
 
   -- What is made of an item stands at its place in the list of what is made of each.
-  pub made_at : {B : Type 0} (f : A → B) (xs : List A) (i : ℕ) (x : A) (d : B) → i < length xs → x ≡ get_or xs i x → get_or (map f xs) i d ≡ f x
+  pub made_at : {B : Type 0} (f : A → B) (xs : List A) (i : ℕ) (x : A) (d : B) → i < length xs → x ≡ get_or xs i x
+      → get_or (map f xs) i d ≡ f x
   made_at f [] i x d h e = absurd (omega arith)
   made_at f (y ∷ xs) zero x d h e = ap f (sym e)
   made_at f (y ∷ xs) (suc i) x d h e = made_at f xs i x d (omega arith) e

@@ -1,5 +1,6 @@
 -- The run that a line of a file of rows writes is one for the jobs.
-use Rattle.std.proofs.Common.{◌≡◌, ◌≤◌, ◌+◌, ◌-◌, ℕ, true, List, [], ◌∷◌, length, map, take, drop, Option, None, Some, refl, subst, arith, inl, inr}
+use Rattle.std.proofs.Common.{◌≡◌, ◌≤◌, ◌+◌, ◌-◌, ℕ, true, List, [], ◌∷◌, length, map, take, drop, Option, None, Some}
+use Rattle.std.proofs.Common.{refl, subst, arith, inl, inr}
 use Rattle.std.specs.Prelude.{nat_le, option_map}
 use Rattle.std.specs.Option.{option_and_then}
 use Rattle.std.specs.Int.{is_in_range}
@@ -11,7 +12,8 @@ use Rattle.sporadic_model.specs.declared.limits.TheConstants.{MOST_TICKS}
 use Rattle.schedule_model.specs.JobDef.{JobsDef}
 use Rattle.schedule_model.specs.Fitting.{is_below, names_below, is_sized}
 use Rattle.text_pieces.specs.Numbers.{if_in_range, number_in}
-use Rattle.trace_csv.specs.RowLines.{is_cell, is_listed, job_in, job_count, processor_count, resource_count, row_of_cells, run_written, ticks_in, cells_refusal}
+use Rattle.trace_csv.specs.RowLines.{is_cell, is_listed, job_in, job_count, processor_count, resource_count}
+use Rattle.trace_csv.specs.RowLines.{row_of_cells, run_written, ticks_in, cells_refusal}
 use Rattle.trace_csv.specs.RowAnswers.{IsRunOf}
 
 -- A number that was found in a range is in it.
@@ -45,21 +47,33 @@ all_below_of n [] = refl
 all_below_of n (cell ∷ cells) = rw (below_of n (number_in cell)) (all_below_of n cells)
 
 -- The row of as many cells as there are processors and resources.
-sized_row : (processors resources n : ℕ) (cells : List (List ℕ)) → length cells ≡ processors + resources → is_sized processors resources (row_of_cells processors n cells) ≡ true
+sized_row : (processors resources n : ℕ) (cells : List (List ℕ)) → length cells ≡ processors + resources
+    → is_sized processors resources (row_of_cells processors n cells) ≡ true
 sized_row processors resources n cells e =
-    let running : length (map (job_in n) (take processors cells)) ≡ processors = omega (arith, length-map (job_in n) (take processors cells), length-take processors cells) in
-    let holders : length (map (job_in n) (drop processors cells)) ≡ resources = omega (arith, length-map (job_in n) (drop processors cells), length-drop processors cells) in
-    rw (eq-eqb (length (map (job_in n) (take processors cells))) processors running, eq-eqb (length (map (job_in n) (drop processors cells))) resources holders) refl
+    let running : length (map (job_in n) (take processors cells)) ≡ processors =
+    omega (arith, length-map (job_in n) (take processors cells), length-take processors cells) in
+    let holders : length (map (job_in n) (drop processors cells)) ≡ resources =
+    omega (arith, length-map (job_in n) (drop processors cells), length-drop processors cells) in
+    rw (
+      eq-eqb (length (map (job_in n) (take processors cells))) processors running,
+      eq-eqb (length (map (job_in n) (drop processors cells))) resources holders,
+    ) refl
 
-pub is_run : (jobs : JobsDef) (ticks : List ℕ) (cells : List (List ℕ)) (n : ℕ) → length cells ≡ processor_count jobs + resource_count jobs → ticks_in ticks ≡ Some n
+pub is_run : (jobs : JobsDef) (ticks : List ℕ) (cells : List (List ℕ)) (n : ℕ)
+    → length cells ≡ processor_count jobs + resource_count jobs → ticks_in ticks ≡ Some n
     → IsRunOf jobs (run_written jobs (ticks ∷ cells))
 is_run jobs ticks cells n size e = record {
   sized = sized_row (processor_count jobs) (resource_count jobs) (job_count jobs) cells size;
-  named = rw (all_below_of (job_count jobs) (take (processor_count jobs) cells), all_below_of (job_count jobs) (drop (processor_count jobs) cells)) refl;
+  named = rw (
+    all_below_of (job_count jobs) (take (processor_count jobs) cells),
+    all_below_of (job_count jobs) (drop (processor_count jobs) cells),
+  ) refl;
   ticks = rw e (in_range 1 MOST_TICKS n (number_in ticks) e);
 }
 
 -- No reason stands on such a line.
-pub none_due : (jobs : JobsDef) (ticks : List ℕ) (cells : List (List ℕ)) (k n : ℕ) → length cells ≡ processor_count jobs + resource_count jobs → ticks_in ticks ≡ Some n
+pub none_due : (jobs : JobsDef) (ticks : List ℕ) (cells : List (List ℕ)) (k n : ℕ)
+    → length cells ≡ processor_count jobs + resource_count jobs → ticks_in ticks ≡ Some n
     → list_all is_cell cells ≡ true → list_all (is_listed (job_count jobs)) cells ≡ true → cells_refusal jobs ticks cells k ≡ None
-none_due jobs ticks cells k n size e form listed = rw (eq-eqb (length cells) (processor_count jobs + resource_count jobs) size, e, form, listed) refl
+none_due jobs ticks cells k n size e form listed =
+    rw (eq-eqb (length cells) (processor_count jobs + resource_count jobs) size, e, form, listed) refl

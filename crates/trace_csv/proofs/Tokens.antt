@@ -16,7 +16,8 @@ one_token (b ∷ text) none = elim (cases_Bool (b == space)) [
 ]
 
 -- A text with a space is the token before it, and the tokens after it.
-pub more_tokens : (text : List ℕ) → list_any is_space text ≡ true → tokens_in text ≡ before_first is_space text ∷ tokens_in (after_first is_space text)
+pub more_tokens : (text : List ℕ) → list_any is_space text ≡ true
+    → tokens_in text ≡ before_first is_space text ∷ tokens_in (after_first is_space text)
 more_tokens [] some = absurd (false≢true some)
 more_tokens (b ∷ text) some = elim (cases_Bool (b == space)) [
   | inl here ↦ rw here refl

@@ -16,7 +16,8 @@ use Rattle.trace_csv.specs.declared.jobs.SegmentFault.{SegmentFault}
 use Rattle.trace_csv.specs.declared.jobs.SegmentFault.TheVariants as fault
 use Rattle.trace_csv.specs.Records.{Fields}
 use Rattle.trace_csv.specs.Scripts.{PartDef, script_in}
-use Rattle.trace_csv.specs.JobLines.{segment_written, has_known_resource, job_of_fields, job_written, fields_refusal, form_refusal, line_refusal}
+use Rattle.trace_csv.specs.JobLines.{segment_written, has_known_resource, job_of_fields, job_written, fields_refusal}
+use Rattle.trace_csv.specs.JobLines.{form_refusal, line_refusal}
 
 -- The segment that the part writes; or the part requests no resource of the set.
 abbrev pub SegmentOf : Option Segment → SetDef → PartDef → Type 0

@@ -1,5 +1,6 @@
 -- Lines of a file of jobs: the job that a line writes, and when the line is refused.
-use Rattle.std.specs.Prelude.{ℕ, ◌+◌, not, Bool, true, List, [], ◌∷◌, map, take, Option, None, Some, option_map, is_some, is_none, unwrap_or, if◌then◌else◌}
+use Rattle.std.specs.Prelude.{ℕ, ◌+◌, not, Bool, true, List, [], ◌∷◌, map, take, Option, None, Some, option_map}
+use Rattle.std.specs.Prelude.{is_some, is_none, unwrap_or, if◌then◌else◌}
 use Rattle.std.specs.Option.{option_or, option_map_or}
 use Rattle.std.specs.List.{list_all}
 use Rattle.sporadic_model.specs.SetDef.{SetDef}

@@ -1,5 +1,6 @@
 -- What a contract sees of the parts of a script, and what the calls that read one say.
-use Rattle.std.specs.Prelude.{◌≡◌, ◌<◌, ◌+◌, ◌==◌, ℕ, true, false, List, [], ◌∷◌, map, length, option_map, Option, None, Some, Result, Ok, Err}
+use Rattle.std.specs.Prelude.{◌≡◌, ◌<◌, ◌+◌, ◌==◌, ℕ, true, false, List, [], ◌∷◌, map, length, option_map, Option, None}
+use Rattle.std.specs.Prelude.{Some, Result, Ok, Err}
 use Rattle.std.specs.Borrow.{Bor}
 use Rattle.std.specs.List.{list_any, before_first, after_first}
 use Rattle.trace_csv.specs.declared.script.Request.{Request}

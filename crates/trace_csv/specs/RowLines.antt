@@ -1,5 +1,6 @@
 -- Lines of a file of rows: the run of equal rows that a line writes, and when the line is refused.
-use Rattle.std.specs.Prelude.{ℕ, ◌+◌, ◌-◌, ◌==◌, ◌||◌, not, Bool, nat_lt, List, [], ◌∷◌, map, take, drop, length, Option, None, Some, option_map, is_some, is_none, unwrap_or, if◌then◌else◌}
+use Rattle.std.specs.Prelude.{ℕ, ◌+◌, ◌-◌, ◌==◌, ◌||◌, not, Bool, nat_lt, List, [], ◌∷◌, map, take, drop, length}
+use Rattle.std.specs.Prelude.{Option, None, Some, option_map, is_some, is_none, unwrap_or, if◌then◌else◌}
 use Rattle.std.specs.List.{list_all}
 use Rattle.sporadic_model.specs.declared.limits.TheConstants.{MOST_TICKS}
 use Rattle.schedule_model.specs.JobDef.{JobsDef}

@@ -10,5 +10,6 @@ pub returns-then-not-uses : goal.returns-then-not-uses
 returns-then-not-uses c =
     let set = c.args.set.now in
     let q = c.args.row.now.resource.0 in
-    sym (row_missing (block_seen c.args.block.now) (map column_seen c.args.columns.now) (lower_holder_row set c.args.i.0 q) c.args.bounds.now
+    sym (row_missing (block_seen c.args.block.now) (map column_seen c.args.columns.now)
+    (lower_holder_row set c.args.i.0 q) c.args.bounds.now
     (no_lower_holders set c.args.i.0 q (sym c.uses.ensures ∙ c.if-not-uses.true) c.args.columns.now c.requires.asked))

@@ -6,5 +6,6 @@ use Rattle.direct_constraints.specs.Rows.{lower_holder_row}
 use Rattle.direct_constraints.proofs.add_lower_holder_rows.Goals as goal
 
 pub loop-q-preserved : goal.loop-q-preserved
-loop-q-preserved c = next_rows (block_seen c.args.block.now) (block_seen c.loop-q.block) (block_seen c.add_lower_holder_row.new.block) (map column_seen c.args.columns.now) c.args.bounds.now
+loop-q-preserved c = next_rows (block_seen c.args.block.now) (block_seen c.loop-q.block)
+    (block_seen c.add_lower_holder_row.new.block) (map column_seen c.args.columns.now) c.args.bounds.now
     (λ q. lower_holder_row c.args.set.now c.args.i.0 q ∷ []) c.loop-q.q c.loop-q.invariant c.in_ok-add_lower_holder_row.ensures

@@ -9,7 +9,8 @@ use Rattle.direct_constraints.proofs.add_request_rows_of.Goals as goal
 
 pub loop-q-preserved : goal.loop-q-preserved
 loop-q-preserved c = record {
-  rows = next_rows (block_seen c.args.block.now) (block_seen c.loop-q.block) (block_seen c.add_request_row.new.block) (map column_seen c.args.columns.now) c.args.bounds.now
+  rows = next_rows (block_seen c.args.block.now) (block_seen c.loop-q.block) (block_seen c.add_request_row.new.block)
+      (map column_seen c.args.columns.now) c.args.bounds.now
       (λ q. request_row c.args.set.now c.args.i.0 c.args.x.0 q ∷ []) c.loop-q.q c.loop-q.invariant.rows c.in_ok-place.ensures.rows;
   place = c.in_ok-place.ensures.end;
 }
@@ -17,5 +18,7 @@ loop-q-preserved c = record {
 pub returns-clause-end : goal.returns-clause-end
 returns-clause-end c =
     let all : c.loop-q.q ≡ length c.args.set.now.resources = omega (arith, c.resources-q-end.ensures.value) in
-    begins_next (length c.args.set.now.tasks) (length c.args.set.now.resources) c.args.x.0 c.args.columns.now c.loop-q.place c.requires.known
-    (omega (arith, c.resources-q-end.ensures.most, c.resources-q-end.ensures.value)) (subst (λ q. BeginsAt (slot c.args.x.0 q) c.args.columns.now c.loop-q.place) all c.loop-q.invariant.place)
+    begins_next (length c.args.set.now.tasks) (length c.args.set.now.resources) c.args.x.0 c.args.columns.now
+    c.loop-q.place c.requires.known
+    (omega (arith, c.resources-q-end.ensures.most, c.resources-q-end.ensures.value))
+    (subst (λ q. BeginsAt (slot c.args.x.0 q) c.args.columns.now c.loop-q.place) all c.loop-q.invariant.place)

@@ -7,7 +7,8 @@ use Rattle.direct_constraints.proofs.add_time_rows.Goals as goal
 
 pub loop-x-preserved : goal.loop-x-preserved
 loop-x-preserved c = record {
-  rows = next_rows (block_seen c.args.block.now) (block_seen c.loop-x.block) (block_seen c.add_time_row.new.block) (map column_seen c.args.columns.now) c.args.bounds.now
+  rows = next_rows (block_seen c.args.block.now) (block_seen c.loop-x.block) (block_seen c.add_time_row.new.block)
+      (map column_seen c.args.columns.now) c.args.bounds.now
       (λ x. time_row c.args.set.now c.args.i.0 x ∷ []) c.loop-x.x c.loop-x.invariant.rows c.in_ok-place.ensures.rows;
   place = c.in_ok-place.ensures.end;
 }

@@ -8,6 +8,7 @@ use Rattle.direct_constraints.proofs.add_turn_rows.Given as goal
 
 abbrev pub invariant-loop-x : goal.invariant-loop-x
 invariant-loop-x l = record {
-  rows : block_seen l.block ≡ with_rows (block_seen l.initial.block) (map column_seen l.columns) (per_pair l.x (length l.set.resources) (turn_row l.set l.i.0)) l.bounds;
+  rows : block_seen l.block ≡ with_rows (block_seen l.initial.block) (map column_seen l.columns)
+      (per_pair l.x (length l.set.resources) (turn_row l.set l.i.0)) l.bounds;
   place : BeginsAt (slot l.x 0) l.columns l.place;
 }

@@ -8,6 +8,7 @@ use Rattle.indirect_constraints.proofs.add_holding_rows.Given as goal
 
 abbrev pub invariant-loop-x : goal.invariant-loop-x
 invariant-loop-x l = record {
-  rows : block_seen l.block ≡ with_rows (block_seen l.initial.block) (map column_seen l.columns) (per l.x (holding_row l.set l.i.0)) l.bounds;
+  rows : block_seen l.block
+      ≡ with_rows (block_seen l.initial.block) (map column_seen l.columns) (per l.x (holding_row l.set l.i.0)) l.bounds;
   place : BeginsAt (slot l.x 0) l.columns l.place;
 }

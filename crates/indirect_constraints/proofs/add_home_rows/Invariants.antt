@@ -6,4 +6,5 @@ use Rattle.indirect_constraints.specs.Rows.{home_row}
 use Rattle.indirect_constraints.proofs.add_home_rows.Given as goal
 
 abbrev pub invariant-loop-k : goal.invariant-loop-k
-invariant-loop-k l = block_seen l.block ≡ with_rows (block_seen l.initial.block) (map column_seen l.columns) (per l.k (λ k. home_row l.set l.i.0 (k + 1))) l.bounds
+invariant-loop-k l = block_seen l.block ≡ with_rows (block_seen l.initial.block) (map column_seen l.columns)
+    (per l.k (λ k. home_row l.set l.i.0 (k + 1))) l.bounds

@@ -7,6 +7,7 @@ pub add_row_within-requires-clause-stretch : goal.add_row_within-requires-clause
 add_row_within-requires-clause-stretch c =
     let set = c.args.set.now in
     let x = c.args.x.0 in
-    stretch_of_task (length set.tasks) (length set.resources) x c.args.columns.now (queue_row set c.args.i.0 x) c.args.from c.task_end-to.result
+    stretch_of_task (length set.tasks) (length set.resources) x c.args.columns.now (queue_row set c.args.i.0 x)
+    c.args.from c.task_end-to.result
     c.requires.known (omega (arith, c.resources-resources.ensures.most, c.resources-resources.ensures.value))
     c.requires.from c.task_end-to.ensures.begins c.task_end-to.ensures.order (λ column other. rw other refl)

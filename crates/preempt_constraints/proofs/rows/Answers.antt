@@ -9,7 +9,9 @@ use Rattle.preempt_constraints.proofs.rows.Goals as goal
 
 pub loop-x-preserved : goal.loop-x-preserved
 loop-x-preserved c = record {
-  rows = next_rows no_rows (block_seen c.loop-x.block) (block_seen c.add_interval_row.new.block) (map column_seen c.args.columns.now) c.args.bounds.now
-      (λ x. if is_lower_local c.args.set.now c.args.i.0 x then interval_row c.args.set.now c.args.i.0 x ∷ [] else []) c.loop-x.x c.loop-x.invariant.rows c.in_ok-place.ensures.rows;
+  rows = next_rows no_rows (block_seen c.loop-x.block) (block_seen c.add_interval_row.new.block)
+      (map column_seen c.args.columns.now) c.args.bounds.now
+      (λ x. if is_lower_local c.args.set.now c.args.i.0 x then interval_row c.args.set.now c.args.i.0 x ∷ [] else [])
+      c.loop-x.x c.loop-x.invariant.rows c.in_ok-place.ensures.rows;
   place = c.in_ok-place.ensures.end;
 }

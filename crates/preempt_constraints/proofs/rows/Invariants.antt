@@ -9,6 +9,7 @@ use Rattle.preempt_constraints.proofs.rows.Given as goal
 
 abbrev pub invariant-loop-x : goal.invariant-loop-x
 invariant-loop-x l = record {
-  rows : block_seen l.block ≡ block_of (map column_seen l.columns) (per_where (is_lower_local l.set l.i.0) l.x (interval_row l.set l.i.0)) l.bounds;
+  rows : block_seen l.block ≡ block_of (map column_seen l.columns)
+      (per_where (is_lower_local l.set l.i.0) l.x (interval_row l.set l.i.0)) l.bounds;
   place : BeginsAt (slot l.x 0) l.columns l.place;
 }

@@ -15,7 +15,8 @@ use Rattle.audit_figures.proofs.auditing.audit_with.Goals as goal
 pub sound_figures-requires-clause-bounds : goal.sound_figures-requires-clause-bounds
 sound_figures-requires-clause-bounds g c =
     let f : SourceDef =
-    source_for (g.P.ChargedProtocol.program_of c.args.protocol.now) (g.P.ChargedProtocol.interfering c.args.protocol.now) c.args.jobs.now.set in
+    source_for (g.P.ChargedProtocol.program_of c.args.protocol.now)
+    (g.P.ChargedProtocol.interfering c.args.protocol.now) c.args.jobs.now.set in
     let cert : CertificateDef = certificate_seen c.args.certificate.now in
     let judged : IsValid f cert × AreValues f cert c.in-Ok.valid.values.items =
     rw c.set-2.ensures at c.in-Ok.ensures.judges in
@@ -25,7 +26,8 @@ sound_figures-requires-clause-bounds g c =
 pub returns-clause-audits : goal.returns-clause-audits
 returns-clause-audits g c =
     let f : SourceDef =
-    source_for (g.P.ChargedProtocol.program_of c.args.protocol.now) (g.P.ChargedProtocol.interfering c.args.protocol.now) c.args.jobs.now.set in
+    source_for (g.P.ChargedProtocol.program_of c.args.protocol.now)
+    (g.P.ChargedProtocol.interfering c.args.protocol.now) c.args.jobs.now.set in
     let cert : CertificateDef = certificate_seen c.args.certificate.now in
     let w : Trace = trace_in c.args.jobs.now c.args.rows.now.runs in
     let judged : IsValid f cert × AreValues f cert c.in-Ok.valid.values.items =
@@ -36,7 +38,8 @@ returns-clause-audits g c =
       judged.0,
       c.in-Ok-conform_with.ensures.0,
       same_values (g.P.ChargedProtocol.charges c.args.protocol.now)
-          (g.P.BlockingProtocol.interferes c.args.protocol.now) w (slice_index cert.bounds) (slice_index c.in-Ok.valid.values.items) (value_at f cert)
+          (g.P.BlockingProtocol.interferes c.args.protocol.now) w (slice_index cert.bounds)
+          (slice_index c.in-Ok.valid.values.items) (value_at f cert)
           (ticks_of c.args.rows.now.runs) c.in_ok-figures.figures.items judged.1.each are,
     )
 
@@ -52,7 +55,8 @@ returns-clause-within g c =
     let lawful : IsLawfulSchedule (g.P.BlockingProtocol.keeps c.args.protocol.now) c.args.jobs.now.set w (ticks_of c.args.rows.now.runs) =
     record { set_is = refl; jobs = c.keeps_its_rules.ensures.lawful; rows = c.in-Ok-conform_with.ensures.0 } in
     lie_within (g.P.ChargedProtocol.charges c.args.protocol.now) (g.P.BlockingProtocol.interferes c.args.protocol.now) w cert.bounds
-    c.in-Ok.valid.values.items (ticks_of c.args.rows.now.runs) c.in_ok-figures.figures.items (sound w (ticks_of c.args.rows.now.runs) lawful)
+    c.in-Ok.valid.values.items (ticks_of c.args.rows.now.runs) c.in_ok-figures.figures.items
+    (sound w (ticks_of c.args.rows.now.runs) lawful)
     are
 
 pub returns-clause-adds_up : goal.returns-clause-adds_up
@@ -62,7 +66,8 @@ returns-clause-adds_up g c =
     let are : AreFigures (g.P.ChargedProtocol.charges c.args.protocol.now) (g.P.BlockingProtocol.interferes c.args.protocol.now) w
     (slice_index cert.bounds) (slice_index c.in-Ok.valid.values.items) (ticks_of c.args.rows.now.runs) c.in_ok-figures.figures.items =
     rw (c.deref.ensures.value, c.deref-2.ensures.value) at c.in_ok-figures.ensures in
-    add_up (g.P.ChargedProtocol.charges c.args.protocol.now) (g.P.BlockingProtocol.interferes c.args.protocol.now) w (slice_index cert.bounds)
+    add_up (g.P.ChargedProtocol.charges c.args.protocol.now) (g.P.BlockingProtocol.interferes c.args.protocol.now) w
+    (slice_index cert.bounds)
     (slice_index c.in-Ok.valid.values.items) (ticks_of c.args.rows.now.runs) c.in_ok-figures.figures.items
     (λ t j charge is. g.met.P.ChargedProtocol.charges_only c.args.protocol.now w t j charge is)
     (λ t j l blocked.

@@ -16,7 +16,8 @@ unreachable-requires-in-Err-BoundPassed g c =
     let said : Charged (g.P.BlockingProtocol.keeps c.args.protocol.now) (g.P.BlockingProtocol.interferes c.args.protocol.now)
     (g.P.ChargedProtocol.charges c.args.protocol.now) w (slice_index c.args.bounds.now) (ticks_of c.args.rows.now.runs)
     (Err (stop.BoundPassed c.in-Err-BoundPassed.field-0-0)) =
-    subst (λ (e : ChargeStop). Charged (g.P.BlockingProtocol.keeps c.args.protocol.now) (g.P.BlockingProtocol.interferes c.args.protocol.now)
+    subst (λ (e : ChargeStop).
+    Charged (g.P.BlockingProtocol.keeps c.args.protocol.now) (g.P.BlockingProtocol.interferes c.args.protocol.now)
     (g.P.ChargedProtocol.charges c.args.protocol.now) w (slice_index c.args.bounds.now) (ticks_of c.args.rows.now.runs) (Err e))
     c.in-Err-BoundPassed.field-0-is c.in-Err-BoundPassed.ensures.charged in
     never_passed w (slice_index c.args.bounds.now) (ticks_of c.args.rows.now.runs) c.in-Err-BoundPassed.field-0-0.0

@@ -13,7 +13,8 @@ loop-item-init c = record { size = refl; each = λ x l. c.requires.none x ∙ su
 pub loop-item-preserved : goal.loop-item-preserved
 loop-item-preserved c =
     let item : ChargeItem = get_or c.args.items.now c.loop-item.item-index no_charge in
-    let own : c.job.result.now.task.0 ≡ (job_of c.args.jobs.now.jobs item.blocked.0).task = ap (λ (j : JobDef). j.task) c.job.ensures.value in
+    let own : c.job.result.now.task.0 ≡ (job_of c.args.jobs.now.jobs item.blocked.0).task =
+    ap (λ (j : JobDef). j.task) c.job.ensures.value in
     let listed : IsLawfulJob c.args.jobs.now.set (job_of c.args.jobs.now.jobs item.blocked.0) =
     c.job.ensures.lawful.each item.blocked.0 (c.requires.listed c.loop-item.item-index no_charge c.loop-item-test.true) in
     let below : c.job.result.now.task.0 < length c.loop-item.sums =

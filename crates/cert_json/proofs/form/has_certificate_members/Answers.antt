@@ -8,4 +8,5 @@ pub returns : goal.returns
 returns c =
     c.is_object_of.ensures
     ∙ ap (λ form. is_object_of form (view c.args.value.now))
-    (cons_same c.must.ensures (cons_same c.must-2.ensures (cons_same c.must-3.ensures (cons_same c.must-4.ensures (cons_same {xs = []} {ys = []} c.must-5.ensures refl)))))
+    (cons_same c.must.ensures (cons_same c.must-2.ensures
+    (cons_same c.must-3.ensures (cons_same c.must-4.ensures (cons_same {xs = []} {ys = []} c.must-5.ensures refl)))))

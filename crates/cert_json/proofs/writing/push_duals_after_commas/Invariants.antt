@@ -5,4 +5,5 @@ use Rattle.cert_json.proofs.writing.push_duals_after_commas.Given as goal
 
 -- what is written, and the duals that are left, are all of the text
 abbrev pub invariant-loop-dual : goal.invariant-loop-dual
-invariant-loop-dual l = l.text.items ++ duals_after_commas (map dual_seen (drop l.dual-index l.duals)) ≡ l.initial.text.items ++ duals_after_commas (map dual_seen l.duals)
+invariant-loop-dual l = l.text.items ++ duals_after_commas (map dual_seen (drop l.dual-index l.duals))
+    ≡ l.initial.text.items ++ duals_after_commas (map dual_seen l.duals)

@@ -8,4 +8,5 @@ returns c =
     let bounds = rw (c.new-text.ensures.items, c.deref.ensures.value) at c.in_ok-push_bounds_member.ensures in
     let duals = rw (bounds, c.deref-2.ensures.value) at c.in_ok-push_duals_member.ensures in
     let last = rw duals at c.in_ok-push_last_members.ensures in
-    last ∙ append_assoc (bounds_member c.args.certificate.now.bounds.items) (duals_member (map dual_seen c.args.certificate.now.duals.items)) (last_members c.args.protocol)
+    last ∙ append_assoc (bounds_member c.args.certificate.now.bounds.items)
+    (duals_member (map dual_seen c.args.certificate.now.duals.items)) (last_members c.args.protocol)

@@ -16,7 +16,8 @@ use Rattle.charge.proofs.charging.charge_with.Goals as goal
 
 pub walk_all-requires-clause-reached : goal.walk_all-requires-clause-reached
 walk_all-requires-clause-reached g c =
-    reached_first (g.P.BlockingProtocol.keeps c.args.protocol.now) (g.P.ChargedProtocol.charges c.args.protocol.now) (row_in c.args.rows.now.runs)
+    reached_first (g.P.BlockingProtocol.keeps c.args.protocol.now) (g.P.ChargedProtocol.charges c.args.protocol.now)
+    (row_in c.args.rows.now.runs)
     c.args.bounds.now c.in_ok-machine.machine _ (c.in_ok-machine.ensures.shows (row_in c.args.rows.now.runs)) c.in_ok-machine.ensures.tick
     (rw c.in_ok-machine.ensures.list c.requires.bounds) c.new-2.ensures.empty refl
 
@@ -26,8 +27,10 @@ returns-clause-charged g c =
     let n : ℕ = ticks_of c.args.rows.now.runs in
     let a : Walked (g.P.BlockingProtocol.keeps c.args.protocol.now) (g.P.ChargedProtocol.charges c.args.protocol.now) w
     (slice_index c.args.bounds.now) n c.walk_all.new.ledger =
-    walked_all (g.P.BlockingProtocol.keeps c.args.protocol.now) (g.P.ChargedProtocol.charges c.args.protocol.now) (row_in c.args.rows.now.runs)
-    c.args.bounds.now c.walk_all.new.machine c.walk_all.new.ledger c.args.jobs.now n (c.walk_all.ensures.list ∙ c.in_ok-machine.ensures.list)
+    walked_all (g.P.BlockingProtocol.keeps c.args.protocol.now) (g.P.ChargedProtocol.charges c.args.protocol.now)
+    (row_in c.args.rows.now.runs)
+    c.args.bounds.now c.walk_all.new.machine c.walk_all.new.ledger c.args.jobs.now n
+    (c.walk_all.ensures.list ∙ c.in_ok-machine.ensures.list)
     c.in_ok-walk_all.ensures.walked.0 c.in_ok-walk_all.ensures.walked.1 in
     let only : (t : ℕ) → OfActive (g.P.ChargedProtocol.charges c.args.protocol.now) w t =
     λ t k charge e. let b : Blocked (g.P.BlockingProtocol.interferes c.args.protocol.now) w t k =
@@ -44,7 +47,8 @@ returns-clause-charged g c =
       a.keeps_all,
       sym a.passed ∙ none_noted c.walk_all.new.ledger.passed c.in_default.not-Some,
       subst (λ (items : List ItemDef). IsChargeTable (g.P.ChargedProtocol.charges c.args.protocol.now)
-          (g.P.BlockingProtocol.interferes c.args.protocol.now) w (slice_index c.args.bounds.now) n items) (sym c.in_ok-charges.ensures.items) table,
+          (g.P.BlockingProtocol.interferes c.args.protocol.now) w (slice_index c.args.bounds.now) n items)
+          (sym c.in_ok-charges.ensures.items) table,
     )
 
 pub returns-clause-rows : goal.returns-clause-rows
@@ -53,8 +57,10 @@ returns-clause-rows g c = λ j l.
     let n : ℕ = ticks_of c.args.rows.now.runs in
     let a : Walked (g.P.BlockingProtocol.keeps c.args.protocol.now) (g.P.ChargedProtocol.charges c.args.protocol.now) w
     (slice_index c.args.bounds.now) n c.walk_all.new.ledger =
-    walked_all (g.P.BlockingProtocol.keeps c.args.protocol.now) (g.P.ChargedProtocol.charges c.args.protocol.now) (row_in c.args.rows.now.runs)
-    c.args.bounds.now c.walk_all.new.machine c.walk_all.new.ledger c.args.jobs.now n (c.walk_all.ensures.list ∙ c.in_ok-machine.ensures.list)
+    walked_all (g.P.BlockingProtocol.keeps c.args.protocol.now) (g.P.ChargedProtocol.charges c.args.protocol.now)
+    (row_in c.args.rows.now.runs)
+    c.args.bounds.now c.walk_all.new.machine c.walk_all.new.ledger c.args.jobs.now n
+    (c.walk_all.ensures.list ∙ c.in_ok-machine.ensures.list)
     c.in_ok-walk_all.ensures.walked.0 c.in_ok-walk_all.ensures.walked.1 in
     let only : (t : ℕ) → OfActive (g.P.ChargedProtocol.charges c.args.protocol.now) w t =
     λ t k charge e. let b : Blocked (g.P.BlockingProtocol.interferes c.args.protocol.now) w t k =

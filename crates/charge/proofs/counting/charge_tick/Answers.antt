@@ -11,7 +11,9 @@ use Rattle.charge.proofs.counting.charge_tick.Goals as goal
 pub loop-x-init : goal.loop-x-init
 loop-x-init g c =
     let w : Trace = under c.args.machine.now (row_in c.args.rows.now.runs) in
-    tally_agree c.args.ticks.now (ticks_before (g.P.ChargedProtocol.charges c.args.protocol.now) w (slice_index c.args.bounds.now) c.args.machine.now.tick) _
+    tally_agree c.args.ticks.now
+    (ticks_before (g.P.ChargedProtocol.charges c.args.protocol.now) w (slice_index c.args.bounds.now)
+    c.args.machine.now.tick) _
     (λ p. count_first (g.P.ChargedProtocol.charges c.args.protocol.now) w (slice_index c.args.bounds.now) c.args.machine.now.tick p)
     c.requires.counted
 
@@ -22,7 +24,8 @@ add_named-requires g c = λ p.
       arith,
       c.requires.early,
       count_is c.loop-x.ticks
-          (ticks_with (g.P.ChargedProtocol.charges c.args.protocol.now) w (slice_index c.args.bounds.now) c.args.machine.now.tick c.loop-x.x) p
+          (ticks_with (g.P.ChargedProtocol.charges c.args.protocol.now) w (slice_index c.args.bounds.now)
+          c.args.machine.now.tick c.loop-x.x) p
           c.loop-x.invariant,
       count_most (g.P.ChargedProtocol.charges c.args.protocol.now) w (slice_index c.args.bounds.now) c.args.machine.now.tick c.loop-x.x p,
     )
@@ -35,9 +38,11 @@ loop-x-preserved g c =
     blocked_is (g.P.BlockingProtocol.interferes c.args.protocol.now) w c.args.machine.now.tick k
     (g.met.P.ChargedProtocol.charges_only c.args.protocol.now w c.args.machine.now.tick k charge e) in b.active in
     tally_agree c.add_named.new.ticks _ _
-    (λ p. ap (λ o. ticks_with (g.P.ChargedProtocol.charges c.args.protocol.now) w (slice_index c.args.bounds.now) c.args.machine.now.tick c.loop-x.x p
+    (λ p. ap (λ o. ticks_with (g.P.ChargedProtocol.charges c.args.protocol.now) w (slice_index c.args.bounds.now)
+    c.args.machine.now.tick c.loop-x.x p
     + flag (is_place p o)) c.place_in.ensures
-    ∙ count_more (g.P.ChargedProtocol.charges c.args.protocol.now) c.args.machine.now (row_in c.args.rows.now.runs) (slice_index c.args.bounds.now)
+    ∙ count_more (g.P.ChargedProtocol.charges c.args.protocol.now) c.args.machine.now (row_in c.args.rows.now.runs)
+    (slice_index c.args.bounds.now)
     c.loop-x.x p c.requires.shows only (omega (arith, c.loop-x-test.true, c.tasks_of-x-end.ensures.value)))
     (c.in_ok-add_named.ensures _ c.loop-x.invariant)
 
@@ -49,5 +54,6 @@ returns g c =
     blocked_is (g.P.BlockingProtocol.interferes c.args.protocol.now) w c.args.machine.now.tick k
     (g.met.P.ChargedProtocol.charges_only c.args.protocol.now w c.args.machine.now.tick k charge e) in b.active in
     tally_agree c.loop-x.ticks _ _
-    (λ p. count_all (g.P.ChargedProtocol.charges c.args.protocol.now) c.args.machine.now (row_in c.args.rows.now.runs) (slice_index c.args.bounds.now)
+    (λ p. count_all (g.P.ChargedProtocol.charges c.args.protocol.now) c.args.machine.now (row_in c.args.rows.now.runs)
+    (slice_index c.args.bounds.now)
     c.loop-x.x p c.requires.shows only (omega (arith, c.loop-x-test.false, c.tasks_of-x-end.ensures.value))) c.loop-x.invariant

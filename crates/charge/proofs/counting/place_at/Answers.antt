@@ -14,7 +14,8 @@ use Rattle.charge.proofs.counting.place_at.Goals as goal
 
 pub charged-requires-clause-fits : goal.charged-requires-clause-fits
 charged-requires-clause-fits g c =
-    rw (ap (λ r. r.row) c.run_at.ensures.value) (row_fits c.args.rows.now c.args.machine.now.list c.args.i c.requires.at.fits c.requires.at.within)
+    rw (ap (λ r. r.row) c.run_at.ensures.value)
+    (row_fits c.args.rows.now c.args.machine.now.list c.args.i c.requires.at.fits c.requires.at.within)
 
 pub returns-in-Some : goal.returns-in-Some
 returns-in-Some g c =

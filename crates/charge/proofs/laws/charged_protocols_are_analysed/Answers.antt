@@ -14,7 +14,8 @@ returns g c = λ p set accepted suits. record {
   interfering = λ w n y s l. subst
       (λ (of : SetDef). count_below n (λ t. interferes_with_some (g.P.BlockingProtocol.interferes p) w t y)
       ≤ g.P.ChargedProtocol.interfering p of (task_of w y)) s.set_is
-      (g.met.P.ChargedProtocol.interferes_within p w n y (subst (g.P.BlockingProtocol.suits p) (sym s.set_is) suits) s.rows (s.jobs.each y l));
+      (g.met.P.ChargedProtocol.interferes_within p w n y (subst (g.P.BlockingProtocol.suits p) (sym s.set_is) suits)
+      s.rows (s.jobs.each y l));
   blocked = λ w bounds n j den num s l ended.
       let of : g.P.BlockingProtocol.suits p w.set = subst (g.P.BlockingProtocol.suits p) (sym s.set_is) suits in
       let here : DualBounds (g.P.ChargedProtocol.program_of p) (g.P.BlockingProtocol.interferes p) w bounds n j den num w.set =

@@ -11,5 +11,6 @@ loop-place-preserved c =
     let left : c.loop-place.place-iterator ≡ (c.in-Some.place.now, c.in-Some.count.now) ∷ c.next.new.self =
     rest_more deref_pair _ _ _ (c.in-Some.place, c.in-Some.count) c.in-Some.is c.next.ensures.steps in
     rw c.in_ok-push.ensures.items
-    (pushed item_seen item_of c.loop-place.items.items c.item_of.result (c.in-Some.place.now, c.in-Some.count.now) c.next.new.self c.item_of.ensures
+    (pushed item_seen item_of c.loop-place.items.items c.item_of.result (c.in-Some.place.now, c.in-Some.count.now)
+    c.next.new.self c.item_of.ensures
     ∙ ap (λ es. map item_seen c.loop-place.items.items ++ map item_of es) (sym left) ∙ c.loop-place.invariant)

@@ -8,5 +8,6 @@ abbrev pub invariant-loop-i : goal.invariant-loop-i
 invariant-loop-i g l = record {
   list : l.machine.list ≡ l.initial.machine.list;
   tick : l.machine.tick ≡ start_of l.rows.runs l.i;
-  reached : IsReached (g.P.BlockingProtocol.keeps l.protocol) (g.P.ChargedProtocol.charges l.protocol) (row_in l.rows.runs) l.bounds l.machine l.ledger;
+  reached : IsReached (g.P.BlockingProtocol.keeps l.protocol) (g.P.ChargedProtocol.charges l.protocol)
+      (row_in l.rows.runs) l.bounds l.machine l.ledger;
 }

@@ -7,5 +7,6 @@ abbrev pub invariant-loop : goal.invariant-loop
 invariant-loop g l = record {
   list : l.machine.list ≡ l.initial.machine.list;
   tick : l.machine.tick ≡ l.initial.machine.tick + l.counter;
-  reached : IsReached (g.P.BlockingProtocol.keeps l.protocol) (g.P.ChargedProtocol.charges l.protocol) (row_in l.rows.runs) l.bounds l.machine l.ledger;
+  reached : IsReached (g.P.BlockingProtocol.keeps l.protocol) (g.P.ChargedProtocol.charges l.protocol)
+      (row_in l.rows.runs) l.bounds l.machine l.ledger;
 }

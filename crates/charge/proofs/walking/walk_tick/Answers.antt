@@ -21,7 +21,8 @@ advance-requires-clause-row g c =
     let fits : IsRowFor m.list row =
     rw (ap (λ r. r.row) c.run_at.ensures.value) (row_fits c.args.rows.now m.list c.args.i c.requires.at.fits c.requires.at.within) in
     row_taken (g.P.BlockingProtocol.interferes c.args.protocol.now) rows m row here fits c.requires.reached.shows
-    (g.P.BlockingProtocol.sound_row c.args.protocol.now (under m rows) m.tick c.requires.suits (c.in-Ok.ensures rows c.requires.reached.shows here))
+    (g.P.BlockingProtocol.sound_row c.args.protocol.now (under m rows) m.tick c.requires.suits
+    (c.in-Ok.ensures rows c.requires.reached.shows here))
 
 pub returns-clause-walked : goal.returns-clause-walked
 returns-clause-walked g c =
@@ -39,7 +40,9 @@ returns-clause-walked g c =
     c.first_of_due-ledger.ensures (has_passed (under n rows) (slice_index c.args.bounds.now) m.tick) noted
     ∙ passed_next n rows c.args.bounds.now m.tick shows c.advance.ensures.tick (rw c.advance.ensures.list c.requires.bounds) in (
       c.advance.ensures.tick,
-      reached_next (g.P.BlockingProtocol.keeps c.args.protocol.now) (g.P.ChargedProtocol.charges c.args.protocol.now) rows c.args.bounds.now m n
-          c.args.ledger.now (record { ticks = c.charge_tick.new.ticks; passed = c.first_of_due-ledger.result }) c.requires.reached c.advance.ensures.list
+      reached_next (g.P.BlockingProtocol.keeps c.args.protocol.now) (g.P.ChargedProtocol.charges c.args.protocol.now)
+          rows c.args.bounds.now m n
+          c.args.ledger.now (record { ticks = c.charge_tick.new.ticks; passed = c.first_of_due-ledger.result })
+          c.requires.reached c.advance.ensures.list
           c.advance.ensures.tick shows keeps c.in_ok-charge_tick.ensures passed,
     )

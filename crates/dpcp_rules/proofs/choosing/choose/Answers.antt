@@ -8,12 +8,32 @@ use Rattle.dpcp_rules.proofs.choosing.choose.Goals as goal
 pub returns-clause-chosen : goal.returns-clause-chosen
 returns-clause-chosen c = λ rows shows e.
     let holders : length c.grant_all.new.holders ≡ length c.args.machine.now.list.set.resources =
-    omega (arith, c.grant_all.ensures.len, ap length c.deref_mut.ensures.value, length-map c.args.row.now.holders.items place_seen, c.requires.sized.resources) in
+    omega (
+      arith,
+      c.grant_all.ensures.len,
+      ap length c.deref_mut.ensures.value,
+      length-map c.args.row.now.holders.items place_seen,
+      c.requires.sized.resources,
+    ) in
     let running : length c.run_all.new.running ≡ c.args.machine.now.list.set.processors =
-    omega (arith, c.run_all.ensures.len, ap length c.deref_mut-2.ensures.value, length-map c.args.row.now.running.items place_seen, c.requires.sized.processors) in
+    omega (
+      arith,
+      c.run_all.ensures.len,
+      ap length c.deref_mut-2.ensures.value,
+      length-map c.args.row.now.running.items place_seen,
+      c.requires.sized.processors,
+    ) in
     choice_written c.args.machine.now rows c.note_waiting.new.first c.note_kept.new.bars c.grant_all.new.holders c.run_all.new.running
-    (with_items c.args.row.now.holders c.grant_all.new.holders).items (with_items c.args.row.now.running c.run_all.new.running).items c.deref.result.now
-    (record { shows = shows; accepted = c.note_waiting.ensures.accepted; homes = c.requires.suits; waiting = c.note_waiting.ensures.least; kept = c.note_kept.ensures.least })
+    (with_items c.args.row.now.holders c.grant_all.new.holders).items
+    (with_items c.args.row.now.running c.run_all.new.running).items c.deref.result.now
+    (record {
+      shows = shows;
+      accepted = c.note_waiting.ensures.accepted;
+      homes = c.requires.suits;
+      waiting = c.note_waiting.ensures.least;
+      kept = c.note_kept.ensures.least;
+    })
     (with_items_is c.args.row.now.holders c.grant_all.new.holders (c.grant_all.ensures.len ∙ c.deref_mut.ensures.len))
-    (with_items_is c.args.row.now.running c.run_all.new.running (c.run_all.ensures.len ∙ c.deref_mut-2.ensures.len)) c.deref.ensures.value holders running e c.grant_all.ensures.granted
+    (with_items_is c.args.row.now.running c.run_all.new.running (c.run_all.ensures.len ∙ c.deref_mut-2.ensures.len))
+    c.deref.ensures.value holders running e c.grant_all.ensures.granted
     c.run_all.ensures.running

@@ -8,5 +8,6 @@ use Rattle.dpcp_rules.proofs.choosing.grant_all.Given as goal
 abbrev pub invariant-loop-x : goal.invariant-loop-x
 invariant-loop-x l = record {
   len : length l.holders ≡ length l.machine.list.set.resources;
-  filled : Filled l.machine (grant_claim l.machine l.first l.bars) (λ q. stays (requester_now l.machine q) (holder_now l.machine q)) l.x (place_in (map place_seen l.holders));
+  filled : Filled l.machine (grant_claim l.machine l.first l.bars)
+      (λ q. stays (requester_now l.machine q) (holder_now l.machine q)) l.x (place_in (map place_seen l.holders));
 }

@@ -9,7 +9,11 @@ use Rattle.dpcp_rules.proofs.judging.passes_priority.Goals as goal
 pub returns-then-not-priority_passes_for : goal.returns-then-not-priority_passes_for
 unfolding passes_priority each_current
 returns-then-not-priority_passes_for c =
-    sym (all_below-fails_from (length c.args.machine.now.list.set.tasks) (current_passes c.args.machine.now (priority_passes c.args.machine.now (row_seen c.args.row.now))) c.loop-x.x (omega arith) (sym c.priority_passes_for.ensures ∙ c.if-not-priority_passes_for.true))
+    sym (all_below-fails_from (length c.args.machine.now.list.set.tasks)
+    (current_passes c.args.machine.now (priority_passes c.args.machine.now (row_seen c.args.row.now))) c.loop-x.x
+    (omega arith) (sym c.priority_passes_for.ensures ∙ c.if-not-priority_passes_for.true))
 
 pub loop-x-preserved : goal.loop-x-preserved
-loop-x-preserved c = all_next c.loop-x.x (current_passes c.args.machine.now (priority_passes c.args.machine.now (row_seen c.args.row.now))) c.loop-x.invariant (sym c.priority_passes_for.ensures ∙ c.if-not-priority_passes_for.false)
+loop-x-preserved c = all_next c.loop-x.x
+    (current_passes c.args.machine.now (priority_passes c.args.machine.now (row_seen c.args.row.now)))
+    c.loop-x.invariant (sym c.priority_passes_for.ensures ∙ c.if-not-priority_passes_for.false)

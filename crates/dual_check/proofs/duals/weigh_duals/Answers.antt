@@ -21,7 +21,8 @@ weigh-requires-clause-denominator g c =
 
 pub loop-i-preserved : goal.loop-i-preserved
 loop-i-preserved g c =
-    let f : SourceDef = source_for (g.P.ChargedProtocol.program_of c.args.protocol.now) (g.P.ChargedProtocol.interfering c.args.protocol.now) c.args.set.now in
+    let f : SourceDef = source_for (g.P.ChargedProtocol.program_of c.args.protocol.now)
+    (g.P.ChargedProtocol.interfering c.args.protocol.now) c.args.set.now in
     let cert : CertificateDef = certificate_seen c.args.certificate.now in
     let i : ℕ = c.loop-i.i in
     let here : i < length c.args.certificate.now.duals.items = omega (arith, c.requires.dual_each) in
@@ -40,4 +41,5 @@ loop-i-preserved g c =
     let pushed : c.push.new.self.items ≡ c.loop-i.worths.items ++ c.weigh.result ∷ [] = c.in_ok-push.ensures.items in
     let is : IsWorthOf f cert i c.weigh.result =
     subst (λ (q : ProgramDef). IsWorth c.weigh.result q (dual_at cert.duals i) (slice_index cert.bounds i)) same own in
-    subst (AreWorths f cert (i + 1)) (sym {A = List DualWorth} pushed) (one_more_worth f cert i c.loop-i.worths.items c.weigh.result c.loop-i.invariant sized is)
+    subst (AreWorths f cert (i + 1)) (sym {A = List DualWorth} pushed)
+    (one_more_worth f cert i c.loop-i.worths.items c.weigh.result c.loop-i.invariant sized is)

@@ -11,10 +11,12 @@ returns-in-Mpcp-clause-sound c =
 
 pub returns-in-FmlpPlus-clause-sound : goal.returns-in-FmlpPlus-clause-sound
 returns-in-FmlpPlus-clause-sound c =
-    subst (λ (p : Protocol). IfOk c.check_with-in-FmlpPlus.result (λ v. SoundUnder p c.args.set.now c.args.certificate.now.bounds.items v.values.items))
+    subst (λ (p : Protocol). IfOk c.check_with-in-FmlpPlus.result
+    (λ v. SoundUnder p c.args.set.now c.args.certificate.now.bounds.items v.values.items))
     (sym c.in-FmlpPlus.is) c.check_with-in-FmlpPlus.ensures.sound
 
 pub returns-in-Dpcp-clause-sound : goal.returns-in-Dpcp-clause-sound
 returns-in-Dpcp-clause-sound c =
-    subst (λ (p : Protocol). IfOk c.check_with-in-Dpcp.result (λ v. SoundUnder p c.args.set.now c.args.certificate.now.bounds.items v.values.items))
+    subst (λ (p : Protocol). IfOk c.check_with-in-Dpcp.result
+    (λ v. SoundUnder p c.args.set.now c.args.certificate.now.bounds.items v.values.items))
     (sym c.in-Dpcp.is) c.check_with-in-Dpcp.ensures.sound

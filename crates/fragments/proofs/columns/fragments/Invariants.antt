@@ -6,4 +6,5 @@ use Rattle.fragments.specs.Columns.{is_column}
 use Rattle.fragments.proofs.columns.fragments.Given as goal
 
 abbrev pub invariant-loop-x : goal.invariant-loop-x
-invariant-loop-x l = map column_seen l.columns.items ≡ filter (is_column l.protocol l.set l.i.0) (collect_below l.x (λ x. collect_below (length l.set.resources) (λ q. classes_of x q)))
+invariant-loop-x l = map column_seen l.columns.items ≡ filter (is_column l.protocol l.set l.i.0)
+    (collect_below l.x (λ x. collect_below (length l.set.resources) (λ q. classes_of x q)))

@@ -7,5 +7,7 @@ use Rattle.fragments.proofs.columns.has_user_beside.Goals as goal
 pub returns-then-is_user_beside : goal.returns-then-is_user_beside
 returns-then-is_user_beside c =
     let set = c.args.set.now in
-    sym (any_below-from (length set.tasks) (λ y. (have_one_processor set y c.args.x.0 && (not (y == c.args.x.0) && not (y == c.args.i.0))) && is_user set c.args.r.0 y)
+    sym (any_below-from (length set.tasks)
+    (λ y. (have_one_processor set y c.args.x.0 && (not (y == c.args.x.0) && not (y == c.args.i.0)))
+    && is_user set c.args.r.0 y)
     c.loop-y.y (omega arith) (sym c.is_user_beside.ensures ∙ c.if-is_user_beside.true))

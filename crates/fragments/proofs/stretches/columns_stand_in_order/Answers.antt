@@ -7,4 +7,5 @@ pub returns-clause-known : goal.returns-clause-known
 returns-clause-known c = fragments_known c.args.protocol c.args.set.now c.args.i.0 c.args.columns.now c.requires.columns
 
 pub returns-clause-order : goal.returns-clause-order
-returns-clause-order c = fragments_in_order c.args.protocol c.args.set.now c.args.i.0 c.args.columns.now (omega (arith, c.resources-resources.ensures.most, c.resources-resources.ensures.value)) c.requires.columns
+returns-clause-order c = fragments_in_order c.args.protocol c.args.set.now c.args.i.0 c.args.columns.now
+    (omega (arith, c.resources-resources.ensures.most, c.resources-resources.ensures.value)) c.requires.columns

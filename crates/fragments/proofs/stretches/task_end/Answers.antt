@@ -6,12 +6,16 @@ pub loop-place-preserved : goal.loop-place-preserved
 loop-place-preserved c = record {
   from = omega arith;
   within = omega (arith, c.loop-place-test.true);
-  before = task_more (length c.args.set.now.tasks) (length c.args.set.now.resources) c.args.x.0 c.args.columns.now c.loop-place.place _ c.requires.known
-      (omega (arith, c.resources-resources.ensures.most, c.resources-resources.ensures.value)) c.loop-place-test.true c.if-columns-place.true c.loop-place.invariant.before;
+  before = task_more (length c.args.set.now.tasks) (length c.args.set.now.resources) c.args.x.0 c.args.columns.now
+      c.loop-place.place _ c.requires.known
+      (omega (arith, c.resources-resources.ensures.most, c.resources-resources.ensures.value)) c.loop-place-test.true
+      c.if-columns-place.true c.loop-place.invariant.before;
 }
 
 pub returns-else-columns-place-clause-begins : goal.returns-else-columns-place-clause-begins
 returns-else-columns-place-clause-begins c =
-    task_stops (length c.args.set.now.tasks) (length c.args.set.now.resources) c.args.x.0 c.args.from c.args.columns.now c.loop-place.place _ c.requires.known
-    (omega (arith, c.resources-resources.ensures.most, c.resources-resources.ensures.value)) c.requires.order c.requires.from c.loop-place.invariant.from
+    task_stops (length c.args.set.now.tasks) (length c.args.set.now.resources) c.args.x.0 c.args.from c.args.columns.now
+    c.loop-place.place _ c.requires.known
+    (omega (arith, c.resources-resources.ensures.most, c.resources-resources.ensures.value)) c.requires.order
+    c.requires.from c.loop-place.invariant.from
     c.loop-place-test.true c.if-columns-place.false c.loop-place.invariant.before

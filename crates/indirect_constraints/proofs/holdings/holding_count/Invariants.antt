@@ -7,6 +7,7 @@ use Rattle.indirect_constraints.proofs.holdings.holding_count.Given as goal
 
 abbrev pub invariant-loop-q : goal.invariant-loop-q
 invariant-loop-q l = record {
-  value : l.total ≡ sum_below l.q (λ q. only_if (is_user l.set q l.i.0) (higher_holdings l.set (slice_index l.bounds) l.i.0 l.x.0 q + lower_holdings l.set l.i.0 l.x.0 q));
+  value : l.total ≡ sum_below l.q (λ q. only_if (is_user l.set q l.i.0)
+      (higher_holdings l.set (slice_index l.bounds) l.i.0 l.x.0 q + lower_holdings l.set l.i.0 l.x.0 q));
   most : l.total ≤ l.q * 128000000001000;
 }

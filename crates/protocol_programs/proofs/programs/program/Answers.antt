@@ -14,10 +14,13 @@ accepted-requires c =
     let i = c.args.i.0 in
     let columns = columns_of c.args.protocol set i in
     let costs : c.in_ok-costs.costs.items ≡ map (cost_of set) columns = c.in_ok-costs.ensures in
-    let block : block_seen c.in_ok-block.block ≡ block_of columns (rows_of c.args.protocol set i) c.args.bounds.now = c.in_ok-block.ensures in
+    let block : block_seen c.in_ok-block.block ≡ block_of columns (rows_of c.args.protocol set i) c.args.bounds.now =
+    c.in_ok-block.ensures in
     let same : lists_of c.in_ok-costs.costs.items (block_seen c.in_ok-block.block) ≡ program_of c.args.protocol set i c.args.bounds.now
-    = ap (λ (x : List ℕ). lists_of x (block_seen c.in_ok-block.block)) costs ∙ ap (λ (b : RowBlockDef). lists_of (map (cost_of set) columns) b) block in
-    subst IsProgram (sym same) (written_program c.args.protocol set i c.args.bounds.now c.tasks-tasks.ensures.accepted c.requires.task c.requires.within)
+    = ap (λ (x : List ℕ). lists_of x (block_seen c.in_ok-block.block)) costs
+    ∙ ap (λ (b : RowBlockDef). lists_of (map (cost_of set) columns) b) block in
+    subst IsProgram (sym same) (written_program c.args.protocol set i c.args.bounds.now c.tasks-tasks.ensures.accepted
+    c.requires.task c.requires.within)
 
 pub returns : goal.returns
 returns c =
@@ -25,5 +28,7 @@ returns c =
     let i = c.args.i.0 in
     let columns = columns_of c.args.protocol set i in
     let costs : c.in_ok-costs.costs.items ≡ map (cost_of set) columns = c.in_ok-costs.ensures in
-    let block : block_seen c.in_ok-block.block ≡ block_of columns (rows_of c.args.protocol set i) c.args.bounds.now = c.in_ok-block.ensures in
-    c.accepted.ensures ∙ (ap (λ (x : List ℕ). lists_of x (block_seen c.in_ok-block.block)) costs ∙ ap (λ (b : RowBlockDef). lists_of (map (cost_of set) columns) b) block)
+    let block : block_seen c.in_ok-block.block ≡ block_of columns (rows_of c.args.protocol set i) c.args.bounds.now =
+    c.in_ok-block.ensures in
+    c.accepted.ensures ∙ (ap (λ (x : List ℕ). lists_of x (block_seen c.in_ok-block.block)) costs
+    ∙ ap (λ (b : RowBlockDef). lists_of (map (cost_of set) columns) b) block)

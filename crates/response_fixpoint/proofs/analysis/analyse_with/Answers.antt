@@ -4,27 +4,51 @@ use Rattle.response_fixpoint.proofs.analysis.analyse_with.Goals as goal
 
 pub returns-clause-only : goal.returns-clause-only
 returns-clause-only g c =
-    let f : SourceDef = record { set = c.args.set.now; program = g.P.ProgramSource.program_of c.args.protocol.now c.args.set.now; interfering = g.P.ProgramSource.interfering c.args.protocol.now c.args.set.now } in
+    let f : SourceDef = record {
+      set = c.args.set.now;
+      program = g.P.ProgramSource.program_of c.args.protocol.now c.args.set.now;
+      interfering = g.P.ProgramSource.interfering c.args.protocol.now c.args.set.now;
+    } in
     only_of f c.args.allowance c.take_rounds.result c.take_rounds.ensures
 
 pub returns-clause-right : goal.returns-clause-right
 returns-clause-right g c =
-    let f : SourceDef = record { set = c.args.set.now; program = g.P.ProgramSource.program_of c.args.protocol.now c.args.set.now; interfering = g.P.ProgramSource.interfering c.args.protocol.now c.args.set.now } in
-    right_of f c.args.allowance c.take_rounds.result (c.recurrence_is_monotone.ensures.reached c.args.protocol.now c.args.set.now c.requires.suits) c.take_rounds.ensures
+    let f : SourceDef = record {
+      set = c.args.set.now;
+      program = g.P.ProgramSource.program_of c.args.protocol.now c.args.set.now;
+      interfering = g.P.ProgramSource.interfering c.args.protocol.now c.args.set.now;
+    } in
+    right_of f c.args.allowance c.take_rounds.result
+    (c.recurrence_is_monotone.ensures.reached c.args.protocol.now c.args.set.now c.requires.suits) c.take_rounds.ensures
 
 pub returns-clause-exactly : goal.returns-clause-exactly
 returns-clause-exactly g c =
-    let f : SourceDef = record { set = c.args.set.now; program = g.P.ProgramSource.program_of c.args.protocol.now c.args.set.now; interfering = g.P.ProgramSource.interfering c.args.protocol.now c.args.set.now } in
+    let f : SourceDef = record {
+      set = c.args.set.now;
+      program = g.P.ProgramSource.program_of c.args.protocol.now c.args.set.now;
+      interfering = g.P.ProgramSource.interfering c.args.protocol.now c.args.set.now;
+    } in
     exactly_of f c.take_rounds.result
-    (right_of f c.args.allowance c.take_rounds.result (c.recurrence_is_monotone.ensures.reached c.args.protocol.now c.args.set.now c.requires.suits) c.take_rounds.ensures)
+    (right_of f c.args.allowance c.take_rounds.result
+    (c.recurrence_is_monotone.ensures.reached c.args.protocol.now c.args.set.now c.requires.suits)
+    c.take_rounds.ensures)
 
 pub returns-clause-never_wide : goal.returns-clause-never_wide
 returns-clause-never_wide g c =
-    let f : SourceDef = record { set = c.args.set.now; program = g.P.ProgramSource.program_of c.args.protocol.now c.args.set.now; interfering = g.P.ProgramSource.interfering c.args.protocol.now c.args.set.now } in
+    let f : SourceDef = record {
+      set = c.args.set.now;
+      program = g.P.ProgramSource.program_of c.args.protocol.now c.args.set.now;
+      interfering = g.P.ProgramSource.interfering c.args.protocol.now c.args.set.now;
+    } in
     never_wide_of f c.args.allowance c.take_rounds.result c.take_rounds.ensures
 
 pub returns-clause-enough : goal.returns-clause-enough
 returns-clause-enough g c =
-    let f : SourceDef = record { set = c.args.set.now; program = g.P.ProgramSource.program_of c.args.protocol.now c.args.set.now; interfering = g.P.ProgramSource.interfering c.args.protocol.now c.args.set.now } in
-    never_short_of f c.args.allowance c.take_rounds.result (c.recurrence_is_monotone.ensures.value c.args.protocol.now c.args.set.now c.requires.suits)
+    let f : SourceDef = record {
+      set = c.args.set.now;
+      program = g.P.ProgramSource.program_of c.args.protocol.now c.args.set.now;
+      interfering = g.P.ProgramSource.interfering c.args.protocol.now c.args.set.now;
+    } in
+    never_short_of f c.args.allowance c.take_rounds.result
+    (c.recurrence_is_monotone.ensures.value c.args.protocol.now c.args.set.now c.requires.suits)
     (λ i here. (c.tasks-tasks.ensures.numbers i here).cost_to) c.take_rounds.ensures

@@ -5,4 +5,6 @@ use Rattle.response_fixpoint.proofs.analysis.duals_of.Given as goal
 
 -- the duals so far, and those of the solutions that are left, are all duals
 abbrev pub invariant-loop-solution : goal.invariant-loop-solution
-invariant-loop-solution l = map dual_seen l.duals.items ++ map (λ (s : Solution). dual_seen s.dual) l.solution-iterator.rest.items ≡ map (λ (s : Solution). dual_seen s.dual) l.fn.solutions.items
+invariant-loop-solution l =
+    map dual_seen l.duals.items ++ map (λ (s : Solution). dual_seen s.dual) l.solution-iterator.rest.items
+    ≡ map (λ (s : Solution). dual_seen s.dual) l.fn.solutions.items

@@ -15,24 +15,34 @@ other_vectors xs ys e = λ same. (let yes = (bytes_eq-Decides xs ys).1 (sym same
 
 pub returns-then-eq : goal.returns-then-eq
 returns-then-eq g c =
-    let f : SourceDef = record { set = c.args.set.now; program = g.P.ProgramSource.program_of c.args.protocol.now c.args.set.now; interfering = g.P.ProgramSource.interfering c.args.protocol.now c.args.set.now } in
+    let f : SourceDef = record {
+      set = c.args.set.now;
+      program = g.P.ProgramSource.program_of c.args.protocol.now c.args.set.now;
+      interfering = g.P.ProgramSource.interfering c.args.protocol.now c.args.set.now;
+    } in
     let way = c.loop-next.invariant.reached in
     let next = c.in-Ok.next in
     let given : GivesRound (Ok next) f c.loop-next.bounds.items (c.args.allowance - c.loop-next.spent) =
     rw (c.in-Ok.is, c.deref.ensures.value) at c.next_round.ensures in
-    let ends = settled_ends f c.args.allowance way.0 c.loop-next.spent c.loop-next.bounds.items (found_of next) way.1 given.0 (same_vectors next.values.items c.loop-next.bounds.items c.if-eq.ensures) in
+    let ends = settled_ends f c.args.allowance way.0 c.loop-next.spent c.loop-next.bounds.items (found_of next) way.1
+    given.0 (same_vectors next.values.items c.loop-next.bounds.items c.if-eq.ensures) in
     settled_answers f c.args.allowance c.settled.result (found_of next).values (found_of next).duals ends c.settled.ensures
 
 pub loop-next-preserved : goal.loop-next-preserved
 loop-next-preserved g c =
-    let f : SourceDef = record { set = c.args.set.now; program = g.P.ProgramSource.program_of c.args.protocol.now c.args.set.now; interfering = g.P.ProgramSource.interfering c.args.protocol.now c.args.set.now } in
+    let f : SourceDef = record {
+      set = c.args.set.now;
+      program = g.P.ProgramSource.program_of c.args.protocol.now c.args.set.now;
+      interfering = g.P.ProgramSource.interfering c.args.protocol.now c.args.set.now;
+    } in
     let way = c.loop-next.invariant.reached in
     let next = c.in-Ok.next in
     let given : GivesRound (Ok next) f c.loop-next.bounds.items (c.args.allowance - c.loop-next.spent) =
     rw (c.in-Ok.is, c.deref.ensures.value) at c.next_round.ensures in
     let other = other_vectors next.values.items c.loop-next.bounds.items c.if-eq.ensures in
     record {
-      reached = reaches_more f c.args.allowance way.0 c.loop-next.spent (c.loop-next.spent + next.used) c.loop-next.bounds.items (found_of next) way.1 given.0 other refl;
+      reached = reaches_more f c.args.allowance way.0 c.loop-next.spent (c.loop-next.spent + next.used)
+          c.loop-next.bounds.items (found_of next) way.1 given.0 other refl;
       range = next_in_range f c.loop-next.bounds.items (c.args.allowance - c.loop-next.spent) (found_of next) given.0;
       within = omega (arith, given.1, c.loop-next.invariant.within);
       kept = given.3;

@@ -8,10 +8,18 @@ use Rattle.response_fixpoint.proofs.analysis.take_rounds.Given as goal
 -- the rounds have come to these bounds, with the units that are spent, and with solutions of the tasks' programs
 abbrev pub invariant-loop-next : goal.invariant-loop-next
 invariant-loop-next g l = record {
-  reached : (k : ℕ) × Reaches (rounds_of (record { set = l.set; program = g.P.ProgramSource.program_of l.protocol l.set; interfering = g.P.ProgramSource.interfering l.protocol l.set })) l.allowance k l.spent l.bounds.items;
+  reached : (k : ℕ) × Reaches (rounds_of (record {
+    set = l.set;
+    program = g.P.ProgramSource.program_of l.protocol l.set;
+    interfering = g.P.ProgramSource.interfering l.protocol l.set;
+  })) l.allowance k l.spent l.bounds.items;
   range : IsInRange l.set l.bounds.items;
   within : l.spent ≤ l.allowance;
-  kept : AreEarlier (record { set = l.set; program = g.P.ProgramSource.program_of l.protocol l.set; interfering = g.P.ProgramSource.interfering l.protocol l.set }) l.earlier.items;
+  kept : AreEarlier (record {
+    set = l.set;
+    program = g.P.ProgramSource.program_of l.protocol l.set;
+    interfering = g.P.ProgramSource.interfering l.protocol l.set;
+  }) l.earlier.items;
 }
 
 abbrev pub decreases-loop-next : goal.decreases-loop-next

@@ -6,4 +6,5 @@ use Rattle.shared_rules.proofs.choosing.job_at.Goals as goal
 pub returns-clause-listed : goal.returns-clause-listed
 returns-clause-listed c =
     read_below c.args.places.now c.args.i (length c.args.machine.now.list.jobs) (get_or c.args.places.now c.args.i None) c.requires.within
-    (get_or_default c.args.places.now c.args.i None (get_or c.args.places.now c.args.i None) c.requires.within) (λ j e. c.requires.named c.args.i j e)
+    (get_or_default c.args.places.now c.args.i None (get_or c.args.places.now c.args.i None) c.requires.within)
+    (λ j e. c.requires.named c.args.i j e)

@@ -7,7 +7,10 @@ use Rattle.shared_rules.proofs.judging.holders_pass.Goals as goal
 
 pub returns-then-not-holder_passes : goal.returns-then-not-holder_passes
 returns-then-not-holder_passes c =
-    sym (all_below-fails_from (length c.args.machine.now.list.set.resources) (holder_passes c.args.machine.now (row_seen c.args.row.now)) c.loop-q.q (omega arith) (sym c.holder_passes.ensures ∙ c.if-not-holder_passes.true))
+    sym (all_below-fails_from (length c.args.machine.now.list.set.resources)
+    (holder_passes c.args.machine.now (row_seen c.args.row.now)) c.loop-q.q (omega arith)
+    (sym c.holder_passes.ensures ∙ c.if-not-holder_passes.true))
 
 pub loop-q-preserved : goal.loop-q-preserved
-loop-q-preserved c = all_next c.loop-q.q (holder_passes c.args.machine.now (row_seen c.args.row.now)) c.loop-q.invariant (sym c.holder_passes.ensures ∙ c.if-not-holder_passes.false)
+loop-q-preserved c = all_next c.loop-q.q (holder_passes c.args.machine.now (row_seen c.args.row.now)) c.loop-q.invariant
+    (sym c.holder_passes.ensures ∙ c.if-not-holder_passes.false)

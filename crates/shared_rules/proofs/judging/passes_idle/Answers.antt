@@ -8,7 +8,11 @@ use Rattle.shared_rules.proofs.judging.passes_idle.Goals as goal
 pub returns-then-not-idle_passes_for : goal.returns-then-not-idle_passes_for
 unfolding passes_idle each_current
 returns-then-not-idle_passes_for c =
-    sym (all_below-fails_from (length c.args.machine.now.list.set.tasks) (current_passes c.args.machine.now (idle_passes c.args.machine.now (row_seen c.args.row.now))) c.loop-x.x (omega arith) (sym c.idle_passes_for.ensures ∙ c.if-not-idle_passes_for.true))
+    sym (all_below-fails_from (length c.args.machine.now.list.set.tasks)
+    (current_passes c.args.machine.now (idle_passes c.args.machine.now (row_seen c.args.row.now))) c.loop-x.x
+    (omega arith) (sym c.idle_passes_for.ensures ∙ c.if-not-idle_passes_for.true))
 
 pub loop-x-preserved : goal.loop-x-preserved
-loop-x-preserved c = all_next c.loop-x.x (current_passes c.args.machine.now (idle_passes c.args.machine.now (row_seen c.args.row.now))) c.loop-x.invariant (sym c.idle_passes_for.ensures ∙ c.if-not-idle_passes_for.false)
+loop-x-preserved c =
+    all_next c.loop-x.x (current_passes c.args.machine.now (idle_passes c.args.machine.now (row_seen c.args.row.now)))
+    c.loop-x.invariant (sym c.idle_passes_for.ensures ∙ c.if-not-idle_passes_for.false)

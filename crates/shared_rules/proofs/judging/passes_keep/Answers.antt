@@ -8,7 +8,10 @@ use Rattle.shared_rules.proofs.judging.passes_keep.Goals as goal
 pub returns-then-not-kept_passes : goal.returns-then-not-kept_passes
 unfolding passes_keep
 returns-then-not-kept_passes c =
-    sym (all_below-fails_from (length c.args.machine.now.list.set.resources) (kept_passes c.args.machine.now (row_seen c.args.row.now)) c.loop-q.q (omega arith) (sym c.kept_passes.ensures ∙ c.if-not-kept_passes.true))
+    sym (all_below-fails_from (length c.args.machine.now.list.set.resources)
+    (kept_passes c.args.machine.now (row_seen c.args.row.now)) c.loop-q.q (omega arith)
+    (sym c.kept_passes.ensures ∙ c.if-not-kept_passes.true))
 
 pub loop-q-preserved : goal.loop-q-preserved
-loop-q-preserved c = all_next c.loop-q.q (kept_passes c.args.machine.now (row_seen c.args.row.now)) c.loop-q.invariant (sym c.kept_passes.ensures ∙ c.if-not-kept_passes.false)
+loop-q-preserved c = all_next c.loop-q.q (kept_passes c.args.machine.now (row_seen c.args.row.now)) c.loop-q.invariant
+    (sym c.kept_passes.ensures ∙ c.if-not-kept_passes.false)

@@ -9,7 +9,11 @@ use Rattle.shared_rules.proofs.judging.passes_run.Goals as goal
 pub returns-then-not-column_passes : goal.returns-then-not-column_passes
 unfolding passes_run
 returns-then-not-column_passes c =
-    sym (all_below-fails_from (length (row_seen c.args.row.now).running) (column_passes c.args.machine.now (row_seen c.args.row.now)) c.loop-c.c (omega (arith, length-map c.args.row.now.running.items place_seen)) (sym c.column_passes.ensures ∙ c.if-not-column_passes.true))
+    sym (all_below-fails_from (length (row_seen c.args.row.now).running)
+    (column_passes c.args.machine.now (row_seen c.args.row.now)) c.loop-c.c
+    (omega (arith, length-map c.args.row.now.running.items place_seen))
+    (sym c.column_passes.ensures ∙ c.if-not-column_passes.true))
 
 pub loop-c-preserved : goal.loop-c-preserved
-loop-c-preserved c = all_next c.loop-c.c (column_passes c.args.machine.now (row_seen c.args.row.now)) c.loop-c.invariant (sym c.column_passes.ensures ∙ c.if-not-column_passes.false)
+loop-c-preserved c = all_next c.loop-c.c (column_passes c.args.machine.now (row_seen c.args.row.now)) c.loop-c.invariant
+    (sym c.column_passes.ensures ∙ c.if-not-column_passes.false)

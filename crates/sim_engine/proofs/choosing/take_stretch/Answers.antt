@@ -11,12 +11,16 @@ next_rows-ticks-requires-clause-reached g c = (row_in (all_runs c.args.rows.now 
 
 pub add_rows-requires-clause-free : goal.add_rows-requires-clause-free
 add_rows-requires-clause-free g c =
-    run_free (g.P.BlockingProtocol.chooses c.args.protocol.now) c.args.machine.now c.args.rows.now (run_seen c.args.last.now) c.requires.under_way (omega (arith, c.requires.early, c.requires.most))
+    run_free (g.P.BlockingProtocol.chooses c.args.protocol.now) c.args.machine.now c.args.rows.now
+    (run_seen c.args.last.now) c.requires.under_way (omega (arith, c.requires.early, c.requires.most))
 
 pub returns-clause-under_way : goal.returns-clause-under_way
 returns-clause-under_way g c =
     on_ok_weaker c.add_rows.result
-    (stretch_more (g.P.BlockingProtocol.chooses c.args.protocol.now) c.args.machine.now c.next_rows-ticks.new.machine c.args.rows.now c.add_rows.new.rows (run_seen c.args.last.now)
-    (run_seen c.add_rows.new.last) (row_seen c.next_rows-ticks.new.row) c.next_rows-ticks.result c.next_rows-ticks.ensures.some (g.met.P.Judge.choice_reads c.args.protocol.now)
-    c.requires.under_way c.next_rows-ticks.ensures.list c.next_rows-ticks.ensures.tick c.next_rows-ticks.ensures.chosen c.next_rows-ticks.ensures.fits)
+    (stretch_more (g.P.BlockingProtocol.chooses c.args.protocol.now) c.args.machine.now c.next_rows-ticks.new.machine
+    c.args.rows.now c.add_rows.new.rows (run_seen c.args.last.now)
+    (run_seen c.add_rows.new.last) (row_seen c.next_rows-ticks.new.row) c.next_rows-ticks.result
+    c.next_rows-ticks.ensures.some (g.met.P.Judge.choice_reads c.args.protocol.now)
+    c.requires.under_way c.next_rows-ticks.ensures.list c.next_rows-ticks.ensures.tick c.next_rows-ticks.ensures.chosen
+    c.next_rows-ticks.ensures.fits)
     c.add_rows.ensures

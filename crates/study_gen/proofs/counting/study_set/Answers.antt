@@ -14,7 +14,8 @@ returns g c =
     let same : c.in_ok-set.set ≡ set_made c.args.step c.args.before.state = c.in_ok-set.ensures ∙ c.in_ok-parts.ensures.parts in
     record {
       mpcp = subst (λ (x : SetDef). Adds c.args.before.mpcp c.in_ok-tally_set.field-0 protocol.Mpcp x) same c.in_ok-tally_set.ensures;
-      fmlp = subst (λ (x : SetDef). Adds c.args.before.fmlp c.in_ok-tally_set-2.field-0 protocol.FmlpPlus x) same c.in_ok-tally_set-2.ensures;
+      fmlp = subst (λ (x : SetDef). Adds c.args.before.fmlp c.in_ok-tally_set-2.field-0 protocol.FmlpPlus x) same
+          c.in_ok-tally_set-2.ensures;
       dpcp = subst (λ (x : SetDef). Adds c.args.before.dpcp c.in_ok-tally_set-3.field-0 protocol.Dpcp x) same c.in_ok-tally_set-3.ensures;
       state = c.in_ok-parts.ensures.state;
     }

@@ -10,12 +10,14 @@ pub loop-j-preserved : goal.loop-j-preserved
 loop-j-preserved c =
     let placed = rw (c.loop-j.invariant.tasks) at c.in_ok-put_in_place.ensures in
     record {
-      tasks = placed_more c.args.step c.args.state c.loop-j.j _ _ placed (c.in_ok-task.ensures.task ∙ ap (λ s. task_drawn c.args.step c.loop-j.j s) c.loop-j.invariant.state);
+      tasks = placed_more c.args.step c.args.state c.loop-j.j _ _ placed
+          (c.in_ok-task.ensures.task ∙ ap (λ s. task_drawn c.args.step c.loop-j.j s) c.loop-j.invariant.state);
       state = behind_more c.args.state c.loop-j.j _ _ c.loop-j.invariant.state c.in_ok-task.ensures.state;
     }
 
 pub returns-clause-parts : goal.returns-clause-parts
-returns-clause-parts c = made_parts c.args.step c.args.state c.loop-j.j _ _ c.in_ok-make_resources.ensures c.loop-j.invariant.tasks (omega arith)
+returns-clause-parts c = made_parts c.args.step c.args.state c.loop-j.j _ _ c.in_ok-make_resources.ensures
+    c.loop-j.invariant.tasks (omega arith)
 
 pub returns-clause-state : goal.returns-clause-state
 returns-clause-state c =
@@ -25,7 +27,8 @@ returns-clause-state c =
 pub returns-clause-accepted : goal.returns-clause-accepted
 returns-clause-accepted c =
     let is = made_parts c.args.step c.args.state c.loop-j.j _ _ c.in_ok-make_resources.ensures c.loop-j.invariant.tasks (omega arith) in
-    subst (λ (x : SetDef). IsAccepted x) (sym is) (set_is_accepted c.args.step c.args.state (omega (arith, c.requires.from)) (omega (arith, c.requires.to)))
+    subst (λ (x : SetDef). IsAccepted x) (sym is)
+    (set_is_accepted c.args.step c.args.state (omega (arith, c.requires.from)) (omega (arith, c.requires.to)))
 
 pub returns-clause-homes : goal.returns-clause-homes
 returns-clause-homes c =

@@ -15,11 +15,14 @@ is_missing (Some k) e h = cc
 
 pub returns-then-is_none : goal.returns-then-is_none
 returns-then-is_none c =
-    let hit : is_none (resource_at c.args.set.now c.loop-q.q).home ≡ true = ap is_none (sym c.home.ensures.value) ∙ ap not c.if-is_none.ensures in
+    let hit : is_none (resource_at c.args.set.now c.loop-q.q).home ≡ true =
+    ap is_none (sym c.home.ensures.value) ∙ ap not c.if-is_none.ensures in
     record {
-      first = sym (position_here (λ r. is_none r.home) c.args.set.now.resources c.loop-q.q no_resource (omega (arith, c.loop-q-test.true, c.resources-q-end.ensures.value)) c.loop-q.invariant hit);
+      first = sym (position_here (λ r. is_none r.home) c.args.set.now.resources c.loop-q.q no_resource
+          (omega (arith, c.loop-q-test.true, c.resources-q-end.ensures.value)) c.loop-q.invariant hit);
       none = tt;
-      some = λ each. is_missing (resource_at c.args.set.now c.loop-q.q).home hit (each c.loop-q.q (omega (arith, c.loop-q-test.true, c.resources-q-end.ensures.value)));
+      some = λ each. is_missing (resource_at c.args.set.now c.loop-q.q).home hit
+          (each c.loop-q.q (omega (arith, c.loop-q-test.true, c.resources-q-end.ensures.value)));
     }
 
 pub returns : goal.returns

@@ -12,7 +12,11 @@ use Rattle.taskset_json.proofs.Places.{after_root}
 use Rattle.taskset_json.proofs.shape.first_misshapen.Goals as goal
 
 pub first_resource-requires : goal.first_resource-requires
-first_resource-requires c = omega (arith, listed_within (codes "resources") (view c.args.value.now) c.list_at.result.now c.list_at.ensures, c.requires)
+first_resource-requires c = omega (
+  arith,
+  listed_within (codes "resources") (view c.args.value.now) c.list_at.result.now c.list_at.ensures,
+  c.requires,
+)
 
 pub first_task-requires : goal.first_task-requires
 first_task-requires c = rw c.list_at-in-None.ensures (omega (arith, list_at-sizes (codes "tasks") (view c.args.value.now), c.requires))

@@ -5,4 +5,5 @@ use Rattle.taskset_json.specs.FormFaults.{first_of, request_object, counted_from
 use Rattle.taskset_json.proofs.shape.first_request.Given as goal
 
 abbrev pub invariant-loop-j : goal.invariant-loop-j
-invariant-loop-j l = first_of (map (request_object l.fn.task) (counted_from l.j (map view (drop l.j l.requests)))) ≡ first_of (map (request_object l.fn.task) (counted_from 0 (map view l.requests)))
+invariant-loop-j l = first_of (map (request_object l.fn.task) (counted_from l.j (map view (drop l.j l.requests))))
+    ≡ first_of (map (request_object l.fn.task) (counted_from 0 (map view l.requests)))

@@ -6,4 +6,5 @@ use Rattle.taskset_json.specs.FormFaults.{first_of, task_objects, counted_from}
 use Rattle.taskset_json.proofs.shape.first_task.Given as goal
 
 abbrev pub invariant-loop-x : goal.invariant-loop-x
-invariant-loop-x l = first_of (flat_map task_objects (counted_from l.x (map view (drop l.x l.tasks)))) ≡ first_of (flat_map task_objects (counted_from 0 (map view l.tasks)))
+invariant-loop-x l = first_of (flat_map task_objects (counted_from l.x (map view (drop l.x l.tasks))))
+    ≡ first_of (flat_map task_objects (counted_from 0 (map view l.tasks)))

@@ -6,4 +6,5 @@ use Rattle.taskset_json.specs.Written.{request_written}
 use Rattle.taskset_json.proofs.written.requests_of.Given as goal
 
 abbrev pub invariant-loop-value : goal.invariant-loop-value
-invariant-loop-value l = map request_seen l.requests.items ++ map request_written (map view (drop l.value-index l.values)) ≡ map request_written (map view l.values)
+invariant-loop-value l = map request_seen l.requests.items
+    ++ map request_written (map view (drop l.value-index l.values)) ≡ map request_written (map view l.values)

@@ -9,5 +9,6 @@ invariant-loop-i g l = record {
   list : l.machine.list ≡ l.initial.machine.list;
   size : length l.counts ≡ length l.initial.counts;
   tick : l.machine.tick ≡ ticks_before l.rows.runs l.i;
-  reached : IsReached (g.P.BlockingProtocol.keeps l.protocol) (g.P.BlockingProtocol.interferes l.protocol) (row_in l.rows.runs) l.machine l.counts;
+  reached : IsReached (g.P.BlockingProtocol.keeps l.protocol) (g.P.BlockingProtocol.interferes l.protocol)
+      (row_in l.rows.runs) l.machine l.counts;
 }

@@ -8,16 +8,20 @@ use Rattle.trace_conform.proofs.judging.judge_run.Goals as goal
 
 pub judge_stretch-requires-clause-at : goal.judge_stretch-requires-clause-at
 judge_stretch-requires-clause-at g c =
-    let from : ticks_before c.args.rows.now.runs c.args.i ≤ c.loop-left.machine.tick = omega (arith, c.loop-left.invariant.from, c.requires.start) in
+    let from : ticks_before c.args.rows.now.runs c.args.i ≤ c.loop-left.machine.tick =
+    omega (arith, c.loop-left.invariant.from, c.requires.start) in
     let tick : c.loop-left.machine.tick ≡ c.loop-left.machine.tick + 0 = omega arith in
     record {
       within = c.requires.within;
       fits = subst (λ (list : JobsDef). is_fitting c.args.rows.now list ≡ true) (sym c.loop-left.invariant.list) c.requires.fits;
       here = ap (row_in c.args.rows.now.runs) tick
-          ∙ run_stands c.args.rows.now.runs c.args.i c.loop-left.machine.tick c.loop-left.left 0 c.requires.within from c.loop-left.invariant.tick c.loop-left-test.true;
+          ∙ run_stands c.args.rows.now.runs c.args.i c.loop-left.machine.tick c.loop-left.left 0 c.requires.within from
+          c.loop-left.invariant.tick c.loop-left-test.true;
     }
 
 pub judge_stretch-requires-clause-stands : goal.judge_stretch-requires-clause-stands
 judge_stretch-requires-clause-stands g c =
-    let from : ticks_before c.args.rows.now.runs c.args.i ≤ c.loop-left.machine.tick = omega (arith, c.loop-left.invariant.from, c.requires.start) in
-    λ k l. run_stands c.args.rows.now.runs c.args.i c.loop-left.machine.tick c.loop-left.left k c.requires.within from c.loop-left.invariant.tick l
+    let from : ticks_before c.args.rows.now.runs c.args.i ≤ c.loop-left.machine.tick =
+    omega (arith, c.loop-left.invariant.from, c.requires.start) in
+    λ k l. run_stands c.args.rows.now.runs c.args.i c.loop-left.machine.tick c.loop-left.left k c.requires.within from
+    c.loop-left.invariant.tick l

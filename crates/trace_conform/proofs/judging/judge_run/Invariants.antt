@@ -10,7 +10,8 @@ invariant-loop-left g l = record {
   size : length l.counts ≡ length l.initial.counts;
   tick : l.machine.tick + l.left ≡ ticks_before l.rows.runs (l.i + 1);
   from : l.initial.machine.tick ≤ l.machine.tick;
-  reached : IsReached (g.P.BlockingProtocol.keeps l.protocol) (g.P.BlockingProtocol.interferes l.protocol) (row_in l.rows.runs) l.machine l.counts;
+  reached : IsReached (g.P.BlockingProtocol.keeps l.protocol) (g.P.BlockingProtocol.interferes l.protocol)
+      (row_in l.rows.runs) l.machine l.counts;
 }
 
 abbrev pub decreases-loop-left : goal.decreases-loop-left

@@ -13,5 +13,6 @@ behind (x ∷ xs) (y ∷ ys) = ap (λ b. bytes_eq x.now y.now && b) (behind xs y
 
 pub returns : goal.returns
 returns c =
-    slice_eq-Decides bytes_eq-Decides (map (λ (f : Bor (List ℕ)). f.now) c.args.fields.now) (map (λ (f : Bor (List ℕ)). f.now) c.args.others.now) c.eq.result
+    slice_eq-Decides bytes_eq-Decides (map (λ (f : Bor (List ℕ)). f.now) c.args.fields.now)
+    (map (λ (f : Bor (List ℕ)). f.now) c.args.others.now) c.eq.result
     (c.eq.ensures ∙ behind c.args.fields.now c.args.others.now)

@@ -18,5 +18,6 @@ loop-i-preserved c =
     let within : i < length lines = omega (arith, length-map fields_of c.args.lines.now) in
     record {
       list = taken_here set lines i (fields_of row) c.loop-i.jobs c.take_line.new.jobs within at inv.list c.in_ok-take_line.ensures.1;
-      earlier = below_more (λ j. refusal_at set lines j ≡ None) i inv.earlier (refused_here set lines i (fields_of row) c.loop-i.jobs at inv.list ∙ c.in_ok-take_line.ensures.0);
+      earlier = below_more (λ j. refusal_at set lines j ≡ None) i inv.earlier
+          (refused_here set lines i (fields_of row) c.loop-i.jobs at inv.list ∙ c.in_ok-take_line.ensures.0);
     }

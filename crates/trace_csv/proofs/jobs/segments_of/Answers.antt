@@ -1,4 +1,5 @@
-use Rattle.std.proofs.Common.{◌≡◌, ◌<◌, ◌+◌, ◌++◌, ℕ, Bool, true, false, List, [], ◌∷◌, map, drop, get_or, length, refl, sym, ◌∙◌, append_assoc, add-one, drop-cons}
+use Rattle.std.proofs.Common.{◌≡◌, ◌<◌, ◌+◌, ◌++◌, ℕ, Bool, true, false, List, [], ◌∷◌, map, drop, get_or, length, refl}
+use Rattle.std.proofs.Common.{sym, ◌∙◌, append_assoc, add-one, drop-cons}
 use Rattle.std.proofs.lemmas.List.{map-append}
 use Rattle.std.proofs.lemmas.List.Folds.{list_all-append}
 use Rattle.std.specs.List.{list_all}
@@ -19,7 +20,8 @@ next_unknown : (p : PartDef → Bool) (xs : List Part) (i : ℕ) (d : Part) → 
     → list_all p (map part_seen (drop i xs)) ≡ false
 next_unknown p xs i d h e = rw (drop-cons xs i d, e) refl
 
-next_written : (f : PartDef → SegmentDef) (old : List SegmentDef) (s : SegmentDef) (xs : List Part) (i : ℕ) (d : Part) → i < length xs → s ≡ f (part_seen (get_or xs i d))
+next_written : (f : PartDef → SegmentDef) (old : List SegmentDef) (s : SegmentDef) (xs : List Part) (i : ℕ) (d : Part)
+    → i < length xs → s ≡ f (part_seen (get_or xs i d))
     → (old ++ s ∷ []) ++ map f (map part_seen (drop (i + 1) xs)) ≡ old ++ map f (map part_seen (drop i xs))
 next_written f old s xs i d h e = rw (drop-cons xs i d, add-one, append_assoc, e) refl
 
@@ -33,7 +35,8 @@ loop-part-preserved c =
     record {
       known = next_known (has_known_resource set) c.args.parts.now c.loop-part.part-index _ here c.in-Some.ensures.0 ∙ inv.known;
       written = rw (c.in_ok-push.ensures.items, map-append segment_seen old (segment ∷ []))
-          (next_written (segment_written set) (map segment_seen old) (segment_seen segment) c.args.parts.now c.loop-part.part-index _ here c.in-Some.ensures.1) ∙ inv.written;
+          (next_written (segment_written set) (map segment_seen old) (segment_seen segment) c.args.parts.now
+          c.loop-part.part-index _ here c.in-Some.ensures.1) ∙ inv.written;
       inside = rw (
         c.in_ok-push.ensures.items,
         map-append segment_seen old (segment ∷ []),

@@ -8,7 +8,9 @@ use Rattle.trace_csv.proofs.jobs.segments_of.Given as goal
 
 abbrev pub invariant-loop-part : goal.invariant-loop-part
 invariant-loop-part l = record {
-  known : list_all (has_known_resource l.set) (map part_seen (drop l.part-index l.parts)) ≡ list_all (has_known_resource l.set) (map part_seen l.parts);
-  written : map segment_seen l.segments.items ++ map (segment_written l.set) (map part_seen (drop l.part-index l.parts)) ≡ map (segment_written l.set) (map part_seen l.parts);
+  known : list_all (has_known_resource l.set) (map part_seen (drop l.part-index l.parts))
+      ≡ list_all (has_known_resource l.set) (map part_seen l.parts);
+  written : map segment_seen l.segments.items ++ map (segment_written l.set) (map part_seen (drop l.part-index l.parts))
+      ≡ map (segment_written l.set) (map part_seen l.parts);
   inside : are_resources_in (length l.set.resources) (map segment_seen l.segments.items) ≡ true;
 }

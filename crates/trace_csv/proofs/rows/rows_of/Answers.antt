@@ -18,5 +18,6 @@ loop-i-preserved c =
     let within : i < length lines = omega (arith, length-map fields_of c.args.lines.now) in
     record {
       list = taken_here jobs lines i (fields_of row) c.loop-i.rows c.take_line.new.rows within at inv.list c.in_ok-take_line.ensures.1;
-      earlier = below_more (λ j. refusal_at jobs lines j ≡ None) i inv.earlier (refused_here jobs lines i (fields_of row) c.loop-i.rows at inv.list ∙ c.in_ok-take_line.ensures.0);
+      earlier = below_more (λ j. refusal_at jobs lines j ≡ None) i inv.earlier
+          (refused_here jobs lines i (fields_of row) c.loop-i.rows at inv.list ∙ c.in_ok-take_line.ensures.0);
     }

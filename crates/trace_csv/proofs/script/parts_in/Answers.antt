@@ -13,4 +13,8 @@ loop-rest-preserved c =
     let old = map part_seen c.loop-rest.parts.items in
     let part = part_seen c.in-Some-first_part.part in
     let rest = parts_of (tokens_left (rest_seen c.in-Some-first_part.after)) in
-    rw (c.in_ok-push.ensures.items, map-append part_seen c.loop-rest.parts.items (c.in-Some-first_part.part ∷ []), more_front old (part ∷ []) rest) (ap (with_front old) (sym c.in-Some-first_part.ensures.0) ∙ rw c.in-Some.is at c.loop-rest.invariant)
+    rw (
+      c.in_ok-push.ensures.items,
+      map-append part_seen c.loop-rest.parts.items (c.in-Some-first_part.part ∷ []),
+      more_front old (part ∷ []) rest,
+    ) (ap (with_front old) (sym c.in-Some-first_part.ensures.0) ∙ rw c.in-Some.is at c.loop-rest.invariant)

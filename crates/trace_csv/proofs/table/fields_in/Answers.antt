@@ -12,7 +12,8 @@ loop-i-preserved c =
     elim c.match-get.branch [
       | in-Some+in_ok-push-in-Some w ↦
           let field = w.in-Some.field in
-          rw (w.fields-is, w.in_ok-push-in-Some.ensures.items, map-append, c.loop-i.invariant, add-one) (sym (take_field fs i field.now (sym w.in-Some.ensures.value)))
+          rw (w.fields-is, w.in_ok-push-in-Some.ensures.items, map-append, c.loop-i.invariant, add-one)
+          (sym (take_field fs i field.now (sym w.in-Some.ensures.value)))
       | in-None w ↦
           let past : length fs ≤ i = no_field fs i (sym w.in-None.ensures.value) in
           absurd (omega (arith, c.len-i-end.ensures))

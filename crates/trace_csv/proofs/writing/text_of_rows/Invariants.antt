@@ -6,5 +6,6 @@ use Rattle.trace_csv.proofs.writing.text_of_rows.Given as goal
 abbrev pub invariant-loop-run : goal.invariant-loop-run
 invariant-loop-run l = record {
   between : IsBetween l.writer;
-  text : (done : List ℕ) × (held l.writer ≡ Some done) × (done ++ text_of (map line_of (map run_seen (drop l.run-index l.run-items))) ≡ rows_text l.fn.set l.fn.rows.runs);
+  text : (done : List ℕ) × (held l.writer ≡ Some done) × (done
+      ++ text_of (map line_of (map run_seen (drop l.run-index l.run-items))) ≡ rows_text l.fn.set l.fn.rows.runs);
 }

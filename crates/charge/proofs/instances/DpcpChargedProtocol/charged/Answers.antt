@@ -8,5 +8,6 @@ pub returns-clause-none : goal.returns-clause-none
 returns-clause-none c = λ rows shows e keeps.
     let w : Trace = under c.args.machine.now rows in
     none_where_free _ _ _ (c.charged_distributed.ensures.value rows shows e keeps)
-    (λ blocked. let s : DpcpCharged w c.args.machine.now.tick c.args.j.0 = dpcp_charged w c.args.machine.now.tick c.args.j.0 keeps blocked in
+    (λ blocked. let s : DpcpCharged w c.args.machine.now.tick c.args.j.0 =
+    dpcp_charged w c.args.machine.now.tick c.args.j.0 keeps blocked in
     (s.charge, s.is_it)) (dpcp_charge_blocked w c.args.machine.now.tick c.args.j.0)
