@@ -19,9 +19,9 @@ use Rattle.dual_check.proofs.FailureLaws.{no_failure, one_failure}
 use Rattle.audit_figures.specs.declared.beside.TaskFigures.{TaskFigures}
 use Rattle.audit_figures.specs.Figures.{figures_of, no_figures, AreFigures}
 use Rattle.block_top.specs.Plans.{Answer}
-use Rattle.block_top.specs.Texts.{figures_line, figures_lines, kept_text, broken_text, invalid_text}
+use Rattle.answer_texts.specs.Texts.{figures_line, figures_lines, kept_text, broken_text, invalid_text}
 use Rattle.block_top.specs.Commands.{IsKept, kept_answer, IsAudit, audit_of}
-use Rattle.block_top.proofs.Lines.{lines_same}
+use Rattle.answer_texts.proofs.Lines.{lines_same}
 use Rattle.block_top.proofs.ConformLaws.{not_both, one_broken}
 use Rattle.block_top.proofs.PlanLaws.{IsPlain, IsLawfulWork}
 

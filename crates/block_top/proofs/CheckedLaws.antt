@@ -21,7 +21,7 @@ use Rattle.cert_json.specs.Text.{certificate_text}
 use Rattle.cert_json.specs.Value.{certificate_data}
 use Rattle.cert_json.proofs.ReadBack.{is_value, formed, written as written_back}
 use Rattle.block_top.specs.Plans.{Answer, IsRead, IsOutcomeOf}
-use Rattle.block_top.specs.Words.{Form, Analyse, Check, form_of}
+use Rattle.command_words.specs.Words.{Form, Analyse, Check, form_of}
 use Rattle.block_top.specs.Inputs.{ReadsCert, set_input}
 use Rattle.block_top.specs.Commands.{ending_answer, checked_answer, plan_of}
 use Rattle.block_top.specs.Outcome.{told, refused_words, IsOutcome}

@@ -8,7 +8,7 @@ use Rattle.response_fixpoint.specs.Written.{written}
 use Rattle.response_fixpoint.proofs.RunLaws.{one_ending}
 use Rattle.report.specs.Table.{table_text}
 use Rattle.block_top.specs.Plans.{Answer, Plan, Working, Reading, Known, IsOutcomeOf}
-use Rattle.block_top.specs.Words.{Form, Analyse, Check, Report, FullReport, Conform, Simulate, Study, Audit}
+use Rattle.command_words.specs.Words.{Form, Analyse, Check, Report, FullReport, Conform, Simulate, Study, Audit}
 use Rattle.block_top.specs.Commands.{ending_answer, IsAnalysis, analysis_of, IsTable, table_of, checked_answer, reported_answer, conformance_of, plan_of}
 use Rattle.block_top.specs.Inputs.{set_input}
 use Rattle.block_top.specs.Run.{AnalysisEnds, IsWideEnding, IsAllowanceEnding}

@@ -16,9 +16,9 @@ use Rattle.trace_conform.specs.Measured.{measure_seen, no_measure}
 use Rattle.trace_conform.specs.Conforming.{AreMeasures}
 use Rattle.trace_conform.specs.declared.measures.Measured.{Measured}
 use Rattle.block_top.specs.Plans.{Answer}
-use Rattle.block_top.specs.Texts.{measures_line, measures_lines, lawful_text, broken_text}
+use Rattle.answer_texts.specs.Texts.{measures_line, measures_lines, lawful_text, broken_text}
 use Rattle.block_top.specs.Commands.{IsConformance, conformance_of}
-use Rattle.block_top.proofs.Lines.{lines_same}
+use Rattle.answer_texts.proofs.Lines.{lines_same}
 use Rattle.block_top.proofs.PlanLaws.{IsPlain, IsLawfulWork, plain_at, plain_same}
 
 -- A rule is known by its number.

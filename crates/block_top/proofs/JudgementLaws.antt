@@ -14,9 +14,9 @@ use Rattle.dual_check.proofs.FailureLaws.{no_failure, one_failure}
 use Rattle.report.specs.FullTable.{full_text}
 use Rattle.report.proofs.Lines.{full_text-agree}
 use Rattle.block_top.specs.Plans.{Answer}
-use Rattle.block_top.specs.Texts.{invalid_text}
+use Rattle.answer_texts.specs.Texts.{invalid_text}
 use Rattle.block_top.specs.Commands.{IsJudgement, reported_answer}
-use Rattle.block_top.specs.Reached.{FailsTask}
+use Rattle.answer_texts.specs.Failing.{FailsTask}
 use Rattle.block_top.proofs.PlanLaws.{IsPlain, IsLawfulWork}
 
 invalid_answer : SetDef → Invalid → Answer

@@ -1,4 +1,3 @@
-pub mod WordLaws
 pub mod PlanLaws
 pub mod InputLaws
 pub mod TraceLaws
@@ -9,7 +8,6 @@ pub mod CommandLaws
 pub mod ReplyLaws
 pub mod RunLaws
 pub mod TwiceLaws
-pub mod Lines
 pub mod JudgementLaws
 pub mod CertInputLaws
 pub mod SoundLaws

@@ -15,7 +15,7 @@ use Rattle.response_fixpoint.proofs.WrittenLaws.{no_columns, written_above}
 use Rattle.response_fixpoint.proofs.RunLaws.{rounds_never_wide}
 use Rattle.program_sources.specs.Fitting.{AreFitting}
 use Rattle.block_top.specs.Plans.{Answer, Working, refused, IsWorking, IsOutcomeOf}
-use Rattle.block_top.specs.Words.{Form, Analyse, Check, form_of}
+use Rattle.command_words.specs.Words.{Form, Analyse, Check, form_of}
 use Rattle.block_top.specs.Inputs.{set_input}
 use Rattle.block_top.specs.Commands.{ending_answer, IsAnalysis, analysis_of, plan_of}
 use Rattle.block_top.specs.Outcome.{Shown, shown_by, told, refused_words, IsOutcome, IsReplyOf, IsReply}

@@ -11,7 +11,7 @@ use Rattle.soundness_laws.proofs.ProtocolSoundness.{mpcp_sound, fmlp_sound, dpcp
 use Rattle.response_fixpoint.specs.Written.{written}
 use Rattle.dual_check.specs.Soundness.{SoundUnder}
 use Rattle.block_top.specs.Plans.{Answer, Working, IsOutcomeOf}
-use Rattle.block_top.specs.Words.{Check}
+use Rattle.command_words.specs.Words.{Check}
 use Rattle.block_top.specs.Inputs.{ReadsSet, set_input, cert_input}
 use Rattle.block_top.specs.Commands.{IsJudgement, checked_answer, check_of, with_certificate, plan_of}
 use Rattle.block_top.specs.Outcome.{told}

@@ -5,7 +5,7 @@ use Rattle.bounded_sums.specs.Sums.{collect_below}
 use Rattle.study_gen.specs.Counts.{IsStudy}
 use Rattle.study_gen.specs.declared.counting.StudyCounts.{StudyCounts}
 use Rattle.study_gen.proofs.OneStudy.{step_once, stopped_is_one}
-use Rattle.block_top.specs.Texts.{step_line, study_text}
+use Rattle.answer_texts.specs.Texts.{step_line, study_text}
 use Rattle.block_top.specs.Plans.{Answer}
 use Rattle.block_top.specs.Commands.{IsStudyAnswer, study_of}
 use Rattle.block_top.proofs.PlanLaws.{IsPlain, IsLawfulWork, plain_at, plain_same}

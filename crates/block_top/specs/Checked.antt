@@ -5,7 +5,7 @@ use Rattle.outside_ports.specs.Counts.{Rose}
 use Rattle.outside_ports.specs.Names.{Inputs, bytes_of}
 use Rattle.outside_ports.specs.declared.whole.TheConstants.{GREATEST_INPUT_BYTES}
 use Rattle.sporadic_model.specs.declared.ids.Protocol.{Protocol}
-use Rattle.block_top.specs.Words.{Analyse, Check, form_of}
+use Rattle.command_words.specs.Words.{Analyse, Check, form_of}
 use Rattle.block_top.specs.Commands.{checked_answer}
 use Rattle.block_top.specs.Headline.{Call, RanOut}
 use Rattle.block_top.specs.Run.{Gives}

@@ -25,8 +25,8 @@ use Rattle.sim_engine.specs.Simulated.{IsSimulated}
 use Rattle.study_gen.specs.Counts.{IsStudy}
 use Rattle.study_gen.specs.declared.counting.StudyCounts.{StudyCounts}
 use Rattle.block_top.specs.Plans.{Answer, Work, Plan, Working, Reading}
-use Rattle.block_top.specs.Words.{Form, Analyse, Check, Report, FullReport, Conform, Simulate, Study, Audit}
-use Rattle.block_top.specs.Texts.{not_shown_text, wide_text, allowance_text, lawful_text, broken_text, valid_text, invalid_text, study_text, kept_text}
+use Rattle.command_words.specs.Words.{Form, Analyse, Check, Report, FullReport, Conform, Simulate, Study, Audit}
+use Rattle.answer_texts.specs.Texts.{not_shown_text, wide_text, allowance_text, lawful_text, broken_text, valid_text, invalid_text, study_text, kept_text}
 use Rattle.charge.specs.ByProtocol.{charges_of}
 use Rattle.audit_figures.specs.Figures.{figures_of}
 use Rattle.block_top.specs.Inputs.{set_input, cert_input, jobs_input, rows_input}

@@ -14,7 +14,7 @@ use Rattle.program_sources.specs.Fitting.{AreFitting, AreLeastFitting}
 use Rattle.program_sources.specs.Valid.{AreOptimalDuals}
 use Rattle.soundness_laws.specs.Analyses.{AreValues}
 use Rattle.dual_check.specs.Soundness.{SoundUnder}
-use Rattle.block_top.specs.Words.{Analyse, Check, form_of}
+use Rattle.command_words.specs.Words.{Analyse, Check, form_of}
 use Rattle.serde_json.specs.Data.{Data}
 use Rattle.taskset_json.specs.Answers.{IsValue}
 use Rattle.taskset_json.specs.Form.{has_set_form}

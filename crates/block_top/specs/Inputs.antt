@@ -21,7 +21,7 @@ use Rattle.trace_csv.specs.declared.refusal.JobsRefusal.TheVariants as jobs
 use Rattle.trace_csv.specs.declared.refusal.RowsRefusal.{RowsRefusal}
 use Rattle.trace_csv.specs.declared.refusal.RowsRefusal.TheVariants as rows
 use Rattle.block_top.specs.Plans.{Input}
-use Rattle.block_top.specs.Refusals.{reason_text, cert_reason_text, jobs_reason_text, rows_reason_text}
+use Rattle.refusal_texts.specs.Refusals.{reason_text, cert_reason_text, jobs_reason_text, rows_reason_text}
 
 -- A task set for a protocol: an accepted set in which each resource has the home that the protocol asks for.
 abbrev pub ReadsSet : Protocol → List ℕ → Result SetDef SetRefusal → Type 0

@@ -1,7 +1,3 @@
-pub mod Words
-pub mod FormSeen
-pub mod Texts
-pub mod Refusals
 pub mod Plans
 pub mod Inputs
 pub mod Commands

@@ -4,7 +4,7 @@ use Rattle.outside_ports.specs.Counts.{Rose}
 use Rattle.outside_ports.specs.Names.{Inputs, bytes_of, IsNamed, IsLonger, IsAbsent}
 use Rattle.outside_ports.specs.declared.whole.TheConstants.{GREATEST_INPUT_BYTES}
 use Rattle.block_top.specs.Plans.{Answer, Plan, Known, IsOutcomeOf, IsReadFaultOf}
-use Rattle.block_top.specs.Words.{form_of}
+use Rattle.command_words.specs.Words.{form_of}
 use Rattle.block_top.specs.Commands.{plan_of}
 
 -- What is known where these are the named inputs.

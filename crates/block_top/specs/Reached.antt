@@ -1,8 +1,6 @@
--- Which tasks an analysis or a failure may name.
+-- Which tasks an analysis may name.
 use Rattle.std.specs.Prelude.{◌<◌, length, Result, Ok, Err}
 use Rattle.sporadic_model.specs.SetDef.{SetDef}
-use Rattle.dual_check.specs.declared.answer.Invalid.{Invalid}
-use Rattle.dual_check.specs.declared.answer.Invalid.TheVariants as invalid
 use Rattle.response_fixpoint.specs.declared.verdict.Verdict.{Verdict}
 use Rattle.response_fixpoint.specs.declared.verdict.Verdict.TheVariants as verdict
 use Rattle.response_fixpoint.specs.declared.verdict.Stop.{Stop}
@@ -13,12 +11,3 @@ abbrev pub NamesTask : SetDef → Result Verdict Stop → Type 0
 NamesTask set (Ok (verdict.NotShown task bound)) = task.0 < length set.tasks
 NamesTask set (Err (stop.Wide task)) = task.0 < length set.tasks
 NamesTask set _ = Unit {0}
-
--- Is the task that the failure names, if any, one of the set? Want of memory is no failure.
-abbrev pub FailsTask : SetDef → Invalid → Type 0
-FailsTask set invalid.Size = Unit {0}
-FailsTask set (invalid.Bound i) = i.0 < length set.tasks
-FailsTask set (invalid.DualSize i) = i.0 < length set.tasks
-FailsTask set (invalid.Cover i k) = i.0 < length set.tasks
-FailsTask set (invalid.Small i) = i.0 < length set.tasks
-FailsTask set invalid.Memory = ⊥

@@ -12,7 +12,7 @@ use Rattle.response_fixpoint.specs.Rounds.{Ending, Wide, Allowance, EndsIn}
 use Rattle.response_fixpoint.specs.Runs.{rounds_of}
 use Rattle.response_fixpoint.specs.Written.{written, RequestsNothing}
 use Rattle.block_top.specs.Plans.{Answer, Known, refused, IsWorking, IsRead, EndsWell}
-use Rattle.block_top.specs.Words.{Form, Analyse, form_of}
+use Rattle.command_words.specs.Words.{Form, Analyse, form_of}
 use Rattle.block_top.specs.Inputs.{set_input}
 use Rattle.block_top.specs.Commands.{plan_of}
 use Rattle.block_top.specs.Outcome.{Shown, shown_by, told, refused_words, IsOutcome, IsReply}

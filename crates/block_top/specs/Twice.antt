@@ -3,7 +3,7 @@ use Rattle.std.specs.Prelude.{◌≡◌, ℕ, ◌⊎◌, List, Option, Some}
 use Rattle.outside_ports.specs.Counts.{Rose}
 use Rattle.outside_ports.specs.Names.{Inputs}
 use Rattle.block_top.specs.Plans.{EndsWell}
-use Rattle.block_top.specs.Words.{Form, form_of}
+use Rattle.command_words.specs.Words.{Form, form_of}
 use Rattle.block_top.specs.Commands.{plan_of}
 use Rattle.block_top.specs.Outcome.{told}
 

@@ -1,7 +1,7 @@
 ghost use Rattle.std.specs.Prelude.{◌≡◌, ◌-◌, ◌^◌, ◌<◌, IsSome, IfSome, IfErr};
 ghost use Rattle.sporadic_model.specs.Homes.{HasHomesFor};
 ghost use Rattle.block_top.specs.Checked.{ChecksWhatWasWritten, FindsValid};
-ghost use Rattle.block_top.specs.Words.{words_seen};
+ghost use Rattle.command_words.specs.Words.{words_seen};
 ghost use Rattle.block_top.specs.Twice.{IsCompleteOver};
 
 use crate::top::{Status, run};

@@ -7,13 +7,10 @@ mod halt;
 mod input;
 mod judging;
 mod laws;
-mod refusals;
 mod study;
-mod texts;
 mod top;
-mod words;
 mod work;
 
+pub use command_words::DEFAULT_ALLOWANCE;
 pub use laws::{analyse_and_check, analysed_then_checked, two_runs};
 pub use top::{Status, run};
-pub use words::DEFAULT_ALLOWANCE;

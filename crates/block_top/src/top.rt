@@ -1,5 +1,5 @@
 ghost use Rattle.std.specs.Prelude.{◌≡◌, is_some, ◌≤◌};
-ghost use Rattle.block_top.specs.Words.{words_seen};
+ghost use Rattle.command_words.specs.Words.{words_seen};
 ghost use Rattle.block_top.specs.Replies.{Keeps};
 ghost use Rattle.block_top.specs.Run.{IsRun};
 

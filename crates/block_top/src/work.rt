@@ -8,14 +8,14 @@ ghost use Rattle.schedule_model.specs.Fitting.{is_fitting, IsMadeFor};
 ghost use Rattle.trace_csv.specs.Written.{rows_text};
 ghost use Rattle.trace_conform.specs.Measured.{measure_seen, no_measure};
 ghost use Rattle.trace_conform.specs.ByProtocol.{rules_of, interference_of};
-ghost use Rattle.block_top.specs.Texts.{lawful_text, broken_text};
+ghost use Rattle.answer_texts.specs.Texts.{lawful_text, broken_text};
 ghost use Rattle.block_top.specs.Commands.{ending_answer, IsAnalysis, IsTable, IsConformance, IsSimulation};
 ghost use Rattle.block_top.specs.Outcome.{refused_words};
 ghost use Rattle.block_top.specs.Replies.{reply_seen, Answered, RepliesTo};
 ghost use Rattle.block_top.specs.Reached.{NamesTask};
 
 use crate::halt::{Halt, Reply};
-use crate::texts::{broken_line, lawful_lines, not_shown_line, wide_line};
+use answer_texts::{broken_line, lawful_lines, not_shown_line, wide_line};
 use program_form::Certificate;
 use report::set_table;
 use response_fixpoint::{Stop, Verdict, analyse};

@@ -5,7 +5,7 @@ use Rattle.schedule_model.proofs.RowListLaws.{made_fits}
 use Rattle.audit_figures.specs.Figures.{no_figures}
 use Rattle.std.specs.Prelude.{slice_index_or}
 use Rattle.block_top.specs.Plans.{Answer}
-use Rattle.block_top.specs.Texts.{kept_text}
+use Rattle.answer_texts.specs.Texts.{kept_text}
 use Rattle.block_top.specs.Replies.{reply_seen}
 use Rattle.block_top.proofs.AuditLaws.{kept_audit}
 use Rattle.block_top.proofs.auditing.audited.Goals as goal

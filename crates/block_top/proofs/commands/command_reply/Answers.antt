@@ -1,7 +1,7 @@
 use Rattle.std.proofs.Common.{ℕ, sym, ap, subst, inr}
-use Rattle.block_top.specs.Words.{Form, Study}
+use Rattle.command_words.specs.Words.{Form, Study}
 use Rattle.block_top.specs.Commands.{IsStudyAnswer, plan_of}
-use Rattle.block_top.specs.FormSeen.{form_seen}
+use Rattle.command_words.specs.FormSeen.{form_seen}
 use Rattle.block_top.specs.Outcome.{Shown, IsReplyOf}
 use Rattle.block_top.specs.Replies.{Answered}
 use Rattle.block_top.proofs.ReplyLaws.{answered_also}

@@ -1,4 +1,4 @@
-use Rattle.block_top.specs.Words.{words_seen}
+use Rattle.command_words.specs.Words.{words_seen}
 use Rattle.block_top.specs.Headline.{Call}
 use Rattle.block_top.proofs.CheckedLaws.{finds_valid}
 use Rattle.block_top.proofs.laws.analysed_then_checked.Goals as goal

@@ -1,5 +1,5 @@
 use Rattle.std.proofs.Common.{refl, arith, ◌∙◌, ◌^◌, ◌-◌, ◌<◌, ◌≤◌}
-use Rattle.block_top.specs.Words.{words_seen}
+use Rattle.command_words.specs.Words.{words_seen}
 use Rattle.block_top.specs.Headline.{Call}
 use Rattle.block_top.proofs.TwiceLaws.{complete_over}
 use Rattle.block_top.proofs.laws.two_runs.Goals as goal

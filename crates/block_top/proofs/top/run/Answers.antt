@@ -1,7 +1,7 @@
 use Rattle.std.proofs.Common.{refl, ◌≡◌, ◌-◌, ◌≤◌, ℕ, length}
 use Rattle.std.specs.Io.KnownBytes.{Appends}
 use Rattle.outside_ports.specs.Prefix.{AppendsPart}
-use Rattle.block_top.specs.Words.{words_seen}
+use Rattle.command_words.specs.Words.{words_seen}
 use Rattle.block_top.specs.Replies.{reply_seen}
 use Rattle.block_top.specs.Headline.{Call}
 use Rattle.block_top.proofs.RunLaws.{run_written, run_cut}
