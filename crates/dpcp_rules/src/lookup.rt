@@ -19,6 +19,7 @@ pub(crate) fn tasks_of(machine: &Machine) -> u32
     ensures accepted { IsAccepted machine.now.list.set }
     ensures sizes { SetSizes machine.now.list.set }
 {
+    // what is true of every machine, and so of its set, is a clause of each read of it
     let _tick = machine.tick();
     machine.jobs().set().tasks()
 }

@@ -17,8 +17,8 @@ pub(crate) fn list_is_lawful(jobs: &JobList)
     ensures listed { IsJobList jobs.now }
     ensures numbers { (x : ℕ) → x < length jobs.now.set.tasks → TaskNumbers jobs.now.set x }
 {
-    let _jobs = jobs.len();
-    let _tasks = jobs.set().tasks();
+    jobs.keeps_its_rules();
+    jobs.set().keeps_the_model();
 }
 
 /// The segment of the job's script.
