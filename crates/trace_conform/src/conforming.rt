@@ -14,7 +14,7 @@ use mpcp_rules::Mpcp;
 use phase_machine::{Judge, Machine};
 use schedule_model::{JobList, RowList, Rule};
 use sporadic_model::Protocol;
-use std::alloc::Global;
+use std::alloc::{AllocError, Global};
 use thiserror::Error;
 
 /// Why a schedule is not measured.
@@ -33,6 +33,16 @@ pub enum Unlawful {
     Memory,
 }
 
+impl From<AllocError> for Unlawful {
+    ghost use Rattle.trace_conform.specs.declared.conforming.Unlawful.TheVariants.{Memory};
+
+    ghost from_gives = { λ _ stop. stop ≡ Memory };
+
+    fn from(_error: AllocError) -> Unlawful {
+        Unlawful::Memory
+    }
+}
+
 /// Judges each row by the protocol's rules and measures each task: Ok exactly where every row keeps all five rules; else
 /// the first row that breaks one.
 pub fn conform_with<P: Judge>(
@@ -45,14 +55,8 @@ pub fn conform_with<P: Judge>(
     requires fits { is_fitting rows.now jobs.now ≡ true }
     ensures { Conforms (P.keeps protocol.now) (P.interferes protocol.now) (trace_in jobs.now rows.now.runs) (ticks_of rows.now.runs) result }
 {
-    let mut machine = match Machine::new(alloc, jobs) {
-        Ok(machine) => machine,
-        Err(_) => return Err(Unlawful::Memory),
-    };
-    let mut counts = match no_counts(alloc, jobs.len()) {
-        Ok(counts) => counts,
-        Err(_) => return Err(Unlawful::Memory),
-    };
+    let mut machine = Machine::new(alloc, jobs)?;
+    let mut counts = no_counts(alloc, jobs.len())?;
     match judge_all(protocol, rows, &mut machine, &mut counts) {
         Ok(()) => {}
         Err(breach) => {
@@ -62,10 +66,8 @@ pub fn conform_with<P: Judge>(
             });
         }
     }
-    match measure_all(alloc, &machine, &counts) {
-        Ok(tasks) => Ok(Measured { tasks }),
-        Err(_) => Err(Unlawful::Memory),
-    }
+    let tasks = measure_all(alloc, &machine, &counts)?;
+    Ok(Measured { tasks })
 }
 
 /// The same by the protocol's name. Under DPCP each resource of the set has a home.
