@@ -13,6 +13,7 @@ mod stepping;
 mod stretch;
 #[cfg(test)]
 mod tests;
+mod trying;
 
 pub use judge::Judge;
 pub use laws::{
@@ -22,3 +23,4 @@ pub use laws::{
 pub use machine::Machine;
 pub use phase::Phase;
 pub use schedule_model::Rule;
+pub use trying::{can_take, is_row_for};

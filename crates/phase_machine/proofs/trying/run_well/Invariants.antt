@@ -1,7 +1,7 @@
 use Rattle.std.proofs.Common.{◌≡◌, ℕ, ◌<◌, true, get_or, Some, None}
 use Rattle.schedule_model.specs.declared.job.JobId.{JobId}
 use Rattle.phase_machine.specs.Now.{active_now}
-use Rattle.phase_machine.proofs.tests.run_well.Given as goal
+use Rattle.phase_machine.proofs.trying.run_well.Given as goal
 
 abbrev pub invariant-loop-c : goal.invariant-loop-c
 invariant-loop-c l = record {

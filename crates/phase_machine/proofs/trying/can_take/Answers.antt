@@ -3,7 +3,7 @@ use Rattle.std.specs.List.{list_all}
 use Rattle.schedule_model.specs.Fitting.{is_below}
 use Rattle.schedule_model.specs.Seen.{place_seen}
 use Rattle.phase_machine.proofs.Named.{can_take_seen}
-use Rattle.phase_machine.proofs.tests.can_take.Goals as goal
+use Rattle.phase_machine.proofs.trying.can_take.Goals as goal
 
 pub returns : goal.returns
 returns c = λ h.
