@@ -3,7 +3,8 @@ use Rattle.std.proofs.Common.{◌≡◌, ◌++◌, ℕ, zero, suc, ◌+◌, ◌<
 use Rattle.bounded_sums.specs.Sums.{collect_below}
 
 -- Behind the lines of the numbers below k comes the line of k.
-pub lines_more : (f : ℕ → List ℕ) (old mid new : List ℕ) (k : ℕ) → mid ≡ old ++ collect_below k f → new ≡ mid ++ f k → new ≡ old ++ collect_below (k + 1) f
+pub lines_more : (f : ℕ → List ℕ) (old mid new : List ℕ) (k : ℕ) → mid ≡ old ++ collect_below k f → new ≡ mid ++ f k
+    → new ≡ old ++ collect_below (k + 1) f
 lines_more f old mid new k before here = rw add-one (here ∙ ap (λ t. t ++ f k) before ∙ append_assoc old (collect_below k f) (f k))
 
 -- The same lines for each number below k are the same lines.

@@ -3,7 +3,10 @@ ghost use Rattle.sporadic_model.specs.SetDef.{task_at};
 ghost use Rattle.trace_conform.specs.Measured.{measure_seen, no_measure};
 ghost use Rattle.audit_figures.specs.Figures.{no_figures};
 ghost use Rattle.answer_texts.specs.Failing.{FailsTask};
-ghost use Rattle.answer_texts.specs.Texts.{not_shown_text, wide_text, response_text, measures_text, measures_line, measures_lines, lawful_text, rule_text, broken_text, failing_task, invalid_text, behind_space, bounded_text, classes_text, figures_text, figures_line, figures_lines, kept_text};
+ghost use Rattle.answer_texts.specs.Texts.{not_shown_text, wide_text, response_text, measures_text, measures_line};
+ghost use Rattle.answer_texts.specs.Texts.{measures_lines, lawful_text, rule_text, broken_text, failing_task};
+ghost use Rattle.answer_texts.specs.Texts.{invalid_text, behind_space, bounded_text, classes_text, figures_text};
+ghost use Rattle.answer_texts.specs.Texts.{figures_line, figures_lines, kept_text};
 
 use audit_figures::TaskFigures;
 use dual_check::Invalid;

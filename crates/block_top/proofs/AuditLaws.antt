@@ -25,7 +25,8 @@ use Rattle.answer_texts.proofs.Lines.{lines_same}
 use Rattle.block_top.proofs.ConformLaws.{not_both, one_broken}
 use Rattle.block_top.proofs.PlanLaws.{IsPlain, IsLawfulWork}
 
-one_kept : (keeps : Rule → Trace → ℕ → Type 0) (w : Trace) (n : ℕ) (kept a b : Answer) → IsKept keeps w n kept a → IsKept keeps w n kept b → a ≡ b
+one_kept : (keeps : Rule → Trace → ℕ → Type 0) (w : Trace) (n : ℕ) (kept a b : Answer) → IsKept keeps w n kept a
+    → IsKept keeps w n kept b → a ≡ b
 one_kept keeps w n kept a b (inl (holds, is)) (inl (holds', is')) = is ∙ sym is'
 one_kept keeps w n kept a b (inl (holds, is)) (inr (t, r, first, is')) = absurd (not_both keeps w n t r holds first)
 one_kept keeps w n kept a b (inr (t, r, first, is)) (inl (holds, is')) = absurd (not_both keeps w n t r holds first)
@@ -48,8 +49,16 @@ audit_status p c w n a (inl (valid, inr (t, r, first, is))) = inr (ap (λ x. x.s
 audit_status p c w n a (inr (e, fails, is)) = inr (ap (λ x. x.status) is)
 
 plain_of_status : (a : Answer) → (a.status ≡ 0) ⊎ (a.status ≡ 1) → IsPlain a
-plain_of_status a (inl zero) = record { words = λ e. absurd (omega (arith, zero, e)); fault = λ e. absurd (omega (arith, zero, e)); most = omega (arith, zero) }
-plain_of_status a (inr one) = record { words = λ e. absurd (omega (arith, one, e)); fault = λ e. absurd (omega (arith, one, e)); most = omega (arith, one) }
+plain_of_status a (inl zero) = record {
+  words = λ e. absurd (omega (arith, zero, e));
+  fault = λ e. absurd (omega (arith, zero, e));
+  most = omega (arith, zero);
+}
+plain_of_status a (inr one) = record {
+  words = λ e. absurd (omega (arith, one, e));
+  fault = λ e. absurd (omega (arith, one, e));
+  most = omega (arith, one);
+}
 
 pub audit_lawful : (p : Protocol) (c : CertificateDef) (jobs : JobsDef) (rows : RowsDef) → IsLawfulWork (audit_of p c jobs rows)
 audit_lawful p c jobs rows =
@@ -65,18 +74,21 @@ at_most_one : (a : Answer) → (a.status ≡ 0) ⊎ (a.status ≡ 1) → a.statu
 at_most_one a (inl zero) = omega (arith, zero)
 at_most_one a (inr one) = omega (arith, one)
 
-pub audit_quiet : (p : Protocol) (c : CertificateDef) (jobs : JobsDef) (rows : RowsDef) (a : Answer) → (audit_of p c jobs rows).answers a → a.status ≤ 1
+pub audit_quiet : (p : Protocol) (c : CertificateDef) (jobs : JobsDef) (rows : RowsDef) (a : Answer)
+    → (audit_of p c jobs rows).answers a → a.status ≤ 1
 audit_quiet p c jobs rows a is = at_most_one a (audit_status p c (trace_in jobs rows.runs) (ticks_of rows.runs) a is)
 
 -- The text with the figures that are listed is that with the figures of the schedule.
-kept_same : (set : SetDef) (n : ℕ) (f g : ℕ → TaskFigures) → ((x : ℕ) → x < length set.tasks → f x ≡ g x) → kept_text set n f ≡ kept_text set n g
+kept_same : (set : SetDef) (n : ℕ) (f g : ℕ → TaskFigures) → ((x : ℕ) → x < length set.tasks → f x ≡ g x)
+    → kept_text set n f ≡ kept_text set n g
 kept_same set n f g same =
     let lines : figures_lines set f ≡ figures_lines set g =
     lines_same (λ x. figures_line (task_at set x).name (f x)) (λ x. figures_line (task_at set x).name (g x)) (length set.tasks)
     (λ x below. ap (λ m. figures_line (task_at set x).name m) (same x below)) in
     ap (λ t. codes "kept " ++ (decimal n ++ (codes "\n" ++ t))) lines
 
-pub kept_audit : (p : Protocol) (c : CertificateDef) (w : Trace) (n : ℕ) (figures : List TaskFigures) (a : Answer) → IsValid (written p w.set) c
+pub kept_audit : (p : Protocol) (c : CertificateDef) (w : Trace) (n : ℕ) (figures : List TaskFigures) (a : Answer)
+    → IsValid (written p w.set) c
     → KeepsBefore (rules_of p) w n
     → AreFigures (charges_of p) (interference_of p) w (slice_index c.bounds) (value_at (written p w.set) c) n figures
     → a ≡ record { status = 0; text = kept_text w.set n (λ x. slice_index_or figures x no_figures) } → IsAudit p c w n a

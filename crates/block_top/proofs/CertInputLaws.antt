@@ -33,11 +33,13 @@ record IsOfNone (r : Result CertificateDef CertRefusal) (bytes : List ℕ) : Typ
   none : (d : Data) → IsValue bytes d → ⊥
   is : r ≡ Err cert.NotJson
 
-refused_value : (p : Protocol) (r : CertRefusal) (bytes : List ℕ) (d : Data) → IsValue bytes d → first_refusal p d ≡ Some r → IsOfValue p (Err r) bytes
+refused_value : (p : Protocol) (r : CertRefusal) (bytes : List ℕ) (d : Data) → IsValue bytes d
+    → first_refusal p d ≡ Some r → IsOfValue p (Err r) bytes
 unfolding judgement judge
 refused_value p r bytes d is due = record { value = d; is_value = is; is = rw due refl }
 
-says : (p : Protocol) (r : Result CertificateDef CertRefusal) (bytes : List ℕ) → ReadsCert p bytes r → IsOfNone r bytes ⊎ IsOfValue p r bytes
+says : (p : Protocol) (r : Result CertificateDef CertRefusal) (bytes : List ℕ) → ReadsCert p bytes r
+    → IsOfNone r bytes ⊎ IsOfValue p r bytes
 unfolding judgement judge
 says p (Ok c) bytes (d, is, form, same) = inr (record { value = d; is_value = is; is = rw (none_from_form p d form) (ap (λ x. Ok x) same) })
 says p (Err cert.NotJson) bytes none = inl (record { none = none; is = refl })
@@ -46,7 +48,8 @@ says p (Err (cert.Shape place)) bytes (d, is, due) = inr (refused_value p (cert.
 says p (Err cert.Version) bytes (d, is, due) = inr (refused_value p cert.Version bytes d is due)
 says p (Err cert.OtherProtocol) bytes (d, is, due) = inr (refused_value p cert.OtherProtocol bytes d is due)
 
-one_saying : (p : Protocol) (r s : Result CertificateDef CertRefusal) (bytes : List ℕ) → (IsOfNone r bytes ⊎ IsOfValue p r bytes) → (IsOfNone s bytes ⊎ IsOfValue p s bytes) → r ≡ s
+one_saying : (p : Protocol) (r s : Result CertificateDef CertRefusal) (bytes : List ℕ)
+    → (IsOfNone r bytes ⊎ IsOfValue p r bytes) → (IsOfNone s bytes ⊎ IsOfValue p s bytes) → r ≡ s
 one_saying p r s bytes (inl x) (inl y) = x.is ∙ sym y.is
 one_saying p r s bytes (inl x) (inr y) = absurd (x.none y.value y.is_value)
 one_saying p r s bytes (inr x) (inl y) = absurd (y.none x.value x.is_value)
@@ -62,7 +65,8 @@ cert_reads_once protocol bytes r s p q = one_saying protocol r s bytes (says pro
 pub read_cert : (p : Protocol) (bytes : List ℕ) (c : Certificate) → Reads (Ok c) p bytes → ReadsCert p bytes (Ok (certificate_seen c))
 read_cert p bytes c reads = (reads.0, reads.1, reads.2.0, reads.2.1)
 
-pub refused_cert : (p : Protocol) (bytes : List ℕ) (r : CertRefusal) → Reads (Err r) p bytes → (r ≡ cert.Memory → ⊥) → ReadsCert p bytes (Err r)
+pub refused_cert : (p : Protocol) (bytes : List ℕ) (r : CertRefusal) → Reads (Err r) p bytes → (r ≡ cert.Memory → ⊥)
+    → ReadsCert p bytes (Err r)
 refused_cert p bytes cert.NotJson reads other = reads
 refused_cert p bytes cert.Memory reads other = absurd (other refl)
 refused_cert p bytes (cert.Shape place) reads other = reads

@@ -38,9 +38,11 @@ record IsSchedulableEnding (e : Ending) : Type 0 where
   duals : List DualDef
   is : e ≡ Schedulable bounds duals
 
-schedulable_ending : (protocol : Protocol) (set : SetDef) (e : Ending) (a : Answer) → a ≡ ending_answer protocol set e → a.status ≡ 0 → IsSchedulableEnding e
+schedulable_ending : (protocol : Protocol) (set : SetDef) (e : Ending) (a : Answer) → a ≡ ending_answer protocol set e
+    → a.status ≡ 0 → IsSchedulableEnding e
 schedulable_ending protocol set (Schedulable bounds duals) a is zero = record { bounds = bounds; duals = duals; is = refl }
-schedulable_ending protocol set (NotShown i value) a is zero = let s : a.status ≡ 1 = ap (λ x. x.status) is in absurd (omega (arith, s, zero))
+schedulable_ending protocol set (NotShown i value) a is zero =
+    let s : a.status ≡ 1 = ap (λ x. x.status) is in absurd (omega (arith, s, zero))
 schedulable_ending protocol set (Wide i) a is zero = let s : a.status ≡ 5 = ap (λ x. x.status) is in absurd (omega (arith, s, zero))
 schedulable_ending protocol set Allowance a is zero = let s : a.status ≡ 6 = ap (λ x. x.status) is in absurd (omega (arith, s, zero))
 
@@ -53,7 +55,8 @@ record WroteBest (inputs : Inputs) (protocol : Protocol) (name : List ℕ) (a : 
   best : IsBest (written protocol set) certificate
   text : a.text ≡ certificate_text protocol certificate
 
-wrote_best : (inputs : Inputs) (protocol : Protocol) (name : List ℕ) (allowance : ℕ) (a : Answer) → IsOutcomeOf (told inputs) (plan_of (Analyse protocol name allowance)) a
+wrote_best : (inputs : Inputs) (protocol : Protocol) (name : List ℕ) (allowance : ℕ) (a : Answer)
+    → IsOutcomeOf (told inputs) (plan_of (Analyse protocol name allowance)) a
     → a.status ≡ 0 → WroteBest inputs protocol name a
 wrote_best inputs protocol name allowance a (inl stopped) zero =
     let three : a.status ≡ 3 = stopped_status (told inputs) (set_input protocol) name a stopped in absurd (omega (arith, three, zero))
@@ -100,7 +103,8 @@ reads_text : (protocol : Protocol) (c : CertificateDef) → IsWritable c → Rea
 reads_text protocol c w = (certificate_data protocol c, is_value protocol c w, formed protocol c w, sym (written_back protocol c))
 
 -- So where the set and the text are there, the outcome of `check` is that it is valid.
-check_outcome : (inputs later : Inputs) (protocol : Protocol) (name again cert text : List ℕ) (a : Answer) → WroteBest inputs protocol name a → a.text ≡ text
+check_outcome : (inputs later : Inputs) (protocol : Protocol) (name again cert text : List ℕ) (a : Answer)
+    → WroteBest inputs protocol name a → a.text ≡ text
     → length text ≤ GREATEST_INPUT_BYTES → bytes_of later again ≡ bytes_of inputs name → bytes_of later cert ≡ Some text
     → IsOutcomeOf (told later) (plan_of (Check protocol again cert)) checked_answer
 check_outcome inputs later protocol name again cert text a w same short set_again text_again =
@@ -148,9 +152,13 @@ finds_valid first second run again c =
     let plan = of_form c.inputs first.words form gave.reply c.analyses gave.outcome in
     let wrote = wrote_best c.inputs c.protocol c.set c.allowance gave.reply plan gave.zero in
     let same : gave.reply.text ≡ c.text = one_text first.written_before first.written_now gave.reply.text c.text c.tells gave.out c.wrote in
-    let checked = check_outcome c.inputs c.later c.protocol c.set c.same_set c.certificate c.text gave.reply wrote same c.short c.set_again c.text_again in
+    let checked = check_outcome c.inputs c.later c.protocol c.set c.same_set c.certificate c.text gave.reply wrote same
+    c.short c.set_again c.text_again in
     let outcome : IsOutcome c.later second.words checked_answer =
-    subst (λ (o : Option Form). MatchOption o (checked_answer ≡ refused_words) (λ f. IsOutcomeOf (told c.later) (plan_of f) checked_answer)) (sym c.checks) checked in
+    subst
+    (λ (o : Option Form).
+    MatchOption o (checked_answer ≡ refused_words) (λ f. IsOutcomeOf (told c.later) (plan_of f) checked_answer))
+    (sym c.checks) checked in
     elim (again.exactly c.later checked_answer c.told_later outcome) [
       | inl gives ↦ inl gives
       | inr (inl four) ↦ inr (inl (four, again.faults four))

@@ -9,7 +9,8 @@ use Rattle.response_fixpoint.proofs.RunLaws.{one_ending}
 use Rattle.report.specs.Table.{table_text}
 use Rattle.block_top.specs.Plans.{Answer, Plan, Working, Reading, Known, IsOutcomeOf}
 use Rattle.command_words.specs.Words.{Form, Analyse, Check, Report, FullReport, Conform, Simulate, Study, Audit}
-use Rattle.block_top.specs.Commands.{ending_answer, IsAnalysis, analysis_of, IsTable, table_of, checked_answer, reported_answer, conformance_of, plan_of}
+use Rattle.block_top.specs.Commands.{ending_answer, IsAnalysis, analysis_of, IsTable, table_of, checked_answer}
+use Rattle.block_top.specs.Commands.{reported_answer, conformance_of, plan_of}
 use Rattle.block_top.specs.Inputs.{set_input}
 use Rattle.block_top.specs.Run.{AnalysisEnds, IsWideEnding, IsAllowanceEnding}
 use Rattle.block_top.proofs.PlanLaws.{IsPlain, IsLawfulWork, IsLawful, plain_at, plain_same, stopped_status}
@@ -24,13 +25,15 @@ use Rattle.block_top.proofs.SimulationLaws.{simulation_lawful, simulation_quiet}
 use Rattle.block_top.proofs.StudyLaws.{study_lawful, study_quiet}
 use Rattle.block_top.proofs.AuditLaws.{audit_lawful, audit_quiet}
 
-one_analysis : (protocol : Protocol) (set : SetDef) (allowance : ℕ) (a b : Answer) → IsAnalysis protocol set allowance a → IsAnalysis protocol set allowance b → a ≡ b
+one_analysis : (protocol : Protocol) (set : SetDef) (allowance : ℕ) (a b : Answer) → IsAnalysis protocol set allowance a
+    → IsAnalysis protocol set allowance b → a ≡ b
 one_analysis protocol set allowance a b (e, ends, is) (f, ends', is') =
     is ∙ ap (λ x. ending_answer protocol set x) (one_ending (written protocol set) allowance e f ends ends') ∙ sym is'
 
 -- The statuses of the ends of rounds.
 ending_plain : (protocol : Protocol) (set : SetDef) (e : Ending) → IsPlain (ending_answer protocol set e)
-ending_plain protocol set (Schedulable bounds duals) = plain_at 0 (ending_answer protocol set (Schedulable bounds duals)).text (inl (inl refl))
+ending_plain protocol set (Schedulable bounds duals) =
+    plain_at 0 (ending_answer protocol set (Schedulable bounds duals)).text (inl (inl refl))
 ending_plain protocol set (NotShown i value) = plain_at 1 (ending_answer protocol set (NotShown i value)).text (inl (inr refl))
 ending_plain protocol set (Wide i) = plain_at 5 (ending_answer protocol set (Wide i)).text (inr (inr (inl refl)))
 ending_plain protocol set Allowance = plain_at 6 (ending_answer protocol set Allowance).text (inr (inr (inr refl)))
@@ -38,8 +41,10 @@ ending_plain protocol set Allowance = plain_at 6 (ending_answer protocol set All
 analysis_plain : (protocol : Protocol) (set : SetDef) (allowance : ℕ) (a : Answer) → IsAnalysis protocol set allowance a → IsPlain a
 analysis_plain protocol set allowance a (e, ends, is) = plain_same a (ending_answer protocol set e) is (ending_plain protocol set e)
 
-ends_well : (protocol : Protocol) (set : SetDef) (allowance : ℕ) (e : Ending) (a : Answer) → EndsIn (rounds_of (written protocol set)) allowance e → a ≡ ending_answer protocol set e
-    → ((i : ℕ) → EndsIn (rounds_of (written protocol set)) allowance (Wide i) → ⊥) → (EndsIn (rounds_of (written protocol set)) allowance Allowance → ⊥) → (a.status ≡ 0) ⊎ (a.status ≡ 1)
+ends_well : (protocol : Protocol) (set : SetDef) (allowance : ℕ) (e : Ending) (a : Answer)
+    → EndsIn (rounds_of (written protocol set)) allowance e → a ≡ ending_answer protocol set e
+    → ((i : ℕ) → EndsIn (rounds_of (written protocol set)) allowance (Wide i) → ⊥)
+    → (EndsIn (rounds_of (written protocol set)) allowance Allowance → ⊥) → (a.status ≡ 0) ⊎ (a.status ≡ 1)
 ends_well protocol set allowance (Schedulable bounds duals) a ends is no_wide no_allowance = inl (ap (λ x. x.status) is)
 ends_well protocol set allowance (NotShown i value) a ends is no_wide no_allowance = inr (ap (λ x. x.status) is)
 ends_well protocol set allowance (Wide i) a ends is no_wide no_allowance = absurd (no_wide i ends)
@@ -64,12 +69,25 @@ pub lawful : (form : Form) → IsLawful (plan_of form)
 lawful (Analyse protocol name allowance) = (set_reads_once protocol, λ bytes set. analysis_lawful protocol set allowance)
 lawful (Check protocol set cert) =
     (set_reads_once protocol, λ bytes tasks. (cert_reads_once protocol, λ bytes c. judgement_lawful protocol tasks c checked_answer refl))
-lawful (FullReport protocol set cert) =
-    (set_reads_once protocol, λ bytes tasks. (cert_reads_once protocol, λ bytes c. judgement_lawful protocol tasks c (reported_answer protocol tasks c) refl))
+lawful (FullReport protocol set cert) = (
+  set_reads_once protocol,
+  λ bytes tasks. (
+    cert_reads_once protocol,
+    λ bytes c. judgement_lawful protocol tasks c (reported_answer protocol tasks c) refl,
+  ),
+)
 lawful (Report protocol name) = (set_reads_once protocol, λ bytes set. table_lawful set)
-lawful (Conform protocol set jobs rows) =
-    (set_reads_once protocol, λ bytes tasks. (jobs_read_once tasks, λ bytes list. (rows_read_once list, λ bytes schedule. conformance_lawful protocol list schedule)))
-lawful (Simulate protocol set jobs ticks) = (set_reads_once protocol, λ bytes tasks. (jobs_read_once tasks, λ bytes list. simulation_lawful protocol list ticks))
+lawful (Conform protocol set jobs rows) = (
+  set_reads_once protocol,
+  λ bytes tasks. (
+    jobs_read_once tasks,
+    λ bytes list. (rows_read_once list, λ bytes schedule. conformance_lawful protocol list schedule),
+  ),
+)
+lawful (Simulate protocol set jobs ticks) = (
+  set_reads_once protocol,
+  λ bytes tasks. (jobs_read_once tasks, λ bytes list. simulation_lawful protocol list ticks),
+)
 lawful (Study seed sets) = study_lawful seed sets
 lawful (Audit protocol set cert jobs rows) = (
   set_reads_once protocol,
@@ -81,14 +99,18 @@ lawful (Audit protocol set cert jobs rows) = (
 )
 
 -- An analysis has status 5 or 6 only where its rounds end so.
-pub wide_ending : (protocol : Protocol) (set : SetDef) (e : Ending) (a : Answer) → a ≡ ending_answer protocol set e → a.status ≡ 5 → (i : ℕ) × (e ≡ Wide i)
-wide_ending protocol set (Schedulable bounds duals) a is five = let s : a.status ≡ 0 = ap (λ x. x.status) is in absurd (omega (arith, s, five))
+pub wide_ending : (protocol : Protocol) (set : SetDef) (e : Ending) (a : Answer) → a ≡ ending_answer protocol set e
+    → a.status ≡ 5 → (i : ℕ) × (e ≡ Wide i)
+wide_ending protocol set (Schedulable bounds duals) a is five =
+    let s : a.status ≡ 0 = ap (λ x. x.status) is in absurd (omega (arith, s, five))
 wide_ending protocol set (NotShown i value) a is five = let s : a.status ≡ 1 = ap (λ x. x.status) is in absurd (omega (arith, s, five))
 wide_ending protocol set (Wide i) a is five = (i, refl)
 wide_ending protocol set Allowance a is five = let s : a.status ≡ 6 = ap (λ x. x.status) is in absurd (omega (arith, s, five))
 
-short_ending : (protocol : Protocol) (set : SetDef) (e : Ending) (a : Answer) → a ≡ ending_answer protocol set e → a.status ≡ 6 → e ≡ Allowance
-short_ending protocol set (Schedulable bounds duals) a is six = let s : a.status ≡ 0 = ap (λ x. x.status) is in absurd (omega (arith, s, six))
+short_ending : (protocol : Protocol) (set : SetDef) (e : Ending) (a : Answer) → a ≡ ending_answer protocol set e
+    → a.status ≡ 6 → e ≡ Allowance
+short_ending protocol set (Schedulable bounds duals) a is six =
+    let s : a.status ≡ 0 = ap (λ x. x.status) is in absurd (omega (arith, s, six))
 short_ending protocol set (NotShown i value) a is six = let s : a.status ≡ 1 = ap (λ x. x.status) is in absurd (omega (arith, s, six))
 short_ending protocol set (Wide i) a is six = let s : a.status ≡ 5 = ap (λ x. x.status) is in absurd (omega (arith, s, six))
 short_ending protocol set Allowance a is six = refl
@@ -102,13 +124,15 @@ IsQuiet (Reading input name next) = (bytes : List ℕ) (value : input.Value) →
 quiet_outcome : (k : Known) (p : Plan) (a : Answer) → IsQuiet p → IsOutcomeOf k p a → a.status ≤ 3
 quiet_outcome k (Working work) a quiet out = omega (arith, quiet a out)
 quiet_outcome k (Reading input name next) a quiet (inl stopped) = omega (arith, stopped_status k input name a stopped)
-quiet_outcome k (Reading input name next) a quiet (inr (bytes, value, read, last, out)) = quiet_outcome k (next bytes value) a (quiet bytes value) out
+quiet_outcome k (Reading input name next) a quiet (inr (bytes, value, read, last, out)) =
+    quiet_outcome k (next bytes value) a (quiet bytes value) out
 
 table_quiet : (set : SetDef) (a : Answer) → IsTable set a → a.status ≤ 1
 table_quiet set a is = omega (arith, ap (λ x. x.status) is)
 
 conformance_quiet : (p : Protocol) (list : JobsDef) (rows : RowsDef) (a : Answer) → (conformance_of p list rows).answers a → a.status ≤ 1
-conformance_quiet p list rows a is = elim ((conformance_lawful p list rows).well tt a is) [ inl zero ↦ omega (arith, zero) | inr one ↦ omega (arith, one) ]
+conformance_quiet p list rows a is = elim ((conformance_lawful p list rows).well tt a is)
+    [ inl zero ↦ omega (arith, zero) | inr one ↦ omega (arith, one) ]
 
 not_quiet : (k : Known) (p : Plan) (a : Answer) (n : ℕ) → IsQuiet p → IsOutcomeOf k p a → a.status ≡ n → 4 ≤ n → ⊥
 not_quiet k p a n quiet out is most = absurd (omega (arith, quiet_outcome k p a quiet out, is, most))
@@ -135,7 +159,8 @@ audits_quiet : (p : Protocol) (set cert jobs rows : List ℕ) → IsQuiet (plan_
 audits_quiet p set cert jobs rows = λ bytes tasks b c d list e schedule. audit_quiet p c list schedule
 
 pub only_wide : (k : Known) (form : Form) (a : Answer) → IsOutcomeOf k (plan_of form) a → a.status ≡ 5 → AnalysisEnds k form IsWideEnding
-only_wide k (Analyse protocol name allowance) a (inl stopped) five = absurd (omega (arith, stopped_status k (set_input protocol) name a stopped, five))
+only_wide k (Analyse protocol name allowance) a (inl stopped) five =
+    absurd (omega (arith, stopped_status k (set_input protocol) name a stopped, five))
 only_wide k (Analyse protocol name allowance) a (inr (bytes, set, read, last, (e, ends, is))) five = record {
   protocol = protocol;
   name = name;
@@ -148,20 +173,25 @@ only_wide k (Analyse protocol name allowance) a (inr (bytes, set, read, last, (e
   ends = ends;
   is = wide_ending protocol set e a is five;
 }
-only_wide k (Check protocol set cert) a out five = absurd (not_quiet k (plan_of (Check protocol set cert)) a 5 (check_quiet protocol set cert) out five (omega arith))
+only_wide k (Check protocol set cert) a out five =
+    absurd (not_quiet k (plan_of (Check protocol set cert)) a 5 (check_quiet protocol set cert) out five (omega arith))
 only_wide k (FullReport protocol set cert) a out five =
     absurd (not_quiet k (plan_of (FullReport protocol set cert)) a 5 (full_report_quiet protocol set cert) out five (omega arith))
-only_wide k (Report protocol name) a out five = absurd (not_quiet k (plan_of (Report protocol name)) a 5 (report_quiet protocol name) out five (omega arith))
+only_wide k (Report protocol name) a out five =
+    absurd (not_quiet k (plan_of (Report protocol name)) a 5 (report_quiet protocol name) out five (omega arith))
 only_wide k (Conform protocol set jobs rows) a out five =
     absurd (not_quiet k (plan_of (Conform protocol set jobs rows)) a 5 (conform_quiet protocol set jobs rows) out five (omega arith))
 only_wide k (Simulate protocol set jobs ticks) a out five =
     absurd (not_quiet k (plan_of (Simulate protocol set jobs ticks)) a 5 (simulate_quiet protocol set jobs ticks) out five (omega arith))
-only_wide k (Study seed sets) a out five = absurd (not_quiet k (plan_of (Study seed sets)) a 5 (study_form_quiet seed sets) out five (omega arith))
+only_wide k (Study seed sets) a out five =
+    absurd (not_quiet k (plan_of (Study seed sets)) a 5 (study_form_quiet seed sets) out five (omega arith))
 only_wide k (Audit protocol set cert jobs rows) a out five =
     absurd (not_quiet k (plan_of (Audit protocol set cert jobs rows)) a 5 (audits_quiet protocol set cert jobs rows) out five (omega arith))
 
-pub only_short : (k : Known) (form : Form) (a : Answer) → IsOutcomeOf k (plan_of form) a → a.status ≡ 6 → AnalysisEnds k form IsAllowanceEnding
-only_short k (Analyse protocol name allowance) a (inl stopped) six = absurd (omega (arith, stopped_status k (set_input protocol) name a stopped, six))
+pub only_short : (k : Known) (form : Form) (a : Answer) → IsOutcomeOf k (plan_of form) a → a.status ≡ 6
+    → AnalysisEnds k form IsAllowanceEnding
+only_short k (Analyse protocol name allowance) a (inl stopped) six =
+    absurd (omega (arith, stopped_status k (set_input protocol) name a stopped, six))
 only_short k (Analyse protocol name allowance) a (inr (bytes, set, read, last, (e, ends, is))) six = record {
   protocol = protocol;
   name = name;
@@ -174,14 +204,17 @@ only_short k (Analyse protocol name allowance) a (inr (bytes, set, read, last, (
   ends = ends;
   is = short_ending protocol set e a is six;
 }
-only_short k (Check protocol set cert) a out six = absurd (not_quiet k (plan_of (Check protocol set cert)) a 6 (check_quiet protocol set cert) out six (omega arith))
+only_short k (Check protocol set cert) a out six =
+    absurd (not_quiet k (plan_of (Check protocol set cert)) a 6 (check_quiet protocol set cert) out six (omega arith))
 only_short k (FullReport protocol set cert) a out six =
     absurd (not_quiet k (plan_of (FullReport protocol set cert)) a 6 (full_report_quiet protocol set cert) out six (omega arith))
-only_short k (Report protocol name) a out six = absurd (not_quiet k (plan_of (Report protocol name)) a 6 (report_quiet protocol name) out six (omega arith))
+only_short k (Report protocol name) a out six =
+    absurd (not_quiet k (plan_of (Report protocol name)) a 6 (report_quiet protocol name) out six (omega arith))
 only_short k (Conform protocol set jobs rows) a out six =
     absurd (not_quiet k (plan_of (Conform protocol set jobs rows)) a 6 (conform_quiet protocol set jobs rows) out six (omega arith))
 only_short k (Simulate protocol set jobs ticks) a out six =
     absurd (not_quiet k (plan_of (Simulate protocol set jobs ticks)) a 6 (simulate_quiet protocol set jobs ticks) out six (omega arith))
-only_short k (Study seed sets) a out six = absurd (not_quiet k (plan_of (Study seed sets)) a 6 (study_form_quiet seed sets) out six (omega arith))
+only_short k (Study seed sets) a out six =
+    absurd (not_quiet k (plan_of (Study seed sets)) a 6 (study_form_quiet seed sets) out six (omega arith))
 only_short k (Audit protocol set cert jobs rows) a out six =
     absurd (not_quiet k (plan_of (Audit protocol set cert jobs rows)) a 6 (audits_quiet protocol set cert jobs rows) out six (omega arith))

@@ -66,12 +66,15 @@ record IsOfNone (r : Result SetDef SetRefusal) (bytes : List ℕ) : Type 0 where
 says : (r : Result SetDef SetRefusal) (bytes : List ℕ) → Reads r bytes → Tells r → IsOfNone r bytes ⊎ IsOfValue r bytes
 says (Ok set) bytes reads tells = inr (record { value = reads.0; is_value = reads.1; is = judged (Ok set) reads.0 reads.2 tells })
 says (Err refusal.NotJson) bytes reads tells = inl (record { none = reads; is = refl })
-says (Err (refusal.Shape place)) bytes reads tells = inr (record { value = reads.0; is_value = reads.1; is = judged (Err (refusal.Shape place)) reads.0 reads.2 tells })
-says (Err (refusal.Model m)) bytes reads tells = inr (record { value = reads.0; is_value = reads.1; is = judged (Err (refusal.Model m)) reads.0 reads.2 tells })
+says (Err (refusal.Shape place)) bytes reads tells =
+    inr (record { value = reads.0; is_value = reads.1; is = judged (Err (refusal.Shape place)) reads.0 reads.2 tells })
+says (Err (refusal.Model m)) bytes reads tells =
+    inr (record { value = reads.0; is_value = reads.1; is = judged (Err (refusal.Model m)) reads.0 reads.2 tells })
 says (Err (refusal.NoHome q)) bytes reads tells = absurd reads.2
 says (Err refusal.Memory) bytes reads tells = absurd tells
 
-one_saying : (r s : Result SetDef SetRefusal) (bytes : List ℕ) → (IsOfNone r bytes ⊎ IsOfValue r bytes) → (IsOfNone s bytes ⊎ IsOfValue s bytes) → r ≡ s
+one_saying : (r s : Result SetDef SetRefusal) (bytes : List ℕ) → (IsOfNone r bytes ⊎ IsOfValue r bytes)
+    → (IsOfNone s bytes ⊎ IsOfValue s bytes) → r ≡ s
 one_saying r s bytes (inl x) (inl y) = x.is ∙ sym y.is
 one_saying r s bytes (inl x) (inr y) = absurd (x.none y.value y.is_value)
 one_saying r s bytes (inr x) (inl y) = absurd (y.none x.value x.is_value)
@@ -100,10 +103,13 @@ record ReadFor (protocol : Protocol) (bytes : List ℕ) (r : Result SetDef SetRe
   is : r ≡ for_protocol protocol said
 
 read_for : (protocol : Protocol) (bytes : List ℕ) (r : Result SetDef SetRefusal) → ReadsSet protocol bytes r → ReadFor protocol bytes r
-read_for protocol bytes (Ok set) (reads, none) = record { said = Ok set; reads = reads; tells = tt; is = sym (ap (λ o. with_homes o set) none) }
-read_for protocol bytes (Err (refusal.NoHome q)) (set, reads, some) = record { said = Ok set; reads = reads; tells = tt; is = sym (ap (λ o. with_homes o set) some) }
+read_for protocol bytes (Ok set) (reads, none) =
+    record { said = Ok set; reads = reads; tells = tt; is = sym (ap (λ o. with_homes o set) none) }
+read_for protocol bytes (Err (refusal.NoHome q)) (set, reads, some) =
+    record { said = Ok set; reads = reads; tells = tt; is = sym (ap (λ o. with_homes o set) some) }
 read_for protocol bytes (Err refusal.NotJson) reads = record { said = Err refusal.NotJson; reads = reads; tells = tt; is = refl }
-read_for protocol bytes (Err (refusal.Shape place)) reads = record { said = Err (refusal.Shape place); reads = reads; tells = tt; is = refl }
+read_for protocol bytes (Err (refusal.Shape place)) reads =
+    record { said = Err (refusal.Shape place); reads = reads; tells = tt; is = refl }
 read_for protocol bytes (Err (refusal.Model m)) reads = record { said = Err (refusal.Model m); reads = reads; tells = tt; is = refl }
 read_for protocol bytes (Err refusal.Memory) reads = absurd reads
 

@@ -31,7 +31,8 @@ sound_if_valid protocol.Mpcp set c values accepted valid are = mpcp_sound set c 
 sound_if_valid protocol.FmlpPlus set c values accepted valid are = fmlp_sound set c values accepted valid are
 sound_if_valid protocol.Dpcp set c values accepted valid are = dpcp_sound set c values accepted valid are
 
-valid_at_zero : (p : Protocol) (set : SetDef) (c : CertificateDef) (a : Answer) → IsJudgement p set c checked_answer a → a.status ≡ 0 → IsValid (written p set) c
+valid_at_zero : (p : Protocol) (set : SetDef) (c : CertificateDef) (a : Answer) → IsJudgement p set c checked_answer a
+    → a.status ≡ 0 → IsValid (written p set) c
 valid_at_zero p set c a (inl (valid, is)) zero = valid
 valid_at_zero p set c a (inr (e, fails, is)) zero = let one : a.status ≡ 1 = ap (λ x. x.status) is in absurd (omega (arith, one, zero))
 

@@ -16,10 +16,12 @@ same_lines zero f g same = refl
 same_lines (suc n) f g same =
     ap (λ l. l ++ f n) (same_lines n f g (λ i here. same i (omega (arith, here)))) ∙ ap (λ l. collect_below n g ++ l) (same n (omega arith))
 
-same_line : (i : ℕ) (r s : List ℕ) → slice_index r 0 ≡ slice_index s 0 → slice_index r 1 ≡ slice_index s 1 → slice_index r 2 ≡ slice_index s 2 → step_line i r ≡ step_line i s
+same_line : (i : ℕ) (r s : List ℕ) → slice_index r 0 ≡ slice_index s 0 → slice_index r 1 ≡ slice_index s 1
+    → slice_index r 2 ≡ slice_index s 2 → step_line i r ≡ step_line i s
 same_line i r s a b c = rw (a, b, c) refl
 
-same_text : (seed sets : ℕ) (c d : StudyCounts) → IsStudy seed sets c → IsStudy seed sets d → study_text c.counts.items c.stopped ≡ study_text d.counts.items d.stopped
+same_text : (seed sets : ℕ) (c d : StudyCounts) → IsStudy seed sets c → IsStudy seed sets d
+    → study_text c.counts.items c.stopped ≡ study_text d.counts.items d.stopped
 same_text seed sets c d p q =
     let f : ℕ → List ℕ = λ i. step_line i (slice_index_or c.counts.items i []) in
     let g : ℕ → List ℕ = λ i. step_line i (slice_index_or d.counts.items i []) in
@@ -27,14 +29,16 @@ same_text seed sets c d p q =
     let same = step_once seed sets c d p q i here in
     same_line i (slice_index_or c.counts.items i []) (slice_index_or d.counts.items i []) same.0 same.1 same.2) in
     ap (λ l. codes "step mpcp fmlp+ dpcp\n" ++ (l ++ (codes "stopped " ++ (decimal c.stopped ++ codes "\n")))) lines
-    ∙ ap (λ n. codes "step mpcp fmlp+ dpcp\n" ++ (collect_below 8 g ++ (codes "stopped " ++ (decimal n ++ codes "\n")))) (stopped_is_one seed sets c d p q)
+    ∙ ap (λ n. codes "step mpcp fmlp+ dpcp\n" ++ (collect_below 8 g ++ (codes "stopped " ++ (decimal n ++ codes "\n"))))
+    (stopped_is_one seed sets c d p q)
 
 one_study : (seed sets : ℕ) (a b : Answer) → IsStudyAnswer seed sets a → IsStudyAnswer seed sets b → a ≡ b
 one_study seed sets a b (c, p, is) (d, q, is') = is ∙ ap (λ t. record { status = 0; text = t }) (same_text seed sets c d p q) ∙ sym is'
 
 study_plain : (seed sets : ℕ) (a : Answer) → IsStudyAnswer seed sets a → IsPlain a
 study_plain seed sets a (c, p, is) =
-    let text = study_text c.counts.items c.stopped in plain_same a (record { status = 0; text = text }) is (plain_at 0 text (inl (inl refl)))
+    let text = study_text c.counts.items c.stopped in
+    plain_same a (record { status = 0; text = text }) is (plain_at 0 text (inl (inl refl)))
 
 pub study_lawful : (seed sets : ℕ) → IsLawfulWork (study_of seed sets)
 study_lawful seed sets = record {

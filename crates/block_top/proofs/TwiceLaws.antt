@@ -15,7 +15,8 @@ not_risen before now same below rose = absurd (omega (arith, same, below, rose))
 rose_within : (a b c d : ℕ) → a ≤ b → c ≤ d → Rose b c → Rose a d
 rose_within a b c d early late rose = omega (arith, early, late, rose)
 
-pub complete_over : (call : Call) (names : Option Inputs) (before now : ℕ) → IsRun call → call.names ≡ names → call.shelf_now ≡ call.shelf_before → call.shelf_before < 2 ^ 64 - 1
+pub complete_over : (call : Call) (names : Option Inputs) (before now : ℕ) → IsRun call → call.names ≡ names
+    → call.shelf_now ≡ call.shelf_before → call.shelf_before < 2 ^ 64 - 1
     → IsSome call.written_before → before ≤ call.sink_before → call.sink_now ≤ now → IsCompleteOver names call.words before now call.status
 complete_over call names before now run same steady below tells early late inputs form form_is told ends quiet =
     let premise : IsCompletePremise call inputs form = record {

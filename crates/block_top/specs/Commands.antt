@@ -26,15 +26,18 @@ use Rattle.study_gen.specs.Counts.{IsStudy}
 use Rattle.study_gen.specs.declared.counting.StudyCounts.{StudyCounts}
 use Rattle.block_top.specs.Plans.{Answer, Work, Plan, Working, Reading}
 use Rattle.command_words.specs.Words.{Form, Analyse, Check, Report, FullReport, Conform, Simulate, Study, Audit}
-use Rattle.answer_texts.specs.Texts.{not_shown_text, wide_text, allowance_text, lawful_text, broken_text, valid_text, invalid_text, study_text, kept_text}
+use Rattle.answer_texts.specs.Texts.{not_shown_text, wide_text, allowance_text, lawful_text, broken_text, valid_text}
+use Rattle.answer_texts.specs.Texts.{invalid_text, study_text, kept_text}
 use Rattle.charge.specs.ByProtocol.{charges_of}
 use Rattle.audit_figures.specs.Figures.{figures_of}
 use Rattle.block_top.specs.Inputs.{set_input, cert_input, jobs_input, rows_input}
 
 -- What goes out where the rounds of the set end so.
 abbrev pub ending_answer : Protocol → SetDef → Ending → Answer
-ending_answer protocol set (Schedulable bounds duals) = record { status = 0; text = certificate_text protocol (record { bounds = bounds; duals = duals }) }
-ending_answer protocol set (NotShown i value) = record { status = 1; text = not_shown_text (task_at set i).name value (task_at set i).deadline }
+ending_answer protocol set (Schedulable bounds duals) =
+    record { status = 0; text = certificate_text protocol (record { bounds = bounds; duals = duals }) }
+ending_answer protocol set (NotShown i value) =
+    record { status = 1; text = not_shown_text (task_at set i).name value (task_at set i).deadline }
 ending_answer protocol set (Wide i) = record { status = 5; text = wide_text (task_at set i).name }
 ending_answer protocol set Allowance = record { status = 6; text = allowance_text }
 
@@ -118,7 +121,8 @@ simulating_jobs protocol jobs n set = Reading (jobs_input set) jobs (λ bytes li
 
 -- The answer of a study: what it counts.
 abbrev pub IsStudyAnswer : ℕ → ℕ → Answer → Type 0
-IsStudyAnswer seed sets answer = (c : StudyCounts) × IsStudy seed sets c × (answer ≡ record { status = 0; text = study_text c.counts.items c.stopped })
+IsStudyAnswer seed sets answer = (c : StudyCounts) × IsStudy seed sets c
+    × (answer ≡ record { status = 0; text = study_text c.counts.items c.stopped })
 
 -- Making and counting sets, which always ends.
 abbrev pub study_of : ℕ → ℕ → Work
@@ -162,8 +166,10 @@ auditing protocol cert jobs rows set = Reading (cert_input protocol) cert (λ by
 -- What each form of words does.
 abbrev pub plan_of : Form → Plan
 plan_of (Analyse protocol name allowance) = Reading (set_input protocol) name (λ bytes set. Working (analysis_of protocol set allowance))
-plan_of (Check protocol set cert) = Reading (set_input protocol) set (λ bytes tasks. with_certificate protocol cert (check_of protocol tasks))
-plan_of (FullReport protocol set cert) = Reading (set_input protocol) set (λ bytes tasks. with_certificate protocol cert (full_table_of protocol tasks))
+plan_of (Check protocol set cert) =
+    Reading (set_input protocol) set (λ bytes tasks. with_certificate protocol cert (check_of protocol tasks))
+plan_of (FullReport protocol set cert) =
+    Reading (set_input protocol) set (λ bytes tasks. with_certificate protocol cert (full_table_of protocol tasks))
 plan_of (Report protocol name) = Reading (set_input protocol) name (λ bytes set. Working (table_of set))
 plan_of (Conform protocol set jobs rows) = Reading (set_input protocol) set (λ bytes tasks. judging_jobs protocol jobs rows tasks)
 plan_of (Simulate protocol set jobs ticks) = Reading (set_input protocol) set (λ bytes tasks. simulating_jobs protocol jobs ticks tasks)

@@ -107,4 +107,5 @@ pub record Checks (call : Call) (protocol : Protocol) (set : SetDef) (c : Certif
 -- The headline's second half: what the call accepts, with status 0, is sound. In every schedule that keeps the protocol's rules,
 -- of whatever lawful jobs of the set, each job ends within its bound, and is blocked at no more ticks than its dual's value.
 abbrev pub IsSoundCheck : Call → Protocol → SetDef → CertificateDef → Type 0
-IsSoundCheck call protocol set c = call.status ≡ 0 → (values : List ℕ) → AreValues (written protocol set) c values → SoundUnder protocol set c.bounds values
+IsSoundCheck call protocol set c = call.status ≡ 0 → (values : List ℕ) → AreValues (written protocol set) c values
+    → SoundUnder protocol set c.bounds values

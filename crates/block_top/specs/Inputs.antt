@@ -42,7 +42,13 @@ ReadsCert protocol bytes (Err cert.Memory) = ⊥
 ReadsCert protocol bytes (Err r) = (d : Data) × IsValue bytes d × (first_refusal protocol d ≡ Some r)
 
 abbrev pub cert_input : Protocol → Input
-cert_input protocol = record { Value = CertificateDef; Refusal = CertRefusal; word = codes "cert"; reads = ReadsCert protocol; reason = cert_reason_text }
+cert_input protocol = record {
+  Value = CertificateDef;
+  Refusal = CertRefusal;
+  word = codes "cert";
+  reads = ReadsCert protocol;
+  reason = cert_reason_text;
+}
 
 -- Jobs of a task set. Only want of memory is no reading.
 abbrev pub ReadsJobs : SetDef → List ℕ → Result JobsDef JobsRefusal → Type 0

@@ -107,7 +107,8 @@ pub record IsRun (call : Call) : Type 0 where
   -- requests nothing; status 6 only where they end with the allowance.
   pub wide : call.status ≡ 5 → (form : Form) × (form_of call.words ≡ Some form) × AnalysisEnds (shown_by (shelf_of call)) form IsWideEnding
   pub never_wide : (protocol : Protocol) (set : SetDef) → Analyses call protocol set → RequestsNothing set → call.status ≢ 5
-  pub allowance : call.status ≡ 6 → (form : Form) × (form_of call.words ≡ Some form) × AnalysisEnds (shown_by (shelf_of call)) form IsAllowanceEnding
+  pub allowance : call.status ≡ 6 → (form : Form) × (form_of call.words ≡ Some form)
+      × AnalysisEnds (shown_by (shelf_of call)) form IsAllowanceEnding
   pub complete : IsComplete call
   pub headline : (protocol : Protocol) (set : SetDef) → Analyses call protocol set → IsHeadline call protocol set
   -- And what `check` accepts is sound.

@@ -51,7 +51,8 @@ pub fn audited(
     requires suits { HasHomesFor protocol jobs.now.set }
     requires denominators { HasDenominators (certificate_seen certificate.now) }
     requires made { IsMadeFor rows.now jobs.now }
-    ensures { Answered result (IsAudit protocol (certificate_seen certificate.now) (trace_in jobs.now rows.now.runs) (ticks_of rows.now.runs)) }
+    ensures { Answered result (IsAudit protocol (certificate_seen certificate.now) (trace_in jobs.now rows.now.runs)
+        (ticks_of rows.now.runs)) }
 {
     let ticks = rows.ticks();
     match audit(alloc, protocol, certificate, jobs, rows) {

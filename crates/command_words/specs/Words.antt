@@ -1,5 +1,6 @@
 -- The forms of words that the program answers.
-use Rattle.std.specs.Prelude.{◌≡◌, refl, ℕ, ◌-◌, ◌^◌, List, [], ◌∷◌, map, Option, Some, None, if◌then◌else◌, option_map, String, string_bytes, codes}
+use Rattle.std.specs.Prelude.{◌≡◌, refl, ℕ, ◌-◌, ◌^◌, List, [], ◌∷◌, map, Option, Some, None, if◌then◌else◌, option_map}
+use Rattle.std.specs.Prelude.{String, string_bytes, codes}
 use Rattle.std.specs.Global.{Global}
 use Rattle.std.specs.Str.{bytes_eq}
 use Rattle.sporadic_model.specs.declared.ids.Protocol.{Protocol}

@@ -2,7 +2,8 @@ ghost use Rattle.std.specs.Prelude.{◌≡◌, ◌-◌, ◌^◌, option_map, IfS
 ghost use Rattle.sporadic_model.specs.declared.limits.TheConstants.{MOST_TICKS};
 ghost use Rattle.text_pieces.specs.Numbers.{number_between};
 ghost use Rattle.command_words.specs.declared.words.TheConstants.{GREATEST_ALLOWANCE, MOST_SETS};
-ghost use Rattle.command_words.specs.Words.{protocol_of, study_form, form_of_three, analyse_form, form_of_four, simulate_form, form_of_five, form_of, words_seen, form_of_six};
+ghost use Rattle.command_words.specs.Words.{protocol_of, study_form, form_of_three, analyse_form, form_of_four};
+ghost use Rattle.command_words.specs.Words.{simulate_form, form_of_five, form_of, words_seen, form_of_six};
 ghost use Rattle.command_words.specs.FormSeen.{form_seen, HasFittingNumbers};
 
 use sporadic_model::{MOST_TICKS, Protocol};
@@ -125,7 +126,8 @@ fn command_of_three<'a>(command: &str, second: &str, set: &'a str) -> Option<Com
 
 /// What an analysis with this allowance asks for.
 fn analyse_within<'a>(protocol: &str, set: &'a str, allowance: &str) -> Option<Command<'a>>
-    ensures form { option_map form_seen result ≡ analyse_form (protocol_of protocol.now) set.now (number_between 1 GREATEST_ALLOWANCE allowance.now) }
+    ensures form { option_map form_seen result
+        ≡ analyse_form (protocol_of protocol.now) set.now (number_between 1 GREATEST_ALLOWANCE allowance.now) }
     ensures ticks { IfSome result (λ c. HasFittingNumbers (form_seen c)) }
 {
     match (

@@ -1,6 +1,7 @@
 -- The columns of a row one after the other: a job that runs stands in a column, and the places move with each column
 -- that is taken.
-use Rattle.std.proofs.Common.{◌≡◌, ℕ, zero, suc, ◌+◌, ◌<◌, ◌≤◌, ◌||◌, Bool, true, false, List, [], length, get_or, take, refl, sym, ap, ◌∙◌, arith, inl, inr, Option, Some, None}
+use Rattle.std.proofs.Common.{◌≡◌, ℕ, zero, suc, ◌+◌, ◌<◌, ◌≤◌, ◌||◌, Bool, true, false, List, [], length, get_or, take}
+use Rattle.std.proofs.Common.{refl, sym, ap, ◌∙◌, arith, inl, inr, Option, Some, None}
 use Rattle.std.specs.List.{list_any}
 use Rattle.std.proofs.lemmas.Bool.{cases_lt, cases_eq, false_from_ne_true, or_right, ne_eqb}
 use Rattle.std.proofs.lemmas.List.{get_or-take, get_or_past, length-take}
@@ -25,7 +26,8 @@ unfolding runs_in
 named_from names c j e = runs_from (record { running = names; holders = [] }) (suc c) j e
 
 -- The first columns name a job only where some column before names it.
-pub named_before : (names : List (Option ℕ)) (n j : ℕ) → list_any (is_job j) (take n names) ≡ true → (c : ℕ) × (c < n) × (get_or names c None ≡ Some j)
+pub named_before : (names : List (Option ℕ)) (n j : ℕ) → list_any (is_job j) (take n names) ≡ true
+    → (c : ℕ) × (c < n) × (get_or names c None ≡ Some j)
 named_before names n j h =
     let at : (c : ℕ) × (get_or (take n names) c None ≡ Some j) = named_where (take n names) j h in
     elim (cases_lt at.0 n) [
@@ -38,11 +40,14 @@ named_before names n j h =
     ]
 
 -- A job in a column stands in none before.
-pub not_before : (jobs : List JobDef) (places : List Place) (names : List (Option ℕ)) (n j : ℕ) → AreCurrent jobs places names → get_or names n None ≡ Some j
+pub not_before : (jobs : List JobDef) (places : List Place) (names : List (Option ℕ)) (n j : ℕ)
+    → AreCurrent jobs places names → get_or names n None ≡ Some j
     → list_any (is_job j) (take n names) ≡ false
-not_before jobs places names n j current e = false_from_ne_true (list_any (is_job j) (take n names)) (λ h. twice (named_before names n j h)) where
-  twice : (c : ℕ) × (c < n) × (get_or names c None ≡ Some j) → ⊥
-  twice at = let same : at.0 ≡ n = current.one_column at.0 n j at.2 e in absurd (omega (arith, at.1))
+not_before jobs places names n j current e =
+    false_from_ne_true (list_any (is_job j) (take n names)) (λ h. twice (named_before names n j h))
+  where
+    twice : (c : ℕ) × (c < n) × (get_or names c None ≡ Some j) → ⊥
+    twice at = let same : at.0 ≡ n = current.one_column at.0 n j at.2 e in absurd (omega (arith, at.1))
 
 -- One column more.
 pub column_more : (names : List (Option ℕ)) (n j : ℕ) (o : Option ℕ) → n < length names → get_or names n None ≡ o
@@ -54,42 +59,53 @@ or_none true = refl
 or_none false = refl
 
 -- A column that names another job, or none, moves no place.
-pub moved_past : (jobs : List JobDef) (after more x : ℕ) (names : List (Option ℕ)) (n : ℕ) (o : Option ℕ) (p q r : Place) → n < length names → get_or names n None ≡ o
+pub moved_past : (jobs : List JobDef) (after more x : ℕ) (names : List (Option ℕ)) (n : ℕ) (o : Option ℕ)
+    (p q r : Place) → n < length names → get_or names n None ≡ o
     → is_job p.job o ≡ false → r ≡ q → MovesTo jobs after more (take n names) x p q → MovesTo jobs after more (take (n + 1) names) x p r
 moved_past jobs after more x names n o p q r l e other same moves = record {
   runs = λ h. rw same (moves.runs (sym before ∙ h));
   stays = λ h. same ∙ moves.stays (sym before ∙ h);
 } where
   before : list_any (is_job p.job) (take (n + 1) names) ≡ list_any (is_job p.job) (take n names)
-  before = column_more names n p.job o l e ∙ ap (λ b. list_any (is_job p.job) (take n names) || b) other ∙ or_none (list_any (is_job p.job) (take n names))
+  before = column_more names n p.job o l e ∙ ap (λ b. list_any (is_job p.job) (take n names) || b) other
+      ∙ or_none (list_any (is_job p.job) (take n names))
 
 -- The column that names a place's job makes it step.
-pub moved_here : (jobs : List JobDef) (after more x : ℕ) (names : List (Option ℕ)) (n j : ℕ) (p q r : Place) → n < length names → get_or names n None ≡ Some j → p.job ≡ j
+pub moved_here : (jobs : List JobDef) (after more x : ℕ) (names : List (Option ℕ)) (n j : ℕ) (p q r : Place)
+    → n < length names → get_or names n None ≡ Some j → p.job ≡ j
     → q ≡ p → StepsTo jobs after more x q r → MovesTo jobs after more (take (n + 1) names) x p r
 moved_here jobs after more x names n j p q r l e own still steps = record {
   runs = λ h. rw (← still) steps;
   stays = λ h. absurd (both h);
 } where
   named : list_any (is_job p.job) (take (n + 1) names) ≡ true
-  named = column_more names n p.job (Some j) l e ∙ or_right (list_any (is_job p.job) (take n names)) (is_job p.job (Some j)) (named_job p.job (Some j) (ap (λ k. Some k) (sym own)))
+  named = column_more names n p.job (Some j) l e ∙ or_right (list_any (is_job p.job) (take n names))
+      (is_job p.job (Some j)) (named_job p.job (Some j) (ap (λ k. Some k) (sym own)))
 
   both : list_any (is_job p.job) (take (n + 1) names) ≡ false → ⊥
   both h = let x : true ≡ false = sym named ∙ h in cc
 
 -- So all places move with the column.
-pub column_moves : (list : JobsDef) (after more : ℕ) (names : List (Option ℕ)) (n j : ℕ) (first now next : List Place) → ArePlaces list first → AreCurrent list.jobs first names
+pub column_moves : (list : JobsDef) (after more : ℕ) (names : List (Option ℕ)) (n j : ℕ) (first now next : List Place)
+    → ArePlaces list first → AreCurrent list.jobs first names
     → n < length names → get_or names n None ≡ Some j
-    → ((x : ℕ) → x < length list.set.tasks → MovesTo list.jobs after more (take n names) x (get_or first x no_place) (get_or now x no_place))
-    → StepsTo list.jobs after more (task_in list.jobs j) (get_or now (task_in list.jobs j) no_place) (get_or next (task_in list.jobs j) no_place)
+    → ((x : ℕ) → x < length list.set.tasks
+    → MovesTo list.jobs after more (take n names) x (get_or first x no_place) (get_or now x no_place))
+    → StepsTo list.jobs after more (task_in list.jobs j) (get_or now (task_in list.jobs j) no_place)
+    (get_or next (task_in list.jobs j) no_place)
     → ((x : ℕ) → (x ≡ task_in list.jobs j → ⊥) → get_or next x no_place ≡ get_or now x no_place)
-    → (x : ℕ) → x < length list.set.tasks → MovesTo list.jobs after more (take (n + 1) names) x (get_or first x no_place) (get_or next x no_place)
+    → (x : ℕ) → x < length list.set.tasks
+    → MovesTo list.jobs after more (take (n + 1) names) x (get_or first x no_place) (get_or next x no_place)
 column_moves list after more names n j first now next places current l e moves own others x b = elim (cases_eq x (task_in list.jobs j)) [
   | inl same ↦
       let here : (get_or first x no_place).job ≡ j = rw same (current.current n j e) in
-      let none : list_any (is_job (get_or first x no_place).job) (take n names) ≡ false = rw here (not_before list.jobs first names n j current e) in
-      moved_here list.jobs after more x names n j (get_or first x no_place) (get_or now x no_place) (get_or next x no_place) l e here ((moves x b).stays none) (rw same own)
+      let none : list_any (is_job (get_or first x no_place).job) (take n names) ≡ false =
+      rw here (not_before list.jobs first names n j current e) in
+      moved_here list.jobs after more x names n j (get_or first x no_place) (get_or now x no_place)
+      (get_or next x no_place) l e here ((moves x b).stays none) (rw same own)
   | inr other ↦
-      moved_past list.jobs after more x names n (Some j) (get_or first x no_place) (get_or now x no_place) (get_or next x no_place) l e (elsewhere other) (others x other) (moves x b)
+      moved_past list.jobs after more x names n (Some j) (get_or first x no_place) (get_or now x no_place)
+      (get_or next x no_place) l e (elsewhere other) (others x other) (moves x b)
 ] where
   elsewhere : (x ≡ task_in list.jobs j → ⊥) → is_job (get_or first x no_place).job (Some j) ≡ false
   elsewhere other = ne_eqb j (get_or first x no_place).job (λ same. other (own_task same))
@@ -100,8 +116,10 @@ column_moves list after more names n j first now next places current l e moves o
           sym ((places.each x b).own listed) ∙ ap (task_in list.jobs) (sym same)
 
 -- At a column the place of its job's task is where it was at first.
-pub still_there : (list : JobsDef) (after more : ℕ) (names : List (Option ℕ)) (n j : ℕ) (first now : List Place) → AreCurrent list.jobs first names → get_or names n None ≡ Some j
-    → MovesTo list.jobs after more (take n names) (task_in list.jobs j) (get_or first (task_in list.jobs j) no_place) (get_or now (task_in list.jobs j) no_place)
+pub still_there : (list : JobsDef) (after more : ℕ) (names : List (Option ℕ)) (n j : ℕ) (first now : List Place)
+    → AreCurrent list.jobs first names → get_or names n None ≡ Some j
+    → MovesTo list.jobs after more (take n names) (task_in list.jobs j) (get_or first (task_in list.jobs j) no_place)
+    (get_or now (task_in list.jobs j) no_place)
     → get_or now (task_in list.jobs j) no_place ≡ get_or first (task_in list.jobs j) no_place
 still_there list after more names n j first now current e moves =
     moves.stays (rw (current.current n j e) (not_before list.jobs first names n j current e))

@@ -18,14 +18,21 @@ due_later jobs t x j coming = record {
 
 -- The task's first job is due at tick 0.
 pub due_at_first : (jobs : List JobDef) (x j : ℕ) → IsNext jobs x 0 j → IsDue jobs 0 x j
-due_at_first jobs x j next = record { most = next.most; own = next.own; later = λ l. omega arith; earlier = λ e l same. absurd (next.first e (omega arith) l same) }
+due_at_first jobs x j next = record {
+  most = next.most;
+  own = next.own;
+  later = λ l. omega arith;
+  earlier = λ e l same. absurd (next.first e (omega arith) l same);
+}
 
 -- What is due and not released is the next to be released.
-pub coming_here : (jobs : List JobDef) (t x j : ℕ) → IsDue jobs t x j → (j < length jobs → t < (job_of jobs j).release) → IsComing jobs t x j
+pub coming_here : (jobs : List JobDef) (t x j : ℕ) → IsDue jobs t x j → (j < length jobs → t < (job_of jobs j).release)
+    → IsComing jobs t x j
 coming_here jobs t x j due later = record { most = due.most; own = due.own; later = later; earlier = due.earlier }
 
 -- After one that is released it is the task's next job.
-pub coming_next : (list : JobsDef) (t x j n : ℕ) → AreLawfulJobs list → TaskNumbers list.set x → IsDue list.jobs t x j → j < length list.jobs → (job_of list.jobs j).release ≤ t
+pub coming_next : (list : JobsDef) (t x j n : ℕ) → AreLawfulJobs list → TaskNumbers list.set x → IsDue list.jobs t x j
+    → j < length list.jobs → (job_of list.jobs j).release ≤ t
     → IsNext list.jobs x (j + 1) n → IsComing list.jobs t x n
 coming_next list t x j n lawful numbers due l released next = record {
   most = next.most;
@@ -37,7 +44,8 @@ coming_next list t x j n lawful numbers due l released next = record {
   later b =
       let apart : (job_of list.jobs j).release + (task_at list.set (job_of list.jobs j).task).period ≤ (job_of list.jobs n).release =
       lawful.apart j n (omega (arith, next.from_on)) b (due.own l ∙ sym (next.own b)) in
-      let period : (task_at list.set (job_of list.jobs j).task).period ≡ (task_at list.set x).period = ap (λ y. (task_at list.set y).period) (due.own l) in
+      let period : (task_at list.set (job_of list.jobs j).task).period ≡ (task_at list.set x).period =
+      ap (λ y. (task_at list.set y).period) (due.own l) in
       omega (arith, due.later l, numbers.local_from, numbers.local_to, numbers.cost_to, numbers.deadline_to)
 
   earlier : (e : ℕ) → e < n → task_in list.jobs e ≡ x → (job_of list.jobs e).release ≤ t

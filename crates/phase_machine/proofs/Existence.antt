@@ -1,5 +1,7 @@
 -- Each schedule whose rows can be taken is shown by some machine.
-use Rattle.std.proofs.Common.{◌≡◌, ◌⊎◌, ℕ, zero, suc, ◌+◌, ◌<◌, ◌≤◌, ◌==◌, ◌&&◌, Bool, List, [], ◌∷◌, ◌++◌, length, get_or, replicate, refl, sym, ap, subst, ◌∙◌, arith, add-one, length-append, inl, inr, None, leb, cond}
+use Rattle.std.proofs.Common.{◌≡◌, ◌⊎◌, ℕ, zero, suc, ◌+◌, ◌<◌, ◌≤◌, ◌==◌, ◌&&◌, Bool, List, [], ◌∷◌, ◌++◌, length}
+use Rattle.std.proofs.Common.{get_or, replicate, refl, sym, ap, subst, ◌∙◌, arith, add-one, length-append, inl, inr}
+use Rattle.std.proofs.Common.{None, leb, cond}
 use Rattle.std.specs.List.{list_any}
 use Rattle.std.proofs.lemmas.Bool.{cases_lt, cases_Bool, and_parts, and_from, leb-true, le-leb, eqb-true, eq-eqb}
 use Rattle.std.proofs.lemmas.List.{get_or_append_left, get_or_at}
@@ -25,12 +27,16 @@ pub listed_each : {A : Type 0} (d : A) (P : ℕ → A → Type 0) (n : ℕ) → 
 listed_each d P zero each = ([], refl, λ x l. absurd (omega arith))
 listed_each {A = A} d P (suc n) each =
     let before : (l : List A) × (length l ≡ n) × ((x : ℕ) → x < n → P x (get_or l x d)) = listed_each d P n (λ x l. each x (omega arith)) in
-    let last : (a : A) × P n a = each n (omega arith) in
-    (before.0 ++ last.0 ∷ [], length-append before.0 (last.0 ∷ []) ∙ more n (length before.0) before.1, λ x l. at before.0 before.1 before.2 last.0 last.1 x l) where
+    let last : (a : A) × P n a = each n (omega arith) in (
+      before.0 ++ last.0 ∷ [],
+      length-append before.0 (last.0 ∷ []) ∙ more n (length before.0) before.1,
+      λ x l. at before.0 before.1 before.2 last.0 last.1 x l,
+    ) where
       more : (n k : ℕ) → k ≡ n → k + 1 ≡ suc n
       more n k e = omega arith
 
-      at : (l : List A) → length l ≡ n → ((x : ℕ) → x < n → P x (get_or l x d)) → (a : A) → P n a → (x : ℕ) → x < suc n → P x (get_or (l ++ a ∷ []) x d)
+      at : (l : List A) → length l ≡ n → ((x : ℕ) → x < n → P x (get_or l x d)) → (a : A) → P n a → (x : ℕ) → x < suc n
+          → P x (get_or (l ++ a ∷ []) x d)
       at l size rest a own x b = elim (cases_lt x n) [
         | inl early ↦ rw (get_or_append_left l (a ∷ []) d x (omega arith)) (rest x early)
         | inr here ↦ let same : x ≡ n = omega arith in rw (same, get_or_at l a [] d n size) own
@@ -43,8 +49,13 @@ next_exists jobs x from l = (
   record {
     from_on = from_on (cases_lt first (length jobs));
     most = first_below-at_most (length jobs) passes;
-    own = λ b. eqb-true (task_in jobs first) x (and_parts (leb from first) (task_in jobs first == x) (first_below-passes (length jobs) passes b)).1;
-    first = λ e a b same. absurd (omega (arith, first_below-least (length jobs) passes e (and_from (leb from e) (task_in jobs e == x) (le-leb from e a) (eq-eqb (task_in jobs e) x same))));
+    own = λ b. eqb-true (task_in jobs first) x
+        (and_parts (leb from first) (task_in jobs first == x) (first_below-passes (length jobs) passes b)).1;
+    first = λ e a b same. absurd (omega (
+      arith,
+      first_below-least (length jobs) passes e
+          (and_from (leb from e) (task_in jobs e == x) (le-leb from e a) (eq-eqb (task_in jobs e) x same)),
+    ));
   },
 ) where
   passes : ℕ → Bool
@@ -58,7 +69,8 @@ next_exists jobs x from l = (
   from_on (inr past) = omega arith
 
 -- The task's next job to be released, where one is due.
-coming_exists : (list : JobsDef) (t x due : ℕ) → AreLawfulJobs list → TaskNumbers list.set x → IsDue list.jobs t x due → (j : ℕ) × IsComing list.jobs t x j
+coming_exists : (list : JobsDef) (t x due : ℕ) → AreLawfulJobs list → TaskNumbers list.set x → IsDue list.jobs t x due
+    → (j : ℕ) × IsComing list.jobs t x j
 coming_exists list t x due lawful numbers is = elim (cases_lt due (length list.jobs)) [
   | inr past ↦ (due, coming_here list.jobs t x due is (λ l. absurd (omega arith)))
   | inl listed ↦ elim (cases_lt t (job_of list.jobs due).release) [
@@ -73,7 +85,12 @@ coming_exists list t x due lawful numbers is = elim (cases_lt due (length list.j
 step_exists : (jobs : List JobDef) (after x : ℕ) (p : Place) → p.job < length jobs → (n : Place) × StepsTo jobs after 1 x p n
 step_exists jobs after x p l = elim (cases_lt (p.ticks + 1) (segment_ticks (segment_in jobs p.job p.segment))) [
   | inl further ↦ (
-    record { job = p.job; segment = p.segment; ticks = p.ticks + 1; issued = cond (p.ticks + 1 == (segment_in jobs p.job p.segment).local) after p.issued },
+    record {
+      job = p.job;
+      segment = p.segment;
+      ticks = p.ticks + 1;
+      issued = cond (p.ticks + 1 == (segment_in jobs p.job p.segment).local) after p.issued;
+    },
     record { further = λ _. refl; next = λ ends. absurd (omega arith); over = λ ends. absurd (omega arith) },
   )
   | inr ends ↦ elim (cases_lt (p.segment + 1) (length (job_of jobs p.job).script)) [
@@ -89,11 +106,13 @@ step_exists jobs after x p l = elim (cases_lt (p.ticks + 1) (segment_ticks (segm
   ]
 ]
 
-move_exists : (m : MachineDef) (row : RowDef) (x : ℕ) → CanTake m row → (n : Place) × MovesTo m.list.jobs (m.tick + 1) 1 row.running x (place_of m x) n
+move_exists : (m : MachineDef) (row : RowDef) (x : ℕ) → CanTake m row
+    → (n : Place) × MovesTo m.list.jobs (m.tick + 1) 1 row.running x (place_of m x) n
 unfolding runs_in
 move_exists m row x can = elim (cases_Bool (list_any (is_job (place_of m x).job) row.running)) [
   | inl runs ↦
-      let step : (n : Place) × StepsTo m.list.jobs (m.tick + 1) 1 x (place_of m x) n = step_exists m.list.jobs (m.tick + 1) x (place_of m x) (runs_listed m row (place_of m x).job can runs).0 in
+      let step : (n : Place) × StepsTo m.list.jobs (m.tick + 1) 1 x (place_of m x) n =
+      step_exists m.list.jobs (m.tick + 1) x (place_of m x) (runs_listed m row (place_of m x).job can runs).0 in
       (step.0, record { runs = λ _. step.1; stays = λ waits. absurd (cc) })
   | inr waits ↦ (place_of m x, record { runs = λ runs. absurd (cc); stays = λ _. refl })
 ]
@@ -103,11 +122,19 @@ at_first : (w : Trace) → AreLawfulJobs (jobs_of w) → ((x : ℕ) → x < leng
 at_first w lawful numbers =
     let places : (l : List Place) × (length l ≡ length w.set.tasks) × ArePlacesAtFirst w.jobs (length w.set.tasks) l =
     listed_each no_place (λ x p. IsNext w.jobs x 0 p.job × (p.segment ≡ 0) × (p.ticks ≡ 0)) (length w.set.tasks)
-    (λ x l. let next : (j : ℕ) × IsNext w.jobs x 0 j = next_exists w.jobs x 0 (omega arith) in (record { job = next.0; segment = 0; ticks = 0; issued = 0 }, (next.1, refl, refl))) in
+    (λ x l. let next : (j : ℕ) × IsNext w.jobs x 0 j = next_exists w.jobs x 0 (omega arith) in
+    (record { job = next.0; segment = 0; ticks = 0; issued = 0 }, (next.1, refl, refl))) in
     let coming : (l : List ℕ) × (length l ≡ length w.set.tasks) × ((x : ℕ) → x < length w.set.tasks → IsComing w.jobs 0 x (get_or l x 0)) =
     listed_each 0 (λ x j. IsComing w.jobs 0 x j) (length w.set.tasks)
-    (λ x l. let next : (j : ℕ) × IsNext w.jobs x 0 j = next_exists w.jobs x 0 (omega arith) in coming_exists (jobs_of w) 0 x next.0 lawful (numbers x l) (due_at_first w.jobs x next.0 next.1)) in
-    let m : MachineDef = record { list = jobs_of w; tick = 0; places = places.0; holders = replicate (length w.set.resources) None; coming = coming.0 } in
+    (λ x l. let next : (j : ℕ) × IsNext w.jobs x 0 j = next_exists w.jobs x 0 (omega arith) in
+    coming_exists (jobs_of w) 0 x next.0 lawful (numbers x l) (due_at_first w.jobs x next.0 next.1)) in
+    let m : MachineDef = record {
+      list = jobs_of w;
+      tick = 0;
+      places = places.0;
+      holders = replicate (length w.set.resources) None;
+      coming = coming.0;
+    } in
     record {
       places = places.0;
       holders = replicate (length w.set.resources) None;
@@ -119,12 +146,22 @@ at_first w lawful numbers =
 one_more : (w : Trace) (m : MachineDef) → m.list ≡ jobs_of w → Shows m w.row → CanTake m (w.row m.tick) → Shown w (m.tick + 1)
 one_more w m list shows can =
     let places : (l : List Place) × (length l ≡ length m.list.set.tasks)
-    × ((x : ℕ) → x < length m.list.set.tasks → MovesTo m.list.jobs (m.tick + 1) 1 (w.row m.tick).running x (place_of m x) (get_or l x no_place)) =
-    listed_each no_place (λ x p. MovesTo m.list.jobs (m.tick + 1) 1 (w.row m.tick).running x (place_of m x) p) (length m.list.set.tasks) (λ x l. move_exists m (w.row m.tick) x can) in
-    let coming : (l : List ℕ) × (length l ≡ length m.list.set.tasks) × ((x : ℕ) → x < length m.list.set.tasks → IsComing m.list.jobs (m.tick + 1) x (get_or l x 0)) =
+    × ((x : ℕ) → x < length m.list.set.tasks
+    → MovesTo m.list.jobs (m.tick + 1) 1 (w.row m.tick).running x (place_of m x) (get_or l x no_place)) =
+    listed_each no_place (λ x p. MovesTo m.list.jobs (m.tick + 1) 1 (w.row m.tick).running x (place_of m x) p)
+    (length m.list.set.tasks) (λ x l. move_exists m (w.row m.tick) x can) in
+    let coming : (l : List ℕ) × (length l ≡ length m.list.set.tasks)
+    × ((x : ℕ) → x < length m.list.set.tasks → IsComing m.list.jobs (m.tick + 1) x (get_or l x 0)) =
     listed_each 0 (λ x j. IsComing m.list.jobs (m.tick + 1) x j) (length m.list.set.tasks)
-    (λ x l. coming_exists m.list (m.tick + 1) x (coming_of m x) shows.machine.lawful (shows.machine.numbers x l) (due_later m.list.jobs m.tick x (coming_of m x) (shows.machine.coming x l))) in
-    let n : MachineDef = record { list = jobs_of w; tick = m.tick + 1; places = places.0; holders = (w.row m.tick).holders; coming = coming.0 } in
+    (λ x l. coming_exists m.list (m.tick + 1) x (coming_of m x) shows.machine.lawful (shows.machine.numbers x l)
+    (due_later m.list.jobs m.tick x (coming_of m x) (shows.machine.coming x l))) in
+    let n : MachineDef = record {
+      list = jobs_of w;
+      tick = m.tick + 1;
+      places = places.0;
+      holders = (w.row m.tick).holders;
+      coming = coming.0;
+    } in
     record {
       places = places.0;
       holders = (w.row m.tick).holders;
@@ -141,7 +178,8 @@ one_more w m list shows can =
     }
 
 -- So each schedule is shown, as far as its rows can be taken.
-pub shown : (w : Trace) (n : ℕ) → AreLawfulJobs (jobs_of w) → ((x : ℕ) → x < length w.set.tasks → TaskNumbers w.set x) → CanBeTakenBefore w n → Shown w n
+pub shown : (w : Trace) (n : ℕ) → AreLawfulJobs (jobs_of w) → ((x : ℕ) → x < length w.set.tasks → TaskNumbers w.set x)
+    → CanBeTakenBefore w n → Shown w n
 shown w zero lawful numbers taken = at_first w lawful numbers
 shown w (suc n) lawful numbers taken =
     let before : Shown w n = shown w n lawful numbers (λ t l. taken t (omega arith)) in

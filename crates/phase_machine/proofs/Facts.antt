@@ -1,6 +1,8 @@
 -- What a machine answers is what the definitions say of each schedule that it shows.
-use Rattle.std.proofs.Common.{◌≡◌, ℕ, ◌+◌, ◌<◌, ◌≤◌, ◌&&◌, ◌||◌, Bool, true, false, List, length, take, refl, sym, ap, ◌∙◌, arith, inl, inr, Option, Some, None, leb, ltb}
-use Rattle.std.proofs.lemmas.Bool.{cases_lt, cases_order, cases_Bool, and_parts, lt-ltb, le-ltb, ltb-true, leb-true, le-leb, false_from_ne_true}
+use Rattle.std.proofs.Common.{◌≡◌, ℕ, ◌+◌, ◌<◌, ◌≤◌, ◌&&◌, ◌||◌, Bool, true, false, List, length, take, refl, sym, ap}
+use Rattle.std.proofs.Common.{◌∙◌, arith, inl, inr, Option, Some, None, leb, ltb}
+use Rattle.std.proofs.lemmas.Bool.{cases_lt, cases_order, cases_Bool, and_parts, lt-ltb, le-ltb, ltb-true, leb-true}
+use Rattle.std.proofs.lemmas.Bool.{le-leb, false_from_ne_true}
 use Rattle.schedule_model.specs.JobDef.{JobDef, job_of, segment_ticks, total_ticks}
 use Rattle.schedule_model.specs.RowDef.{RowDef, Trace, is_job, held_before}
 use Rattle.schedule_model.specs.Phase.{Phase, is_local, is_finished, is_asking, executed, phase_of}
@@ -14,7 +16,9 @@ use Rattle.schedule_laws.proofs.ActiveJobs.{Active, active_is, active_from, acti
 use Rattle.schedule_laws.proofs.Rows.{job_named, named_job}
 use Rattle.phase_machine.specs.declared.place.Place.{Place}
 use Rattle.phase_machine.specs.MachineDef.{MachineDef, IsPlace, place_of, task_in, segment_in, under}
-use Rattle.phase_machine.specs.Now.{phase_in, phase_at_place, phase_now, current_in, current_now, active_now, holder_now, ready_now, waiting_now, requester_now, issued_in, issued_now, is_ready_before, is_waiting_before, issue_of}
+use Rattle.phase_machine.specs.Now.{phase_in, phase_at_place, phase_now, current_in, current_now, active_now}
+use Rattle.phase_machine.specs.Now.{holder_now, ready_now, waiting_now, requester_now, issued_in, issued_now}
+use Rattle.phase_machine.specs.Now.{is_ready_before, is_waiting_before, issue_of}
 use Rattle.phase_machine.specs.Shows.{Shows, ShowsPlace}
 use Rattle.phase_machine.specs.Taking.{CanTake}
 use Rattle.phase_machine.proofs.ScriptPlaces.{phase_after, phase_in_local, ticks_left}
@@ -27,18 +31,23 @@ phase_before_place jobs j p l = rw (lt-ltb j p.job l) refl
 pub phase_behind_place : (jobs : List JobDef) (j : ℕ) (p : Place) → p.job < j → phase_at_place jobs j p ≡ Local
 phase_behind_place jobs j p l = let past : p.job ≤ j = omega arith in rw (le-ltb j p.job past, lt-ltb p.job j l) refl
 
-pub phase_of_place : (jobs : List JobDef) (j : ℕ) (p : Place) → p.job ≡ j → phase_at_place jobs j p ≡ phase_in p.segment (segment_in jobs p.job p.segment) p.ticks
-phase_of_place jobs j p e = let a : p.job ≤ j = omega arith in let b : j ≤ p.job = omega arith in rw (le-ltb j p.job a, le-ltb p.job j b) refl
+pub phase_of_place : (jobs : List JobDef) (j : ℕ) (p : Place) → p.job ≡ j
+    → phase_at_place jobs j p ≡ phase_in p.segment (segment_in jobs p.job p.segment) p.ticks
+phase_of_place jobs j p e =
+    let a : p.job ≤ j = omega arith in let b : j ≤ p.job = omega arith in rw (le-ltb j p.job a, le-ltb p.job j b) refl
 
 -- The place of a listed job's task, and what it says of the schedule.
-pub place_kept : (m : MachineDef) (rows : ℕ → RowDef) (j : ℕ) → Shows m rows → j < length m.list.jobs → IsPlace m.list.jobs (task_in m.list.jobs j) (place_of m (task_in m.list.jobs j))
+pub place_kept : (m : MachineDef) (rows : ℕ → RowDef) (j : ℕ) → Shows m rows → j < length m.list.jobs
+    → IsPlace m.list.jobs (task_in m.list.jobs j) (place_of m (task_in m.list.jobs j))
 place_kept m rows j shows l = shows.machine.place (task_in m.list.jobs j) (task_listed m.list j shows.machine.lawful l)
 
-pub place_shown : (m : MachineDef) (rows : ℕ → RowDef) (j : ℕ) → Shows m rows → j < length m.list.jobs → ShowsPlace (under m rows) m.tick (task_in m.list.jobs j) (place_of m (task_in m.list.jobs j))
+pub place_shown : (m : MachineDef) (rows : ℕ → RowDef) (j : ℕ) → Shows m rows → j < length m.list.jobs
+    → ShowsPlace (under m rows) m.tick (task_in m.list.jobs j) (place_of m (task_in m.list.jobs j))
 place_shown m rows j shows l = shows.places (task_in m.list.jobs j) (task_listed m.list j shows.machine.lawful l)
 
 -- The phase of a job that has executed the segments before number n, and i ticks of that one.
-pub phase_standing : (w : Trace) (t j n i : ℕ) → executed w t j ≡ total_ticks (take n (job_of w.jobs j).script) + i → n < length (job_of w.jobs j).script
+pub phase_standing : (w : Trace) (t j n i : ℕ) → executed w t j ≡ total_ticks (take n (job_of w.jobs j).script) + i
+    → n < length (job_of w.jobs j).script
     → i < segment_ticks (segment_in w.jobs j n) → phase_of w t j ≡ phase_in n (segment_in w.jobs j n) i
 unfolding phase_of
 phase_standing w t j n i stands l h =
@@ -51,7 +60,8 @@ pub own_phase : (w : Trace) (t x : ℕ) (p : Place) → ShowsPlace w t x p → I
 own_phase w t x p shows place l = phase_standing w t p.job p.segment p.ticks (shows.stands l) (place.segment l) (place.ticks l)
 
 -- It isn't finished.
-pub own_unfinished : (w : Trace) (t x : ℕ) (p : Place) → ShowsPlace w t x p → IsPlace w.jobs x p → p.job < length w.jobs → is_finished (phase_of w t p.job) ≡ false
+pub own_unfinished : (w : Trace) (t x : ℕ) (p : Place) → ShowsPlace w t x p → IsPlace w.jobs x p → p.job < length w.jobs
+    → is_finished (phase_of w t p.job) ≡ false
 own_unfinished w t x p shows place l = elim (cases_Bool (is_finished (phase_of w t p.job))) [
   | inr fails ↦ fails
   | inl finished ↦
@@ -62,7 +72,8 @@ own_unfinished w t x p shows place l = elim (cases_Bool (is_finished (phase_of w
 ]
 
 -- Phases.
-pub phase_shown : (m : MachineDef) (rows : ℕ → RowDef) (j : ℕ) → Shows m rows → j < length m.list.jobs → phase_now m j ≡ phase_of (under m rows) m.tick j
+pub phase_shown : (m : MachineDef) (rows : ℕ → RowDef) (j : ℕ) → Shows m rows → j < length m.list.jobs
+    → phase_now m j ≡ phase_of (under m rows) m.tick j
 unfolding phase_now
 phase_shown m rows j shows l =
     let p : Place = place_of m (task_in m.list.jobs j) in
@@ -74,13 +85,15 @@ phase_shown m rows j shows l =
           ∙ sym (own_phase (under m rows) m.tick (task_in m.list.jobs j) p s k (omega arith))
           ∙ ap (phase_of (under m rows) m.tick) same
       | inr other ↦ elim other [
-        | inl behind ↦ phase_behind_place m.list.jobs j p behind ∙ sym (unstarted_local (under m rows) m.tick j (script_of m.list j shows.machine.lawful l) (s.after j behind l refl))
+        | inl behind ↦ phase_behind_place m.list.jobs j p behind ∙ sym (unstarted_local (under m rows) m.tick j
+            (script_of m.list j shows.machine.lawful l) (s.after j behind l refl))
         | inr before ↦ phase_before_place m.list.jobs j p before ∙ sym (s.before j before refl)
       ]
     ]
 
 -- The place's job is the current one where it is listed and released.
-pub current_some : (jobs : List JobDef) (tick : ℕ) (p : Place) (j : ℕ) → current_in jobs tick p ≡ Some j → (p.job ≡ j) × (p.job < length jobs) × ((job_of jobs p.job).release ≤ tick)
+pub current_some : (jobs : List JobDef) (tick : ℕ) (p : Place) (j : ℕ) → current_in jobs tick p ≡ Some j
+    → (p.job ≡ j) × (p.job < length jobs) × ((job_of jobs p.job).release ≤ tick)
 current_some jobs tick p j h = elim (cases_Bool (ltb p.job (length jobs) && leb (job_of jobs p.job).release tick)) [
   | inl passes ↦
       let parts : (ltb p.job (length jobs) ≡ true) × (leb (job_of jobs p.job).release tick ≡ true) = and_parts _ _ passes in
@@ -89,7 +102,8 @@ current_some jobs tick p j h = elim (cases_Bool (ltb p.job (length jobs) && leb 
   | inr fails ↦ let e : None ≡ Some j = rw fails at h in absurd (cc)
 ]
 
-current_in_from : (jobs : List JobDef) (tick : ℕ) (p : Place) (j : ℕ) → p.job ≡ j → j < length jobs → (job_of jobs j).release ≤ tick → current_in jobs tick p ≡ Some j
+current_in_from : (jobs : List JobDef) (tick : ℕ) (p : Place) (j : ℕ) → p.job ≡ j → j < length jobs
+    → (job_of jobs j).release ≤ tick → current_in jobs tick p ≡ Some j
 current_in_from jobs tick p j e l r =
     let listed : p.job < length jobs = rw e l in
     let released : (job_of jobs p.job).release ≤ tick = rw e r in
@@ -101,7 +115,8 @@ pub current_shown : (m : MachineDef) (rows : ℕ → RowDef) (x j : ℕ) → Sho
 unfolding current_now
 current_shown m rows x j shows l h =
     let p : Place = place_of m x in
-    let parts : (p.job ≡ j) × (p.job < length m.list.jobs) × ((job_of m.list.jobs p.job).release ≤ m.tick) = current_some m.list.jobs m.tick p j h in
+    let parts : (p.job ≡ j) × (p.job < length m.list.jobs) × ((job_of m.list.jobs p.job).release ≤ m.tick) =
+    current_some m.list.jobs m.tick p j h in
     let s : ShowsPlace (under m rows) m.tick x p = shows.places x l in
     let k : IsPlace m.list.jobs x p = shows.machine.place x l in
     let own : task_in m.list.jobs p.job ≡ x = k.own parts.1 in
@@ -114,7 +129,8 @@ current_shown m rows x j shows l h =
     (rw (← parts.0) active, rw (← parts.0) own)
 
 -- An active job is the current one of its task.
-pub current_from : (m : MachineDef) (rows : ℕ → RowDef) (j : ℕ) → Shows m rows → is_active (under m rows) m.tick j ≡ true → current_now m (task_in m.list.jobs j) ≡ Some j
+pub current_from : (m : MachineDef) (rows : ℕ → RowDef) (j : ℕ) → Shows m rows
+    → is_active (under m rows) m.tick j ≡ true → current_now m (task_in m.list.jobs j) ≡ Some j
 unfolding current_now
 current_from m rows j shows h =
     let l : j < length m.list.jobs = active_listed (under m rows) m.tick j h in
@@ -128,7 +144,8 @@ current_from m rows j shows h =
         | inl behind ↦
             let listed : p.job < length m.list.jobs = omega arith in
             let done : phase_of (under m rows) m.tick p.job ≡ Finished = a.next p.job behind (k.own listed) in
-            let unfinished : is_finished (phase_of (under m rows) m.tick p.job) ≡ false = own_unfinished (under m rows) m.tick (task_in m.list.jobs j) p s k listed in
+            let unfinished : is_finished (phase_of (under m rows) m.tick p.job) ≡ false =
+            own_unfinished (under m rows) m.tick (task_in m.list.jobs j) p s k listed in
             let finished : is_finished (phase_of (under m rows) m.tick p.job) ≡ true = rw done refl in
             absurd (cc)
         | inr before ↦
@@ -139,16 +156,22 @@ current_from m rows j shows h =
       ]
     ]
 
-none_active : (m : MachineDef) (rows : ℕ → RowDef) (x j : ℕ) → Shows m rows → current_now m x ≡ None → task_of (under m rows) j ≡ x → is_active (under m rows) m.tick j ≡ false
-none_active m rows x j shows e own = false_from_ne_true (is_active (under m rows) m.tick j) (λ h. absent (current_from m rows j shows h)) where
-  absent : current_now m (task_in m.list.jobs j) ≡ Some j → ⊥
-  absent f = let x : None ≡ Some j = sym e ∙ ap (current_now m) (sym own) ∙ f in cc
+none_active : (m : MachineDef) (rows : ℕ → RowDef) (x j : ℕ) → Shows m rows → current_now m x ≡ None
+    → task_of (under m rows) j ≡ x → is_active (under m rows) m.tick j ≡ false
+none_active m rows x j shows e own =
+    false_from_ne_true (is_active (under m rows) m.tick j) (λ h. absent (current_from m rows j shows h))
+  where
+    absent : current_now m (task_in m.list.jobs j) ≡ Some j → ⊥
+    absent f = let x : None ≡ Some j = sym e ∙ ap (current_now m) (sym own) ∙ f in cc
 
 -- So the current job is the active job of the task.
-pub current_is : (m : MachineDef) (rows : ℕ → RowDef) (x : ℕ) → Shows m rows → x < length m.list.set.tasks → current_now m x ≡ active_job_of (under m rows) m.tick x
+pub current_is : (m : MachineDef) (rows : ℕ → RowDef) (x : ℕ) → Shows m rows → x < length m.list.set.tasks
+    → current_now m x ≡ active_job_of (under m rows) m.tick x
 current_is m rows x shows l = go (current_now m x) refl where
   go : (o : Option ℕ) → current_now m x ≡ o → current_now m x ≡ active_job_of (under m rows) m.tick x
-  go (Some j) e = let a : (is_active (under m rows) m.tick j ≡ true) × (task_of (under m rows) j ≡ x) = current_shown m rows x j shows l e in e ∙ sym (active_job_from (under m rows) m.tick x j a.0 a.1)
+  go (Some j) e = let a : (is_active (under m rows) m.tick j ≡ true) × (task_of (under m rows) j ≡ x) =
+      current_shown m rows x j shows l e in
+      e ∙ sym (active_job_from (under m rows) m.tick x j a.0 a.1)
   go None e = e ∙ sym (active_job_missing (under m rows) m.tick x (λ j own. none_active m rows x j shows e own))
 
 -- A job that the machine calls active is listed, and the current one of its task.
@@ -164,7 +187,8 @@ active_now_listed m j h =
 
 active_true : (m : MachineDef) (rows : ℕ → RowDef) (j : ℕ) → Shows m rows → active_now m j ≡ true → is_active (under m rows) m.tick j ≡ true
 active_true m rows j shows h =
-    (current_shown m rows (task_in m.list.jobs j) j shows (task_listed m.list j shows.machine.lawful (active_now_listed m j h)) (active_current m j h)).0
+    (current_shown m rows (task_in m.list.jobs j) j shows
+    (task_listed m.list j shows.machine.lawful (active_now_listed m j h)) (active_current m j h)).0
 
 active_back : (m : MachineDef) (rows : ℕ → RowDef) (j : ℕ) → Shows m rows → is_active (under m rows) m.tick j ≡ true → active_now m j ≡ true
 unfolding active_now
@@ -176,17 +200,20 @@ same_bool false true f g = g refl
 same_bool false false f g = refl
 
 pub active_shown : (m : MachineDef) (rows : ℕ → RowDef) (j : ℕ) → Shows m rows → active_now m j ≡ is_active (under m rows) m.tick j
-active_shown m rows j shows = same_bool (active_now m j) (is_active (under m rows) m.tick j) (active_true m rows j shows) (active_back m rows j shows)
+active_shown m rows j shows = same_bool (active_now m j) (is_active (under m rows) m.tick j)
+    (active_true m rows j shows) (active_back m rows j shows)
 
 -- Two tests that ask for an active job agree where they do for a listed one.
 same_where_active : (a b : Bool) (c d : Bool) → a ≡ b → (b ≡ true → c ≡ d) → (a && c) ≡ (b && d)
 same_where_active a true c d e h = rw e (h refl)
 same_where_active a false c d e h = rw e refl
 
-pub requester_shown : (m : MachineDef) (rows : ℕ → RowDef) (q j : ℕ) → Shows m rows → requester_now m q j ≡ is_requester (under m rows) m.tick q j
+pub requester_shown : (m : MachineDef) (rows : ℕ → RowDef) (q j : ℕ) → Shows m rows
+    → requester_now m q j ≡ is_requester (under m rows) m.tick q j
 unfolding requester_now is_requester
 requester_shown m rows q j shows =
-    same_where_active (active_now m j) (is_active (under m rows) m.tick j) (is_asking q (phase_now m j)) (is_asking q (phase_of (under m rows) m.tick j))
+    same_where_active (active_now m j) (is_active (under m rows) m.tick j) (is_asking q (phase_now m j))
+    (is_asking q (phase_of (under m rows) m.tick j))
     (active_shown m rows j shows) (λ h. ap (is_asking q) (phase_shown m rows j shows (active_listed (under m rows) m.tick j h)))
 
 -- Holders.
@@ -206,9 +233,11 @@ ready_shown m rows j shows =
     (is_local (phase_of (under m rows) m.tick j) || holds_by (held_before (under m rows) m.tick) j (phase_of (under m rows) m.tick j))
     (active_shown m rows j shows)
     (λ h. ap (λ p. is_local p || holds_by (holder_now m) j p) (phase_shown m rows j shows (active_listed (under m rows) m.tick j h))
-    ∙ ap (λ b. is_local (phase_of (under m rows) m.tick j) || b) (holds_same (holder_now m) (held_before (under m rows) m.tick) j (phase_of (under m rows) m.tick j) shows.holders))
+    ∙ ap (λ b. is_local (phase_of (under m rows) m.tick j) || b)
+    (holds_same (holder_now m) (held_before (under m rows) m.tick) j (phase_of (under m rows) m.tick j) shows.holders))
 
-pub waiting_shown : (m : MachineDef) (rows : ℕ → RowDef) (j : ℕ) → Shows m rows → waiting_now m j ≡ is_waiting_before (under m rows) m.tick j
+pub waiting_shown : (m : MachineDef) (rows : ℕ → RowDef) (j : ℕ) → Shows m rows
+    → waiting_now m j ≡ is_waiting_before (under m rows) m.tick j
 unfolding waiting_now is_waiting_before
 waiting_shown m rows j shows = rw (active_shown m rows j shows, ready_shown m rows j shows) refl
 
@@ -219,10 +248,14 @@ issued_same Local a b h = refl
 issued_same Finished a b h = refl
 
 -- A job in a request is its place's own, past the local ticks of the segment.
-asking_own : (jobs : List JobDef) (j : ℕ) (p : Place) (n q : ℕ) → phase_at_place jobs j p ≡ Asking n q → (p.job ≡ j) × ((segment_in jobs p.job p.segment).local ≤ p.ticks)
+asking_own : (jobs : List JobDef) (j : ℕ) (p : Place) (n q : ℕ) → phase_at_place jobs j p ≡ Asking n q
+    → (p.job ≡ j) × ((segment_in jobs p.job p.segment).local ≤ p.ticks)
 asking_own jobs j p n q h = elim (cases_order p.job j) [
   | inl same ↦ elim (cases_lt p.ticks (segment_in jobs p.job p.segment).local) [
-    | inl local ↦ let x : Local ≡ Asking n q = sym (phase_in_local p.segment (segment_in jobs p.job p.segment) p.ticks local) ∙ sym (phase_of_place jobs j p same) ∙ h in absurd (cc)
+    | inl local ↦
+        let x : Local ≡ Asking n q = sym (phase_in_local p.segment (segment_in jobs p.job p.segment) p.ticks local)
+        ∙ sym (phase_of_place jobs j p same) ∙ h in
+        absurd (cc)
     | inr past ↦ (same, past)
   ]
   | inr other ↦ elim other [
@@ -241,10 +274,12 @@ issue_shown m rows j n q shows l h =
     let listed : p.job < length m.list.jobs = omega (arith, own.0) in
     (place_shown m rows j shows l).issued listed own.1 ∙ ap (issue_tick_of (under m rows) m.tick) own.0
 
-pub issued_shown : (m : MachineDef) (rows : ℕ → RowDef) (j : ℕ) → Shows m rows → j < length m.list.jobs → issued_now m j ≡ issue_of (under m rows) m.tick j
+pub issued_shown : (m : MachineDef) (rows : ℕ → RowDef) (j : ℕ) → Shows m rows → j < length m.list.jobs
+    → issued_now m j ≡ issue_of (under m rows) m.tick j
 unfolding issued_now issue_of
 issued_shown m rows j shows l =
-    issued_same (phase_now m j) (place_of m (task_in m.list.jobs j)).issued (issue_tick_of (under m rows) m.tick j) (λ n q h. issue_shown m rows j n q shows l h)
+    issued_same (phase_now m j) (place_of m (task_in m.list.jobs j)).issued (issue_tick_of (under m rows) m.tick j)
+    (λ n q h. issue_shown m rows j n q shows l h)
     ∙ ap (λ p. issued_in p (issue_tick_of (under m rows) m.tick j)) (phase_shown m rows j shows l)
 
 -- A row can be taken exactly where it can stand at this tick of the schedule.

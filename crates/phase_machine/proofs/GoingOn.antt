@@ -1,5 +1,6 @@
 -- A place through rows in which its job goes on inside one phase, or waits.
-use Rattle.std.proofs.Common.{◌≡◌, ℕ, zero, suc, ◌+◌, ◌-◌, ◌<◌, ◌≤◌, ◌==◌, true, false, List, length, refl, sym, ap, ◌∙◌, subst, arith, inl, inr, cond}
+use Rattle.std.proofs.Common.{◌≡◌, ℕ, zero, suc, ◌+◌, ◌-◌, ◌<◌, ◌≤◌, ◌==◌, true, false, List, length, refl, sym, ap}
+use Rattle.std.proofs.Common.{◌∙◌, subst, arith, inl, inr, cond}
 use Rattle.std.proofs.lemmas.Bool.{cases_lt, lt-ltb, le-ltb, ne_eqb}
 use Rattle.schedule_model.specs.JobDef.{SegmentDef, JobDef, segment_ticks}
 use Rattle.schedule_model.specs.LawfulJobs.{AreLawfulJobs}
@@ -63,7 +64,8 @@ pub record GoesOn (w : Trace) (t x : ℕ) (p : Place) (n : ℕ) : Type 0 where
 abbrev pub further_on : Place → ℕ → Place
 further_on p i = record { job = p.job; segment = p.segment; ticks = p.ticks + i; issued = p.issued }
 
-pub further_place : (jobs : List JobDef) (x : ℕ) (p : Place) (i : ℕ) → p.job < length jobs → IsPlace jobs x p → i < left_at jobs p → IsPlace jobs x (further_on p i)
+pub further_place : (jobs : List JobDef) (x : ℕ) (p : Place) (i : ℕ) → p.job < length jobs → IsPlace jobs x p
+    → i < left_at jobs p → IsPlace jobs x (further_on p i)
 further_place jobs x p i listed place l = record {
   most = place.most;
   own = place.own;
@@ -72,11 +74,13 @@ further_place jobs x p i listed place l = record {
 }
 
 -- It shows the schedule.
-pub further_on_shows : (w : Trace) (t x : ℕ) (p : Place) (n : ℕ) → GoesOn w t x p n → (i : ℕ) → i < n → ShowsPlace w (t + i) x (further_on p i)
+pub further_on_shows : (w : Trace) (t x : ℕ) (p : Place) (n : ℕ) → GoesOn w t x p n → (i : ℕ) → i < n
+    → ShowsPlace w (t + i) x (further_on p i)
 further_on_shows w t x p n goes zero l =
     let tick : t ≡ t + 0 = omega arith in
     let ticks : p.ticks ≡ p.ticks + 0 = omega arith in
-    subst (λ k. ShowsPlace w (t + 0) x (record { job = p.job; segment = p.segment; ticks = k; issued = p.issued })) ticks (subst (λ u. ShowsPlace w u x p) tick goes.shows)
+    subst (λ k. ShowsPlace w (t + 0) x (record { job = p.job; segment = p.segment; ticks = k; issued = p.issued }))
+    ticks (subst (λ u. ShowsPlace w u x p) tick goes.shows)
 further_on_shows w t x p n goes (suc i) l =
     let early : i < n = omega (arith, l) in
     let inside : i < left_at w.jobs p = omega (arith, l, goes.left) in
@@ -91,12 +95,20 @@ further_on_shows w t x p n goes (suc i) l =
     } in
     let room : p.ticks + i + 1 < segment_ticks (segment_in w.jobs p.job p.segment) =
     omega (arith, left_within (segment_in w.jobs p.job p.segment) p.ticks (goes.place.ticks goes.listed), l, goes.left) in
-    let next : ShowsPlace w (suc (t + i)) x (record { job = p.job; segment = p.segment; ticks = p.ticks + i + 1; issued = cond (p.ticks + i + 1 == (segment_in w.jobs p.job p.segment).local) (suc (t + i)) p.issued }) =
+    let next : ShowsPlace w (suc (t + i)) x (record {
+      job = p.job;
+      segment = p.segment;
+      ticks = p.ticks + i + 1;
+      issued = cond (p.ticks + i + 1 == (segment_in w.jobs p.job p.segment).local) (suc (t + i)) p.issued;
+    }) =
     further_shows w (t + i) x (further_on p i) turn room in
     let none : (p.ticks + i + 1 == (segment_in w.jobs p.job p.segment).local) ≡ false =
-    ne_eqb (p.ticks + i + 1) (segment_in w.jobs p.job p.segment).local (none_begins (segment_in w.jobs p.job p.segment) p.ticks i (omega (arith, l, goes.left))) in
+    ne_eqb (p.ticks + i + 1) (segment_in w.jobs p.job p.segment).local
+    (none_begins (segment_in w.jobs p.job p.segment) p.ticks i (omega (arith, l, goes.left))) in
     let plain : ShowsPlace w (suc (t + i)) x (record { job = p.job; segment = p.segment; ticks = p.ticks + i + 1; issued = p.issued }) =
-    subst (λ b. ShowsPlace w (suc (t + i)) x (record { job = p.job; segment = p.segment; ticks = p.ticks + i + 1; issued = cond b (suc (t + i)) p.issued })) none next in
+    subst (λ b. ShowsPlace w (suc (t + i)) x
+    (record { job = p.job; segment = p.segment; ticks = p.ticks + i + 1; issued = cond b (suc (t + i)) p.issued })) none
+    next in
     let tick : suc (t + i) ≡ t + suc i = omega arith in
     let ticks : p.ticks + i + 1 ≡ p.ticks + suc i = omega arith in
     subst (λ k. ShowsPlace w (t + suc i) x (record { job = p.job; segment = p.segment; ticks = k; issued = p.issued })) ticks
@@ -106,15 +118,22 @@ further_on_shows w t x p n goes (suc i) l =
 pub phase_goes_on : (w : Trace) (t x : ℕ) (p : Place) (n i : ℕ) → GoesOn w t x p n → i < n → phase_of w (t + i) p.job ≡ phase_of w t p.job
 phase_goes_on w t x p n i goes l =
     let inside : i < left_at w.jobs p = omega (arith, l, goes.left) in
-    own_phase w (t + i) x (further_on p i) (further_on_shows w t x p n goes i l) (further_place w.jobs x p i goes.listed goes.place inside) goes.listed
+    own_phase w (t + i) x (further_on p i) (further_on_shows w t x p n goes i l)
+    (further_place w.jobs x p i goes.listed goes.place inside) goes.listed
     ∙ same_phase p.segment (segment_in w.jobs p.job p.segment) p.ticks i inside
     ∙ sym (own_phase w t x p goes.shows goes.place goes.listed)
 
 -- A step of all the ticks is one from the last place before.
-last_step : (jobs : List JobDef) (after x k : ℕ) (p q : Place) → StepsTo jobs after (suc k) x p q → StepsTo jobs after 1 x (further_on p k) q
+last_step : (jobs : List JobDef) (after x k : ℕ) (p q : Place) → StepsTo jobs after (suc k) x p q
+    → StepsTo jobs after 1 x (further_on p k) q
 last_step jobs after x k p q steps = record {
   further = λ l. steps.further (omega (arith, l))
-      ∙ ap (λ s. record { job = p.job; segment = p.segment; ticks = s; issued = cond (s == (segment_in jobs p.job p.segment).local) after p.issued }) sum;
+      ∙ ap (λ s. record {
+        job = p.job;
+        segment = p.segment;
+        ticks = s;
+        issued = cond (s == (segment_in jobs p.job p.segment).local) after p.issued;
+      }) sum;
   next = λ ends more. steps.next (omega (arith, ends)) more;
   over = λ ends last. steps.over (omega (arith, ends)) last;
 } where
@@ -122,7 +141,8 @@ last_step jobs after x k p q steps = record {
   sum = omega arith
 
 -- After the rows the stepped place shows the schedule.
-pub stepped_on : (w : Trace) (t x : ℕ) (p q : Place) (n : ℕ) → 1 ≤ n → GoesOn w t x p n → StepsTo w.jobs (t + n) n x p q → ShowsPlace w (t + n) x q
+pub stepped_on : (w : Trace) (t x : ℕ) (p q : Place) (n : ℕ) → 1 ≤ n → GoesOn w t x p n → StepsTo w.jobs (t + n) n x p q
+    → ShowsPlace w (t + n) x q
 stepped_on w t x p q zero some goes steps = absurd (omega (arith, some))
 stepped_on w t x p q (suc k) some goes steps =
     let inside : k < left_at w.jobs p = omega (arith, goes.left) in
@@ -135,11 +155,13 @@ stepped_on w t x p q (suc k) some goes steps =
       others = λ e same other. goes.others k e (omega arith) same other;
     } in
     let tick : t + suc k ≡ suc (t + k) = omega arith in
-    let step : StepsTo w.jobs (suc (t + k)) 1 x (further_on p k) q = subst (λ u. StepsTo w.jobs u 1 x (further_on p k) q) tick (last_step w.jobs (t + suc k) x k p q steps) in
+    let step : StepsTo w.jobs (suc (t + k)) 1 x (further_on p k) q =
+    subst (λ u. StepsTo w.jobs u 1 x (further_on p k) q) tick (last_step w.jobs (t + suc k) x k p q steps) in
     subst (λ u. ShowsPlace w u x q) (sym tick) (stepped_shows w (t + k) x (further_on p k) q turn step)
 
 -- Through rows in which no job of the task runs, its place shows the schedule on.
-pub stayed_on : (w : Trace) (t x : ℕ) (p : Place) (n : ℕ) → IsPlace w.jobs x p → ((i e : ℕ) → i < n → task_of w e ≡ x → runs_in (w.row (t + i)) e ≡ false) → ShowsPlace w t x p
+pub stayed_on : (w : Trace) (t x : ℕ) (p : Place) (n : ℕ) → IsPlace w.jobs x p
+    → ((i e : ℕ) → i < n → task_of w e ≡ x → runs_in (w.row (t + i)) e ≡ false) → ShowsPlace w t x p
     → ShowsPlace w (t + n) x p
 stayed_on w t x p zero place idle shows = let tick : t ≡ t + 0 = omega arith in subst (λ u. ShowsPlace w u x p) tick shows
 stayed_on w t x p (suc n) place idle shows =

@@ -26,10 +26,12 @@ script_some script h =
     omega arith
 
 -- A segment of a lawful job has a local tick.
-pub local_some : (list : JobsDef) (j n : ℕ) → AreLawfulJobs list → j < length list.jobs → n < length (job_of list.jobs j).script → 0 < (segment_in list.jobs j n).local
+pub local_some : (list : JobsDef) (j n : ℕ) → AreLawfulJobs list → j < length list.jobs
+    → n < length (job_of list.jobs j).script → 0 < (segment_in list.jobs j n).local
 local_some list j n lawful l h =
     segment_local (segment_in list.jobs j n)
-    (list_all-each is_segment (job_of list.jobs j).script n no_segment h (script_segments (job_of list.jobs j).script (script_of list j lawful l)))
+    (list_all-each is_segment (job_of list.jobs j).script n no_segment h
+    (script_segments (job_of list.jobs j).script (script_of list j lawful l)))
 
 -- A lawful job that has executed nothing is Local.
 local_at_first : (n : ℕ) (script : List SegmentDef) → list_all is_segment script ≡ true → 0 < length script → phase_from n script 0 ≡ Local
@@ -38,4 +40,5 @@ local_at_first n (s ∷ script) p l = phase_local n s script 0 (segment_local s 
 
 pub unstarted_local : (w : Trace) (t j : ℕ) → is_script (job_of w.jobs j).script ≡ true → executed w t j ≡ 0 → phase_of w t j ≡ Local
 unfolding phase_of
-unstarted_local w t j script none = rw none (local_at_first 0 (job_of w.jobs j).script (script_segments (job_of w.jobs j).script script) (script_some (job_of w.jobs j).script script))
+unstarted_local w t j script none = rw none (local_at_first 0 (job_of w.jobs j).script
+    (script_segments (job_of w.jobs j).script script) (script_some (job_of w.jobs j).script script))

@@ -1,5 +1,6 @@
 -- The stretch of a machine's row is that of each schedule that the machine shows.
-use Rattle.std.proofs.Common.{◌≡◌, ℕ, zero, suc, ◌+◌, ◌-◌, ◌<◌, ◌≤◌, true, List, length, get_or, refl, sym, ap, ◌∙◌, subst, arith, inl, inr, Option, Some, None}
+use Rattle.std.proofs.Common.{◌≡◌, ℕ, zero, suc, ◌+◌, ◌-◌, ◌<◌, ◌≤◌, true, List, length, get_or, refl, sym, ap, ◌∙◌}
+use Rattle.std.proofs.Common.{subst, arith, inl, inr, Option, Some, None}
 use Rattle.std.proofs.lemmas.Bool.{cases_lt}
 use Rattle.std.proofs.lemmas.List.{get_or_past}
 use Rattle.sporadic_model.specs.declared.limits.TheConstants.{MOST_TICKS}
@@ -19,7 +20,8 @@ use Rattle.phase_machine.proofs.PhaseEnds.{phase_ends}
 use Rattle.phase_machine.proofs.Taking.{runs_listed, goes_on}
 
 -- The next job to be released is due as long as nothing changes.
-pub due_after : (m : MachineDef) (row : RowDef) (n x : ℕ) → IsMachine m → IsQuiet m row n → x < length m.list.set.tasks → IsDue m.list.jobs (m.tick + n) x (coming_of m x)
+pub due_after : (m : MachineDef) (row : RowDef) (n x : ℕ) → IsMachine m → IsQuiet m row n → x < length m.list.set.tasks
+    → IsDue m.list.jobs (m.tick + n) x (coming_of m x)
 due_after m row n x machine quiet l = record {
   most = coming.most;
   own = coming.own;
@@ -34,15 +36,26 @@ due_after m row n x machine quiet l = record {
     | inr most ↦ most
     | inl before ↦
         let ahead : m.tick < (job_of m.list.jobs (coming_of m x)).release = coming.later b in
-        let at : (job_of m.list.jobs (coming_of m x)).release ≡ m.tick + ((job_of m.list.jobs (coming_of m x)).release - m.tick) = omega (arith, ahead) in
-        absurd (quiet ((job_of m.list.jobs (coming_of m x)).release - m.tick) (omega (arith, ahead)) (omega (arith, ahead, before)) (inr (coming_of m x, b, at)))
+        let at : (job_of m.list.jobs (coming_of m x)).release
+        ≡ m.tick + ((job_of m.list.jobs (coming_of m x)).release - m.tick) = omega (arith, ahead) in
+        absurd (quiet ((job_of m.list.jobs (coming_of m x)).release - m.tick) (omega (arith, ahead))
+        (omega (arith, ahead, before)) (inr (coming_of m x, b, at)))
   ]
 
 -- The next release of all is that of some task's next job.
-ahead_of : (m : MachineDef) (least i j : ℕ) → IsMachine m → IsLeastOf MOST_TICKS (IsAhead m.list.jobs m.tick m.coming (length m.coming)) least → 0 < i → j < length m.list.jobs
+ahead_of : (m : MachineDef) (least i j : ℕ) → IsMachine m
+    → IsLeastOf MOST_TICKS (IsAhead m.list.jobs m.tick m.coming (length m.coming)) least → 0 < i
+    → j < length m.list.jobs
     → (job_of m.list.jobs j).release ≡ m.tick + i → least ≤ i
 ahead_of m least i j machine is some l e =
-    omega (arith, is.each ((job_of m.list.jobs (coming_of m (task_in m.list.jobs j))).release - m.tick) (task_in m.list.jobs j, omega (arith, machine.coming_length, task), listed, at), before, e, coming.later listed) where
+    omega (
+      arith,
+      is.each ((job_of m.list.jobs (coming_of m (task_in m.list.jobs j))).release - m.tick)
+          (task_in m.list.jobs j, omega (arith, machine.coming_length, task), listed, at),
+      before,
+      e,
+      coming.later listed,
+    ) where
       task : task_in m.list.jobs j < length m.list.set.tasks
       task = task_listed m.list j machine.lawful l
 
@@ -58,13 +71,15 @@ ahead_of m least i j machine is some l e =
       listed : coming_of m (task_in m.list.jobs j) < length m.list.jobs
       listed = omega (arith, no_later, l)
 
-      at : (job_of m.list.jobs (coming_of m (task_in m.list.jobs j))).release ≡ m.tick + ((job_of m.list.jobs (coming_of m (task_in m.list.jobs j))).release - m.tick)
+      at : (job_of m.list.jobs (coming_of m (task_in m.list.jobs j))).release
+          ≡ m.tick + ((job_of m.list.jobs (coming_of m (task_in m.list.jobs j))).release - m.tick)
       at = omega (arith, coming.later listed)
 
       before : (job_of m.list.jobs (coming_of m (task_in m.list.jobs j))).release ≤ (job_of m.list.jobs j).release
       before = elim (cases_lt (coming_of m (task_in m.list.jobs j)) j) [
         | inl less ↦ omega (arith, machine.lawful.apart (coming_of m (task_in m.list.jobs j)) j less l (coming.own listed))
-        | inr same ↦ let equal : coming_of m (task_in m.list.jobs j) ≡ j = omega (arith, no_later, same) in omega (arith, ap (λ k. (job_of m.list.jobs k).release) equal)
+        | inr same ↦ let equal : coming_of m (task_in m.list.jobs j) ≡ j = omega (arith, no_later, same) in
+            omega (arith, ap (λ k. (job_of m.list.jobs k).release) equal)
       ]
 
 within : (c j : ℕ) (names : List (Option ℕ)) → get_or names c None ≡ Some j → c < length names
@@ -73,7 +88,9 @@ within c j names e = elim (cases_lt c (length names)) [
   | inr past ↦ let x : None ≡ Some j = sym (get_or_past names c None past) ∙ e in absurd (cc)
 ]
 
-left_of : (m : MachineDef) (row : RowDef) (most least i j : ℕ) → IsLeastOf most (IsLeft m.list.jobs m.places row.running (length row.running)) least → runs_in row j ≡ true → left_now m j ≡ i → least ≤ i
+left_of : (m : MachineDef) (row : RowDef) (most least i j : ℕ)
+    → IsLeastOf most (IsLeft m.list.jobs m.places row.running (length row.running)) least → runs_in row j ≡ true
+    → left_now m j ≡ i → least ≤ i
 unfolding left_now
 left_of m row most least i j is runs e = at (runs_where row j runs) where
   at : (k : ℕ) × (running_on row k ≡ Some j) → least ≤ i
@@ -81,7 +98,8 @@ left_of m row most least i j is runs e = at (runs_where row j runs) where
   at (suc c, h) = is.each i (c, j, within c j row.running h, h, e)
 
 -- The least of what is left of the phases and of the ticks until the next release is the length of the stretch.
-pub stretch_of : (m : MachineDef) (row : RowDef) (most least : ℕ) → IsMachine m → IsLeastOf MOST_TICKS (IsAhead m.list.jobs m.tick m.coming (length m.coming)) most
+pub stretch_of : (m : MachineDef) (row : RowDef) (most least : ℕ) → IsMachine m
+    → IsLeastOf MOST_TICKS (IsAhead m.list.jobs m.tick m.coming (length m.coming)) most
     → IsLeastOf most (IsLeft m.list.jobs m.places row.running (length row.running)) least → 1 ≤ least → IsStretch m row least
 unfolding left_now
 stretch_of m row most least machine ahead left some = record {
@@ -110,7 +128,8 @@ pub quiet_sooner : (m : MachineDef) (row : RowDef) (n k : ℕ) → IsQuiet m row
 quiet_sooner m row n k quiet l i some before = quiet i some (omega (arith, before, l))
 
 -- In a schedule that the machine shows, and that has the row as often, the stretch is steady.
-pub steady_of : (m : MachineDef) (rows : ℕ → RowDef) (row : RowDef) (n : ℕ) → Shows m rows → CanTake m row → IsQuiet m row n → ((i : ℕ) → i < n → rows (m.tick + i) ≡ row)
+pub steady_of : (m : MachineDef) (rows : ℕ → RowDef) (row : RowDef) (n : ℕ) → Shows m rows → CanTake m row
+    → IsQuiet m row n → ((i : ℕ) → i < n → rows (m.tick + i) ≡ row)
     → IsSteady (under m rows) m.tick n
 steady_of m rows row n shows can quiet same = record {
   rows = λ i l. same i l ∙ sym (first (omega (arith, l)));
@@ -124,23 +143,27 @@ steady_of m rows row n shows can quiet same = record {
   phases i j l runs =
       let own : (j < length m.list.jobs) × ((place_of m (task_in m.list.jobs j)).job ≡ j) = runs_listed m row j can runs in
       let goes : GoesOn (under m rows) m.tick (task_in m.list.jobs j) (place_of m (task_in m.list.jobs j)) n =
-      goes_on m rows row n (task_in m.list.jobs j) shows can quiet same (task_listed m.list j shows.machine.lawful own.0) (ap (runs_in row) own.1 ∙ runs) in
+      goes_on m rows row n (task_in m.list.jobs j) shows can quiet same
+      (task_listed m.list j shows.machine.lawful own.0) (ap (runs_in row) own.1 ∙ runs) in
       subst (λ k. phase_of (under m rows) (m.tick + i) k ≡ phase_of (under m rows) m.tick k) own.1
       (phase_goes_on (under m rows) m.tick (task_in m.list.jobs j) (place_of m (task_in m.list.jobs j)) n i goes l)
 
 -- And where it is over, something changes there.
-pub changes_of : (m : MachineDef) (rows : ℕ → RowDef) (row : RowDef) (n : ℕ) → Shows m rows → CanTake m row → IsStretch m row n → n < MOST_TICKS
+pub changes_of : (m : MachineDef) (rows : ℕ → RowDef) (row : RowDef) (n : ℕ) → Shows m rows → CanTake m row
+    → IsStretch m row n → n < MOST_TICKS
     → ((i : ℕ) → i < n → rows (m.tick + i) ≡ row) → Changes (under m rows) m.tick n
 unfolding left_now
 changes_of m rows row n shows can stretch early same = go (stretch.changes early) where
   first : rows m.tick ≡ row
   first = let here : m.tick ≡ m.tick + 0 = omega arith in ap rows here ∙ same 0 (omega (arith, stretch.some))
 
-  ends : (j : ℕ) → runs_in row j ≡ true → left_at m.list.jobs (place_of m (task_in m.list.jobs j)) ≡ n → phase_of (under m rows) (m.tick + n) j ≡ phase_of (under m rows) m.tick j → ⊥
+  ends : (j : ℕ) → runs_in row j ≡ true → left_at m.list.jobs (place_of m (task_in m.list.jobs j)) ≡ n
+      → phase_of (under m rows) (m.tick + n) j ≡ phase_of (under m rows) m.tick j → ⊥
   ends j runs e unchanged =
       let own : (j < length m.list.jobs) × ((place_of m (task_in m.list.jobs j)).job ≡ j) = runs_listed m row j can runs in
       let goes : GoesOn (under m rows) m.tick (task_in m.list.jobs j) (place_of m (task_in m.list.jobs j)) n =
-      goes_on m rows row n (task_in m.list.jobs j) shows can stretch.quiet same (task_listed m.list j shows.machine.lawful own.0) (ap (runs_in row) own.1 ∙ runs) in
+      goes_on m rows row n (task_in m.list.jobs j) shows can stretch.quiet same
+      (task_listed m.list j shows.machine.lawful own.0) (ap (runs_in row) own.1 ∙ runs) in
       phase_ends (under m rows) m.tick (task_in m.list.jobs j) (place_of m (task_in m.list.jobs j)) n goes (sym e)
       (subst (λ k. phase_of (under m rows) (m.tick + n) k ≡ phase_of (under m rows) m.tick k) (sym own.1) unchanged)
 

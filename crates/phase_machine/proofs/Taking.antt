@@ -1,5 +1,6 @@
 -- A machine that takes a row, and one that takes none yet.
-use Rattle.std.proofs.Common.{◌≡◌, ℕ, zero, suc, ◌+◌, ◌<◌, ◌≤◌, true, false, List, length, get_or, take, replicate, refl, sym, ap, subst, ◌∙◌, arith, inl, inr, Option, Some, None}
+use Rattle.std.proofs.Common.{◌≡◌, ℕ, zero, suc, ◌+◌, ◌<◌, ◌≤◌, true, false, List, length, get_or, take, replicate}
+use Rattle.std.proofs.Common.{refl, sym, ap, subst, ◌∙◌, arith, inl, inr, Option, Some, None}
 use Rattle.std.specs.List.{list_any}
 use Rattle.std.proofs.lemmas.List.{length-replicate}
 use Rattle.std.proofs.lemmas.Bool.{cases_lt, cases_eq, cases_Bool, false_from_ne_true}
@@ -11,7 +12,8 @@ use Rattle.schedule_model.specs.Phase.{executed}
 use Rattle.schedule_laws.proofs.Rows.{runs_from, runs_where}
 use Rattle.schedule_laws.proofs.Ticks.{executed_none}
 use Rattle.phase_machine.specs.declared.place.Place.{Place}
-use Rattle.phase_machine.specs.MachineDef.{MachineDef, IsMachine, IsPlace, IsNext, IsComing, place_of, coming_of, task_in, segment_in, no_place, under}
+use Rattle.phase_machine.specs.MachineDef.{MachineDef, IsMachine, IsPlace, IsNext, IsComing, place_of, coming_of}
+use Rattle.phase_machine.specs.MachineDef.{task_in, segment_in, no_place, under}
 use Rattle.phase_machine.specs.Now.{current_now, active_now}
 use Rattle.phase_machine.specs.Shows.{Shows, ShowsPlace, ArePlacesAtFirst}
 use Rattle.phase_machine.specs.Taking.{CanTake}
@@ -47,15 +49,18 @@ pub record Took (m : MachineDef) (row : RowDef) (more : ℕ) (n : MachineDef) : 
   pub tick : n.tick ≡ m.tick + more
   pub holders : n.holders ≡ row.holders
   pub size : length n.places ≡ length m.places
-  pub moved : (x : ℕ) → x < length m.list.set.tasks → MovesTo m.list.jobs (m.tick + more) more row.running x (get_or m.places x no_place) (get_or n.places x no_place)
+  pub moved : (x : ℕ) → x < length m.list.set.tasks
+      → MovesTo m.list.jobs (m.tick + more) more row.running x (get_or m.places x no_place) (get_or n.places x no_place)
   pub coming_size : length n.coming ≡ length m.coming
   pub coming : (x : ℕ) → x < length m.list.set.tasks → IsComing m.list.jobs (m.tick + more) x (get_or n.coming x 0)
 
 -- From the parts that the machine's fields were made of.
-pub took_from : (m : MachineDef) (row : RowDef) (more : ℕ) (old moved kept : List Place) (before come held : List ℕ) (running holders : List (Option ℕ))
+pub took_from : (m : MachineDef) (row : RowDef) (more : ℕ) (old moved kept : List Place) (before come held : List ℕ)
+    (running holders : List (Option ℕ))
     → kept ≡ moved → old ≡ m.places → running ≡ row.running → holders ≡ row.holders → held ≡ come → before ≡ m.coming
     → length moved ≡ length old
-    → ((x : ℕ) → x < length m.list.set.tasks → MovesTo m.list.jobs (m.tick + more) more running x (get_or old x no_place) (get_or moved x no_place))
+    → ((x : ℕ) → x < length m.list.set.tasks
+    → MovesTo m.list.jobs (m.tick + more) more running x (get_or old x no_place) (get_or moved x no_place))
     → length come ≡ length before → ((x : ℕ) → x < length m.list.set.tasks → IsComing m.list.jobs (m.tick + more) x (get_or come x 0))
     → Took m row more (record { list = m.list; tick = m.tick + more; places = kept; holders = holders; coming = held })
 took_from m row more old moved kept before come held running holders a b c d e f size moves coming_size coming = record {
@@ -69,20 +74,23 @@ took_from m row more old moved kept before come held running holders a b c d e f
 }
 
 -- A place whose job runs is one of a listed job.
-pub runs_listed : (m : MachineDef) (row : RowDef) (j : ℕ) → CanTake m row → runs_in row j ≡ true → (j < length m.list.jobs) × ((place_of m (task_in m.list.jobs j)).job ≡ j)
+pub runs_listed : (m : MachineDef) (row : RowDef) (j : ℕ) → CanTake m row → runs_in row j ≡ true
+    → (j < length m.list.jobs) × ((place_of m (task_in m.list.jobs j)).job ≡ j)
 runs_listed m row j can h = at (runs_where row j h) where
   at : (k : ℕ) × (running_on row k ≡ Some j) → (j < length m.list.jobs) × ((place_of m (task_in m.list.jobs j)).job ≡ j)
   at (k, e) = (can.fits.running k j e, active_place m j (can.active k j e))
 
 -- Its task's place is one.
-taken_place : (m : MachineDef) (row : RowDef) (more : ℕ) (n : MachineDef) (x : ℕ) → IsMachine m → CanTake m row → Took m row more n → x < length m.list.set.tasks
+taken_place : (m : MachineDef) (row : RowDef) (more : ℕ) (n : MachineDef) (x : ℕ) → IsMachine m → CanTake m row
+    → Took m row more n → x < length m.list.set.tasks
     → IsPlace m.list.jobs x (get_or n.places x no_place)
 unfolding runs_in
 taken_place m row more n x machine can took l =
     let p : Place = place_of m x in
     let moves : MovesTo m.list.jobs (m.tick + more) more row.running x p (get_or n.places x no_place) = took.moved x l in
     elim (cases_Bool (list_any (is_job p.job) row.running)) [
-      | inl runs ↦ stepped_place m.list (m.tick + more) more x p (get_or n.places x no_place) machine.lawful (runs_listed m row p.job can runs).0 (machine.place x l) (moves.runs runs)
+      | inl runs ↦ stepped_place m.list (m.tick + more) more x p (get_or n.places x no_place) machine.lawful
+          (runs_listed m row p.job can runs).0 (machine.place x l) (moves.runs runs)
       | inr waits ↦ rw (moves.stays waits) (machine.place x l)
     ]
 
@@ -108,17 +116,21 @@ kept_after m row more n machine can took = record {
   named = λ q j e. can.fits.holders q j (sym (ap (λ holders. get_or holders q None) took.holders) ∙ e);
 }
 
-pub taken_machine : (m : MachineDef) (row : RowDef) (more : ℕ) (n : MachineDef) → IsMachine m → CanTake m row → Took m row more n → IsMachine n
-taken_machine m row more n machine can took = rebuilt n IsMachine m.list (m.tick + more) took.list took.tick (kept_after m row more n machine can took)
+pub taken_machine : (m : MachineDef) (row : RowDef) (more : ℕ) (n : MachineDef) → IsMachine m → CanTake m row
+    → Took m row more n → IsMachine n
+taken_machine m row more n machine can took =
+    rebuilt n IsMachine m.list (m.tick + more) took.list took.tick (kept_after m row more n machine can took)
 
 -- Of a task's jobs the one at its place alone runs.
-others_wait : (m : MachineDef) (row : RowDef) (x e : ℕ) → CanTake m row → task_in m.list.jobs e ≡ x → (e ≡ (place_of m x).job → ⊥) → runs_in row e ≡ false
+others_wait : (m : MachineDef) (row : RowDef) (x e : ℕ) → CanTake m row → task_in m.list.jobs e ≡ x
+    → (e ≡ (place_of m x).job → ⊥) → runs_in row e ≡ false
 others_wait m row x e can same other = false_from_ne_true (runs_in row e) (λ h. other (own h)) where
   own : runs_in row e ≡ true → e ≡ (place_of m x).job
   own h = sym (runs_listed m row e can h).1 ∙ ap (λ y. (place_of m y).job) same
 
 -- What is left of the phase of a place's job that runs is at most what the machine takes before something changes.
-pub left_enough : (m : MachineDef) (row : RowDef) (more x : ℕ) → IsMachine m → CanTake m row → IsQuiet m row more → x < length m.list.set.tasks → runs_in row (place_of m x).job ≡ true
+pub left_enough : (m : MachineDef) (row : RowDef) (more x : ℕ) → IsMachine m → CanTake m row → IsQuiet m row more
+    → x < length m.list.set.tasks → runs_in row (place_of m x).job ≡ true
     → more ≤ left_at m.list.jobs (place_of m x)
 unfolding left_now
 left_enough m row more x machine can quiet l runs = elim (cases_lt (left_at m.list.jobs (place_of m x)) more) [
@@ -138,7 +150,8 @@ left_enough m row more x machine can quiet l runs = elim (cases_lt (left_at m.li
   own = ap (λ y. left_at m.list.jobs (place_of m y)) (place.own listed)
 
 -- A task's place whose job runs in rows from the machine's tick on.
-pub goes_on : (m : MachineDef) (rows : ℕ → RowDef) (row : RowDef) (more x : ℕ) → Shows m rows → CanTake m row → IsQuiet m row more → ((i : ℕ) → i < more → rows (m.tick + i) ≡ row)
+pub goes_on : (m : MachineDef) (rows : ℕ → RowDef) (row : RowDef) (more x : ℕ) → Shows m rows → CanTake m row
+    → IsQuiet m row more → ((i : ℕ) → i < more → rows (m.tick + i) ≡ row)
     → x < length m.list.set.tasks → runs_in row (place_of m x).job ≡ true → GoesOn (under m rows) m.tick x (place_of m x) more
 goes_on m rows row more x shows can quiet same l runs = record {
   lawful = shows.machine.lawful;
@@ -150,34 +163,41 @@ goes_on m rows row more x shows can quiet same l runs = record {
   left = left_enough m row more x shows.machine can quiet l runs;
 }
 
-idle : (m : MachineDef) (row : RowDef) (x e : ℕ) → CanTake m row → runs_in row (place_of m x).job ≡ false → task_in m.list.jobs e ≡ x → runs_in row e ≡ false
+idle : (m : MachineDef) (row : RowDef) (x e : ℕ) → CanTake m row → runs_in row (place_of m x).job ≡ false
+    → task_in m.list.jobs e ≡ x → runs_in row e ≡ false
 idle m row x e can waits same = elim (cases_eq e (place_of m x).job) [
   | inl own ↦ rw own waits
   | inr other ↦ others_wait m row x e can same other
 ]
 
 -- A task's place shows the schedule after the rows.
-taken_shows_place : (m : MachineDef) (rows : ℕ → RowDef) (row : RowDef) (more : ℕ) (n : MachineDef) (x : ℕ) → Shows m rows → CanTake m row → IsQuiet m row more → 1 ≤ more
-    → Took m row more n → ((i : ℕ) → i < more → rows (m.tick + i) ≡ row) → x < length m.list.set.tasks → ShowsPlace (under m rows) (m.tick + more) x (get_or n.places x no_place)
+taken_shows_place : (m : MachineDef) (rows : ℕ → RowDef) (row : RowDef) (more : ℕ) (n : MachineDef) (x : ℕ)
+    → Shows m rows → CanTake m row → IsQuiet m row more → 1 ≤ more
+    → Took m row more n → ((i : ℕ) → i < more → rows (m.tick + i) ≡ row) → x < length m.list.set.tasks
+    → ShowsPlace (under m rows) (m.tick + more) x (get_or n.places x no_place)
 unfolding runs_in
 taken_shows_place m rows row more n x shows can quiet some took same l =
     let p : Place = place_of m x in
     let moves : MovesTo m.list.jobs (m.tick + more) more row.running x p (get_or n.places x no_place) = took.moved x l in
     elim (cases_Bool (runs_in row p.job)) [
-      | inl runs ↦ stepped_on (under m rows) m.tick x p (get_or n.places x no_place) more some (goes_on m rows row more x shows can quiet same l runs) (moves.runs runs)
+      | inl runs ↦ stepped_on (under m rows) m.tick x p (get_or n.places x no_place) more some
+          (goes_on m rows row more x shows can quiet same l runs) (moves.runs runs)
       | inr waits ↦ rw (moves.stays waits) (stayed_on (under m rows) m.tick x p more (shows.machine.place x l)
           (λ i e b own. ap (λ r. runs_in r e) (same i b) ∙ idle m row x e can waits own) (shows.places x l))
     ]
 
 -- The holders are those of the row.
-held_after : (m : MachineDef) (rows : ℕ → RowDef) (row : RowDef) (more q : ℕ) → 1 ≤ more → ((i : ℕ) → i < more → rows (m.tick + i) ≡ row) → holder_in row q ≡ held_before (under m rows) (m.tick + more) q
+held_after : (m : MachineDef) (rows : ℕ → RowDef) (row : RowDef) (more q : ℕ) → 1 ≤ more
+    → ((i : ℕ) → i < more → rows (m.tick + i) ≡ row) → holder_in row q ≡ held_before (under m rows) (m.tick + more) q
 held_after m rows row zero q some same = absurd (omega (arith, some))
 held_after m rows row (suc k) q some same =
     let next : suc (m.tick + k) ≡ m.tick + suc k = omega arith in
     ap (λ r. holder_in r q) (sym (same k (omega arith))) ∙ ap (λ u. held_before (under m rows) u q) next
 
-shown_after : (m : MachineDef) (rows : ℕ → RowDef) (row : RowDef) (more : ℕ) (n : MachineDef) → Shows m rows → CanTake m row → IsQuiet m row more → 1 ≤ more → Took m row more n
-    → ((i : ℕ) → i < more → rows (m.tick + i) ≡ row) → Shows (record { list = m.list; tick = m.tick + more; places = n.places; holders = n.holders; coming = n.coming }) rows
+shown_after : (m : MachineDef) (rows : ℕ → RowDef) (row : RowDef) (more : ℕ) (n : MachineDef) → Shows m rows
+    → CanTake m row → IsQuiet m row more → 1 ≤ more → Took m row more n
+    → ((i : ℕ) → i < more → rows (m.tick + i) ≡ row) → Shows
+    (record { list = m.list; tick = m.tick + more; places = n.places; holders = n.holders; coming = n.coming }) rows
 shown_after m rows row more n shows can quiet some took same = record {
   machine = kept_after m row more n shows.machine can took;
   places = λ x l. taken_shows_place m rows row more n x shows can quiet some took same l;
@@ -185,16 +205,20 @@ shown_after m rows row more n shows can quiet some took same = record {
 }
 
 -- So it shows each schedule that it showed and that has the row as often from its tick on.
-pub taken_shows : (m : MachineDef) (row : RowDef) (more : ℕ) (n : MachineDef) → CanTake m row → IsQuiet m row more → 1 ≤ more → Took m row more n → (rows : ℕ → RowDef) → Shows m rows
+pub taken_shows : (m : MachineDef) (row : RowDef) (more : ℕ) (n : MachineDef) → CanTake m row → IsQuiet m row more
+    → 1 ≤ more → Took m row more n → (rows : ℕ → RowDef) → Shows m rows
     → ((i : ℕ) → i < more → rows (m.tick + i) ≡ row) → Shows n rows
 taken_shows m row more n can quiet some took rows shows same =
     rebuilt n (λ n. Shows n rows) m.list (m.tick + more) took.list took.tick (shown_after m rows row more n shows can quiet some took same)
 
 -- The running jobs' phases last as long as the machine takes the row.
-pub phases_last : (m : MachineDef) (row : RowDef) (more c j : ℕ) → IsMachine m → CanTake m row → IsQuiet m row more → get_or row.running c None ≡ Some j
+pub phases_last : (m : MachineDef) (row : RowDef) (more c j : ℕ) → IsMachine m → CanTake m row → IsQuiet m row more
+    → get_or row.running c None ≡ Some j
     → more ≤ left_at m.list.jobs (get_or m.places (task_in m.list.jobs j) no_place)
 phases_last m row more c j machine can quiet e =
-    left_enough m row more (task_in m.list.jobs j) machine can quiet (task_listed m.list j machine.lawful (can.fits.running (suc c) j e)) (runs_from row (suc c) (place_of m (task_in m.list.jobs j)).job (e ∙ ap (λ k. Some k) (sym (active_place m j (can.active (suc c) j e)))))
+    left_enough m row more (task_in m.list.jobs j) machine can quiet
+    (task_listed m.list j machine.lawful (can.fits.running (suc c) j e)) (runs_from row (suc c)
+    (place_of m (task_in m.list.jobs j)).job (e ∙ ap (λ k. Some k) (sym (active_place m j (can.active (suc c) j e)))))
 
 no_holder : (n q : ℕ) → get_or {A = Option ℕ} (replicate n None) q None ≡ None
 no_holder zero q = refl
@@ -202,7 +226,8 @@ no_holder (suc n) zero = refl
 no_holder (suc n) (suc q) = no_holder n q
 
 -- At the start of its first job each task has a place.
-place_at_first : (list : JobsDef) (x : ℕ) (p : Place) → AreLawfulJobs list → IsNext list.jobs x 0 p.job → p.segment ≡ 0 → p.ticks ≡ 0 → IsPlace list.jobs x p
+place_at_first : (list : JobsDef) (x : ℕ) (p : Place) → AreLawfulJobs list → IsNext list.jobs x 0 p.job → p.segment ≡ 0
+    → p.ticks ≡ 0 → IsPlace list.jobs x p
 place_at_first list x p lawful next first none = record {
   most = next.most;
   own = next.own;
@@ -211,14 +236,19 @@ place_at_first list x p lawful next first none = record {
 } where
   ticks : p.job < length list.jobs → p.ticks < segment_ticks (segment_in list.jobs p.job p.segment)
   ticks l =
-      let some : 0 < (segment_in list.jobs p.job 0).local = local_some list p.job 0 lawful l (script_some (job_of list.jobs p.job).script (script_of list p.job lawful l)) in
-      let here : segment_ticks (segment_in list.jobs p.job p.segment) ≡ segment_ticks (segment_in list.jobs p.job 0) = ap (λ n. segment_ticks (segment_in list.jobs p.job n)) first in
+      let some : 0 < (segment_in list.jobs p.job 0).local =
+      local_some list p.job 0 lawful l (script_some (job_of list.jobs p.job).script (script_of list p.job lawful l)) in
+      let here : segment_ticks (segment_in list.jobs p.job p.segment) ≡ segment_ticks (segment_in list.jobs p.job 0) =
+      ap (λ n. segment_ticks (segment_in list.jobs p.job n)) first in
       omega arith
 
 -- So a machine is made.
-pub machine_at_first : (m : MachineDef) → m.tick ≡ 0 → AreLawfulJobs m.list → ((x : ℕ) → x < length m.list.set.tasks → TaskNumbers m.list.set x)
-    → length m.places ≡ length m.list.set.tasks → ArePlacesAtFirst m.list.jobs (length m.list.set.tasks) m.places → m.holders ≡ replicate (length m.list.set.resources) None
-    → length m.coming ≡ length m.list.set.tasks → ((x : ℕ) → x < length m.list.set.tasks → IsComing m.list.jobs 0 x (coming_of m x)) → IsMachine m
+pub machine_at_first : (m : MachineDef) → m.tick ≡ 0 → AreLawfulJobs m.list
+    → ((x : ℕ) → x < length m.list.set.tasks → TaskNumbers m.list.set x)
+    → length m.places ≡ length m.list.set.tasks → ArePlacesAtFirst m.list.jobs (length m.list.set.tasks) m.places
+    → m.holders ≡ replicate (length m.list.set.resources) None
+    → length m.coming ≡ length m.list.set.tasks
+    → ((x : ℕ) → x < length m.list.set.tasks → IsComing m.list.jobs 0 x (coming_of m x)) → IsMachine m
 machine_at_first m e lawful numbers size places none coming_size coming = record {
   lawful = lawful;
   numbers = numbers;
@@ -235,10 +265,13 @@ machine_at_first m e lawful numbers size places none coming_size coming = record
       cc
 
 -- Before any row a machine shows every schedule.
-pub shows_at_first : (m : MachineDef) (rows : ℕ → RowDef) → IsMachine m → m.tick ≡ 0 → ArePlacesAtFirst m.list.jobs (length m.list.set.tasks) m.places
+pub shows_at_first : (m : MachineDef) (rows : ℕ → RowDef) → IsMachine m → m.tick ≡ 0
+    → ArePlacesAtFirst m.list.jobs (length m.list.set.tasks) m.places
     → m.holders ≡ replicate (length m.list.set.resources) None → Shows m rows
 shows_at_first m rows machine e places none = rebuilt m (λ n. Shows n rows) m.list 0 refl e (record {
-  machine = subst (λ t. IsMachine (record { list = m.list; tick = t; places = m.places; holders = m.holders; coming = m.coming })) e machine;
+  machine = subst
+      (λ t. IsMachine (record { list = m.list; tick = t; places = m.places; holders = m.holders; coming = m.coming })) e
+      machine;
   places = λ x l. at_first x l;
   holders = λ q. ap (λ holders. get_or holders q None) none ∙ no_holder (length m.list.set.resources) q;
 }) where
@@ -252,12 +285,16 @@ shows_at_first m rows machine e places none = rebuilt m (λ n. Shows n rows) m.l
         stands = λ b. stands b;
         issued = λ b past. absurd (local_past b past);
       } where
-        stands : (place_of m x).job < length m.list.jobs → executed (under m rows) 0 (place_of m x).job ≡ total_ticks (take (place_of m x).segment (job_of m.list.jobs (place_of m x).job).script) + (place_of m x).ticks
+        stands : (place_of m x).job < length m.list.jobs → executed (under m rows) 0 (place_of m x).job ≡ total_ticks
+            (take (place_of m x).segment (job_of m.list.jobs (place_of m x).job).script) + (place_of m x).ticks
         stands b =
-            let zero : total_ticks (take (place_of m x).segment (job_of m.list.jobs (place_of m x).job).script) ≡ 0 = ap (λ k. total_ticks (take k (job_of m.list.jobs (place_of m x).job).script)) (places x l).1 in
+            let zero : total_ticks (take (place_of m x).segment (job_of m.list.jobs (place_of m x).job).script) ≡ 0 =
+            ap (λ k. total_ticks (take k (job_of m.list.jobs (place_of m x).job).script)) (places x l).1 in
             omega (arith, executed_none (under m rows) (place_of m x).job, (places x l).2)
 
-        local_past : (place_of m x).job < length m.list.jobs → (segment_in m.list.jobs (place_of m x).job (place_of m x).segment).local ≤ (place_of m x).ticks → ⊥
+        local_past : (place_of m x).job < length m.list.jobs
+            → (segment_in m.list.jobs (place_of m x).job (place_of m x).segment).local ≤ (place_of m x).ticks → ⊥
         local_past b past =
-            let some : 0 < (segment_in m.list.jobs (place_of m x).job (place_of m x).segment).local = local_some m.list (place_of m x).job (place_of m x).segment machine.lawful b ((machine.place x l).segment b) in
+            let some : 0 < (segment_in m.list.jobs (place_of m x).job (place_of m x).segment).local = local_some m.list
+            (place_of m x).job (place_of m x).segment machine.lawful b ((machine.place x l).segment b) in
             omega (arith, (places x l).2)

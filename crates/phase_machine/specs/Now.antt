@@ -1,5 +1,6 @@
 -- What a machine answers of the tick that it stands at.
-use Rattle.std.specs.Prelude.{◌≡◌, refl, ℕ, ◌&&◌, ◌||◌, not, Bool, nat_lt, nat_le, if◌then◌else◌, List, length, Option, None, Some, slice_index_or}
+use Rattle.std.specs.Prelude.{◌≡◌, refl, ℕ, ◌&&◌, ◌||◌, not, Bool, nat_lt, nat_le, if◌then◌else◌, List, length, Option}
+use Rattle.std.specs.Prelude.{None, Some, slice_index_or}
 use Rattle.schedule_model.specs.JobDef.{SegmentDef, JobDef, job_of}
 use Rattle.schedule_model.specs.RowDef.{Trace, is_job, held_before}
 use Rattle.schedule_model.specs.Phase.{Phase, is_local, is_asking, asking, phase_of}

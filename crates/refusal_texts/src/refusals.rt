@@ -1,5 +1,7 @@
 ghost use Rattle.std.specs.Prelude.{◌≡◌, ◌++◌, string_bytes, IfOk};
-ghost use Rattle.refusal_texts.specs.Refusals.{place_text, size_text, model_word, model_place, reason_text, cert_place_text, cert_reason_text, line_text, jobs_reason_text, rows_reason_text};
+ghost use Rattle.refusal_texts.specs.Refusals.{place_text, size_text, model_word, model_place, reason_text};
+ghost use Rattle.refusal_texts.specs.Refusals.{cert_place_text, cert_reason_text, line_text, jobs_reason_text};
+ghost use Rattle.refusal_texts.specs.Refusals.{rows_reason_text};
 
 use cert_json::{CertPlace, CertRefusal};
 use sporadic_model::{ModelRefusal, Place, SizeOf};

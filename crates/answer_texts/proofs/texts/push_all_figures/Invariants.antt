@@ -8,4 +8,5 @@ use Rattle.answer_texts.proofs.texts.push_all_figures.Given as goal
 
 -- the lines of the tasks so far are written
 abbrev pub invariant-loop-x : goal.invariant-loop-x
-invariant-loop-x l = l.text.items ≡ l.initial.text.items ++ collect_below l.x (λ x. figures_line (task_at l.set x).name (slice_index_or l.figures x no_figures))
+invariant-loop-x l = l.text.items ≡ l.initial.text.items
+    ++ collect_below l.x (λ x. figures_line (task_at l.set x).name (slice_index_or l.figures x no_figures))

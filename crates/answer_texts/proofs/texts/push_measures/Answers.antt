@@ -6,5 +6,8 @@ use Rattle.answer_texts.proofs.Lines.{lines_more}
 use Rattle.answer_texts.proofs.texts.push_measures.Goals as goal
 
 pub loop-x-preserved : goal.loop-x-preserved
-loop-x-preserved c = lines_more (λ x. measures_line (task_at c.args.set.now x).name (measure_seen (slice_index_or c.args.measures.now x no_measure))) c.args.text.now.items c.loop-x.text.items c.push_task.new.text.items c.loop-x.x
+loop-x-preserved c = lines_more
+    (λ x.
+    measures_line (task_at c.args.set.now x).name (measure_seen (slice_index_or c.args.measures.now x no_measure)))
+    c.args.text.now.items c.loop-x.text.items c.push_task.new.text.items c.loop-x.x
     c.loop-x.invariant c.in_ok-push_task.ensures

@@ -20,5 +20,6 @@ returns-in_ok-kept_reply-in-Ok c =
       status = 0;
       text = kept_text c.args.jobs.now.set (ticks_of c.args.rows.now.runs) (λ x. slice_index_or c.in-Ok.figures.items x no_figures);
     } = rw (c.set.ensures, c.deref.ensures.value, c.ticks-ticks.ensures.value) at c.in_ok-kept_reply-in-Ok.ensures in
-    kept_audit c.args.protocol (certificate_seen c.args.certificate.now) (trace_in c.args.jobs.now c.args.rows.now.runs) (ticks_of c.args.rows.now.runs)
+    kept_audit c.args.protocol (certificate_seen c.args.certificate.now) (trace_in c.args.jobs.now c.args.rows.now.runs)
+    (ticks_of c.args.rows.now.runs)
     c.in-Ok.figures.items (reply_seen c.in_ok-kept_reply-in-Ok.field-0) audits.0 audits.1 audits.2 is

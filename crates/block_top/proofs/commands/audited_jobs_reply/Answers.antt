@@ -10,7 +10,8 @@ use Rattle.block_top.proofs.ReplyLaws.{replied_got}
 use Rattle.block_top.proofs.commands.audited_jobs_reply.Goals as goal
 
 pub audited_rows_reply-requires-clause-suits : goal.audited_rows_reply-requires-clause-suits
-audited_rows_reply-requires-clause-suits g c = subst (λ (s : SetDef). HasHomesFor c.args.protocol s) (sym c.in_ok-_bytes.ensures.of_set) c.requires.suits
+audited_rows_reply-requires-clause-suits g c =
+    subst (λ (s : SetDef). HasHomesFor c.args.protocol s) (sym c.in_ok-_bytes.ensures.of_set) c.requires.suits
 
 pub returns-clause-reply : goal.returns-clause-reply
 returns-clause-reply g c =
@@ -20,6 +21,12 @@ returns-clause-reply g c =
     let given = g.S.Shelf.given c.audited_rows_reply.new.shelf in
     let keeps = c.get_jobs.ensures.keeps in
     let got = c.in_ok-_bytes.ensures.got in
-    let rest : Answered c.audited_rows_reply.result (IsReplyOf (record { names = names; before = mid; now = now; given = given }) (auditing_rows c.args.protocol (certificate_seen c.args.certificate.now) c.args.rows.now c.in_ok-_bytes.jobs)) = rw keeps.names at c.audited_rows_reply.ensures.reply in
-    replied_got names (g.S.Shelf.faults c.args.shelf.now) mid now (g.S.Shelf.given c.get_jobs.new.shelf) given (jobs_input c.args.set.now) c.args.jobs.now (λ bytes list. auditing_rows c.args.protocol (certificate_seen c.args.certificate.now) c.args.rows.now list) c.in_ok-_bytes._bytes.items c.in_ok-_bytes.jobs c.audited_rows_reply.result
+    let rest : Answered c.audited_rows_reply.result
+    (IsReplyOf (record { names = names; before = mid; now = now; given = given })
+    (auditing_rows c.args.protocol (certificate_seen c.args.certificate.now) c.args.rows.now c.in_ok-_bytes.jobs)) =
+    rw keeps.names at c.audited_rows_reply.ensures.reply in
+    replied_got names (g.S.Shelf.faults c.args.shelf.now) mid now (g.S.Shelf.given c.get_jobs.new.shelf) given
+    (jobs_input c.args.set.now) c.args.jobs.now
+    (λ bytes list. auditing_rows c.args.protocol (certificate_seen c.args.certificate.now) c.args.rows.now list)
+    c.in_ok-_bytes._bytes.items c.in_ok-_bytes.jobs c.audited_rows_reply.result
     keeps.later got.0 (λ works. absurd works) rest

@@ -14,6 +14,12 @@ returns-clause-reply g c =
     let given = g.S.Shelf.given c.audited_jobs_reply.new.shelf in
     let keeps = c.get_cert.ensures.keeps in
     let got = c.in_ok-_bytes.ensures.got in
-    let rest : Answered c.audited_jobs_reply.result (IsReplyOf (record { names = names; before = mid; now = now; given = given }) (auditing_jobs c.args.protocol (certificate_seen c.in_ok-_bytes.certificate) c.args.jobs.now c.args.rows.now c.args.set.now)) = rw keeps.names at c.audited_jobs_reply.ensures.reply in
-    replied_got names (g.S.Shelf.faults c.args.shelf.now) mid now (g.S.Shelf.given c.get_cert.new.shelf) given (cert_input c.args.protocol) c.args.certificate.now (λ bytes cert. auditing_jobs c.args.protocol cert c.args.jobs.now c.args.rows.now c.args.set.now) c.in_ok-_bytes._bytes.items (certificate_seen c.in_ok-_bytes.certificate) c.audited_jobs_reply.result
+    let rest : Answered c.audited_jobs_reply.result
+    (IsReplyOf (record { names = names; before = mid; now = now; given = given }) (auditing_jobs c.args.protocol
+    (certificate_seen c.in_ok-_bytes.certificate) c.args.jobs.now c.args.rows.now c.args.set.now)) =
+    rw keeps.names at c.audited_jobs_reply.ensures.reply in
+    replied_got names (g.S.Shelf.faults c.args.shelf.now) mid now (g.S.Shelf.given c.get_cert.new.shelf) given
+    (cert_input c.args.protocol) c.args.certificate.now
+    (λ bytes cert. auditing_jobs c.args.protocol cert c.args.jobs.now c.args.rows.now c.args.set.now)
+    c.in_ok-_bytes._bytes.items (certificate_seen c.in_ok-_bytes.certificate) c.audited_jobs_reply.result
     keeps.later got.0 (λ works. absurd works) rest

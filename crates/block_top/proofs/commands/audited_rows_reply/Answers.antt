@@ -10,7 +10,9 @@ pub returns-clause-reply : goal.returns-clause-reply
 returns-clause-reply g c =
     let cert : CertificateDef = certificate_seen c.args.certificate.now in
     let got = c.in_ok-_bytes.ensures.got in
-    replied_work (g.S.Shelf.names c.args.shelf.now) (g.S.Shelf.faults c.args.shelf.now) (g.S.Shelf.faults c.get_rows.new.shelf) (g.S.Shelf.given c.get_rows.new.shelf)
-    (rows_input c.args.jobs.now) c.args.rows.now (λ bytes d. Working (audit_of c.args.protocol cert c.args.jobs.now d)) c.in_ok-_bytes._bytes.items c.in_ok-_bytes.rows
+    replied_work (g.S.Shelf.names c.args.shelf.now) (g.S.Shelf.faults c.args.shelf.now)
+    (g.S.Shelf.faults c.get_rows.new.shelf) (g.S.Shelf.given c.get_rows.new.shelf)
+    (rows_input c.args.jobs.now) c.args.rows.now (λ bytes d. Working (audit_of c.args.protocol cert c.args.jobs.now d))
+    c.in_ok-_bytes._bytes.items c.in_ok-_bytes.rows
     (IsAudit c.args.protocol cert (trace_in c.args.jobs.now c.in_ok-_bytes.rows.runs) (ticks_of c.in_ok-_bytes.rows.runs)) c.audited.result
     c.get_rows.ensures.keeps.later got.0 got.1 (λ (a : Answer) is. is) c.audited.ensures

@@ -14,7 +14,10 @@ returns-clause-reply g c =
     let keeps = c.get_set.ensures.keeps in
     let got = c.in_ok-_bytes.ensures.got in
     let rest : Answered c.judgement_reply.result (IsReplyOf (record { names = names; before = mid; now = now; given = given })
-    (with_certificate c.args.protocol c.args.certificate.now (check_of c.args.protocol c.in_ok-_bytes.set))) = rw keeps.names at c.judgement_reply.ensures.reply in
-    replied_got names (g.S.Shelf.faults c.args.shelf.now) mid now (g.S.Shelf.given c.get_set.new.shelf) given (set_input c.args.protocol) c.args.set.now
-    (λ bytes tasks. with_certificate c.args.protocol c.args.certificate.now (check_of c.args.protocol tasks)) c.in_ok-_bytes._bytes.items c.in_ok-_bytes.set c.judgement_reply.result
+    (with_certificate c.args.protocol c.args.certificate.now (check_of c.args.protocol c.in_ok-_bytes.set))) =
+    rw keeps.names at c.judgement_reply.ensures.reply in
+    replied_got names (g.S.Shelf.faults c.args.shelf.now) mid now (g.S.Shelf.given c.get_set.new.shelf) given
+    (set_input c.args.protocol) c.args.set.now
+    (λ bytes tasks. with_certificate c.args.protocol c.args.certificate.now (check_of c.args.protocol tasks))
+    c.in_ok-_bytes._bytes.items c.in_ok-_bytes.set c.judgement_reply.result
     keeps.later got.0 (λ works. absurd works) rest

@@ -16,5 +16,6 @@ returns-in-Study-clause-reply g c =
       given = g.S.Shelf.given c.args.shelf.now;
     } in
     subst (λ (f : Form). Answered c.counted.result (IsReplyOf shelf (plan_of f))) (sym (ap form_seen c.in-Study.is))
-    (answered_also (IsStudyAnswer c.in-Study.seed c.in-Study.sets) (IsReplyOf shelf (plan_of (Study c.in-Study.seed c.in-Study.sets))) (λ a is. inr is)
+    (answered_also (IsStudyAnswer c.in-Study.seed c.in-Study.sets)
+    (IsReplyOf shelf (plan_of (Study c.in-Study.seed c.in-Study.sets))) (λ a is. inr is)
     c.counted.result c.counted.ensures)

@@ -13,6 +13,12 @@ returns-clause-reply g c =
     let given = g.S.Shelf.given c.jobs_reply.new.shelf in
     let keeps = c.get_set.ensures.keeps in
     let got = c.in_ok-_bytes.ensures.got in
-    let rest : Answered c.jobs_reply.result (IsReplyOf (record { names = names; before = mid; now = now; given = given }) (judging_jobs c.args.protocol c.args.jobs.now c.args.rows.now c.in_ok-_bytes.set)) = rw keeps.names at c.jobs_reply.ensures.reply in
-    replied_got names (g.S.Shelf.faults c.args.shelf.now) mid now (g.S.Shelf.given c.get_set.new.shelf) given (set_input c.args.protocol) c.args.set.now (λ bytes tasks. judging_jobs c.args.protocol c.args.jobs.now c.args.rows.now tasks) c.in_ok-_bytes._bytes.items c.in_ok-_bytes.set c.jobs_reply.result
+    let rest : Answered c.jobs_reply.result
+    (IsReplyOf (record { names = names; before = mid; now = now; given = given })
+    (judging_jobs c.args.protocol c.args.jobs.now c.args.rows.now c.in_ok-_bytes.set)) =
+    rw keeps.names at c.jobs_reply.ensures.reply in
+    replied_got names (g.S.Shelf.faults c.args.shelf.now) mid now (g.S.Shelf.given c.get_set.new.shelf) given
+    (set_input c.args.protocol) c.args.set.now
+    (λ bytes tasks. judging_jobs c.args.protocol c.args.jobs.now c.args.rows.now tasks) c.in_ok-_bytes._bytes.items
+    c.in_ok-_bytes.set c.jobs_reply.result
     keeps.later got.0 (λ works. absurd works) rest

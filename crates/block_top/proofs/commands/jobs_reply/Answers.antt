@@ -19,6 +19,11 @@ returns-clause-reply g c =
     let given = g.S.Shelf.given c.rows_reply.new.shelf in
     let keeps = c.get_jobs.ensures.keeps in
     let got = c.in_ok-_bytes.ensures.got in
-    let rest : Answered c.rows_reply.result (IsReplyOf (record { names = names; before = mid; now = now; given = given }) (judging_rows c.args.protocol c.args.rows.now c.in_ok-_bytes.jobs)) = rw keeps.names at c.rows_reply.ensures.reply in
-    replied_got names (g.S.Shelf.faults c.args.shelf.now) mid now (g.S.Shelf.given c.get_jobs.new.shelf) given (jobs_input c.args.set.now) c.args.jobs.now (λ bytes list. judging_rows c.args.protocol c.args.rows.now list) c.in_ok-_bytes._bytes.items c.in_ok-_bytes.jobs c.rows_reply.result
+    let rest : Answered c.rows_reply.result
+    (IsReplyOf (record { names = names; before = mid; now = now; given = given })
+    (judging_rows c.args.protocol c.args.rows.now c.in_ok-_bytes.jobs)) =
+    rw keeps.names at c.rows_reply.ensures.reply in
+    replied_got names (g.S.Shelf.faults c.args.shelf.now) mid now (g.S.Shelf.given c.get_jobs.new.shelf) given
+    (jobs_input c.args.set.now) c.args.jobs.now (λ bytes list. judging_rows c.args.protocol c.args.rows.now list)
+    c.in_ok-_bytes._bytes.items c.in_ok-_bytes.jobs c.rows_reply.result
     keeps.later got.0 (λ works. absurd works) rest

@@ -4,4 +4,5 @@ use Rattle.sporadic_model.specs.Homes.{HasHomesFor}
 use Rattle.block_top.proofs.commands.simulated_reply.Goals as goal
 
 pub simulation-requires-clause-suits : goal.simulation-requires-clause-suits
-simulation-requires-clause-suits g c = subst (λ (s : SetDef). HasHomesFor c.args.protocol s) (sym c.in_ok-_bytes.ensures.of_set) c.requires.suits
+simulation-requires-clause-suits g c =
+    subst (λ (s : SetDef). HasHomesFor c.args.protocol s) (sym c.in_ok-_bytes.ensures.of_set) c.requires.suits

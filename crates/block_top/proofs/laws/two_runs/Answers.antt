@@ -46,4 +46,5 @@ returns-clause-second g c =
     let below : g.S.Shelf.faults c.run-one.new.shelf < 2 ^ 64 - 1 = omega (arith, steady.1, c.requires.count) in
     let late : g.K.Sink.faults c.run-two.new.sink ≤ g.K.Sink.faults c.run-two.new.sink = omega arith in
     complete_over call (g.S.Shelf.names c.args.shelf.now) (g.K.Sink.faults c.args.sink.now) (g.K.Sink.faults c.run-two.new.sink)
-    c.run-two.ensures.run c.run-one.ensures.keeps.names still.1 below (c.run-one.ensures.tells ∙ c.requires.tells) c.run-one.ensures.later late
+    c.run-two.ensures.run c.run-one.ensures.keeps.names still.1 below (c.run-one.ensures.tells ∙ c.requires.tells)
+    c.run-one.ensures.later late

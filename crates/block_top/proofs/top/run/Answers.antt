@@ -23,8 +23,10 @@ returns-in-Ok-put_all-clause-run g c =
       takes_now = g.K.Sink.takes c.put_all.new.sink;
       status = c.in-Ok.reply.status;
     } in
-    let whole : Appends call.written_before call.written_now c.in-Ok.reply.text.items = rw c.deref.ensures.value at c.in-Ok-put_all.ensures.whole in
-    let takes : (room : ℕ) → length c.in-Ok.reply.text.items ≤ room → call.takes room → call.takes_now (room - length c.in-Ok.reply.text.items) × (call.sink_now ≡ call.sink_before) =
+    let whole : Appends call.written_before call.written_now c.in-Ok.reply.text.items =
+    rw c.deref.ensures.value at c.in-Ok-put_all.ensures.whole in
+    let takes : (room : ℕ) → length c.in-Ok.reply.text.items ≤ room → call.takes room
+    → call.takes_now (room - length c.in-Ok.reply.text.items) × (call.sink_now ≡ call.sink_before) =
     λ room fits held. (let kept = (rw c.deref.ensures.value at c.in-Ok-put_all.ensures.takes) room fits held in (kept.1, kept.2)) in
     run_written call (reply_seen c.in-Ok.reply) c.in-Ok.ensures.reply (refl, whole) takes
 
@@ -44,7 +46,9 @@ returns-clause-run g c =
       takes_now = g.K.Sink.takes c.put_all.new.sink;
       status = 4;
     } in
-    let part : AppendsPart call.written_before call.written_now c.in-Ok.reply.text.items = rw c.deref.ensures.value at c.in-Err-put_all.ensures.part in
+    let part : AppendsPart call.written_before call.written_now c.in-Ok.reply.text.items =
+    rw c.deref.ensures.value at c.in-Err-put_all.ensures.part in
     let none : (room : ℕ) → length c.in-Ok.reply.text.items ≤ room → call.takes room → ⊥ =
     λ room fits held. (let kept = (rw c.deref.ensures.value at c.in-Err-put_all.ensures.takes) room fits held in let no = kept.0 in cc) in
-    run_cut call (reply_seen c.in-Ok.reply) c.in-Ok.ensures.reply (record { rose = c.in-Err-put_all.ensures.failed; part = part; status = refl }) none
+    run_cut call (reply_seen c.in-Ok.reply) c.in-Ok.ensures.reply
+    (record { rose = c.in-Err-put_all.ensures.failed; part = part; status = refl }) none

@@ -10,6 +10,7 @@ conform-requires-clause-fits c = made_fits c.args.rows.now c.args.jobs.now c.tic
 
 pub returns-in_ok-lawful_reply-in-Ok : goal.returns-in_ok-lawful_reply-in-Ok
 returns-in_ok-lawful_reply-in-Ok c =
-    measured_conformance (rules_of c.args.protocol) (interference_of c.args.protocol) (trace_in c.args.jobs.now c.args.rows.now.runs) (ticks_of c.args.rows.now.runs)
+    measured_conformance (rules_of c.args.protocol) (interference_of c.args.protocol)
+    (trace_in c.args.jobs.now c.args.rows.now.runs) (ticks_of c.args.rows.now.runs)
     c.in-Ok.measured (reply_seen c.in_ok-lawful_reply-in-Ok.field-0) c.in-Ok.ensures
     (rw (c.set.ensures, c.ticks-ticks.ensures.value, c.deref.ensures.value) at c.in_ok-lawful_reply-in-Ok.ensures)

@@ -4,7 +4,8 @@ use Rattle.std.proofs.lemmas.List.{length-map}
 use Rattle.command_words.specs.Words.{words_seen}
 use Rattle.command_words.proofs.WordLaws.{fewer_words, more_words}
 use Rattle.command_words.proofs.words.command_of.Goals as goal
-use Rattle.command_words.proofs.words.command_of.Goals.{in_default-via-then-words-lt3, in_default-via-else-words-lt3+else-words-lt4+else-words-lt5+else-words-lt6+else-words-lt7}
+use Rattle.command_words.proofs.words.command_of.Goals.{in_default-via-then-words-lt3}
+use Rattle.command_words.proofs.words.command_of.Goals.{in_default-via-else-words-lt3+else-words-lt4+else-words-lt5+else-words-lt6+else-words-lt7}
 
 pub returns-in_default-clause-form : goal.returns-in_default-clause-form
 returns-in_default-clause-form c =

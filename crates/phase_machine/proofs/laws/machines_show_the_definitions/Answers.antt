@@ -1,4 +1,5 @@
-use Rattle.phase_machine.proofs.Facts.{phase_shown, active_shown, current_is, requester_shown, issued_shown, holder_shown, ready_shown, waiting_shown}
+use Rattle.phase_machine.proofs.Facts.{phase_shown, active_shown, current_is, requester_shown, issued_shown}
+use Rattle.phase_machine.proofs.Facts.{holder_shown, ready_shown, waiting_shown}
 use Rattle.phase_machine.proofs.laws.machines_show_the_definitions.Goals as goal
 
 pub returns-clause-phase : goal.returns-clause-phase

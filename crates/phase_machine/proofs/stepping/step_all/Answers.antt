@@ -9,16 +9,20 @@ use Rattle.phase_machine.proofs.stepping.step_all.Goals as goal
 
 pub step_one-requires-clause-listed : goal.step_one-requires-clause-listed
 step_one-requires-clause-listed c =
-    c.requires.running.listed c.loop-named.named-index c.in-Some.j.0 (seen_at c.args.running.now c.loop-named.named-index (Some c.in-Some.j) c.loop-named-test.true c.in-Some.is)
+    c.requires.running.listed c.loop-named.named-index c.in-Some.j.0
+    (seen_at c.args.running.now c.loop-named.named-index (Some c.in-Some.j) c.loop-named-test.true c.in-Some.is)
 
 pub step_one-requires-clause-place : goal.step_one-requires-clause-place
 step_one-requires-clause-place c =
     let e : get_or (map place_seen c.args.running.now) c.loop-named.named-index None ≡ Some c.in-Some.j.0 =
     seen_at c.args.running.now c.loop-named.named-index (Some c.in-Some.j) c.loop-named-test.true c.in-Some.is in
     let l : task_in c.args.jobs.now.jobs c.in-Some.j.0 < length c.args.jobs.now.set.tasks =
-    task_listed c.args.jobs.now c.in-Some.j.0 c.list_is_lawful.ensures.lawful (c.requires.running.listed c.loop-named.named-index c.in-Some.j.0 e) in
-    let still : get_or c.loop-named.places (task_in c.args.jobs.now.jobs c.in-Some.j.0) no_place ≡ get_or c.args.places.now (task_in c.args.jobs.now.jobs c.in-Some.j.0) no_place =
-    still_there c.args.jobs.now c.args.after c.args.more (map place_seen c.args.running.now) c.loop-named.named-index c.in-Some.j.0 c.args.places.now c.loop-named.places c.requires.running e
+    task_listed c.args.jobs.now c.in-Some.j.0 c.list_is_lawful.ensures.lawful
+    (c.requires.running.listed c.loop-named.named-index c.in-Some.j.0 e) in
+    let still : get_or c.loop-named.places (task_in c.args.jobs.now.jobs c.in-Some.j.0) no_place
+    ≡ get_or c.args.places.now (task_in c.args.jobs.now.jobs c.in-Some.j.0) no_place =
+    still_there c.args.jobs.now c.args.after c.args.more (map place_seen c.args.running.now) c.loop-named.named-index
+    c.in-Some.j.0 c.args.places.now c.loop-named.places c.requires.running e
     (c.loop-named.invariant.moved (task_in c.args.jobs.now.jobs c.in-Some.j.0) l) in
     rw still (c.requires.places.each (task_in c.args.jobs.now.jobs c.in-Some.j.0) l)
 
@@ -27,9 +31,12 @@ step_one-requires-clause-current c =
     let e : get_or (map place_seen c.args.running.now) c.loop-named.named-index None ≡ Some c.in-Some.j.0 =
     seen_at c.args.running.now c.loop-named.named-index (Some c.in-Some.j) c.loop-named-test.true c.in-Some.is in
     let l : task_in c.args.jobs.now.jobs c.in-Some.j.0 < length c.args.jobs.now.set.tasks =
-    task_listed c.args.jobs.now c.in-Some.j.0 c.list_is_lawful.ensures.lawful (c.requires.running.listed c.loop-named.named-index c.in-Some.j.0 e) in
-    let still : get_or c.loop-named.places (task_in c.args.jobs.now.jobs c.in-Some.j.0) no_place ≡ get_or c.args.places.now (task_in c.args.jobs.now.jobs c.in-Some.j.0) no_place =
-    still_there c.args.jobs.now c.args.after c.args.more (map place_seen c.args.running.now) c.loop-named.named-index c.in-Some.j.0 c.args.places.now c.loop-named.places c.requires.running e
+    task_listed c.args.jobs.now c.in-Some.j.0 c.list_is_lawful.ensures.lawful
+    (c.requires.running.listed c.loop-named.named-index c.in-Some.j.0 e) in
+    let still : get_or c.loop-named.places (task_in c.args.jobs.now.jobs c.in-Some.j.0) no_place
+    ≡ get_or c.args.places.now (task_in c.args.jobs.now.jobs c.in-Some.j.0) no_place =
+    still_there c.args.jobs.now c.args.after c.args.more (map place_seen c.args.running.now) c.loop-named.named-index
+    c.in-Some.j.0 c.args.places.now c.loop-named.places c.requires.running e
     (c.loop-named.invariant.moved (task_in c.args.jobs.now.jobs c.in-Some.j.0) l) in
     ap (λ p. p.job) still ∙ c.requires.running.current c.loop-named.named-index c.in-Some.j.0 e
 
@@ -40,15 +47,20 @@ loop-named-preserved c = elim c.match-named.branch [
       seen_at c.args.running.now c.loop-named.named-index (Some w.in-Some.j) c.loop-named-test.true w.in-Some.is in
       record {
         len = c.match-named.auto.places ∙ c.loop-named.invariant.len;
-        moved = λ x l. rw w.places-is (column_moves c.args.jobs.now c.args.after c.args.more (map place_seen c.args.running.now) c.loop-named.named-index w.in-Some.j.0 c.args.places.now
-            c.loop-named.places w.step_one.new.places c.requires.places c.requires.running (in_columns c.args.running.now c.loop-named.named-index c.loop-named-test.true) e
+        moved = λ x l. rw w.places-is (column_moves c.args.jobs.now c.args.after c.args.more
+            (map place_seen c.args.running.now) c.loop-named.named-index w.in-Some.j.0 c.args.places.now
+            c.loop-named.places w.step_one.new.places c.requires.places c.requires.running
+            (in_columns c.args.running.now c.loop-named.named-index c.loop-named-test.true) e
             c.loop-named.invariant.moved w.step_one.ensures.own w.step_one.ensures.others x l);
       }
   | in_default w ↦ record {
     len = c.match-named.auto.places ∙ c.loop-named.invariant.len;
-    moved = λ x l. moved_past c.args.jobs.now.jobs c.args.after c.args.more x (map place_seen c.args.running.now) c.loop-named.named-index None (get_or c.args.places.now x no_place)
-        (get_or c.loop-named.places x no_place) (get_or c.match-named.places x no_place) (in_columns c.args.running.now c.loop-named.named-index c.loop-named-test.true)
-        (seen_at c.args.running.now c.loop-named.named-index None c.loop-named-test.true w.in_default.is) refl (ap (λ places. get_or places x no_place) w.places-is)
+    moved = λ x l. moved_past c.args.jobs.now.jobs c.args.after c.args.more x (map place_seen c.args.running.now)
+        c.loop-named.named-index None (get_or c.args.places.now x no_place)
+        (get_or c.loop-named.places x no_place) (get_or c.match-named.places x no_place)
+        (in_columns c.args.running.now c.loop-named.named-index c.loop-named-test.true)
+        (seen_at c.args.running.now c.loop-named.named-index None c.loop-named-test.true w.in_default.is) refl
+        (ap (λ places. get_or places x no_place) w.places-is)
         (c.loop-named.invariant.moved x l);
   }
 ]

@@ -10,29 +10,38 @@ use Rattle.phase_machine.proofs.stretch.least_left.Goals as goal
 
 pub left_of-requires-clause-listed : goal.left_of-requires-clause-listed
 left_of-requires-clause-listed c =
-    c.requires.running.listed c.loop-named.named-index c.in-Some.j.0 (seen_at c.args.running.now c.loop-named.named-index (Some c.in-Some.j) c.loop-named-test.true c.in-Some.is)
+    c.requires.running.listed c.loop-named.named-index c.in-Some.j.0
+    (seen_at c.args.running.now c.loop-named.named-index (Some c.in-Some.j) c.loop-named-test.true c.in-Some.is)
 
 pub left_of-requires-clause-current : goal.left_of-requires-clause-current
 left_of-requires-clause-current c =
-    c.requires.running.current c.loop-named.named-index c.in-Some.j.0 (seen_at c.args.running.now c.loop-named.named-index (Some c.in-Some.j) c.loop-named-test.true c.in-Some.is)
+    c.requires.running.current c.loop-named.named-index c.in-Some.j.0
+    (seen_at c.args.running.now c.loop-named.named-index (Some c.in-Some.j) c.loop-named-test.true c.in-Some.is)
 
 pub loop-named-preserved : goal.loop-named-preserved
 loop-named-preserved c = elim c.match-named.branch [
   | in-Some w ↦
       let e : get_or (map place_seen c.args.running.now) c.loop-named.named-index None ≡ Some w.in-Some.j.0 =
       seen_at c.args.running.now c.loop-named.named-index (Some w.in-Some.j) c.loop-named-test.true w.in-Some.is in
-      let value : c.match-named.least ≡ min c.loop-named.least (left_at c.args.jobs.now.jobs (get_or c.args.places.now (task_in c.args.jobs.now.jobs w.in-Some.j.0) no_place)) =
+      let value : c.match-named.least ≡ min c.loop-named.least
+      (left_at c.args.jobs.now.jobs (get_or c.args.places.now (task_in c.args.jobs.now.jobs w.in-Some.j.0) no_place)) =
       w.least-is ∙ w.min-least.ensures ∙ ap (min c.loop-named.least) w.left_of.ensures.value in
       record {
         some = omega (arith, w.least-is, w.min-least.ensures, c.loop-named.invariant.some, w.left_of.ensures.some);
-        least = subst (IsLeastOf c.args.most (IsLeft c.args.jobs.now.jobs c.args.places.now (map place_seen c.args.running.now) (c.loop-named.named-index + 1))) (sym value)
-            (least_left_named c.args.jobs.now.jobs c.args.places.now (map place_seen c.args.running.now) c.args.most c.loop-named.least c.loop-named.named-index w.in-Some.j.0 e
+        least = subst
+            (IsLeastOf c.args.most (IsLeft c.args.jobs.now.jobs c.args.places.now (map place_seen c.args.running.now)
+            (c.loop-named.named-index + 1))) (sym value)
+            (least_left_named c.args.jobs.now.jobs c.args.places.now (map place_seen c.args.running.now) c.args.most
+            c.loop-named.least c.loop-named.named-index w.in-Some.j.0 e
             c.loop-named.invariant.least);
       }
   | in_default w ↦ record {
     some = omega (arith, w.least-is, c.loop-named.invariant.some);
-    least = subst (IsLeastOf c.args.most (IsLeft c.args.jobs.now.jobs c.args.places.now (map place_seen c.args.running.now) (c.loop-named.named-index + 1))) (sym w.least-is)
-        (least_left_unnamed c.args.jobs.now.jobs c.args.places.now (map place_seen c.args.running.now) c.args.most c.loop-named.least c.loop-named.named-index
+    least = subst
+        (IsLeastOf c.args.most (IsLeft c.args.jobs.now.jobs c.args.places.now (map place_seen c.args.running.now)
+        (c.loop-named.named-index + 1))) (sym w.least-is)
+        (least_left_unnamed c.args.jobs.now.jobs c.args.places.now (map place_seen c.args.running.now) c.args.most
+        c.loop-named.least c.loop-named.named-index
         (seen_at c.args.running.now c.loop-named.named-index None c.loop-named-test.true w.in_default.is) c.loop-named.invariant.least);
   }
 ]

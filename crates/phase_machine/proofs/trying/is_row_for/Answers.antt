@@ -10,11 +10,16 @@ use Rattle.phase_machine.specs.Taking.{IsRowFor}
 use Rattle.phase_machine.proofs.Named.{all_below_seen}
 use Rattle.phase_machine.proofs.trying.is_row_for.Goals as goal
 
-row_for : (list : JobsDef) (row : Row) → length row.running.items ≡ list.set.processors → length row.holders.items ≡ length list.set.resources
-    → list_all (λ o. is_below (length list.jobs) (place_seen o)) row.running.items ≡ true → list_all (λ o. is_below (length list.jobs) (place_seen o)) row.holders.items ≡ true
+row_for : (list : JobsDef) (row : Row) → length row.running.items ≡ list.set.processors
+    → length row.holders.items ≡ length list.set.resources
+    → list_all (λ o. is_below (length list.jobs) (place_seen o)) row.running.items ≡ true
+    → list_all (λ o. is_below (length list.jobs) (place_seen o)) row.holders.items ≡ true
     → IsRowFor list (row_seen row)
 row_for list row processors resources running holders = record {
-  sized = record { processors = length-map row.running.items place_seen ∙ processors; resources = length-map row.holders.items place_seen ∙ resources };
+  sized = record {
+    processors = length-map row.running.items place_seen ∙ processors;
+    resources = length-map row.holders.items place_seen ∙ resources;
+  };
   running = on;
   holders = λ q j e. all_below_seen (length list.jobs) row.holders.items q j holders e;
 } where
@@ -24,13 +29,29 @@ row_for list row processors resources running holders = record {
 
 pub returns : goal.returns
 returns c = λ h.
-    let jobs : c.len-3.result ≡ length c.args.machine.now.list.jobs = c.len-3.ensures.value ∙ ap (λ list. length list.jobs) c.jobs-jobs.ensures.value in
-    let again : c.len-4.result ≡ length c.args.machine.now.list.jobs = c.len-4.ensures.value ∙ ap (λ list. length list.jobs) c.jobs-jobs.ensures.value in
+    let jobs : c.len-3.result ≡ length c.args.machine.now.list.jobs =
+    c.len-3.ensures.value ∙ ap (λ list. length list.jobs) c.jobs-jobs.ensures.value in
+    let again : c.len-4.result ≡ length c.args.machine.now.list.jobs =
+    c.len-4.ensures.value ∙ ap (λ list. length list.jobs) c.jobs-jobs.ensures.value in
     let running : list_all (λ o. is_below (length c.args.machine.now.list.jobs) (place_seen o)) c.args.row.now.running.items ≡ true =
     rw (← jobs, ← c.deref.ensures.value) (sym c.are_below.ensures ∙ c.if-not-are_below.false) in
     let holders : list_all (λ o. is_below (length c.args.machine.now.list.jobs) (place_seen o)) c.args.row.now.holders.items ≡ true =
     rw (← again, ← c.deref-2.ensures.value) (sym c.are_below-2.ensures ∙ h) in
     row_for c.args.machine.now.list c.args.row.now
-    (omega (arith, c.len.ensures, c.if-len-processors.false, c.processors.ensures.value, ap (λ set. set.processors) c.set-set.ensures, ap (λ list. list.set.processors) c.jobs-jobs.ensures.value))
-    (omega (arith, c.len-2.ensures, c.if-len-resources.false, c.resources.ensures.value, ap (λ set. length set.resources) c.set-set.ensures, ap (λ list. length list.set.resources) c.jobs-jobs.ensures.value))
+    (omega (
+      arith,
+      c.len.ensures,
+      c.if-len-processors.false,
+      c.processors.ensures.value,
+      ap (λ set. set.processors) c.set-set.ensures,
+      ap (λ list. list.set.processors) c.jobs-jobs.ensures.value,
+    ))
+    (omega (
+      arith,
+      c.len-2.ensures,
+      c.if-len-resources.false,
+      c.resources.ensures.value,
+      ap (λ set. length set.resources) c.set-set.ensures,
+      ap (λ list. length list.set.resources) c.jobs-jobs.ensures.value,
+    ))
     running holders

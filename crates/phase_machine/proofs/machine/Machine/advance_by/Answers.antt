@@ -15,18 +15,23 @@ use Rattle.phase_machine.proofs.machine.Machine.advance_by.Goals as goal
 
 pub step_all-requires-clause-running : goal.step_all-requires-clause-running
 step_all-requires-clause-running c =
-    let can : CanTake (machine_view c.self.inside) (row_seen c.args.row.now) = subst (λ m. CanTake m (row_seen c.args.row.now)) (sym c.self.view_is) c.requires.row in
+    let can : CanTake (machine_view c.self.inside) (row_seen c.args.row.now) =
+    subst (λ m. CanTake m (row_seen c.args.row.now)) (sym c.self.view_is) c.requires.row in
     rw (c.deref_mut.ensures.value, c.deref.ensures.value) (row_current (machine_view c.self.inside) (row_seen c.args.row.now) can)
 
 pub move_on-requires-clause-due : goal.move_on-requires-clause-due
 move_on-requires-clause-due c = λ x l.
-    let quiet : IsQuiet (machine_view c.self.inside) (row_seen c.args.row.now) c.args.ticks = subst (λ m. IsQuiet m (row_seen c.args.row.now) c.args.ticks) (sym c.self.view_is) c.requires.quiet in
-    rw c.deref_mut-2.ensures.value (due_after (machine_view c.self.inside) (row_seen c.args.row.now) c.args.ticks x c.self.invariant.machine quiet l)
+    let quiet : IsQuiet (machine_view c.self.inside) (row_seen c.args.row.now) c.args.ticks =
+    subst (λ m. IsQuiet m (row_seen c.args.row.now) c.args.ticks) (sym c.self.view_is) c.requires.quiet in
+    rw c.deref_mut-2.ensures.value
+    (due_after (machine_view c.self.inside) (row_seen c.args.row.now) c.args.ticks x c.self.invariant.machine quiet l)
 
 pub invariant_of-self : goal.invariant_of-self
 invariant_of-self c =
-    let early : c.self.inside.tick + c.args.ticks ≤ MOST_TICKS = subst (λ m. m.tick + c.args.ticks ≤ MOST_TICKS) (sym c.self.view_is) c.requires.early in
-    let can : CanTake (machine_view c.self.inside) (row_seen c.args.row.now) = subst (λ m. CanTake m (row_seen c.args.row.now)) (sym c.self.view_is) c.requires.row in
+    let early : c.self.inside.tick + c.args.ticks ≤ MOST_TICKS =
+    subst (λ m. m.tick + c.args.ticks ≤ MOST_TICKS) (sym c.self.view_is) c.requires.early in
+    let can : CanTake (machine_view c.self.inside) (row_seen c.args.row.now) =
+    subst (λ m. CanTake m (row_seen c.args.row.now)) (sym c.self.view_is) c.requires.row in
     let n : MachineDef = record {
       list = c.self.inside.jobs.now;
       tick = c.self.inside.tick + c.args.ticks;
@@ -35,11 +40,14 @@ invariant_of-self c =
       coming = (with_items c.self.inside.coming c.move_on.new.coming).items;
     } in
     let took : Took (machine_view c.self.inside) (row_seen c.args.row.now) c.args.ticks n =
-    took_from (machine_view c.self.inside) (row_seen c.args.row.now) c.args.ticks c.deref_mut.result.now c.step_all.new.places (with_items c.self.inside.places c.step_all.new.places).items
-    c.deref_mut-2.result.now c.move_on.new.coming (with_items c.self.inside.coming c.move_on.new.coming).items (map place_seen c.deref.result.now) (map place_seen c.copy_from_slice.new.self.items)
+    took_from (machine_view c.self.inside) (row_seen c.args.row.now) c.args.ticks c.deref_mut.result.now
+    c.step_all.new.places (with_items c.self.inside.places c.step_all.new.places).items
+    c.deref_mut-2.result.now c.move_on.new.coming (with_items c.self.inside.coming c.move_on.new.coming).items
+    (map place_seen c.deref.result.now) (map place_seen c.copy_from_slice.new.self.items)
     (with_items_is c.self.inside.places c.step_all.new.places (c.step_all.ensures.len ∙ c.deref_mut.ensures.len)) c.deref_mut.ensures.value
     (ap (map place_seen) c.deref.ensures.value) (ap (map place_seen) (c.copy_from_slice.ensures.items ∙ c.deref-2.ensures.value))
-    (with_items_is c.self.inside.coming c.move_on.new.coming (c.move_on.ensures.len ∙ c.deref_mut-2.ensures.len)) c.deref_mut-2.ensures.value
+    (with_items_is c.self.inside.coming c.move_on.new.coming (c.move_on.ensures.len ∙ c.deref_mut-2.ensures.len))
+    c.deref_mut-2.ensures.value
     c.step_all.ensures.len c.step_all.ensures.moved c.move_on.ensures.len c.move_on.ensures.each in
     record {
       machine = taken_machine (machine_view c.self.inside) (row_seen c.args.row.now) c.args.ticks n c.self.invariant.machine can took;
@@ -48,7 +56,8 @@ invariant_of-self c =
 
 pub returns-clause-shows : goal.returns-clause-shows
 returns-clause-shows c =
-    let can : CanTake (machine_view c.self.inside) (row_seen c.args.row.now) = subst (λ m. CanTake m (row_seen c.args.row.now)) (sym c.self.view_is) c.requires.row in
+    let can : CanTake (machine_view c.self.inside) (row_seen c.args.row.now) =
+    subst (λ m. CanTake m (row_seen c.args.row.now)) (sym c.self.view_is) c.requires.row in
     let n : MachineDef = record {
       list = c.self.inside.jobs.now;
       tick = c.self.inside.tick + c.args.ticks;
@@ -57,13 +66,20 @@ returns-clause-shows c =
       coming = (with_items c.self.inside.coming c.move_on.new.coming).items;
     } in
     let took : Took (machine_view c.self.inside) (row_seen c.args.row.now) c.args.ticks n =
-    took_from (machine_view c.self.inside) (row_seen c.args.row.now) c.args.ticks c.deref_mut.result.now c.step_all.new.places (with_items c.self.inside.places c.step_all.new.places).items
-    c.deref_mut-2.result.now c.move_on.new.coming (with_items c.self.inside.coming c.move_on.new.coming).items (map place_seen c.deref.result.now) (map place_seen c.copy_from_slice.new.self.items)
+    took_from (machine_view c.self.inside) (row_seen c.args.row.now) c.args.ticks c.deref_mut.result.now
+    c.step_all.new.places (with_items c.self.inside.places c.step_all.new.places).items
+    c.deref_mut-2.result.now c.move_on.new.coming (with_items c.self.inside.coming c.move_on.new.coming).items
+    (map place_seen c.deref.result.now) (map place_seen c.copy_from_slice.new.self.items)
     (with_items_is c.self.inside.places c.step_all.new.places (c.step_all.ensures.len ∙ c.deref_mut.ensures.len)) c.deref_mut.ensures.value
     (ap (map place_seen) c.deref.ensures.value) (ap (map place_seen) (c.copy_from_slice.ensures.items ∙ c.deref-2.ensures.value))
-    (with_items_is c.self.inside.coming c.move_on.new.coming (c.move_on.ensures.len ∙ c.deref_mut-2.ensures.len)) c.deref_mut-2.ensures.value
+    (with_items_is c.self.inside.coming c.move_on.new.coming (c.move_on.ensures.len ∙ c.deref_mut-2.ensures.len))
+    c.deref_mut-2.ensures.value
     c.step_all.ensures.len c.step_all.ensures.moved c.move_on.ensures.len c.move_on.ensures.each in
-    let quiet : IsQuiet (machine_view c.self.inside) (row_seen c.args.row.now) c.args.ticks = subst (λ m. IsQuiet m (row_seen c.args.row.now) c.args.ticks) (sym c.self.view_is) c.requires.quiet in
-    let shows : (rows : ℕ → RowDef) → Shows (machine_view c.self.inside) rows → ((i : ℕ) → i < c.args.ticks → rows (c.self.inside.tick + i) ≡ row_seen c.args.row.now) → Shows n rows =
+    let quiet : IsQuiet (machine_view c.self.inside) (row_seen c.args.row.now) c.args.ticks =
+    subst (λ m. IsQuiet m (row_seen c.args.row.now) c.args.ticks) (sym c.self.view_is) c.requires.quiet in
+    let shows : (rows : ℕ → RowDef) → Shows (machine_view c.self.inside) rows
+    → ((i : ℕ) → i < c.args.ticks → rows (c.self.inside.tick + i) ≡ row_seen c.args.row.now) → Shows n rows =
     taken_shows (machine_view c.self.inside) (row_seen c.args.row.now) c.args.ticks n can quiet c.requires.some took in
-    subst (λ m. (rows : ℕ → RowDef) → Shows m rows → ((i : ℕ) → i < c.args.ticks → rows (m.tick + i) ≡ row_seen c.args.row.now) → Shows n rows) c.self.view_is shows
+    subst
+    (λ m. (rows : ℕ → RowDef) → Shows m rows
+    → ((i : ℕ) → i < c.args.ticks → rows (m.tick + i) ≡ row_seen c.args.row.now) → Shows n rows) c.self.view_is shows

@@ -8,7 +8,10 @@ pub returns-clause-place : goal.returns-clause-place
 returns-clause-place c =
     let machine : IsMachine (machine_view c.self.inside) = c.self.invariant.machine in
     let same : c.index.result.now ≡ get_or c.self.inside.places.items c.task_of.result.0 no_place =
-    c.index.ensures ∙ get_or_default c.self.inside.places.items c.task_of.result.0 c.index.result.now no_place (omega (arith, c.task_of.ensures.within, machine.places_length)) in
-    let here : IsPlace c.self.inside.jobs.now.jobs c.task_of.result.0 c.index.result.now = rw same (machine.place c.task_of.result.0 c.task_of.ensures.within) in
-    let own : IsPlace c.self.inside.jobs.now.jobs (task_in c.self.inside.jobs.now.jobs c.args.j.0) c.index.result.now = rw (← c.task_of.ensures.value) here in
+    c.index.ensures ∙ get_or_default c.self.inside.places.items c.task_of.result.0 c.index.result.now no_place
+    (omega (arith, c.task_of.ensures.within, machine.places_length)) in
+    let here : IsPlace c.self.inside.jobs.now.jobs c.task_of.result.0 c.index.result.now =
+    rw same (machine.place c.task_of.result.0 c.task_of.ensures.within) in
+    let own : IsPlace c.self.inside.jobs.now.jobs (task_in c.self.inside.jobs.now.jobs c.args.j.0) c.index.result.now =
+    rw (← c.task_of.ensures.value) here in
     subst (λ m. IsPlace m.list.jobs (task_in m.list.jobs c.args.j.0) c.index.result.now) c.self.view_is own

@@ -13,22 +13,29 @@ use Rattle.phase_machine.proofs.machine.Machine.steady.Goals as goal
 
 pub least_left-requires-clause-running : goal.least_left-requires-clause-running
 least_left-requires-clause-running c =
-    let can : CanTake (machine_view c.self.inside) (row_seen c.args.row.now) = subst (λ m. CanTake m (row_seen c.args.row.now)) (sym c.self.view_is) c.requires.row in
+    let can : CanTake (machine_view c.self.inside) (row_seen c.args.row.now) =
+    subst (λ m. CanTake m (row_seen c.args.row.now)) (sym c.self.view_is) c.requires.row in
     rw (c.deref-3.ensures.value, c.deref-2.ensures.value) (row_current (machine_view c.self.inside) (row_seen c.args.row.now) can)
 
 pub returns-clause-value : goal.returns-clause-value
 returns-clause-value c =
     let m : MachineDef = machine_view c.self.inside in
-    let ahead : IsLeastOf MOST_TICKS (IsAhead m.list.jobs m.tick m.coming (length m.coming)) c.least_ahead-most.result = rw c.deref.ensures.value at c.least_ahead-most.ensures.least in
-    let left : IsLeastOf c.least_ahead-most.result (IsLeft m.list.jobs m.places (row_seen c.args.row.now).running (length (row_seen c.args.row.now).running)) c.least_left.result =
-    left_seen c.least_ahead-most.result c.least_left.result m.list.jobs m.places c.args.row.now.running.items (rw (c.deref-3.ensures.value, c.deref-2.ensures.value) at c.least_left.ensures.least) in
+    let ahead : IsLeastOf MOST_TICKS (IsAhead m.list.jobs m.tick m.coming (length m.coming)) c.least_ahead-most.result =
+    rw c.deref.ensures.value at c.least_ahead-most.ensures.least in
+    let left : IsLeastOf c.least_ahead-most.result
+    (IsLeft m.list.jobs m.places (row_seen c.args.row.now).running (length (row_seen c.args.row.now).running))
+    c.least_left.result =
+    left_seen c.least_ahead-most.result c.least_left.result m.list.jobs m.places c.args.row.now.running.items
+    (rw (c.deref-3.ensures.value, c.deref-2.ensures.value) at c.least_left.ensures.least) in
     subst (λ m. IsStretch m (row_seen c.args.row.now) c.least_left.result) c.self.view_is
-    (stretch_of m (row_seen c.args.row.now) c.least_ahead-most.result c.least_left.result c.self.invariant.machine ahead left c.least_left.ensures.some)
+    (stretch_of m (row_seen c.args.row.now) c.least_ahead-most.result c.least_left.result c.self.invariant.machine ahead
+    left c.least_left.ensures.some)
 
 pub returns-clause-steady : goal.returns-clause-steady
 returns-clause-steady c = λ rows n shows l same.
     let stretch : IsStretch c.args.self.now (row_seen c.args.row.now) c.least_left.result = returns-clause-value c in
-    steady_of c.args.self.now rows (row_seen c.args.row.now) n shows c.requires.row (quiet_sooner c.args.self.now (row_seen c.args.row.now) c.least_left.result n stretch.quiet l) same
+    steady_of c.args.self.now rows (row_seen c.args.row.now) n shows c.requires.row
+    (quiet_sooner c.args.self.now (row_seen c.args.row.now) c.least_left.result n stretch.quiet l) same
 
 pub returns-clause-changes : goal.returns-clause-changes
 returns-clause-changes c = λ rows shows l same.
