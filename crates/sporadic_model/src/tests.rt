@@ -352,7 +352,7 @@ fn takes_a_set_at_all_its_limits(rt: HostRuntime) -> Result<(), Fail> {
         [1000, 999_999_999]
     );
     assert_eq!(rt; set.task_name(last), "a_name_of_thirty_two_bytes_in163");
-    assert_eq!(rt; [set.ceiling(q), set.boost(q, 1)], [Some(TaskId(7)); 2]);
+    assert_eq!(rt; set.ceiling(q), Some(TaskId(7)));
     Ok(())
 }
 
