@@ -8,10 +8,15 @@ use simplex::SolveStop;
 use sporadic_model::{ResourceId, TaskId, TaskSet};
 use std::alloc::{AllocError, Global};
 use std::thread::{Threads, map_indices};
+use std::vec::IntoIter;
 
 /// From how much work for each task on threads are worth their start, counted in rows gone through. A thread costs about as long as
 /// 2,000 to 4,000 of these, most of it in the kernel: its stack, its memory, its end.
 const WORTH_THREADS: u64 = 4_000;
+
+/// How many tasks' programs are solved side by side before the round goes on: enough to keep four to sixteen processors at work, and
+/// few enough that little is solved in vain where an early task ends the rounds.
+const STRETCH: u32 = 16;
 
 /// How many entries of requests a task has.
 fn entries_of(set: &TaskSet, x: TaskId) -> u64
@@ -48,7 +53,7 @@ fn work_of(solutions: &[Solution]) -> u64 {
 
 /// Is it worth starting threads for the programs of a round, by what those of the round before took? The answer of the round is the
 /// same either way.
-fn is_worth_threads(set: &TaskSet, earlier: &[Solution]) -> bool {
+pub fn is_worth_threads(set: &TaskSet, earlier: &[Solution]) -> bool {
     let tasks = set.tasks() as u64;
     let work = if earlier.is_empty() {
         first_work(set).saturating_mul(tasks)
@@ -84,8 +89,8 @@ fn solve_number<P: ProgramSource>(
     solve_task(alloc, set, protocol, task, bounds, left, earlier.get(i))
 }
 
-/// Solves the programs of a round ahead of it, side by side, each with all units that are left at its start. Where that isn't
-/// worth its threads none is solved ahead; the answer of the round is the same.
+/// Solves the programs of a stretch of tasks side by side, from task `from` on, each with all units that are left at the start of
+/// the round.
 pub fn solve_ahead<R: Threads + Sync, P: ProgramSource + Sync>(
     rt: &R,
     alloc: Global,
@@ -94,6 +99,7 @@ pub fn solve_ahead<R: Threads + Sync, P: ProgramSource + Sync>(
     bounds: &[u64],
     left: u64,
     earlier: &[Solution],
+    from: u32,
 ) -> Result<Vec<Result<Solution, SolveStop>>, AllocError>
     requires suits { P.suits protocol.now set.now }
     requires range { IsInRange set.now bounds.now }
@@ -102,19 +108,59 @@ pub fn solve_ahead<R: Threads + Sync, P: ProgramSource + Sync>(
       program = P.program_of protocol.now set.now;
       interfering = P.interfering protocol.now set.now;
     }) earlier.now }
+    requires task { from < length set.now.tasks }
     ensures { IfOk result (λ v. AreAhead (record {
       set = set.now;
       program = P.program_of protocol.now set.now;
       interfering = P.interfering protocol.now set.now;
-    }) bounds.now 0 left v.items) }
+    }) bounds.now from left v.items) }
 {
-    if !is_worth_threads(set, earlier) {
-        return Ok(Vec::new(alloc));
-    }
+    let first = from as usize;
+    let count = (set.tasks() - from).min(STRETCH);
     map_indices(
         rt,
         alloc,
-        set.tasks() as usize,
-        &|i: usize| { solve_number(alloc, set, protocol, bounds, left, earlier, i) },
+        count as usize,
+        &|k: usize| { solve_number(alloc, set, protocol, bounds, left, earlier, first + k) },
     )
+}
+
+/// What programs have given ahead of their place, from task `i` on: at the first task of a stretch those of the whole stretch, which
+/// are solved now, else what is left of them. Where a round isn't worth threads none is solved ahead.
+pub fn outcomes_at<R: Threads + Sync, P: ProgramSource + Sync>(
+    rt: &R,
+    alloc: Global,
+    set: &TaskSet,
+    protocol: &P,
+    bounds: &[u64],
+    left: u64,
+    earlier: &[Solution],
+    is_worth: bool,
+    i: u32,
+    rest: IntoIter<Result<Solution, SolveStop>, Global>,
+) -> Result<IntoIter<Result<Solution, SolveStop>, Global>, AllocError>
+    requires suits { P.suits protocol.now set.now }
+    requires range { IsInRange set.now bounds.now }
+    requires earlier { AreEarlier (record {
+      set = set.now;
+      program = P.program_of protocol.now set.now;
+      interfering = P.interfering protocol.now set.now;
+    }) earlier.now }
+    requires task { i < length set.now.tasks }
+    requires rest { AreAhead (record {
+      set = set.now;
+      program = P.program_of protocol.now set.now;
+      interfering = P.interfering protocol.now set.now;
+    }) bounds.now i left rest.rest.items }
+    ensures { IfOk result (λ o. AreAhead (record {
+      set = set.now;
+      program = P.program_of protocol.now set.now;
+      interfering = P.interfering protocol.now set.now;
+    }) bounds.now i left o.rest.items) }
+{
+    if !is_worth || i % STRETCH > 0 {
+        return Ok(rest);
+    }
+    let ahead = solve_ahead(rt, alloc, set, protocol, bounds, left, earlier, i)?;
+    Ok(ahead.into_iter())
 }

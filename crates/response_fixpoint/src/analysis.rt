@@ -6,10 +6,8 @@ ghost use Rattle.program_sources.specs.Fitting.{AreFitting};
 ghost use Rattle.response_fixpoint.specs.Rounds.{Ending, EndsIn};
 ghost use Rattle.response_fixpoint.specs.Runs.{rounds_of, slack_of, HasNoColumns};
 ghost use Rattle.response_fixpoint.specs.Written.{written, RequestsNothing};
-ghost use Rattle.response_fixpoint.specs.Solutions.{AreEarlier};
-ghost use Rattle.response_fixpoint.specs.Answers.{Answers, GivesRound, IsAnswerOf, IsRight, IsSchedulable, IsSettled, answer_at};
+ghost use Rattle.response_fixpoint.specs.Answers.{Answers, IsAnswerOf, IsRight, IsSchedulable, IsSettled, answer_at};
 
-use crate::ahead::solve_ahead;
 use crate::laws::no_requests_no_columns;
 use crate::rounds::{Round, RoundStop, take_round};
 use crate::task_run::Solution;
@@ -64,33 +62,6 @@ fn settled(alloc: Global, bounds: Vec<u64>, solutions: Vec<Solution>) -> Result<
     Ok(Verdict::Schedulable(Certificate { bounds, duals }))
 }
 
-/// One round, with its programs solved ahead of it where that is worth its threads.
-fn next_round<R: Threads + Sync, P: ProgramSource + Sync>(
-    rt: &R,
-    alloc: Global,
-    set: &TaskSet,
-    protocol: &P,
-    bounds: &[u64],
-    left: u64,
-    earlier: &[Solution],
-) -> Result<Round, RoundStop>
-    requires suits { P.suits protocol.now set.now }
-    requires range { IsInRange set.now bounds.now }
-    requires earlier { AreEarlier (record {
-      set = set.now;
-      program = P.program_of protocol.now set.now;
-      interfering = P.interfering protocol.now set.now;
-    }) earlier.now }
-    ensures { GivesRound result (record {
-      set = set.now;
-      program = P.program_of protocol.now set.now;
-      interfering = P.interfering protocol.now set.now;
-    }) bounds.now left }
-{
-    let ahead = solve_ahead(rt, alloc, set, protocol, bounds, left, earlier)?;
-    take_round(alloc, set, protocol, bounds, left, earlier, ahead)
-}
-
 /// Takes rounds from the costs on, until one ends or gives the vector that it began with.
 fn take_rounds<R: Threads + Sync, P: ProgramSource + Sync>(
     rt: &R,
@@ -113,7 +84,7 @@ fn take_rounds<R: Threads + Sync, P: ProgramSource + Sync>(
     let mut spent = 0;
     loop {
         let left = allowance - spent;
-        let next = match next_round(rt, alloc, set, protocol, &bounds, left, &earlier) {
+        let next = match take_round(rt, alloc, set, protocol, &bounds, left, &earlier) {
             Ok(next) => next,
             Err(stop) => return ended(stop),
         };

@@ -1,4 +1,4 @@
-//! A source of programs whose two first tasks have to be at work at the same time.
+//! A source of programs whose two first tasks have to be at work at the same time, and which notes how far a round comes.
 
 use program_form::Program;
 use program_sources::ProgramSource;
@@ -16,11 +16,13 @@ pub struct Side<'a> {
     pub saw: &'a AtomicBool,
 }
 
-/// The programs of a protocol. The first call for each of the tasks 0 and 1 waits a while until the other has come.
+/// The programs of a protocol. The first call for each of the tasks 0 and 1 waits a while until the other has come, and a call for a
+/// task behind the first sixteen is noted.
 #[derive(Clone, Copy)]
 pub struct Meeting<'a> {
     pub first: Side<'a>,
     pub second: Side<'a>,
+    pub behind: &'a AtomicBool,
     pub written: Written,
 }
 
@@ -70,6 +72,9 @@ impl<'a> ProgramSource for Meeting<'a> {
             0 => meet(self.first, self.second),
             1 => meet(self.second, self.first),
             _ => {}
+        }
+        if i.0 >= 16 {
+            self.behind.store(true, Ordering::SeqCst);
         }
         self.written.program(alloc, set, i, bounds)
     }

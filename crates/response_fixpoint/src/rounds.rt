@@ -1,13 +1,15 @@
 ghost use Rattle.std.specs.Prelude.{◌≡◌, ◌<◌, ◌^◌, ◌+◌};
 ghost use Rattle.program_sources.specs.Bounds.{IsInRange};
-ghost use Rattle.response_fixpoint.specs.Solutions.{AreEarlier, AreAhead};
+ghost use Rattle.response_fixpoint.specs.Solutions.{AreEarlier};
 ghost use Rattle.response_fixpoint.specs.Answers.{GivesRound, TakesRun, stop_at};
 
+use crate::ahead::{is_worth_threads, outcomes_at};
 use crate::task_run::{Solution, TaskRun, run_task};
 use program_sources::ProgramSource;
 use simplex::SolveStop;
 use sporadic_model::{TaskId, TaskSet};
 use std::alloc::{AllocError, AllocFailed, Global};
+use std::thread::Threads;
 
 /// What a round has found: its units, and for each task that passed the next bound in ticks, and the solution of its program.
 #[derive(Debug, Drop)]
@@ -78,16 +80,17 @@ fn take_run(round: &mut Round, run: TaskRun, task: TaskId, deadline: u64) -> Res
 
 /// One round: the recurrence at `bounds`, task by task, each program with the units that the tasks before it have left.
 ///
-/// `earlier` are the solutions of the round before. `ahead` is what the programs have given ahead of the round, from the first
-/// task on, with the units that are left at its start; programs that aren't among them are solved in their place.
-pub fn take_round<P: ProgramSource>(
+/// `earlier` are the solutions of the round before. Where it is worth threads the programs are solved ahead of their place, a stretch
+/// of tasks at a time and each with the units that are left at the start of the round; a stretch only once the tasks before it have
+/// passed.
+pub fn take_round<R: Threads + Sync, P: ProgramSource + Sync>(
+    rt: &R,
     alloc: Global,
     set: &TaskSet,
     protocol: &P,
     bounds: &[u64],
     left: u64,
     earlier: &[Solution],
-    ahead: Vec<Result<Solution, SolveStop>>,
 ) -> Result<Round, RoundStop>
     requires suits { P.suits protocol.now set.now }
     requires range { IsInRange set.now bounds.now }
@@ -96,11 +99,6 @@ pub fn take_round<P: ProgramSource>(
       program = P.program_of protocol.now set.now;
       interfering = P.interfering protocol.now set.now;
     }) earlier.now }
-    requires ahead { AreAhead (record {
-      set = set.now;
-      program = P.program_of protocol.now set.now;
-      interfering = P.interfering protocol.now set.now;
-    }) bounds.now 0 left ahead.items }
     ensures { GivesRound result (record {
       set = set.now;
       program = P.program_of protocol.now set.now;
@@ -112,10 +110,14 @@ pub fn take_round<P: ProgramSource>(
         values: Vec::new(alloc),
         solutions: Vec::new(alloc),
     };
-    let mut outcomes = ahead.into_iter();
+    let is_worth = is_worth_threads(set, earlier);
+    let mut outcomes = Vec::new(alloc).into_iter();
     for i in 0..set.tasks() {
         let task = TaskId(i);
         let before = earlier.get(i as usize);
+        outcomes = outcomes_at(
+            rt, alloc, set, protocol, bounds, left, earlier, is_worth, i, outcomes,
+        )?;
         let outcome = outcomes.next();
         let here = left - round.used;
         let run = match run_task(alloc, set, protocol, task, bounds, here, before, outcome) {

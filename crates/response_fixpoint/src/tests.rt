@@ -102,6 +102,9 @@ const EACH: &[(usize, u64)] = &[
     (31, 1),
 ];
 
+// One request of each of four resources.
+const FOUR: &[(usize, u64)] = &[(0, 1), (1, 1), (2, 1), (3, 1)];
+
 const BUSY: Set = (2, &[None; 32], &[(1, 1000, 40, EACH), (2, 1000, 40, EACH)]);
 
 // The tasks of `WIDE`. The first task's optimum is reached at one point alone, which holds 1 - 1/2^28 - 1/3^17 - 1/5^12.
@@ -212,8 +215,12 @@ fn tasks_of(alloc: Global, tasks: &[Task]) -> Result<Vec<TaskPart>, AllocError> 
     Ok(list)
 }
 
-fn set_of(alloc: Global, set: Set) -> Result<TaskSet, Fail> {
-    let (processors, homes, tasks) = set;
+fn set_with(
+    alloc: Global,
+    processors: u64,
+    homes: &[Option<u64>],
+    tasks: &[Task],
+) -> Result<TaskSet, Fail> {
     let mut resources = Vec::new(alloc);
     for (number, home) in homes.iter().enumerate() {
         let name = format!(in alloc; "r{number}")?;
@@ -225,6 +232,11 @@ fn set_of(alloc: Global, set: Set) -> Result<TaskSet, Fail> {
         tasks: tasks_of(alloc, tasks)?,
     };
     Ok(TaskSet::new(alloc, parts)?)
+}
+
+fn set_of(alloc: Global, set: Set) -> Result<TaskSet, Fail> {
+    let (processors, homes, tasks) = set;
+    set_with(alloc, processors, homes, tasks)
 }
 
 fn have_homes(set: &TaskSet) -> bool
@@ -436,12 +448,19 @@ fn has_bounds(verdict: &Result<Verdict, Stop>, bounds: &[u64]) -> bool {
     }
 }
 
-// Each request of a task waits for one of the other's: 40 + 32. Programs of so many requests are worth threads.
-#[test]
-fn two_tasks_are_at_work_at_the_same_time(rt: HostRuntime) -> Result<(), Fail> {
+// What an analysis answers, whether the two first tasks' programs were made at the same time, and whether one behind the first sixteen
+// was made at all.
+#[derive(Drop)]
+struct Watched {
+    verdict: Result<Verdict, Stop>,
+    met: bool,
+    behind: bool,
+}
+
+fn watched<R: Threads + Sync>(rt: &R, alloc: Global, set: &TaskSet) -> Watched {
     let (first_came, first_saw) = (AtomicBool::new(false), AtomicBool::new(false));
     let (second_came, second_saw) = (AtomicBool::new(false), AtomicBool::new(false));
-    let set = set_of(rt.alloc(), BUSY)?;
+    let behind = AtomicBool::new(false);
     let meeting = Meeting {
         first: Side {
             came: &first_came,
@@ -451,10 +470,47 @@ fn two_tasks_are_at_work_at_the_same_time(rt: HostRuntime) -> Result<(), Fail> {
             came: &second_came,
             saw: &second_saw,
         },
+        behind: &behind,
         written: Written(Protocol::FmlpPlus),
     };
-    let verdict = analyse_with(&rt, rt.alloc(), &set, &meeting, MOST);
-    assert!(rt; has_bounds(&verdict, &[72, 72]));
-    assert!(rt; first_saw.load(Ordering::SeqCst) && second_saw.load(Ordering::SeqCst));
+    let verdict = analyse_with(rt, alloc, set, &meeting, MOST);
+    Watched {
+        verdict,
+        met: first_saw.load(Ordering::SeqCst) && second_saw.load(Ordering::SeqCst),
+        behind: behind.load(Ordering::SeqCst),
+    }
+}
+
+// Each request of a task waits for one of the other's: 40 + 32. Programs of so many requests are worth threads.
+#[test]
+fn two_tasks_are_at_work_at_the_same_time(rt: HostRuntime) -> Result<(), Fail> {
+    let set = set_of(rt.alloc(), BUSY)?;
+    let seen = watched(&rt, rt.alloc(), &set);
+    assert!(rt; has_bounds(&seen.verdict, &[72, 72]));
+    assert!(rt; seen.met);
+    Ok(())
+}
+
+// Twenty tasks, each on a processor of its own, that request each of four resources. The first one has this cost.
+fn twenty(alloc: Global, cost: u64) -> Result<TaskSet, Fail> {
+    let mut tasks = Vec::new(alloc);
+    tasks.push((1, 1000, cost, FOUR))?;
+    for processor in 2..21 {
+        tasks.push((processor, 1000, 40, FOUR))?;
+    }
+    set_with(alloc, 20, &[None; 4], &tasks)
+}
+
+// Each of a task's four requests waits for one of each other task: 40 + 4 * 19, and 1000 + 4 * 19.
+#[test]
+fn later_tasks_wait_until_sixteen_have_passed(rt: HostRuntime) -> Result<(), Fail> {
+    let set = twenty(rt.alloc(), 40)?;
+    let seen = watched(&rt, rt.alloc(), &set);
+    assert!(rt; has_bounds(&seen.verdict, &[116; 20]));
+    assert!(rt; seen.behind);
+    let set = twenty(rt.alloc(), 1000)?;
+    let seen = watched(&rt, rt.alloc(), &set);
+    assert!(rt; is_wanted(&seen.verdict, &Wanted::NotShown(0, 1076)));
+    assert!(rt; !seen.behind);
     Ok(())
 }

@@ -23,7 +23,7 @@ returns-then-eq g c =
     let way = c.loop-next.invariant.reached in
     let next = c.in-Ok.next in
     let given : GivesRound (Ok next) f c.loop-next.bounds.items (c.args.allowance - c.loop-next.spent) =
-    rw (c.in-Ok.is, c.deref.ensures.value) at c.next_round.ensures in
+    rw (c.in-Ok.is, c.deref.ensures.value) at c.take_round.ensures in
     let ends = settled_ends f c.args.allowance way.0 c.loop-next.spent c.loop-next.bounds.items (found_of next) way.1
     given.0 (same_vectors next.values.items c.loop-next.bounds.items c.if-eq.ensures) in
     settled_answers f c.args.allowance c.settled.result (found_of next).values (found_of next).duals ends c.settled.ensures
@@ -38,7 +38,7 @@ loop-next-preserved g c =
     let way = c.loop-next.invariant.reached in
     let next = c.in-Ok.next in
     let given : GivesRound (Ok next) f c.loop-next.bounds.items (c.args.allowance - c.loop-next.spent) =
-    rw (c.in-Ok.is, c.deref.ensures.value) at c.next_round.ensures in
+    rw (c.in-Ok.is, c.deref.ensures.value) at c.take_round.ensures in
     let other = other_vectors next.values.items c.loop-next.bounds.items c.if-eq.ensures in
     record {
       reached = reaches_more f c.args.allowance way.0 c.loop-next.spent (c.loop-next.spent + next.used)
