@@ -14,3 +14,4 @@ pub mod SoundLaws
 pub mod CheckedLaws
 pub mod SetTextLaws
 pub mod AuditLaws
+pub mod Examples
