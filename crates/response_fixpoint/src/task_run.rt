@@ -113,13 +113,22 @@ pub fn solve_task<P: ProgramSource>(
     }) i.0 s.now) }
     ensures { GivesSolution result (P.program_of protocol.now set.now i.0 bounds.now) units }
 {
-    let program = protocol.program(alloc, set, i, bounds)?;
-    let limits = limits_of(alloc, &program)?;
+    let program = match protocol.program(alloc, set, i, bounds) {
+        Ok(program) => program,
+        Err(AllocError) => return Err(SolveStop::Memory),
+    };
+    let limits = match limits_of(alloc, &program) {
+        Ok(limits) => limits,
+        Err(AllocError) => return Err(SolveStop::Memory),
+    };
     let solution = match earlier {
         Some(solution) if solution.limits == limits => solution,
         _ => return solve_program(alloc, &program, limits, units),
     };
-    Ok(taken_over(solution, limits)?)
+    match taken_over(solution, limits) {
+        Ok(solution) => Ok(solution),
+        Err(AllocError) => Err(SolveStop::Memory),
+    }
 }
 
 /// The response time of task `i` at these bounds where its job is blocked for so long, all in ticks.
