@@ -451,13 +451,13 @@ fn has_bounds(verdict: &Result<Verdict, Stop>, bounds: &[u64]) -> bool {
 // What an analysis answers, whether the two first tasks' programs were made at the same time, and whether one behind the first sixteen
 // was made at all.
 #[derive(Drop)]
-struct Watched {
+struct Sightings {
     verdict: Result<Verdict, Stop>,
     met: bool,
     behind: bool,
 }
 
-fn watched<R: Threads + Sync>(rt: &R, alloc: Global, set: &TaskSet) -> Watched {
+fn watched<R: Threads + Sync>(rt: &R, alloc: Global, set: &TaskSet) -> Sightings {
     let (first_came, first_saw) = (AtomicBool::new(false), AtomicBool::new(false));
     let (second_came, second_saw) = (AtomicBool::new(false), AtomicBool::new(false));
     let behind = AtomicBool::new(false);
@@ -474,7 +474,7 @@ fn watched<R: Threads + Sync>(rt: &R, alloc: Global, set: &TaskSet) -> Watched {
         written: Written(Protocol::FmlpPlus),
     };
     let verdict = analyse_with(rt, alloc, set, &meeting, MOST);
-    Watched {
+    Sightings {
         verdict,
         met: first_saw.load(Ordering::SeqCst) && second_saw.load(Ordering::SeqCst),
         behind: behind.load(Ordering::SeqCst),

@@ -39,7 +39,7 @@ returns-clause-charged g c =
     let table : IsChargeTable (g.P.ChargedProtocol.charges c.args.protocol.now) (g.P.BlockingProtocol.interferes c.args.protocol.now) w
     (slice_index c.args.bounds.now) n _ =
     table_is (g.P.ChargedProtocol.charges c.args.protocol.now) (g.P.BlockingProtocol.interferes c.args.protocol.now) w
-    (slice_index c.args.bounds.now) n c.walk_all.new.ledger.ticks a.counted c.items_of-charges.ensures.ordered only
+    (slice_index c.args.bounds.now) n c.walk_all.new.ledger.ticks a.counted c.items_of.ensures.ordered only
     (λ t j l blocked. let k : IsCharged (g.P.ChargedProtocol.charges c.args.protocol.now)
     (g.P.ChargedProtocol.columns_of c.args.protocol.now w.set (task_of w j)) w t j =
     g.met.P.ChargedProtocol.charges_blocked c.args.protocol.now w n t j c.requires.suits a.lawful a.keeps_all l blocked in
