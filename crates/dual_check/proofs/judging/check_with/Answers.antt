@@ -10,6 +10,6 @@ returns-clause-sound g c =
     let f : SourceDef = source_for (g.P.ChargedProtocol.program_of c.args.protocol.now)
     (g.P.ChargedProtocol.interfering c.args.protocol.now) c.args.set.now in
     c.what_passes_is_sound.ensures c.args.protocol.now f (certificate_seen c.args.certificate.now) c.judged.result
-    c.tasks-accepted.ensures.accepted c.requires.suits
-    (c.charged_protocols_are_analysed.ensures c.args.protocol.now c.args.set.now c.tasks-accepted.ensures.accepted c.requires.suits)
+    c.keeps_the_model.ensures.accepted c.requires.suits
+    (c.charged_protocols_are_analysed.ensures c.args.protocol.now c.args.set.now c.keeps_the_model.ensures.accepted c.requires.suits)
     c.judged.ensures.judges
