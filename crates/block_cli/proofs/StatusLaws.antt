@@ -1,0 +1,33 @@
+-- What a run's clauses say of its status alone.
+use Rattle.std.proofs.Common.{◌∙◌, ap, inl, inr, Some}
+use Rattle.block_top.specs.Headline.{Call}
+use Rattle.block_top.specs.Run.{IsRun}
+use Rattle.block_cli.specs.Edge.{IsStatusOf}
+
+pub status_is : (call : Call) → IsRun call → IsStatusOf call.words call.status
+status_is call run = record {
+  refused = run.refused_words;
+  no_form = λ none. elim (run.no_form none) [
+    | inl two ↦ inl two
+    | inr other ↦ elim other [
+      | inl fails ↦ inr (inl fails.status)
+      | inr out ↦ inr (inr out.status)
+    ]
+  ];
+  stopped = λ stop. elim stop [
+    | inl five ↦
+        let ends = run.wide five in record {
+          protocol = ends.1.1.protocol;
+          name = ends.1.1.name;
+          allowance = ends.1.1.allowance;
+          form_is = ends.1.0 ∙ ap Some ends.1.1.form_is;
+        }
+    | inr six ↦
+        let ends = run.allowance six in record {
+          protocol = ends.1.1.protocol;
+          name = ends.1.1.name;
+          allowance = ends.1.1.allowance;
+          form_is = ends.1.0 ∙ ap Some ends.1.1.form_is;
+        }
+  ];
+}
