@@ -17,17 +17,17 @@ status_is call run = record {
   stopped = λ stop. elim stop [
     | inl five ↦
         let ends = run.wide five in record {
-          protocol = ends.1.1.protocol;
-          name = ends.1.1.name;
-          allowance = ends.1.1.allowance;
-          form_is = ends.1.0 ∙ ap Some ends.1.1.form_is;
+          protocol = ends.2.protocol;
+          name = ends.2.name;
+          allowance = ends.2.allowance;
+          form_is = ends.1 ∙ ap Some ends.2.form_is;
         }
     | inr six ↦
         let ends = run.allowance six in record {
-          protocol = ends.1.1.protocol;
-          name = ends.1.1.name;
-          allowance = ends.1.1.allowance;
-          form_is = ends.1.0 ∙ ap Some ends.1.1.form_is;
+          protocol = ends.2.protocol;
+          name = ends.2.name;
+          allowance = ends.2.allowance;
+          form_is = ends.1 ∙ ap Some ends.2.form_is;
         }
   ];
 }
