@@ -7,7 +7,7 @@ use program_sources::ProgramSource;
 use simplex::SolveStop;
 use sporadic_model::{ResourceId, TaskId, TaskSet};
 use std::alloc::{AllocError, Global};
-use std::thread::{Threads, map_indices};
+use std::thread::{Threads, for_each_mut};
 use std::vec::IntoIter;
 
 /// From how much work for each task on threads are worth their start, counted in rows gone through. A thread costs about as long as
@@ -17,6 +17,10 @@ const WORTH_THREADS: u64 = 4_000;
 /// How many tasks' programs are solved side by side before the round goes on: enough to keep four to sixteen processors at work, and
 /// few enough that little is solved in vain where an early task ends the rounds.
 const STRETCH: u32 = 16;
+
+/// How many threads at most solve the programs of a stretch, each those of a group of neighbouring tasks in turn. Fewer than tasks,
+/// since a thread costs about as long as a small program.
+const THREADS: usize = 8;
 
 /// How many entries of requests a task has.
 fn entries_of(set: &TaskSet, x: TaskId) -> u64
@@ -117,12 +121,17 @@ pub fn solve_ahead<R: Threads + Sync, P: ProgramSource + Sync>(
 {
     let first = from as usize;
     let count = (set.tasks() - from).min(STRETCH);
-    map_indices(
+    let mut outcomes = Vec::new(alloc);
+    outcomes.resize_with(count as usize, || Err(SolveStop::Memory))?;
+    for_each_mut(
         rt,
-        alloc,
-        count as usize,
-        &|k: usize| { solve_number(alloc, set, protocol, bounds, left, earlier, first + k) },
-    )
+        &mut outcomes,
+        THREADS,
+        &|k: usize, outcome: &mut Result<Solution, SolveStop>| {
+            *outcome = solve_number(alloc, set, protocol, bounds, left, earlier, first + k);
+        },
+    );
+    Ok(outcomes)
 }
 
 /// What programs have given ahead of their place, from task `i` on: at the first task of a stretch those of the whole stretch, which
