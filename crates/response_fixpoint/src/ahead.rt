@@ -1,4 +1,4 @@
-ghost use Rattle.std.specs.Prelude.{◌≡◌, ◌<◌, length, IfOk};
+ghost use Rattle.std.specs.Prelude.{◌≡◌, ℕ, ◌<◌, ◌≤◌, ◌+◌, ◌++◌, map, length, slice_get, Some, IfOk};
 ghost use Rattle.program_sources.specs.Bounds.{IsInRange};
 ghost use Rattle.response_fixpoint.specs.Solutions.{GivesSolution, AreEarlier, AreAhead};
 
@@ -14,9 +14,21 @@ use std::vec::IntoIter;
 /// 2,000 to 4,000 of these, most of it in the kernel: its stack, its memory, its end.
 const WORTH_THREADS: u64 = 4_000;
 
-/// How many tasks' programs are solved side by side before the round goes on: enough to keep four to sixteen processors at work, and
-/// few enough that little is solved in vain where an early task ends the rounds.
+/// How many tasks' programs are solved ahead before the round goes on: enough to keep four to sixteen processors at work, and few
+/// enough that little is solved in vain where an early task ends the rounds.
 const STRETCH: u32 = 16;
+
+/// In how many groups at most a stretch is solved, each in a thread and of two tasks at most: half of `STRETCH`. One thread for each
+/// task would take much of what it gains, since a thread costs about as long as a small program.
+const GROUPS: u32 = 8;
+
+/// What the programs of a group's tasks give.
+#[derive(Drop)]
+struct Pair {
+    first: Result<Solution, SolveStop>,
+    /// Want of memory where the group has one task only.
+    second: Result<Solution, SolveStop>,
+}
 
 /// How many entries of requests a task has.
 fn entries_of(set: &TaskSet, x: TaskId) -> u64
@@ -89,8 +101,103 @@ fn solve_number<P: ProgramSource>(
     solve_task(alloc, set, protocol, task, bounds, left, earlier.get(i))
 }
 
+/// Solves the programs of a group one after the other: that of this first task, and that of the second one where the set has it.
+fn solve_pair<P: ProgramSource>(
+    alloc: Global,
+    set: &TaskSet,
+    protocol: &P,
+    bounds: &[u64],
+    left: u64,
+    earlier: &[Solution],
+    first: usize,
+    second: usize,
+) -> Pair
+    requires suits { P.suits protocol.now set.now }
+    requires range { IsInRange set.now bounds.now }
+    requires earlier { AreEarlier (record {
+      set = set.now;
+      program = P.program_of protocol.now set.now;
+      interfering = P.interfering protocol.now set.now;
+    }) earlier.now }
+    requires task { first < length set.now.tasks }
+    ensures first { GivesSolution result.first (P.program_of protocol.now set.now first bounds.now) left }
+    ensures second { GivesSolution result.second (P.program_of protocol.now set.now second bounds.now) left }
+{
+    let one = solve_number(alloc, set, protocol, bounds, left, earlier, first);
+    let other = if second < set.tasks() as usize {
+        solve_number(alloc, set, protocol, bounds, left, earlier, second)
+    } else {
+        Err(SolveStop::Memory)
+    };
+    Pair {
+        first: one,
+        second: other,
+    }
+}
+
+/// Solves so many groups side by side: the first tasks of the groups are those from `from` on, and behind these come their second
+/// tasks.
+fn solve_groups<R: Threads + Sync, P: ProgramSource + Sync>(
+    rt: &R,
+    alloc: Global,
+    set: &TaskSet,
+    protocol: &P,
+    bounds: &[u64],
+    left: u64,
+    earlier: &[Solution],
+    from: usize,
+    groups: usize,
+) -> Result<Vec<Pair>, AllocError>
+    requires suits { P.suits protocol.now set.now }
+    requires range { IsInRange set.now bounds.now }
+    requires earlier { AreEarlier (record {
+      set = set.now;
+      program = P.program_of protocol.now set.now;
+      interfering = P.interfering protocol.now set.now;
+    }) earlier.now }
+    requires tasks { from + groups ≤ length set.now.tasks }
+    ensures len { IfOk result (λ v. length v.items ≡ groups) }
+    ensures first { IfOk result (λ v. (k : ℕ) (p : _) → slice_get v.items k ≡ Some p
+        → GivesSolution p.first (P.program_of protocol.now set.now (from + k) bounds.now) left) }
+    ensures second { IfOk result (λ v. (k : ℕ) (p : _) → slice_get v.items k ≡ Some p
+        → GivesSolution p.second (P.program_of protocol.now set.now (from + groups + k) bounds.now) left) }
+{
+    // a set has at most 64 tasks, so the numbers fit
+    let _tasks = set.tasks();
+    let behind = from + groups;
+    map_indices(
+        rt,
+        alloc,
+        groups,
+        &|k: usize| solve_pair(
+            alloc,
+            set,
+            protocol,
+            bounds,
+            left,
+            earlier,
+            from + k,
+            behind + k,
+        ),
+    )
+}
+
+/// The outcomes of the groups' first tasks, and behind them those of their second ones.
+fn joined(alloc: Global, pairs: Vec<Pair>) -> Result<Vec<Result<Solution, SolveStop>>, AllocError>
+    ensures { IfOk result (λ v. v.items ≡ map (λ p. p.first) pairs.items ++ map (λ p. p.second) pairs.items) }
+{
+    let mut outcomes = Vec::new(alloc);
+    let mut seconds = Vec::new(alloc);
+    for pair in pairs {
+        outcomes.push(pair.first)?;
+        seconds.push(pair.second)?;
+    }
+    outcomes.append(&mut seconds)?;
+    Ok(outcomes)
+}
+
 /// Solves the programs of a stretch of tasks side by side, from task `from` on, each with all units that are left at the start of
-/// the round.
+/// the round. Behind the outcomes of the last tasks want of memory may stand, which no task takes.
 pub fn solve_ahead<R: Threads + Sync, P: ProgramSource + Sync>(
     rt: &R,
     alloc: Global,
@@ -115,14 +222,19 @@ pub fn solve_ahead<R: Threads + Sync, P: ProgramSource + Sync>(
       interfering = P.interfering protocol.now set.now;
     }) bounds.now from left v.items) }
 {
-    let first = from as usize;
-    let count = (set.tasks() - from).min(STRETCH);
-    map_indices(
+    let groups = (set.tasks() - from).min(GROUPS);
+    let pairs = solve_groups(
         rt,
         alloc,
-        count as usize,
-        &|k: usize| { solve_number(alloc, set, protocol, bounds, left, earlier, first + k) },
-    )
+        set,
+        protocol,
+        bounds,
+        left,
+        earlier,
+        from as usize,
+        groups as usize,
+    )?;
+    joined(alloc, pairs)
 }
 
 /// What programs have given ahead of their place, from task `i` on: at the first task of a stretch those of the whole stretch, which

@@ -1,4 +1,4 @@
-//! A source of programs whose two first tasks have to be at work at the same time, and which notes how far a round comes.
+//! A source of programs whose first task and another have to be at work at the same time, and which notes how far a round comes.
 
 use program_form::Program;
 use program_sources::ProgramSource;
@@ -9,19 +9,20 @@ use std::sync::atomic::{AtomicBool, Ordering};
 
 const MOST_TURNS: u64 = 1_000_000_000;
 
-/// What two tasks know of each other: whether the first call for one has come, and whether it saw that of the other.
+/// What the first task and the others know of each other: whether the first call for one side has come, and whether it saw that of the
+/// other.
 #[derive(Clone, Copy)]
 pub struct Side<'a> {
     pub came: &'a AtomicBool,
     pub saw: &'a AtomicBool,
 }
 
-/// The programs of a protocol. The first call for each of the tasks 0 and 1 waits a while until the other has come, and a call for a
-/// task behind the first sixteen is noted.
+/// The programs of a protocol. The first call for task 0 and the first one for any other task wait a while for each other, and a call
+/// for a task behind the first sixteen is noted.
 #[derive(Clone, Copy)]
 pub struct Meeting<'a> {
     pub first: Side<'a>,
-    pub second: Side<'a>,
+    pub others: Side<'a>,
     pub behind: &'a AtomicBool,
     pub written: Written,
 }
@@ -68,10 +69,10 @@ impl<'a> ProgramSource for Meeting<'a> {
         i: TaskId,
         bounds: &[u64],
     ) -> Result<Program, AllocError> {
-        match i.0 {
-            0 => meet(self.first, self.second),
-            1 => meet(self.second, self.first),
-            _ => {}
+        if i.0 == 0 {
+            meet(self.first, self.others);
+        } else {
+            meet(self.others, self.first);
         }
         if i.0 >= 16 {
             self.behind.store(true, Ordering::SeqCst);

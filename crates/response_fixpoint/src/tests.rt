@@ -448,8 +448,8 @@ fn has_bounds(verdict: &Result<Verdict, Stop>, bounds: &[u64]) -> bool {
     }
 }
 
-// What an analysis answers, whether the two first tasks' programs were made at the same time, and whether one behind the first sixteen
-// was made at all.
+// What an analysis answers, whether the first task's program and another were made at the same time, and whether one behind the first
+// sixteen was made at all.
 #[derive(Drop)]
 struct Sightings {
     verdict: Result<Verdict, Stop>,
@@ -459,16 +459,16 @@ struct Sightings {
 
 fn watched<R: Threads + Sync>(rt: &R, alloc: Global, set: &TaskSet) -> Sightings {
     let (first_came, first_saw) = (AtomicBool::new(false), AtomicBool::new(false));
-    let (second_came, second_saw) = (AtomicBool::new(false), AtomicBool::new(false));
+    let (others_came, others_saw) = (AtomicBool::new(false), AtomicBool::new(false));
     let behind = AtomicBool::new(false);
     let meeting = Meeting {
         first: Side {
             came: &first_came,
             saw: &first_saw,
         },
-        second: Side {
-            came: &second_came,
-            saw: &second_saw,
+        others: Side {
+            came: &others_came,
+            saw: &others_saw,
         },
         behind: &behind,
         written: Written(Protocol::FmlpPlus),
@@ -476,7 +476,7 @@ fn watched<R: Threads + Sync>(rt: &R, alloc: Global, set: &TaskSet) -> Sightings
     let verdict = analyse_with(rt, alloc, set, &meeting, MOST);
     Sightings {
         verdict,
-        met: first_saw.load(Ordering::SeqCst) && second_saw.load(Ordering::SeqCst),
+        met: first_saw.load(Ordering::SeqCst) && others_saw.load(Ordering::SeqCst),
         behind: behind.load(Ordering::SeqCst),
     }
 }
@@ -507,6 +507,7 @@ fn later_tasks_wait_until_sixteen_have_passed(rt: HostRuntime) -> Result<(), Fai
     let set = twenty(rt.alloc(), 40)?;
     let seen = watched(&rt, rt.alloc(), &set);
     assert!(rt; has_bounds(&seen.verdict, &[116; 20]));
+    assert!(rt; seen.met);
     assert!(rt; seen.behind);
     let set = twenty(rt.alloc(), 1000)?;
     let seen = watched(&rt, rt.alloc(), &set);
