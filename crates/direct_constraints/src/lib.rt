@@ -126,6 +126,7 @@ fn add_time_row(
         ≡ with_rows (block_seen block.old) (map column_seen columns.now) (time_row set.now i.0 x.0 ∷ []) bounds.now) }
     ensures end { IfOk result (λ n. BeginsAt (slot (x.0 + 1) 0) columns.now n) }
 {
+    // a set has at most 32 resources, so the slots of a task end before those of the next one
     let _resources = set.resources();
     let row = TimeRow { task: x };
     let to = task_end(set, columns, from, x);

@@ -12,6 +12,7 @@ pub fn columns_stand_in_order(set: &TaskSet, protocol: Protocol, i: TaskId, colu
     ensures known { AreKnown (length set.now.tasks) (length set.now.resources) columns.now }
     ensures order { AreInOrder columns.now }
 {
+    // a set has at most 32 resources, so the slots of a task end before those of the next one
     let _resources = set.resources();
 }
 
@@ -23,6 +24,7 @@ pub fn task_end(set: &TaskSet, columns: &[Fragment], from: usize, x: TaskId) -> 
     ensures begins { BeginsAt (slot (x.0 + 1) 0) columns.now result }
     ensures order { from ≤ result }
 {
+    // a set has at most 32 resources, so the slots of a task end before those of the next one
     let _resources = set.resources();
     let mut place = from;
     while place < columns.len() && columns[place].task.0 == x.0 {
@@ -46,6 +48,7 @@ pub fn requests_end(
     ensures begins { BeginsAt (slot x.0 (q.0 + 1)) columns.now result }
     ensures order { from ≤ result }
 {
+    // a set has at most 32 resources, so the slots of a task end before those of the next one
     let _resources = set.resources();
     let mut place = from;
     while place < columns.len()

@@ -12,6 +12,7 @@ pub fn jobs(set: &TaskSet, i: TaskId, x: TaskId, bounds: &[u64]) -> u64
     ensures value { result ≡ jobs_in_window set.now (slice_index bounds.now) i.0 x.0 }
     ensures most { result ≤ 2000000000 }
 {
+    // no bound passes the deadline of its task, which is within the limits of every set, so the sum of two fits
     let _tasks = set.tasks();
     let window = bounds[i.0 as usize];
     let bound = bounds[x.0 as usize];

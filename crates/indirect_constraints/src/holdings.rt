@@ -27,6 +27,7 @@ fn higher_count(set: &TaskSet, i: TaskId, x: TaskId, q: ResourceId, bounds: &[u6
     ensures value { result ≡ higher_holdings set.now (slice_index bounds.now) i.0 x.0 q.0 }
     ensures most { result ≤ i.0 * 2000000000000 }
 {
+    // a set has at most 64 tasks, so the sum fits
     let _tasks = set.tasks();
     let mut total = 0;
     for y in 0..i.0 {
@@ -83,6 +84,7 @@ pub(crate) fn holding_count(set: &TaskSet, i: TaskId, x: TaskId, bounds: &[u64])
     requires within { AreWithinDeadlines set.now bounds.now }
     ensures { result ≡ holdings set.now (slice_index bounds.now) i.0 x.0 }
 {
+    // a set has at most 64 tasks, so the sum fits
     let _tasks = set.tasks();
     let mut total = 0;
     for q in 0..set.resources() {

@@ -43,6 +43,7 @@ fn add_queue_row(
         ≡ with_rows (block_seen block.old) (map column_seen columns.now) (queue_row set.now i.0 x.0 ∷ []) bounds.now) }
     ensures end { IfOk result (λ n. BeginsAt (slot (x.0 + 1) 0) columns.now n) }
 {
+    // a set has at most 32 resources, so the slots of a task end before those of the next one
     let _resources = set.resources();
     let row = QueueRow { task: x };
     let to = task_end(set, columns, from, x);
@@ -94,6 +95,7 @@ fn add_holding_row(
         (holding_row set.now i.0 x.0 ∷ []) bounds.now) }
     ensures end { IfOk result (λ n. BeginsAt (slot (x.0 + 1) 0) columns.now n) }
 {
+    // a set has at most 32 resources, so the slots of a task end before those of the next one
     let _resources = set.resources();
     let row = HoldingRow { task: x };
     let to = task_end(set, columns, from, x);

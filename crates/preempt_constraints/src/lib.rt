@@ -65,6 +65,7 @@ fn add_interval_row(
         (if is_lower_local set.now i.0 x.0 then interval_row set.now i.0 x.0 ∷ [] else []) bounds.now) }
     ensures end { IfOk result (λ n. BeginsAt (slot (x.0 + 1) 0) columns.now n) }
 {
+    // a set has at most 32 resources, so the slots of a task end before those of the next one
     let _resources = set.resources();
     let row = IntervalRow { task: x };
     let to = task_end(set, columns, from, x);

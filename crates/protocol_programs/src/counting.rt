@@ -35,6 +35,7 @@ fn interference_of_task(
     ensures value { result ≡ interference_by (interfering_cost protocol set.now) set.now bounds.now i.0 h.0 }
     ensures most { result ≤ most_of_one_task }
 {
+    // a task's numbers are within the limits of every set, so the product fits
     let _tasks = set.tasks();
     let ticks = interfering(set, protocol, h);
     let period = set.period(h);

@@ -103,6 +103,7 @@ pub fn program(
     requires within { AreWithinDeadlines set.now bounds.now }
     ensures { IfOk result (λ p. p ≡ program_of protocol set.now i.0 bounds.now) }
 {
+    // every set is lawful, so its columns and rows make a program
     let _tasks = set.tasks();
     let columns = fragments::fragments(alloc, set, protocol, i)?;
     let costs = costs(alloc, set, protocol, i, &columns)?;
