@@ -4,10 +4,12 @@
     python3 bench/parallel.py [SEED [SIZE ..]]
 
 Measured are `examples/plant.json`, the study 5 20, and generated sets of 16 to 64 tasks (or of SIZE tasks) on four processors, each under
-each protocol. It is the program that ./block builds, run in turn as it is and with a limit on stacks that lets the system start no
-thread, where a round's programs are solved on one: so both are the same program, and must give the same answer. Times are those of
-processes, the least of their tries; that of a call that answers `refused words` is taken off. A ratio above 1 is how often faster the
-rounds side by side are; on four processors it can be at most 4. It is no test: no gate runs it, and it bounds nothing.
+each protocol; and the largest of these sets with requests twice as long, which has late tasks. Where its first task is late in the first
+round, one program decides, and threads can gain nothing. It is the program that ./block builds, run in turn as it is and with a limit on
+stacks that lets the system start no thread, where a round's programs are solved on one: so both are the same program, and must give the
+same answer. Times are those of processes, the least of their tries; that of a call that answers `refused words` is taken off. A ratio
+above 1 is how often faster the rounds side by side are; on four processors it can be at most 4. It is no test: no gate runs it, and it
+bounds nothing.
 """
 import json
 import random
@@ -24,10 +26,12 @@ PROTOCOLS = ["mpcp", "fmlp+", "dpcp"]
 PERIODS = [10_000, 20_000, 25_000, 40_000, 50_000, 100_000, 200_000, 1_000_000]
 PROCESSORS = 4
 RESOURCES = 8
+# The longest request of a task, in ticks, with which all tasks of these sets pass, and one with which some of 64 tasks are late.
+SHORT, LONG = 20, 40
 
 
-def generated(tasks, seed):
-    """A set of so many tasks on four processors, with four entries each."""
+def generated(tasks, seed, longest):
+    """A set of so many tasks on four processors, with four entries each, whose requests are at most so long."""
     numbers = random.Random(seed)
     made = []
     for number in range(tasks):
@@ -35,7 +39,7 @@ def generated(tasks, seed):
         share = 0.45 * PROCESSORS / tasks
         cost = max(300, int(period * share * numbers.uniform(0.6, 1.4)))
         used = numbers.sample(range(RESOURCES), 4)
-        requests = [{"resource": f"r{q}", "count": numbers.randint(1, 3), "length": numbers.randint(1, 40)} for q in used]
+        requests = [{"resource": f"r{q}", "count": numbers.randint(1, 3), "length": numbers.randint(1, longest)} for q in used]
         made.append({"name": f"t{number}", "processor": number % PROCESSORS + 1, "period": period, "cost": cost, "requests": requests})
     made.sort(key=lambda task: task["period"])
     resources = [{"name": f"r{q}", "home": q % PROCESSORS + 1} for q in range(RESOURCES)]
@@ -71,7 +75,7 @@ def measure(name, words, folder, tries):
     beside = max(least["beside"] - least["start"], 1e-6)
     alone = max(least["alone"] - least["bare"], 1e-6)
     times = f"side by side {beside * 1e3:10.2f} ms, alone {alone * 1e3:10.2f} ms"
-    print(f"{name:18} status {answers.pop()[0]}  {times}, alone / side by side = {alone / beside:.2f}", flush=True)
+    print(f"{name:24} status {answers.pop()[0]}  {times}, alone / side by side = {alone / beside:.2f}", flush=True)
 
 
 def main():
@@ -84,10 +88,11 @@ def main():
         for protocol in PROTOCOLS:
             measure(f"plant {protocol}", ["analyse", protocol, "set"], folder, 15)
         measure("study 5 20", ["study", "5", "20"], folder, 3)
-        for tasks in sizes or (16, 32, 64):
-            (folder / "set").write_text(generated(tasks, seed))
+        sizes = sizes or [16, 32, 64]
+        for tasks, longest, name in [*((tasks, SHORT, "tasks") for tasks in sizes), (sizes[-1], LONG, "with late ones")]:
+            (folder / "set").write_text(generated(tasks, seed, longest))
             for protocol in PROTOCOLS:
-                measure(f"{tasks} tasks {protocol}", ["analyse", protocol, "set"], folder, 5)
+                measure(f"{tasks} {name} {protocol}", ["analyse", protocol, "set"], folder, 5)
 
 
 main()

@@ -8,6 +8,6 @@ pub mod WrittenLaws
 pub mod RunLaws
 pub mod EndLaws
 pub mod SolutionLaws
-pub mod GroupLaws
+pub mod AheadLaws
 pub mod AnswerLaws
 pub mod WorkedRounds

@@ -5,7 +5,7 @@ use Rattle.std.proofs.lemmas.Bool.{cases_lt}
 use Rattle.std.proofs.lemmas.List.{get_or_push, get_or_append_left, length-append}
 use Rattle.std.proofs.lemmas.Option.{slice_get_within, slice_get_read, get_or_from_slice_get}
 use Rattle.std.specs.Prelude.{Option, None, Result, IfSome, IsSome, slice_get, slice_index_or}
-use Rattle.std.specs.Option.{option_to_list}
+use Rattle.std.specs.Option.{option_to_list, option_flatten}
 use Rattle.fraction128.specs.Fraction.{Fraction}
 use Rattle.program_form.specs.Certificate.{DualDef, dual_seen}
 use Rattle.program_form.specs.Limits.{HasLimitsAtMost}
@@ -204,26 +204,29 @@ earlier_more f i solutions s count old new = λ k x here.
     ]
 
 -- The first of what was solved ahead is the next task's, and the rest is that of the tasks behind it.
-pub first_ahead : (f : SourceDef) (r : List ℕ) (n left used : ℕ) (outcomes rest : List (Result Solution SolveStop))
-    (first : Option (Result Solution SolveStop))
-    → outcomes ≡ option_to_list first ++ rest → AreAhead f r n left outcomes → IfSome first (λ o. IsAhead f r n (left - used) o)
+pub first_ahead : (f : SourceDef) (r : List ℕ) (n left used : ℕ) (outcomes rest : List (Option (Result Solution SolveStop)))
+    (first : Option (Option (Result Solution SolveStop)))
+    → outcomes ≡ option_to_list first ++ rest → AreAhead f r n left outcomes
+    → IfSome (option_flatten first) (λ o. IsAhead f r n (left - used) o)
 first_ahead f r n left used outcomes rest None same ahead = tt
-first_ahead f r n left used outcomes rest (Some o) same ahead =
-    let at : slice_get outcomes 0 ≡ Some o = ap (λ (x : List (Result Solution SolveStop)). slice_get x 0) same in
+first_ahead f r n left used outcomes rest (Some None) same ahead = tt
+first_ahead f r n left used outcomes rest (Some (Some o)) same ahead =
+    let at : slice_get outcomes 0 ≡ Some (Some o) = ap (λ (x : List (Option (Result Solution SolveStop))). slice_get x 0) same in
     let first : n + 0 ≡ n = omega arith in
     let here : GivesSolution o (f.program n r) left = subst (λ (k : ℕ). GivesSolution o (f.program k r) left) first (ahead 0 o at) in
     (left, omega arith, here)
 
-pub rest_ahead : (f : SourceDef) (r : List ℕ) (n left count : ℕ) (outcomes rest : List (Result Solution SolveStop))
-    (first : Option (Result Solution SolveStop))
+pub rest_ahead : (f : SourceDef) (r : List ℕ) (n left count : ℕ) (outcomes rest : List (Option (Result Solution SolveStop)))
+    (first : Option (Option (Result Solution SolveStop)))
     → outcomes ≡ option_to_list first ++ rest → (IsSome first ↔ (0 < count)) → count ≡ length outcomes → AreAhead f r n left outcomes
     → AreAhead f r (n + 1) left rest
 rest_ahead f r n left count outcomes rest None same some are ahead k o here =
-    let within : k < length rest = slice_get_within rest k o here in
+    let within : k < length rest = slice_get_within rest k (Some o) here in
     let none : length outcomes ≡ length rest = ap length same in
-    let never : IsSome {T = Result Solution SolveStop} None = some.1 (omega (arith, within, none, are)) in
+    let never : IsSome {T = Option (Result Solution SolveStop)} None = some.1 (omega (arith, within, none, are)) in
     cc
 rest_ahead f r n left count outcomes rest (Some x) same some are ahead k o here =
-    let at : slice_get outcomes (suc k) ≡ Some o = ap (λ (y : List (Result Solution SolveStop)). slice_get y (suc k)) same ∙ here in
+    let at : slice_get outcomes (suc k) ≡ Some (Some o) =
+    ap (λ (y : List (Option (Result Solution SolveStop))). slice_get y (suc k)) same ∙ here in
     let next : n + suc k ≡ n + 1 + k = omega arith in
     subst (λ (i : ℕ). GivesSolution o (f.program i r) left) next (ahead (suc k) o at)

@@ -1,5 +1,5 @@
 -- What solving a task's program gives, whether the program is solved in its place of the round, ahead of it, or in a round before.
-use Rattle.std.specs.Prelude.{◌≡◌, ℕ, ◌+◌, ◌<◌, ◌≤◌, ◌^◌, List, Result, Ok, Err, Some, slice_get}
+use Rattle.std.specs.Prelude.{◌≡◌, ℕ, ◌+◌, ◌<◌, ◌≤◌, ◌^◌, List, [], ◌∷◌, Result, Ok, Err, Option, Some, length, slice_get, slice_set}
 use Rattle.fraction128.specs.Fraction.{Fraction}
 use Rattle.program_form.specs.Certificate.{dual_seen}
 use Rattle.program_form.specs.Points.{IsGreatestReached}
@@ -9,6 +9,7 @@ use Rattle.program_sources.specs.Recurrence.{SourceDef}
 use Rattle.simplex.specs.declared.SolveStop.{SolveStop}
 use Rattle.simplex.specs.declared.SolveStop.TheVariants as solve_stop
 use Rattle.response_fixpoint.specs.declared.task_run.Solution.{Solution}
+use Rattle.response_fixpoint.specs.declared.ahead.Ahead.{Ahead}
 
 -- Is this what solving the program gives: its limits, the units that its exchange run takes, its greatest whole blocking, and its
 -- dual?
@@ -43,7 +44,18 @@ AreEarlier f solutions = (i : ℕ) (s : Solution) → slice_get solutions i ≡ 
 abbrev pub IsAhead : SourceDef → List ℕ → ℕ → ℕ → Result Solution SolveStop → Type 0
 IsAhead f r i left outcome = (units : ℕ) × (left ≤ units) × GivesSolution outcome (f.program i r) units
 
--- What the tasks' programs, from task n on, have given ahead of the round, with the units that were left at its start.
-abbrev pub AreAhead : SourceDef → List ℕ → ℕ → ℕ → List (Result Solution SolveStop) → Type 0
-AreAhead f r n left outcomes = (i : ℕ) (outcome : Result Solution SolveStop) → slice_get outcomes i ≡ Some outcome
+-- What a thread has found ahead of the round: of each task that it took, what its program gave with so many units.
+abbrev pub AreFound : SourceDef → List ℕ → ℕ → List Ahead → Type 0
+AreFound f r left found = (k : ℕ) (a : Ahead) → slice_get found k ≡ Some a
+    → (a.task.0 < length f.set.tasks) × GivesSolution a.outcome (f.program a.task.0 r) left
+
+-- These outcomes, with what a thread has found at the places of its tasks.
+unfoldable pub outcomes_with : List (Option (Result Solution SolveStop)) → List Ahead → List (Option (Result Solution SolveStop))
+outcomes_with outcomes [] = outcomes
+outcomes_with outcomes (a ∷ found) = outcomes_with (slice_set outcomes a.task.0 (Some a.outcome)) found
+
+-- What the tasks' programs, from task n on, have given ahead of the round, those that gave something, with the units that were left
+-- at its start.
+abbrev pub AreAhead : SourceDef → List ℕ → ℕ → ℕ → List (Option (Result Solution SolveStop)) → Type 0
+AreAhead f r n left outcomes = (i : ℕ) (outcome : Result Solution SolveStop) → slice_get outcomes i ≡ Some (Some outcome)
     → GivesSolution outcome (f.program (n + i) r) left

@@ -1,33 +1,35 @@
-ghost use Rattle.std.specs.Prelude.{◌≡◌, ℕ, ◌<◌, ◌≤◌, ◌+◌, ◌++◌, map, length, slice_get, Some, IfOk};
+ghost use Rattle.std.specs.Prelude.{◌≡◌, ℕ, ◌<◌, ◌^◌, length, replicate, slice_get, slice_set, None, Some, IfOk, IfSome};
 ghost use Rattle.program_sources.specs.Bounds.{IsInRange};
-ghost use Rattle.response_fixpoint.specs.Solutions.{GivesSolution, AreEarlier, AreAhead};
+ghost use Rattle.response_fixpoint.specs.Solutions.{GivesSolution, AreEarlier, AreFound, AreAhead, outcomes_with};
 
-use crate::task_run::{Solution, solve_task};
+use crate::task_run::{Solution, response, solve_task};
 use program_sources::ProgramSource;
 use simplex::SolveStop;
 use sporadic_model::{ResourceId, TaskId, TaskSet};
 use std::alloc::{AllocError, Global};
-use std::thread::{Threads, map_indices};
-use std::vec::IntoIter;
+use std::sync::atomic::{AtomicBool, AtomicU32, Ordering};
+use std::thread::{Threads, available_parallelism, map_indices};
 
-/// From how much work for each task on threads are worth their start, counted in rows gone through. A thread costs about as long as
-/// 2,000 to 4,000 of these, most of it in the kernel: its stack, its memory, its end.
-const WORTH_THREADS: u64 = 4_000;
+/// How much work for each thread is worth its start, counted in rows gone through. A thread costs about as long as 2,000 to 4,000 of
+/// these, most of it in the kernel: its stack, its memory, its end.
+const WORTH_A_THREAD: u64 = 4_000;
 
-/// How many tasks' programs are solved ahead before the round goes on: enough to keep four to sixteen processors at work, and few
-/// enough that little is solved in vain where an early task ends the rounds.
-const STRETCH: u32 = 16;
+/// How many processors there are where the system doesn't say.
+const USUAL_PROCESSORS: usize = 4;
 
-/// In how many groups at most a stretch is solved, each in a thread and of two tasks at most: half of `STRETCH`. One thread for each
-/// task would take much of what it gains, since a thread costs about as long as a small program.
-const GROUPS: u32 = 8;
-
-/// What the programs of a group's tasks give.
+/// What the threads of a round share: the next task whose program none of them has taken, and whether one has found a task that ends
+/// the rounds, so that the programs of those behind it needn't be solved.
 #[derive(Drop)]
-struct Pair {
-    first: Result<Solution, SolveStop>,
-    /// Want of memory where the group has one task only.
-    second: Result<Solution, SolveStop>,
+pub struct Queue {
+    pub next: AtomicU32,
+    pub is_over: AtomicBool,
+}
+
+/// What the program of a task has given ahead of its place in the round.
+#[derive(Drop)]
+pub struct Ahead {
+    pub task: TaskId,
+    pub outcome: Result<Solution, SolveStop>,
 }
 
 /// How many entries of requests a task has.
@@ -63,81 +65,98 @@ fn work_of(solutions: &[Solution]) -> u64 {
     work
 }
 
-/// Is it worth starting threads for the programs of a round, by what those of the round before took? The answer of the round is the
-/// same either way.
-pub fn is_worth_threads(set: &TaskSet, earlier: &[Solution]) -> bool {
-    let tasks = set.tasks() as u64;
+/// How many threads are worth starting for the programs of a round, by what those of the round before took and by how many processors
+/// there are. The answer of the round is the same with any number.
+pub fn threads_for<R: Threads>(rt: &R, set: &TaskSet, earlier: &[Solution]) -> usize {
     let work = if earlier.is_empty() {
-        first_work(set).saturating_mul(tasks)
+        first_work(set).saturating_mul(set.tasks() as u64)
     } else {
         work_of(earlier)
     };
-    work >= WORTH_THREADS.saturating_mul(tasks)
-}
-
-/// Solves the program of the task of this number, or takes over its solution of the round before.
-fn solve_number<P: ProgramSource>(
-    alloc: Global,
-    set: &TaskSet,
-    protocol: &P,
-    bounds: &[u64],
-    left: u64,
-    earlier: &[Solution],
-    i: usize,
-) -> Result<Solution, SolveStop>
-    requires suits { P.suits protocol.now set.now }
-    requires range { IsInRange set.now bounds.now }
-    requires earlier { AreEarlier (record {
-      set = set.now;
-      program = P.program_of protocol.now set.now;
-      interfering = P.interfering protocol.now set.now;
-    }) earlier.now }
-    requires task { i < length set.now.tasks }
-    ensures { GivesSolution result (P.program_of protocol.now set.now i bounds.now) left }
-{
-    // a set has at most 64 tasks, so the number fits
-    let _tasks = set.tasks();
-    let task = TaskId(i as u32);
-    solve_task(alloc, set, protocol, task, bounds, left, earlier.get(i))
-}
-
-/// Solves the programs of a group one after the other: that of this first task, and that of the second one where the set has it.
-fn solve_pair<P: ProgramSource>(
-    alloc: Global,
-    set: &TaskSet,
-    protocol: &P,
-    bounds: &[u64],
-    left: u64,
-    earlier: &[Solution],
-    first: usize,
-    second: usize,
-) -> Pair
-    requires suits { P.suits protocol.now set.now }
-    requires range { IsInRange set.now bounds.now }
-    requires earlier { AreEarlier (record {
-      set = set.now;
-      program = P.program_of protocol.now set.now;
-      interfering = P.interfering protocol.now set.now;
-    }) earlier.now }
-    requires task { first < length set.now.tasks }
-    ensures first { GivesSolution result.first (P.program_of protocol.now set.now first bounds.now) left }
-    ensures second { GivesSolution result.second (P.program_of protocol.now set.now second bounds.now) left }
-{
-    let one = solve_number(alloc, set, protocol, bounds, left, earlier, first);
-    let other = if second < set.tasks() as usize {
-        solve_number(alloc, set, protocol, bounds, left, earlier, second)
-    } else {
-        Err(SolveStop::Memory)
+    let worth = work / WORTH_A_THREAD;
+    if worth < 2 {
+        return 0;
+    }
+    let processors = match available_parallelism(rt) {
+        Ok(count) => count.get(),
+        Err(_) => USUAL_PROCESSORS,
     };
-    Pair {
-        first: one,
-        second: other,
+    processors.max(2).min(worth as usize)
+}
+
+/// The next of so many tasks whose program no thread has taken, unless a task was found that ends the rounds.
+fn next_task(queue: &Queue, tasks: u32) -> Option<TaskId>
+    ensures { IfSome result (λ t. t.0 < tasks) }
+{
+    if queue.is_over.load(Ordering::SeqCst) {
+        return None;
+    }
+    let i = queue.next.fetch_add(1, Ordering::SeqCst);
+    if i < tasks { Some(TaskId(i)) } else { None }
+}
+
+/// Do the rounds go on behind a task whose program gave this? That spares work and no more: what is answered, the round's own loop
+/// decides.
+fn goes_on<P: ProgramSource>(
+    set: &TaskSet,
+    protocol: &P,
+    task: TaskId,
+    bounds: &[u64],
+    outcome: &Result<Solution, SolveStop>,
+) -> bool
+    requires suits { P.suits protocol.now set.now }
+    requires range { IsInRange set.now bounds.now }
+    requires task { task.0 < length set.now.tasks }
+    requires blocking { IfOk outcome.now (λ s. s.blocking < 2 ^ 63) }
+{
+    match outcome {
+        Ok(solution) => {
+            response(set, protocol, task, bounds, solution.blocking) <= set.deadline(task)
+        }
+        Err(_) => false,
     }
 }
 
-/// Solves so many groups side by side: the first tasks of the groups are those from `from` on, and behind these come their second
-/// tasks.
-fn solve_groups<R: Threads + Sync, P: ProgramSource + Sync>(
+/// Solves the programs of a round as they come, beside the other threads that do so, until none is left.
+pub fn solve_some<P: ProgramSource>(
+    alloc: Global,
+    set: &TaskSet,
+    protocol: &P,
+    bounds: &[u64],
+    left: u64,
+    earlier: &[Solution],
+    queue: &Queue,
+) -> Result<Vec<Ahead>, AllocError>
+    requires suits { P.suits protocol.now set.now }
+    requires range { IsInRange set.now bounds.now }
+    requires earlier { AreEarlier (record {
+      set = set.now;
+      program = P.program_of protocol.now set.now;
+      interfering = P.interfering protocol.now set.now;
+    }) earlier.now }
+    ensures { IfOk result (λ v. AreFound (record {
+      set = set.now;
+      program = P.program_of protocol.now set.now;
+      interfering = P.interfering protocol.now set.now;
+    }) bounds.now left v.items) }
+{
+    let mut found = Vec::new(alloc);
+    for _ in 0..set.tasks() {
+        let Some(task) = next_task(queue, set.tasks()) else {
+            return Ok(found);
+        };
+        let before = earlier.get(task.0 as usize);
+        let outcome = solve_task(alloc, set, protocol, task, bounds, left, before);
+        if !goes_on(set, protocol, task, bounds, &outcome) {
+            queue.is_over.store(true, Ordering::SeqCst);
+        }
+        found.push(Ahead { task, outcome })?;
+    }
+    Ok(found)
+}
+
+/// Solves the programs of a round in so many threads, each of which takes the next one when it is done with one.
+fn solve_beside<R: Threads + Sync, P: ProgramSource + Sync>(
     rt: &R,
     alloc: Global,
     set: &TaskSet,
@@ -145,9 +164,8 @@ fn solve_groups<R: Threads + Sync, P: ProgramSource + Sync>(
     bounds: &[u64],
     left: u64,
     earlier: &[Solution],
-    from: usize,
-    groups: usize,
-) -> Result<Vec<Pair>, AllocError>
+    threads: usize,
+) -> Result<Vec<Result<Vec<Ahead>, AllocError>>, AllocError>
     requires suits { P.suits protocol.now set.now }
     requires range { IsInRange set.now bounds.now }
     requires earlier { AreEarlier (record {
@@ -155,49 +173,61 @@ fn solve_groups<R: Threads + Sync, P: ProgramSource + Sync>(
       program = P.program_of protocol.now set.now;
       interfering = P.interfering protocol.now set.now;
     }) earlier.now }
-    requires tasks { from + groups ≤ length set.now.tasks }
-    ensures len { IfOk result (λ v. length v.items ≡ groups) }
-    ensures first { IfOk result (λ v. (k : ℕ) (p : _) → slice_get v.items k ≡ Some p
-        → GivesSolution p.first (P.program_of protocol.now set.now (from + k) bounds.now) left) }
-    ensures second { IfOk result (λ v. (k : ℕ) (p : _) → slice_get v.items k ≡ Some p
-        → GivesSolution p.second (P.program_of protocol.now set.now (from + groups + k) bounds.now) left) }
+    ensures { IfOk result (λ v. (k : ℕ) (part : _) → slice_get v.items k ≡ Some part
+        → IfOk part (λ found. AreFound (record {
+          set = set.now;
+          program = P.program_of protocol.now set.now;
+          interfering = P.interfering protocol.now set.now;
+        }) bounds.now left found.items)) }
 {
-    // a set has at most 64 tasks, so the numbers fit
-    let _tasks = set.tasks();
-    let behind = from + groups;
+    let queue = Queue {
+        next: AtomicU32::new(0),
+        is_over: AtomicBool::new(false),
+    };
     map_indices(
         rt,
         alloc,
-        groups,
-        &|k: usize| solve_pair(
-            alloc,
-            set,
-            protocol,
-            bounds,
-            left,
-            earlier,
-            from + k,
-            behind + k,
-        ),
+        threads,
+        &|_thread: usize| solve_some(alloc, set, protocol, bounds, left, earlier, &queue),
     )
 }
 
-/// The outcomes of the groups' first tasks, and behind them those of their second ones.
-fn joined(alloc: Global, pairs: Vec<Pair>) -> Result<Vec<Result<Solution, SolveStop>>, AllocError>
-    ensures { IfOk result (λ v. v.items ≡ map (λ p. p.first) pairs.items ++ map (λ p. p.second) pairs.items) }
+/// Puts what the program of a task gave at the task's place.
+fn put(outcomes: &mut [Option<Result<Solution, SolveStop>>], ahead: Ahead)
+    requires { ahead.task.0 < length outcomes.old }
+    ensures { outcomes.new ≡ slice_set outcomes.old ahead.task.0 (Some ahead.outcome) }
+{
+    let Ahead { task, outcome } = ahead;
+    outcomes[task.0 as usize] = Some(outcome);
+}
+
+/// Puts what a thread has found at the places of its tasks.
+fn put_all(outcomes: &mut [Option<Result<Solution, SolveStop>>], found: Vec<Ahead>)
+    requires { (k : ℕ) (a : _) → slice_get found.items k ≡ Some a → a.task.0 < length outcomes.old }
+    ensures len { length outcomes.new ≡ length outcomes.old }
+    ensures each { outcomes.new ≡ outcomes_with outcomes.old found.items }
+{
+    for ahead in found {
+        put(outcomes, ahead);
+    }
+}
+
+/// A place for what the program of each task gives ahead of its place in the round: nothing yet.
+fn no_outcomes(
+    alloc: Global,
+    set: &TaskSet,
+) -> Result<Vec<Option<Result<Solution, SolveStop>>>, AllocError>
+    ensures { IfOk result (λ v. v.items ≡ replicate (length set.now.tasks) None) }
 {
     let mut outcomes = Vec::new(alloc);
-    let mut seconds = Vec::new(alloc);
-    for pair in pairs {
-        outcomes.push(pair.first)?;
-        seconds.push(pair.second)?;
+    for _ in 0..set.tasks() {
+        outcomes.push(None)?;
     }
-    outcomes.append(&mut seconds)?;
     Ok(outcomes)
 }
 
-/// Solves the programs of a stretch of tasks side by side, from task `from` on, each with all units that are left at the start of
-/// the round. Behind the outcomes of the last tasks want of memory may stand, which no task takes.
+/// Solves the programs of a round side by side in so many threads, each with all units that are left at the start of the round. Behind
+/// a task that ends the rounds there may be nothing.
 pub fn solve_ahead<R: Threads + Sync, P: ProgramSource + Sync>(
     rt: &R,
     alloc: Global,
@@ -206,8 +236,8 @@ pub fn solve_ahead<R: Threads + Sync, P: ProgramSource + Sync>(
     bounds: &[u64],
     left: u64,
     earlier: &[Solution],
-    from: u32,
-) -> Result<Vec<Result<Solution, SolveStop>>, AllocError>
+    threads: usize,
+) -> Result<Vec<Option<Result<Solution, SolveStop>>>, AllocError>
     requires suits { P.suits protocol.now set.now }
     requires range { IsInRange set.now bounds.now }
     requires earlier { AreEarlier (record {
@@ -215,64 +245,15 @@ pub fn solve_ahead<R: Threads + Sync, P: ProgramSource + Sync>(
       program = P.program_of protocol.now set.now;
       interfering = P.interfering protocol.now set.now;
     }) earlier.now }
-    requires task { from < length set.now.tasks }
     ensures { IfOk result (λ v. AreAhead (record {
       set = set.now;
       program = P.program_of protocol.now set.now;
       interfering = P.interfering protocol.now set.now;
-    }) bounds.now from left v.items) }
+    }) bounds.now 0 left v.items) }
 {
-    let groups = (set.tasks() - from).min(GROUPS);
-    let pairs = solve_groups(
-        rt,
-        alloc,
-        set,
-        protocol,
-        bounds,
-        left,
-        earlier,
-        from as usize,
-        groups as usize,
-    )?;
-    joined(alloc, pairs)
-}
-
-/// What programs have given ahead of their place, from task `i` on: at the first task of a stretch those of the whole stretch, which
-/// are solved now, else what is left of them. Where a round isn't worth threads none is solved ahead.
-pub fn outcomes_at<R: Threads + Sync, P: ProgramSource + Sync>(
-    rt: &R,
-    alloc: Global,
-    set: &TaskSet,
-    protocol: &P,
-    bounds: &[u64],
-    left: u64,
-    earlier: &[Solution],
-    is_worth: bool,
-    i: u32,
-    rest: IntoIter<Result<Solution, SolveStop>, Global>,
-) -> Result<IntoIter<Result<Solution, SolveStop>, Global>, AllocError>
-    requires suits { P.suits protocol.now set.now }
-    requires range { IsInRange set.now bounds.now }
-    requires earlier { AreEarlier (record {
-      set = set.now;
-      program = P.program_of protocol.now set.now;
-      interfering = P.interfering protocol.now set.now;
-    }) earlier.now }
-    requires task { i < length set.now.tasks }
-    requires rest { AreAhead (record {
-      set = set.now;
-      program = P.program_of protocol.now set.now;
-      interfering = P.interfering protocol.now set.now;
-    }) bounds.now i left rest.rest.items }
-    ensures { IfOk result (λ o. AreAhead (record {
-      set = set.now;
-      program = P.program_of protocol.now set.now;
-      interfering = P.interfering protocol.now set.now;
-    }) bounds.now i left o.rest.items) }
-{
-    if !is_worth || i % STRETCH > 0 {
-        return Ok(rest);
+    let mut outcomes = no_outcomes(alloc, set)?;
+    for part in solve_beside(rt, alloc, set, protocol, bounds, left, earlier, threads)? {
+        put_all(&mut outcomes, part?);
     }
-    let ahead = solve_ahead(rt, alloc, set, protocol, bounds, left, earlier, i)?;
-    Ok(ahead.into_iter())
+    Ok(outcomes)
 }

@@ -20,7 +20,7 @@ use std::alloc::{AllocError, Global};
 use std::thread::Threads;
 
 /// The vector that the rounds begin with: each task's cost.
-fn costs(alloc: Global, set: &TaskSet) -> Result<Vec<u64>, AllocError>
+pub fn costs(alloc: Global, set: &TaskSet) -> Result<Vec<u64>, AllocError>
     ensures first { IfOk result (λ v. v.items ≡ map (λ t. t.cost) set.now.tasks) }
     ensures range { IfOk result (λ v. IsInRange set.now v.items) }
 {

@@ -1,4 +1,4 @@
-//! A source of programs whose first task and another have to be at work at the same time, and which notes how far a round comes.
+//! A source of programs whose first task and another have to be at work at the same time.
 
 use program_form::Program;
 use program_sources::ProgramSource;
@@ -17,13 +17,11 @@ pub struct Side<'a> {
     pub saw: &'a AtomicBool,
 }
 
-/// The programs of a protocol. The first call for task 0 and the first one for any other task wait a while for each other, and a call
-/// for a task behind the first sixteen is noted.
+/// The programs of a protocol. The first call for task 0 and the first one for any other task wait a while for each other.
 #[derive(Clone, Copy)]
 pub struct Meeting<'a> {
     pub first: Side<'a>,
     pub others: Side<'a>,
-    pub behind: &'a AtomicBool,
     pub written: Written,
 }
 
@@ -73,9 +71,6 @@ impl<'a> ProgramSource for Meeting<'a> {
             meet(self.first, self.others);
         } else {
             meet(self.others, self.first);
-        }
-        if i.0 >= 16 {
-            self.behind.store(true, Ordering::SeqCst);
         }
         self.written.program(alloc, set, i, bounds)
     }

@@ -3,7 +3,7 @@ ghost use Rattle.program_sources.specs.Bounds.{IsInRange};
 ghost use Rattle.response_fixpoint.specs.Solutions.{AreEarlier};
 ghost use Rattle.response_fixpoint.specs.Answers.{GivesRound, TakesRun, stop_at};
 
-use crate::ahead::{is_worth_threads, outcomes_at};
+use crate::ahead::{solve_ahead, threads_for};
 use crate::task_run::{Solution, TaskRun, run_task};
 use program_sources::ProgramSource;
 use simplex::SolveStop;
@@ -80,9 +80,8 @@ fn take_run(round: &mut Round, run: TaskRun, task: TaskId, deadline: u64) -> Res
 
 /// One round: the recurrence at `bounds`, task by task, each program with the units that the tasks before it have left.
 ///
-/// `earlier` are the solutions of the round before. Where it is worth threads the programs are solved ahead of their place, a stretch
-/// of tasks at a time and each with the units that are left at the start of the round; a stretch only once the tasks before it have
-/// passed.
+/// `earlier` are the solutions of the round before. Where it is worth threads the programs are solved ahead of their place, each with
+/// the units that are left at the start of the round.
 pub fn take_round<R: Threads + Sync, P: ProgramSource + Sync>(
     rt: &R,
     alloc: Global,
@@ -110,15 +109,13 @@ pub fn take_round<R: Threads + Sync, P: ProgramSource + Sync>(
         values: Vec::new(alloc),
         solutions: Vec::new(alloc),
     };
-    let is_worth = is_worth_threads(set, earlier);
-    let mut outcomes = Vec::new(alloc).into_iter();
+    let threads = threads_for(rt, set, earlier);
+    let ahead = solve_ahead(rt, alloc, set, protocol, bounds, left, earlier, threads)?;
+    let mut outcomes = ahead.into_iter();
     for i in 0..set.tasks() {
         let task = TaskId(i);
         let before = earlier.get(i as usize);
-        outcomes = outcomes_at(
-            rt, alloc, set, protocol, bounds, left, earlier, is_worth, i, outcomes,
-        )?;
-        let outcome = outcomes.next();
+        let outcome = outcomes.next().flatten();
         let here = left - round.used;
         let run = match run_task(alloc, set, protocol, task, bounds, here, before, outcome) {
             Ok(run) => run,

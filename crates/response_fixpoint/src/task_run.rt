@@ -113,26 +113,18 @@ pub fn solve_task<P: ProgramSource>(
     }) i.0 s.now) }
     ensures { GivesSolution result (P.program_of protocol.now set.now i.0 bounds.now) units }
 {
-    let program = match protocol.program(alloc, set, i, bounds) {
-        Ok(program) => program,
-        Err(AllocError) => return Err(SolveStop::Memory),
-    };
-    let limits = match limits_of(alloc, &program) {
-        Ok(limits) => limits,
-        Err(AllocError) => return Err(SolveStop::Memory),
-    };
+    let program = protocol.program(alloc, set, i, bounds)?;
+    let limits = limits_of(alloc, &program)?;
     let solution = match earlier {
         Some(solution) if solution.limits == limits => solution,
         _ => return solve_program(alloc, &program, limits, units),
     };
-    match taken_over(solution, limits) {
-        Ok(solution) => Ok(solution),
-        Err(AllocError) => Err(SolveStop::Memory),
-    }
+    let taken = taken_over(solution, limits)?;
+    Ok(taken)
 }
 
 /// The response time of task `i` at these bounds where its job is blocked for so long, all in ticks.
-fn response<P: ProgramSource>(
+pub fn response<P: ProgramSource>(
     set: &TaskSet,
     protocol: &P,
     i: TaskId,

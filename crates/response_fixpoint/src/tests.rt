@@ -1,13 +1,15 @@
 ghost use Rattle.std.specs.Prelude.{◌<◌, length, IsTrue};
 ghost use Rattle.sporadic_model.specs.Homes.{EachHasHome, HasHomesFor};
 
+use crate::ahead::{Queue, solve_some};
+use crate::analysis::costs;
 use crate::meeting::{Meeting, Side};
 use crate::{Stop, Verdict, analyse, analyse_with};
 use program_form::Dual;
 use protocol_programs::Written;
 use sporadic_model::{Parts, Protocol, RequestPart, ResourceId, ResourcePart, TaskPart, TaskSet};
 use std::alloc::{AllocError, Global};
-use std::sync::atomic::{AtomicBool, Ordering};
+use std::sync::atomic::{AtomicBool, AtomicU32, Ordering};
 use std::test::Fail;
 use std::thread::Threads;
 
@@ -448,19 +450,11 @@ fn has_bounds(verdict: &Result<Verdict, Stop>, bounds: &[u64]) -> bool {
     }
 }
 
-// What an analysis answers, whether the first task's program and another were made at the same time, and whether one behind the first
-// sixteen was made at all.
-#[derive(Drop)]
-struct Sightings {
-    verdict: Result<Verdict, Stop>,
-    met: bool,
-    behind: bool,
-}
-
-fn watched<R: Threads + Sync>(rt: &R, alloc: Global, set: &TaskSet) -> Sightings {
+// Each request of a task waits for one of the other's: 40 + 32. Programs of so many requests are worth threads.
+#[test]
+fn two_tasks_are_at_work_at_the_same_time(rt: HostRuntime) -> Result<(), Fail> {
     let (first_came, first_saw) = (AtomicBool::new(false), AtomicBool::new(false));
     let (others_came, others_saw) = (AtomicBool::new(false), AtomicBool::new(false));
-    let behind = AtomicBool::new(false);
     let meeting = Meeting {
         first: Side {
             came: &first_came,
@@ -470,24 +464,13 @@ fn watched<R: Threads + Sync>(rt: &R, alloc: Global, set: &TaskSet) -> Sightings
             came: &others_came,
             saw: &others_saw,
         },
-        behind: &behind,
         written: Written(Protocol::FmlpPlus),
     };
-    let verdict = analyse_with(rt, alloc, set, &meeting, MOST);
-    Sightings {
-        verdict,
-        met: first_saw.load(Ordering::SeqCst) && others_saw.load(Ordering::SeqCst),
-        behind: behind.load(Ordering::SeqCst),
-    }
-}
-
-// Each request of a task waits for one of the other's: 40 + 32. Programs of so many requests are worth threads.
-#[test]
-fn two_tasks_are_at_work_at_the_same_time(rt: HostRuntime) -> Result<(), Fail> {
     let set = set_of(rt.alloc(), BUSY)?;
-    let seen = watched(&rt, rt.alloc(), &set);
-    assert!(rt; has_bounds(&seen.verdict, &[72, 72]));
-    assert!(rt; seen.met);
+    let verdict = analyse_with(&rt, rt.alloc(), &set, &meeting, MOST);
+    assert!(rt; has_bounds(&verdict, &[72, 72]));
+    assert!(rt; first_saw.load(Ordering::SeqCst));
+    assert!(rt; others_saw.load(Ordering::SeqCst));
     Ok(())
 }
 
@@ -501,17 +484,29 @@ fn twenty(alloc: Global, cost: u64) -> Result<TaskSet, Fail> {
     set_with(alloc, 20, &[None; 4], &tasks)
 }
 
+// How many programs of the first round a thread solves that is alone.
+fn taken_alone(alloc: Global, set: &TaskSet) -> Result<usize, AllocError> {
+    let queue = Queue {
+        next: AtomicU32::new(0),
+        is_over: AtomicBool::new(false),
+    };
+    let bounds = costs(alloc, set)?;
+    let source = Written(Protocol::FmlpPlus);
+    let found = solve_some(alloc, set, &source, &bounds, MOST, &[], &queue)?;
+    Ok(found.len())
+}
+
 // Each of a task's four requests waits for one of each other task: 40 + 4 * 19, and 1000 + 4 * 19.
 #[test]
-fn later_tasks_wait_until_sixteen_have_passed(rt: HostRuntime) -> Result<(), Fail> {
-    let set = twenty(rt.alloc(), 40)?;
-    let seen = watched(&rt, rt.alloc(), &set);
-    assert!(rt; has_bounds(&seen.verdict, &[116; 20]));
-    assert!(rt; seen.met);
-    assert!(rt; seen.behind);
-    let set = twenty(rt.alloc(), 1000)?;
-    let seen = watched(&rt, rt.alloc(), &set);
-    assert!(rt; is_wanted(&seen.verdict, &Wanted::NotShown(0, 1076)));
-    assert!(rt; !seen.behind);
+fn no_program_is_solved_ahead_behind_a_task_that_is_late(rt: HostRuntime) -> Result<(), Fail> {
+    let alloc = rt.alloc();
+    let set = twenty(alloc, 40)?;
+    let verdict = analyse(&rt, alloc, &set, Protocol::FmlpPlus, MOST);
+    assert!(rt; has_bounds(&verdict, &[116; 20]));
+    assert_eq!(rt; taken_alone(alloc, &set)?, 20);
+    let set = twenty(alloc, 1000)?;
+    let verdict = analyse(&rt, alloc, &set, Protocol::FmlpPlus, MOST);
+    assert!(rt; is_wanted(&verdict, &Wanted::NotShown(0, 1076)));
+    assert_eq!(rt; taken_alone(alloc, &set)?, 1);
     Ok(())
 }

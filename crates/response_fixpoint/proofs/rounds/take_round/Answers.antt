@@ -60,9 +60,9 @@ loop-i-preserved g c =
       least = omega (arith, sum, units.0, c.loop-i.invariant.least);
       kept = subst (λ (x : List Solution). AreEarlier f x) (sym taken.2)
           (earlier_more f c.loop-i.i c.loop-i.round.solutions.items solution count c.loop-i.invariant.kept ran.1);
-      ahead = rest_ahead f c.args.bounds.now c.loop-i.i c.args.left c.in_ok-outcomes.outcomes.rest.len
-          c.in_ok-outcomes.outcomes.rest.items c.next-outcome.new.self.rest.items c.next-outcome.result
-          c.next-outcome.ensures.items c.next-outcome.ensures.variant c.in_ok-outcomes.outcomes.rest.ok.0 c.in_ok-outcomes.ensures;
+      ahead = rest_ahead f c.args.bounds.now c.loop-i.i c.args.left c.loop-i.outcomes.rest.len
+          c.loop-i.outcomes.rest.items c.next.new.self.rest.items c.next.result
+          c.next.ensures.items c.next.ensures.variant c.loop-i.outcomes.rest.ok.0 c.loop-i.invariant.ahead;
     }
 
 pub run_task-requires-clause-ahead : goal.run_task-requires-clause-ahead
@@ -72,6 +72,5 @@ run_task-requires-clause-ahead g c =
       program = g.P.ProgramSource.program_of c.args.protocol.now c.args.set.now;
       interfering = g.P.ProgramSource.interfering c.args.protocol.now c.args.set.now;
     } in
-    first_ahead f c.args.bounds.now c.loop-i.i c.args.left c.loop-i.round.used c.in_ok-outcomes.outcomes.rest.items
-    c.next-outcome.new.self.rest.items c.next-outcome.result
-    c.next-outcome.ensures.items c.in_ok-outcomes.ensures
+    rw (c.flatten-outcome.ensures) (first_ahead f c.args.bounds.now c.loop-i.i c.args.left c.loop-i.round.used
+    c.loop-i.outcomes.rest.items c.next.new.self.rest.items c.next.result c.next.ensures.items c.loop-i.invariant.ahead)
