@@ -8,6 +8,7 @@ use Rattle.number_laws.specs.Divisors.{IsCoprime}
 use Rattle.number_laws.proofs.Divisors.{parts_apart, coprime_of_gcd, lowest_terms_once}
 use Rattle.fraction128.specs.Fraction.{Fraction, IsForm, IsSame, over}
 use Rattle.fraction128.specs.LowestTerms.{IsLowest, signed}
+use Rattle.fraction128.proofs.Unique.{size_positive}
 
 pub gcd_positive : (a b g : ℕ) → 0 < b → IsGcd a b g → 0 < g
 gcd_positive a b g pb h = pos_of_dvd_of_pos h.1 pb
@@ -65,9 +66,6 @@ no_form n d top bottom above l wide f form is =
   where
     positive_of : (z : ℤ) → pos 1 ≤ℤ z → pos 0 <ℤ z
     positive_of z h = omega (arith, ints)
-
-    size_positive : (z : ℤ) → pos 0 <ℤ z → 0 < unsigned_abs z
-    size_positive z h = omega (arith, ints)
 
     same_factor : (x y z : ℕ) → 0 < z → x * z ≡ y * z → x ≡ y
     same_factor x y z pz q =

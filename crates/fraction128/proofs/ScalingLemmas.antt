@@ -13,10 +13,8 @@ use Rattle.number_laws.proofs.Divisors.{gcd_exists, common_least, common_left, c
 use Rattle.fraction128.specs.Fraction.{Fraction, IsForm, whole}
 use Rattle.fraction128.specs.Scaling.{IsCommon, IsLeastCommon, IsScaled, IsWideOver, Serves, GivesCommon, fraction_at}
 use Rattle.fraction128.proofs.Products.{own_part_read}
+use Rattle.fraction128.proofs.Unique.{size_positive}
 use Rattle.fraction128.specs.declared.Wide.{Wide}
-
-size_positive : (z : ℤ) → pos 0 <ℤ z → 0 < unsigned_abs z
-size_positive z h = omega (arith, ints)
 
 -- no denominators are served by 1
 pub least_none : IsLeastCommon [] 1

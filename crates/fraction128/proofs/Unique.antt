@@ -6,7 +6,8 @@ use Rattle.number_laws.proofs.Order.{cancel, cancel_apart, times_apart}
 use Rattle.number_laws.proofs.Divisors.{lowest_terms_once}
 use Rattle.fraction128.specs.Fraction.{Fraction, IsForm, IsSame, IsSum, IsDifference, IsProduct, IsQuotient, over}
 
-size_positive : (z : ℤ) → pos 0 <ℤ z → 0 < unsigned_abs z
+-- A number above zero has a size above zero.
+pub size_positive : (z : ℤ) → pos 0 <ℤ z → 0 < unsigned_abs z
 size_positive z h = omega (arith, ints)
 
 same_positive : (y z : ℤ) → pos 0 <ℤ y → pos 0 <ℤ z → unsigned_abs y ≡ unsigned_abs z → y ≡ z

@@ -8,7 +8,8 @@ use Rattle.std.specs.Int.{is_in_range}
 use Rattle.std.proofs.lemmas.Bool.{cases_Bool, both_ways, and_parts, and_from, ltb-true, leb-true, lt-ltb, eqb-true}
 use Rattle.std.proofs.lemmas.List.Folds.{list_all-map, list_all_at}
 use Rattle.std.proofs.lemmas.List.Sums.{sum_by-cons}
-use Rattle.sporadic_model.proofs.Mapped.{length-map, take-map}
+use Rattle.std.proofs.lemmas.List.{length-map}
+use Rattle.sporadic_model.proofs.Mapped.{take-map}
 use Rattle.sporadic_model.specs.declared.ids.ResourceId.{ResourceId}
 use Rattle.sporadic_model.specs.declared.limits.TheConstants.{MOST_TICKS}
 use Rattle.schedule_model.specs.JobDef.{SegmentDef, asks_for, number_of_requests}
@@ -39,7 +40,7 @@ pub is_listed_script-seen : (xs : List Segment) → is_listed_script (map segmen
     && list_all (λ s. is_some s.request) (take (length xs - 1) xs)))
 is_listed_script-seen xs =
     rw (
-      length-map segment_seen xs,
+      length-map xs segment_seen,
       take-map segment_seen (length xs - 1) xs,
       list_all-map is_listed_segment segment_seen xs,
       requests-seen (take (length xs - 1) xs),

@@ -4,6 +4,7 @@ use Rattle.std.proofs.Common.{IfSome, IfNone, Result, Ok, Err, IfOk, IfErr}
 use Rattle.std.specs.List.{slice_index_or}
 use Rattle.std.specs.Option.{option_map}
 use Rattle.std.specs.Str.{bytes_eq}
+use Rattle.std.proofs.lemmas.List.{length-map}
 use Rattle.sporadic_model.specs.SetDef.{SetDef, RequestDef, task_at, resource_at, no_task, no_resource}
 use Rattle.sporadic_model.specs.Users.{entry_of, ceiling_of}
 use Rattle.sporadic_model.specs.Accepted.{IsAccepted, TaskNumbers, EntryNumbers, IsHighestUser, HasNoUser}
@@ -13,12 +14,12 @@ use Rattle.sporadic_model.specs.declared.demands.Demand.{Demand}
 use Rattle.sporadic_model.specs.Refusals.{Judged}
 use Rattle.sporadic_model.specs.declared.refusal.ModelRefusal.{ModelRefusal}
 use Rattle.sporadic_model.specs.declared.refusal.ModelRefusal.TheVariants as refusal
-use Rattle.sporadic_model.proofs.Mapped.{length-map, element-map}
+use Rattle.sporadic_model.proofs.Mapped.{element-map}
 use Rattle.sporadic_model.proofs.Laws.{numbers_of_accepted, entry_of_accepted, highest_user, no_user}
 
 -- There is a row for each task, and in it a demand for each resource.
 pub rows_kept : (set : SetDef) (rows : List (List Demand)) → rows ≡ demands_in set → length rows ≡ length set.tasks
-rows_kept set rows e = ap length e ∙ length-map (λ task. map (demand_for task) set.resources) set.tasks
+rows_kept set rows e = ap length e ∙ length-map set.tasks (λ task. map (demand_for task) set.resources)
 
 pub row_kept : (set : SetDef) (rows : List (List Demand)) (x : ℕ) → rows ≡ demands_in set → x < length set.tasks
     → slice_index_or rows x [] ≡ map (demand_for (task_at set x)) set.resources
@@ -27,7 +28,7 @@ row_kept set rows x e h = ap (λ l. slice_index_or l x []) e
 
 pub row_length : (set : SetDef) (rows : List (List Demand)) (x : ℕ) → rows ≡ demands_in set → x < length set.tasks
     → length (slice_index_or rows x []) ≡ length set.resources
-row_length set rows x e h = ap length (row_kept set rows x e h) ∙ length-map (demand_for (task_at set x)) set.resources
+row_length set rows x e h = ap length (row_kept set rows x e h) ∙ length-map set.resources (demand_for (task_at set x))
 
 -- The demand kept for task x and resource q is what the task may ask of the resource.
 pub demand_kept : (set : SetDef) (rows : List (List Demand)) (x q : ℕ) → rows ≡ demands_in set → x < length set.tasks

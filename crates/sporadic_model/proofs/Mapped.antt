@@ -3,10 +3,7 @@ use Rattle.std.proofs.Common.{◌≡◌, ℕ, zero, suc, ◌+◌, ◌<◌, cond,
 use Rattle.std.proofs.Common.{◌∷◌, map, length, take, refl, ap, arith, ◌||◌}
 use Rattle.std.specs.List.{list_any, position_or_len, position, find, slice_index_or}
 use Rattle.std.specs.Option.{option_map}
-
-pub length-map : {A B : Type 0} (f : A → B) → (xs : List A) → length (map f xs) ≡ length xs
-length-map f [] = refl
-length-map f (x ∷ xs) = ap suc (length-map f xs)
+use Rattle.std.proofs.lemmas.List.{length-map}
 
 pub list_any-map : {A B : Type 0} (f : A → B) (p : B → Bool) → (xs : List A) → list_any p (map f xs) ≡ list_any (λ x. p (f x)) xs
 list_any-map f p [] = refl
@@ -40,4 +37,4 @@ position_or_len-map f p [] = refl
 position_or_len-map f p (x ∷ xs) = ap (λ n. cond (not (p (f x))) (1 + n) 0) (position_or_len-map f p xs)
 
 pub position-map : {A B : Type 0} (f : A → B) (p : B → Bool) → (xs : List A) → position p (map f xs) ≡ position (λ x. p (f x)) xs
-position-map f p xs = rw (position_or_len-map f p xs, length-map f xs) refl
+position-map f p xs = rw (position_or_len-map f p xs, length-map xs f) refl

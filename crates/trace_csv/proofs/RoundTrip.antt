@@ -5,7 +5,7 @@ use Rattle.std.specs.Prelude.{decimal, nat_lt, nat_le, is_some, unwrap_or, if◌
 use Rattle.std.specs.Int.{is_in_range}
 use Rattle.std.specs.List.{list_all}
 use Rattle.std.proofs.lemmas.Bool.{and_parts, cases_Bool, ltb-true, leb-true, eqb-true}
-use Rattle.std.proofs.lemmas.List.{length-append}
+use Rattle.std.proofs.lemmas.List.{length-append, length-map}
 use Rattle.std.proofs.lemmas.List.Sums.{sum_by_more_le}
 use Rattle.std.proofs.lemmas.List.Folds.{list_all-append}
 use Rattle.csv.specs.Machine.{next_record}
@@ -15,7 +15,7 @@ use Rattle.csv.specs.declared.parser.State.TheVariants as st
 use Rattle.csv.proofs.RoundTrip.{read-write}
 use Rattle.sporadic_model.specs.SetDef.{SetDef}
 use Rattle.sporadic_model.specs.declared.limits.TheConstants.{MOST_TICKS}
-use Rattle.sporadic_model.proofs.Mapped.{length-map, take-map, element-map}
+use Rattle.sporadic_model.proofs.Mapped.{take-map, element-map}
 use Rattle.schedule_model.specs.JobDef.{JobsDef}
 use Rattle.schedule_model.specs.RowDef.{RunDef, idle_row, ticks_of}
 use Rattle.schedule_model.specs.Fitting.{fits_row, is_sized, names_below, names_jobs}
@@ -101,8 +101,8 @@ module _ (jobs : JobsDef) (small : job_count jobs < 2 ^ 64) where
       omega (
         arith,
         length-append (map cell_of run.row.running) (map cell_of run.row.holders),
-        length-map cell_of run.row.running,
-        length-map cell_of run.row.holders,
+        length-map run.row.running cell_of,
+        length-map run.row.holders cell_of,
         fit.running,
         fit.holders,
       )
@@ -111,7 +111,7 @@ module _ (jobs : JobsDef) (small : job_count jobs < 2 ^ 64) where
   row_again run fit =
       let xs = map cell_of run.row.running in
       let ys = map cell_of run.row.holders in
-      let e : length xs ≡ processor_count jobs = length-map cell_of run.row.running ∙ fit.running in
+      let e : length xs ≡ processor_count jobs = length-map run.row.running cell_of ∙ fit.running in
       let running : map (job_in (job_count jobs)) (take (processor_count jobs) (cells run)) ≡ run.row.running =
       ap (λ p. map (job_in (job_count jobs)) (take p (cells run))) (sym e)
       ∙ ap (map (job_in (job_count jobs))) (take_front xs ys)
@@ -202,7 +202,7 @@ reads_back jobs runs small all most =
     subst P (sym (records_written jobs.set runs)) (
       record {
         header = refl;
-        lines = λ i h. line_none jobs runs small all most i (omega (arith, length-map line_of runs));
+        lines = λ i h. line_none jobs runs small all most i (omega (arith, length-map runs line_of));
       },
       runs_again jobs runs small all,
     )

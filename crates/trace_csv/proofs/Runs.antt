@@ -6,8 +6,7 @@ use Rattle.std.specs.Option.{option_and_then}
 use Rattle.std.specs.Int.{is_in_range}
 use Rattle.std.specs.List.{list_all}
 use Rattle.std.proofs.lemmas.Bool.{and_parts, cases_Bool, lt-ltb, leb-true, eq-eqb}
-use Rattle.std.proofs.lemmas.List.{length-take, length-drop}
-use Rattle.sporadic_model.proofs.Mapped.{length-map}
+use Rattle.std.proofs.lemmas.List.{length-take, length-drop, length-map}
 use Rattle.sporadic_model.specs.declared.limits.TheConstants.{MOST_TICKS}
 use Rattle.schedule_model.specs.JobDef.{JobsDef}
 use Rattle.schedule_model.specs.Fitting.{is_below, names_below, is_sized}
@@ -51,9 +50,9 @@ sized_row : (processors resources n : ℕ) (cells : List (List ℕ)) → length 
     → is_sized processors resources (row_of_cells processors n cells) ≡ true
 sized_row processors resources n cells e =
     let running : length (map (job_in n) (take processors cells)) ≡ processors =
-    omega (arith, length-map (job_in n) (take processors cells), length-take processors cells) in
+    omega (arith, length-map (take processors cells) (job_in n), length-take processors cells) in
     let holders : length (map (job_in n) (drop processors cells)) ≡ resources =
-    omega (arith, length-map (job_in n) (drop processors cells), length-drop processors cells) in
+    omega (arith, length-map (drop processors cells) (job_in n), length-drop processors cells) in
     rw (
       eq-eqb (length (map (job_in n) (take processors cells))) processors running,
       eq-eqb (length (map (job_in n) (drop processors cells))) resources holders,

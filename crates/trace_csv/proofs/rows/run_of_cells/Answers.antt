@@ -1,8 +1,8 @@
 use Rattle.std.proofs.Common.{◌≡◌, ◌+◌, ◌∷◌, ℕ, List, Some, Bor, true, map, length, sym, ap, subst, ◌∙◌, arith}
 use Rattle.std.specs.List.{list_all}
 use Rattle.std.specs.Option.{unwrap_or}
+use Rattle.std.proofs.lemmas.List.{length-map}
 use Rattle.sporadic_model.specs.SetDef.{SetDef}
-use Rattle.sporadic_model.proofs.Mapped.{length-map}
 use Rattle.schedule_model.specs.JobDef.{JobsDef}
 use Rattle.schedule_model.specs.Seen.{row_seen, run_seen}
 use Rattle.trace_csv.specs.RowLines.{is_cell, is_listed, job_count, processor_count, resource_count, row_of_cells}
@@ -24,7 +24,7 @@ returns c =
     let count : c.len.result ≡ job_count jobs = c.len.ensures.value in
     let again : c.len-2.result ≡ job_count jobs = c.len-2.ensures.value in
     let size : length cells ≡ processor_count jobs + resource_count jobs =
-    length-map (λ (f : Bor (List ℕ)). f.now) c.args.cells.now ∙ omega (arith, c.if-cells-processors.false) in
+    length-map c.args.cells.now (λ (f : Bor (List ℕ)). f.now) ∙ omega (arith, c.if-cells-processors.false) in
     let some : ticks_in ticks ≡ Some n = sym c.in-Some.ensures in
     let form : list_all is_cell cells ≡ true = sym c.if-not-are_cells.ensures in
     let listed : list_all (is_listed (job_count jobs)) cells ≡ true =

@@ -1,6 +1,5 @@
 use Rattle.std.proofs.Common.{◌≡◌, ◌<◌, ◌∙◌, ◌++◌, [], ◌∷◌, map, sym, ap, subst, arith, None, List, length, true}
-use Rattle.std.proofs.lemmas.List.{map-append}
-use Rattle.sporadic_model.proofs.Mapped.{length-map}
+use Rattle.std.proofs.lemmas.List.{map-append, length-map}
 use Rattle.schedule_model.specs.JobDef.{JobDef, JobsDef}
 use Rattle.schedule_model.specs.LawfulJobs.{AreLawfulJobs, are_resources_in}
 use Rattle.schedule_model.specs.JobLists.{IsJobList, first_refusal, with_job, segment_count}
@@ -35,6 +34,6 @@ invariant_of-self-2 c =
         segments_more (map job_seen old.jobs.items) job,
         c.self.invariant.counted,
         c.len.ensures,
-        length-map segment_seen c.args.job.script.items,
+        length-map c.args.job.script.items segment_seen,
       );
     }
