@@ -1,73 +1,76 @@
-ghost use Rattle.std.specs.Prelude.{◌<◌, length, IsTrue};
-ghost use Rattle.sporadic_model.specs.Homes.{EachHasHome, HasHomesFor};
-
 use crate::meeting::{Meeting, Side};
 use crate::{Stop, Verdict, analyse, analyse_with};
 use program_form::Dual;
 use protocol_programs::Written;
-use sporadic_model::{Parts, Protocol, RequestPart, ResourceId, ResourcePart, TaskPart, TaskSet};
+use sporadic_model::{Protocol, TaskSet};
 use std::alloc::{AllocError, Global};
 use std::sync::atomic::{AtomicBool, Ordering};
 use std::test::Fail;
 use std::thread::Threads;
+use worked_sets::{EntryRow, SetRow, TaskRow, entry_rows, set_of, suits, task_row};
 
 const MOST: u64 = 1_000_000;
 
-// A task: its processor, its period, which is its deadline, its cost, and for each entry the number of its resource and a
-// length. Each job makes one request of an entry.
-type Task = (u64, u64, u64, &'static [(usize, u64)]);
-
-// A set: the number of processors, the home of each resource, and the tasks.
-type Set = (u64, &'static [Option<u64>], &'static [Task]);
-
 // Three tasks without requests.
-const ALONE: Set = (1, &[], &[(1, 4, 1, &[]), (1, 6, 2, &[]), (1, 20, 3, &[])]);
+const ALONE: SetRow = SetRow {
+    processors: 1,
+    homes: &[],
+    tasks: &[
+        task_row!(1, 4, 1, []),
+        task_row!(1, 6, 2, []),
+        task_row!(1, 20, 3, []),
+    ],
+};
 
 // Two tasks that share a resource, each on a processor of its own.
-const PAIR: Set = (
-    2,
-    &[Some(2)],
-    &[(1, 10, 3, &[(0, 1)]), (2, 10, 4, &[(0, 2)])],
-);
+const PAIR: SetRow = SetRow {
+    processors: 2,
+    homes: &[Some(2)],
+    tasks: &[task_row!(1, 10, 3, [(0, 1)]), task_row!(2, 10, 4, [(0, 2)])],
+};
 
 // A task below another that requests nothing, and a third elsewhere.
-const BESIDE: Set = (
-    2,
-    &[None],
-    &[
-        (1, 10, 2, &[]),
-        (1, 20, 4, &[(0, 2)]),
-        (2, 20, 5, &[(0, 3)]),
+const BESIDE: SetRow = SetRow {
+    processors: 2,
+    homes: &[None],
+    tasks: &[
+        task_row!(1, 10, 2, []),
+        task_row!(1, 20, 4, [(0, 2)]),
+        task_row!(2, 20, 5, [(0, 3)]),
     ],
-);
+};
 
 // The same with a longer third task, of which two jobs come to count for the second one.
-const LONGER: Set = (
-    2,
-    &[None],
-    &[
-        (1, 10, 2, &[]),
-        (1, 20, 4, &[(0, 2)]),
-        (2, 20, 10, &[(0, 3)]),
+const LONGER: SetRow = SetRow {
+    processors: 2,
+    homes: &[None],
+    tasks: &[
+        task_row!(1, 10, 2, []),
+        task_row!(1, 20, 4, [(0, 2)]),
+        task_row!(2, 20, 10, [(0, 3)]),
     ],
-);
+};
 
 // Two tasks without requests, and without room for the lower one.
-const SHORT: Set = (1, &[], &[(1, 2, 1, &[]), (1, 2, 2, &[])]);
+const SHORT: SetRow = SetRow {
+    processors: 1,
+    homes: &[],
+    tasks: &[task_row!(1, 2, 1, []), task_row!(1, 2, 2, [])],
+};
 
 // The first task's optimum is 14/3.
-const THREE: Set = (
-    3,
-    &[None, None],
-    &[
-        (1, 100, 4, &[(0, 1), (1, 1)]),
-        (2, 100, 4, &[(0, 3), (1, 2)]),
-        (3, 100, 3, &[(0, 2)]),
+const THREE: SetRow = SetRow {
+    processors: 3,
+    homes: &[None, None],
+    tasks: &[
+        task_row!(1, 100, 4, [(0, 1), (1, 1)]),
+        task_row!(2, 100, 4, [(0, 3), (1, 2)]),
+        task_row!(3, 100, 3, [(0, 2)]),
     ],
-);
+};
 
 // Two tasks, each on a processor of its own, that request each of 32 resources.
-const EACH: &[(usize, u64)] = &[
+const EACH: &[EntryRow] = entry_rows![
     (0, 1),
     (1, 1),
     (2, 1),
@@ -103,52 +106,56 @@ const EACH: &[(usize, u64)] = &[
 ];
 
 // One request of each of four resources.
-const FOUR: &[(usize, u64)] = &[(0, 1), (1, 1), (2, 1), (3, 1)];
+const FOUR: &[EntryRow] = entry_rows![(0, 1), (1, 1), (2, 1), (3, 1)];
 
-const BUSY: Set = (2, &[None; 32], &[(1, 1000, 40, EACH), (2, 1000, 40, EACH)]);
+const BUSY: SetRow = SetRow {
+    processors: 2,
+    homes: &[None; 32],
+    tasks: &[task_row!(1, 1000, 40, EACH), task_row!(2, 1000, 40, EACH)],
+};
 
 // The tasks of `WIDE`. The first task's optimum is reached at one point alone, which holds 1 - 1/2^28 - 1/3^17 - 1/5^12.
-const WIDE_FIRST: Task = (1, 1_000_000_000, 10, &[(0, 1), (1, 1), (2, 1), (3, 1)]);
+const WIDE_FIRST: TaskRow = task_row!(1, 1_000_000_000, 10, [(0, 1), (1, 1), (2, 1), (3, 1)]);
 
-const WIDE_SECOND: Task = (
+const WIDE_SECOND: TaskRow = task_row!(
     2,
     1_000_000_000,
     300_000_001,
-    &[(0, 268_435_456), (1, 300_000_000)],
+    [(0, 268_435_456), (1, 300_000_000)]
 );
 
-const WIDE_THIRD: Task = (
+const WIDE_THIRD: TaskRow = task_row!(
     3,
     1_000_000_000,
     300_000_001,
-    &[(0, 129_140_163), (2, 300_000_000)],
+    [(0, 129_140_163), (2, 300_000_000)]
 );
 
-const WIDE_FOURTH: Task = (
+const WIDE_FOURTH: TaskRow = task_row!(
     4,
     1_000_000_000,
     300_000_001,
-    &[(0, 244_140_625), (3, 300_000_000)],
+    [(0, 244_140_625), (3, 300_000_000)]
 );
 
-const WIDE_FIFTH: Task = (5, 1_000_000_000, 2000, &[(0, 1000)]);
+const WIDE_FIFTH: TaskRow = task_row!(5, 1_000_000_000, 2000, [(0, 1000)]);
 
-const WIDE: Set = (
-    5,
-    &[None, None, None, None],
-    &[WIDE_FIRST, WIDE_SECOND, WIDE_THIRD, WIDE_FOURTH, WIDE_FIFTH],
-);
+const WIDE: SetRow = SetRow {
+    processors: 5,
+    homes: &[None, None, None, None],
+    tasks: &[WIDE_FIRST, WIDE_SECOND, WIDE_THIRD, WIDE_FOURTH, WIDE_FIFTH],
+};
 
 // Two tasks of a processor of their own, without room for the lower one.
-const HIGH: Task = (6, 2, 1, &[]);
+const HIGH: TaskRow = task_row!(6, 2, 1, []);
 
-const LOW: Task = (6, 2, 2, &[]);
+const LOW: TaskRow = task_row!(6, 2, 2, []);
 
 // These two before the tasks of `WIDE`, these two behind them, and the higher one alone before them.
-const LATE_THEN_WIDE: Set = (
-    6,
-    &[None, None, None, None],
-    &[
+const LATE_THEN_WIDE: SetRow = SetRow {
+    processors: 6,
+    homes: &[None, None, None, None],
+    tasks: &[
         HIGH,
         LOW,
         WIDE_FIRST,
@@ -157,12 +164,12 @@ const LATE_THEN_WIDE: Set = (
         WIDE_FOURTH,
         WIDE_FIFTH,
     ],
-);
+};
 
-const WIDE_THEN_LATE: Set = (
-    6,
-    &[None, None, None, None],
-    &[
+const WIDE_THEN_LATE: SetRow = SetRow {
+    processors: 6,
+    homes: &[None, None, None, None],
+    tasks: &[
         WIDE_FIRST,
         WIDE_SECOND,
         WIDE_THIRD,
@@ -171,12 +178,12 @@ const WIDE_THEN_LATE: Set = (
         HIGH,
         LOW,
     ],
-);
+};
 
-const HIGH_THEN_WIDE: Set = (
-    6,
-    &[None, None, None, None],
-    &[
+const HIGH_THEN_WIDE: SetRow = SetRow {
+    processors: 6,
+    homes: &[None, None, None, None],
+    tasks: &[
         HIGH,
         WIDE_FIRST,
         WIDE_SECOND,
@@ -184,79 +191,32 @@ const HIGH_THEN_WIDE: Set = (
         WIDE_FOURTH,
         WIDE_FIFTH,
     ],
-);
+};
 
-fn requests_of(alloc: Global, requests: &[(usize, u64)]) -> Result<Vec<RequestPart>, AllocError> {
-    let mut list = Vec::new(alloc);
-    for (resource, length) in requests {
-        list.push(RequestPart {
-            resource: format!(in alloc; "r{resource}")?,
-            count: 1,
-            length: *length,
-        })?;
-    }
-    Ok(list)
-}
+// A task that is only known at run time: its processor, its period, its cost, which is its local limit, and its entries.
+type Task<'a> = (u64, u64, u64, &'a [EntryRow]);
 
-fn tasks_of(alloc: Global, tasks: &[Task]) -> Result<Vec<TaskPart>, AllocError> {
-    let mut list = Vec::new(alloc);
-    for (number, task) in tasks.iter().enumerate() {
-        let (processor, period, cost, requests) = *task;
-        list.push(TaskPart {
-            name: format!(in alloc; "t{number}")?,
-            processor,
-            period,
-            deadline: period,
-            cost,
-            local: cost,
-            requests: requests_of(alloc, requests)?,
-        })?;
+fn rows_of<'a>(alloc: Global, tasks: &[Task<'a>]) -> Result<Vec<TaskRow<'a>>, AllocError> {
+    let mut rows = Vec::new(alloc);
+    for (processor, period, cost, entries) in tasks {
+        rows.push(task_row!(*processor, *period, *cost, *entries))?;
     }
-    Ok(list)
+    Ok(rows)
 }
 
 fn set_with(
     alloc: Global,
     processors: u64,
     homes: &[Option<u64>],
-    tasks: &[Task],
+    tasks: &[Task<'_>],
 ) -> Result<TaskSet, Fail> {
-    let mut resources = Vec::new(alloc);
-    for (number, home) in homes.iter().enumerate() {
-        let name = format!(in alloc; "r{number}")?;
-        resources.push(ResourcePart { name, home: *home })?;
-    }
-    let parts = Parts {
+    let rows = rows_of(alloc, tasks)?;
+    let set = SetRow {
         processors,
-        resources,
-        tasks: tasks_of(alloc, tasks)?,
+        homes,
+        tasks: &rows,
     };
-    Ok(TaskSet::new(alloc, parts)?)
-}
-
-fn set_of(alloc: Global, set: Set) -> Result<TaskSet, Fail> {
-    let (processors, homes, tasks) = set;
-    set_with(alloc, processors, homes, tasks)
-}
-
-fn have_homes(set: &TaskSet) -> bool
-    ensures { IsTrue result → EachHasHome set.now }
-{
-    for q in 0..set.resources() {
-        if set.home(ResourceId(q)).is_none() {
-            return false;
-        }
-    }
-    true
-}
-
-fn suits(set: &TaskSet, protocol: Protocol) -> bool
-    ensures { IsTrue result → HasHomesFor protocol set.now }
-{
-    match protocol {
-        Protocol::Dpcp => have_homes(set),
-        Protocol::Mpcp | Protocol::FmlpPlus => true,
-    }
+    Ok(set_of(alloc, set)?)
 }
 
 fn is_dual(dual: &Dual, wanted: (u64, &[u64])) -> bool {
@@ -295,7 +255,7 @@ fn is_wanted(verdict: &Result<Verdict, Stop>, wanted: &Wanted<'_>) -> bool {
 fn gives<R: Threads + Sync>(
     rt: &R,
     alloc: Global,
-    set: Set,
+    set: SetRow<'_>,
     protocol: Protocol,
     allowance: u64,
     wanted: Wanted<'_>,
