@@ -1,96 +1,41 @@
-ghost use Rattle.std.specs.Prelude.{◌<◌, length, IsTrue};
-ghost use Rattle.sporadic_model.specs.Homes.{EachHasHome, HasHomesFor};
-
 use crate::{Invalid, check, has_denominators};
 use program_form::{Certificate, Dual};
-use sporadic_model::{
-    Parts, Protocol, RequestPart, ResourceId, ResourcePart, TaskId, TaskPart, TaskSet,
-};
+use sporadic_model::{Protocol, TaskId};
 use std::alloc::{AllocError, Global};
 use std::test::Fail;
-
-// A task: its processor, its period, which is its deadline, its cost, and for each entry the number of its resource and a
-// length. Each job makes one request of an entry.
-type Task = (u64, u64, u64, &'static [(usize, u64)]);
-
-// A set: the number of processors, the home of each resource, and the tasks.
-type Set = (u64, &'static [Option<u64>], &'static [Task]);
+use worked_sets::{SetRow, set_of, suits, task_row};
 
 // A dual: its denominator and its numerators.
 type Numbers = (u64, &'static [u64]);
 
 // Two tasks that share a resource, each on a processor of its own.
-const PAIR: Set = (
-    2,
-    &[Some(2)],
-    &[(1, 10, 3, &[(0, 1)]), (2, 10, 4, &[(0, 2)])],
-);
+const PAIR: SetRow = SetRow {
+    processors: 2,
+    homes: &[Some(2)],
+    tasks: &[task_row!(1, 10, 3, [(0, 1)]), task_row!(2, 10, 4, [(0, 2)])],
+};
 
 // A task below another that requests nothing, and a third elsewhere.
-const BESIDE: Set = (
-    2,
-    &[None],
-    &[
-        (1, 10, 2, &[]),
-        (1, 20, 4, &[(0, 2)]),
-        (2, 20, 5, &[(0, 3)]),
+const BESIDE: SetRow = SetRow {
+    processors: 2,
+    homes: &[None],
+    tasks: &[
+        task_row!(1, 10, 2, []),
+        task_row!(1, 20, 4, [(0, 2)]),
+        task_row!(2, 20, 5, [(0, 3)]),
     ],
-);
+};
 
 // The first task's optimum is 14/3.
-const THREE: Set = (
-    3,
-    &[None, None],
-    &[
-        (1, 100, 4, &[(0, 1), (1, 1)]),
-        (2, 100, 4, &[(0, 3), (1, 2)]),
-        (3, 100, 3, &[(0, 2)]),
+const THREE: SetRow = SetRow {
+    processors: 3,
+    homes: &[None, None],
+    tasks: &[
+        task_row!(1, 100, 4, [(0, 1), (1, 1)]),
+        task_row!(2, 100, 4, [(0, 3), (1, 2)]),
+        task_row!(3, 100, 3, [(0, 2)]),
     ],
-);
-
-fn requests_of(alloc: Global, requests: &[(usize, u64)]) -> Result<Vec<RequestPart>, AllocError> {
-    let mut list = Vec::new(alloc);
-    for (resource, length) in requests {
-        list.push(RequestPart {
-            resource: format!(in alloc; "r{resource}")?,
-            count: 1,
-            length: *length,
-        })?;
-    }
-    Ok(list)
-}
-
-fn tasks_of(alloc: Global, tasks: &[Task]) -> Result<Vec<TaskPart>, AllocError> {
-    let mut list = Vec::new(alloc);
-    for (number, task) in tasks.iter().enumerate() {
-        let (processor, period, cost, requests) = *task;
-        list.push(TaskPart {
-            name: format!(in alloc; "t{number}")?,
-            processor,
-            period,
-            deadline: period,
-            cost,
-            local: cost,
-            requests: requests_of(alloc, requests)?,
-        })?;
-    }
-    Ok(list)
-}
-
-fn set_of(alloc: Global, set: Set) -> Result<TaskSet, Fail> {
-    let (processors, homes, tasks) = set;
-    let mut resources = Vec::new(alloc);
-    for (number, home) in homes.iter().enumerate() {
-        let name = format!(in alloc; "r{number}")?;
-        resources.push(ResourcePart { name, home: *home })?;
-    }
-    let parts = Parts {
-        processors,
-        resources,
-        tasks: tasks_of(alloc, tasks)?,
-    };
-    Ok(TaskSet::new(alloc, parts)?)
-}
+};
 
 fn certificate_of(
     alloc: Global,
@@ -108,26 +53,6 @@ fn certificate_of(
         bounds: Vec::from_slice(alloc, bounds)?,
         duals: list,
     })
-}
-
-fn have_homes(set: &TaskSet) -> bool
-    ensures { IsTrue result → EachHasHome set.now }
-{
-    for q in 0..set.resources() {
-        if set.home(ResourceId(q)).is_none() {
-            return false;
-        }
-    }
-    true
-}
-
-fn suits(set: &TaskSet, protocol: Protocol) -> bool
-    ensures { IsTrue result → HasHomesFor protocol set.now }
-{
-    match protocol {
-        Protocol::Dpcp => have_homes(set),
-        Protocol::Mpcp | Protocol::FmlpPlus => true,
-    }
 }
 
 // A certificate: its bounds and its duals. And what is answered: the values of its duals, or why it is not valid.
@@ -192,7 +117,7 @@ const OF_PAIR: [Case; 13] = [
 ];
 
 // For other sets. The first dual of the last one is worth 14/3.
-const OF_OTHERS: [(Set, Protocol, Case); 3] = [
+const OF_OTHERS: [(SetRow, Protocol, Case); 3] = [
     (
         PAIR,
         Protocol::Dpcp,
@@ -222,7 +147,7 @@ const OF_OTHERS: [(Set, Protocol, Case); 3] = [
     ),
 ];
 
-fn answers(alloc: Global, set: Set, protocol: Protocol, case: Case) -> Result<bool, Fail> {
+fn answers(alloc: Global, set: SetRow<'_>, protocol: Protocol, case: Case) -> Result<bool, Fail> {
     let (bounds, duals, wanted) = case;
     let set = set_of(alloc, set)?;
     let certificate = certificate_of(alloc, bounds, duals)?;

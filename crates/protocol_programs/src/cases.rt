@@ -1,19 +1,11 @@
 use fragments::Class;
 use sporadic_model::Protocol;
-
-/// A request entry: the number of its resource, a count and a length.
-pub(crate) type Request = (usize, u64, u64);
-
-/// A task: its processor, its period, which is its deadline, its cost, its local limit and its requests.
-pub(crate) type Task = (u64, u64, u64, u64, &'static [Request]);
-
-/// A set: the number of processors, the home of each resource, and the tasks.
-pub(crate) type Set = (u64, &'static [Option<u64>], &'static [Task]);
+use worked_sets::{EntryRow, SetRow, TaskRow, task_row};
 
 /// A task's program: the set, the protocol, the task and the bounds, and what is wanted: the columns with their costs, and
 /// the rows with their limits.
 pub(crate) struct Case {
-    pub set: Set,
+    pub set: SetRow<'static>,
     pub protocol: Protocol,
     pub task: u32,
     pub bounds: &'static [u64],
@@ -23,95 +15,108 @@ pub(crate) struct Case {
 }
 
 /// Three processors, a task on each. The first requests both resources, the second too, the third the first.
-pub(crate) const THREE: Set = (
-    3,
-    &[None, None],
-    &[
-        (1, 100, 4, 4, &[(0, 1, 1), (1, 1, 1)]),
-        (2, 100, 4, 4, &[(0, 1, 3), (1, 1, 2)]),
-        (3, 100, 3, 3, &[(0, 1, 2)]),
+pub(crate) const THREE: SetRow = SetRow {
+    processors: 3,
+    homes: &[None, None],
+    tasks: &[
+        task_row!(1, 100, 4, [(0, 1), (1, 1)]),
+        task_row!(2, 100, 4, [(0, 3), (1, 2)]),
+        task_row!(3, 100, 3, [(0, 2)]),
     ],
-);
+};
 
 /// Two tasks with their requests on the third processor.
-pub(crate) const HOMES: Set = (
-    3,
-    &[Some(3), Some(3)],
-    &[
-        (1, 20, 4, 4, &[(0, 1, 1), (1, 1, 1)]),
-        (2, 20, 4, 4, &[(0, 1, 2)]),
+pub(crate) const HOMES: SetRow = SetRow {
+    processors: 3,
+    homes: &[Some(3), Some(3)],
+    tasks: &[
+        task_row!(1, 20, 4, [(0, 1), (1, 1)]),
+        task_row!(2, 20, 4, [(0, 2)]),
     ],
-);
+};
 
 /// The same home, but no task requests what the other does.
-pub(crate) const APART: Set = (
-    3,
-    &[Some(3), Some(3)],
-    &[(1, 20, 4, 4, &[(0, 1, 1)]), (2, 20, 4, 4, &[(1, 1, 2)])],
-);
+pub(crate) const APART: SetRow = SetRow {
+    processors: 3,
+    homes: &[Some(3), Some(3)],
+    tasks: &[task_row!(1, 20, 4, [(0, 1)]), task_row!(2, 20, 4, [(1, 2)])],
+};
 
 /// A higher task without requests beside a task that requests what a third does elsewhere.
-pub(crate) const BESIDE: Set = (
-    2,
-    &[None],
-    &[
-        (1, 10, 2, 2, &[]),
-        (1, 20, 4, 4, &[(0, 1, 2)]),
-        (2, 20, 5, 5, &[(0, 1, 3)]),
+pub(crate) const BESIDE: SetRow = SetRow {
+    processors: 2,
+    homes: &[None],
+    tasks: &[
+        task_row!(1, 10, 2, []),
+        task_row!(1, 20, 4, [(0, 2)]),
+        task_row!(2, 20, 5, [(0, 3)]),
     ],
-);
+};
 
 /// Paths: the fourth task requests the first resource, as two higher tasks and a lower one of the second processor do. The
 /// fifth task, which runs there too, requests the second resource, as the third task does, on the first processor. The
 /// second processor sees the third task as the ceiling of the second resource, and the fourth as that of the first. (The
 /// plain ceilings are the third task and the first, so by them there were no path.)
-pub(crate) const PATHS: Set = (
-    2,
-    &[None, None],
-    &[
-        (2, 100, 10, 10, &[(0, 1, 2)]),
-        (2, 100, 10, 10, &[(0, 1, 3)]),
-        (1, 100, 10, 10, &[(1, 1, 1)]),
-        (1, 100, 10, 10, &[(0, 1, 1)]),
-        (2, 100, 10, 10, &[(1, 1, 4)]),
-        (2, 100, 10, 10, &[(0, 1, 5)]),
+pub(crate) const PATHS: SetRow = SetRow {
+    processors: 2,
+    homes: &[None, None],
+    tasks: &[
+        task_row!(2, 100, 10, [(0, 2)]),
+        task_row!(2, 100, 10, [(0, 3)]),
+        task_row!(1, 100, 10, [(1, 1)]),
+        task_row!(1, 100, 10, [(0, 1)]),
+        task_row!(2, 100, 10, [(1, 4)]),
+        task_row!(2, 100, 10, [(0, 5)]),
     ],
-);
+};
 
 /// The same, but the third task requests both resources, so that the second processor sees it as the ceiling of both.
-pub(crate) const LEVEL: Set = (
-    2,
-    &[None, None],
-    &[
-        (2, 100, 10, 10, &[(0, 1, 2)]),
-        (2, 100, 10, 10, &[(0, 1, 3)]),
-        (1, 100, 10, 10, &[(0, 1, 1), (1, 1, 1)]),
-        (1, 100, 10, 10, &[(0, 1, 1)]),
-        (2, 100, 10, 10, &[(1, 1, 4)]),
-        (2, 100, 10, 10, &[(0, 1, 5)]),
+pub(crate) const LEVEL: SetRow = SetRow {
+    processors: 2,
+    homes: &[None, None],
+    tasks: &[
+        task_row!(2, 100, 10, [(0, 2)]),
+        task_row!(2, 100, 10, [(0, 3)]),
+        task_row!(1, 100, 10, [(0, 1), (1, 1)]),
+        task_row!(1, 100, 10, [(0, 1)]),
+        task_row!(2, 100, 10, [(1, 4)]),
+        task_row!(2, 100, 10, [(0, 5)]),
     ],
-);
+};
 
 /// The same, but the third task requests the first resource alone: the ceiling of the second is the fifth task.
-pub(crate) const BELOW: Set = (
-    2,
-    &[None, None],
-    &[
-        (2, 100, 10, 10, &[(0, 1, 2)]),
-        (2, 100, 10, 10, &[(0, 1, 3)]),
-        (1, 100, 10, 10, &[(0, 1, 1)]),
-        (1, 100, 10, 10, &[(0, 1, 1)]),
-        (2, 100, 10, 10, &[(1, 1, 4)]),
-        (2, 100, 10, 10, &[(0, 1, 5)]),
+pub(crate) const BELOW: SetRow = SetRow {
+    processors: 2,
+    homes: &[None, None],
+    tasks: &[
+        task_row!(2, 100, 10, [(0, 2)]),
+        task_row!(2, 100, 10, [(0, 3)]),
+        task_row!(1, 100, 10, [(0, 1)]),
+        task_row!(1, 100, 10, [(0, 1)]),
+        task_row!(2, 100, 10, [(1, 4)]),
+        task_row!(2, 100, 10, [(0, 5)]),
     ],
-);
+};
 
 /// Two tasks of one processor. The higher executes at most 2 of its 4 ticks outside requests.
-pub(crate) const LOCAL: Set = (
-    2,
-    &[Some(2)],
-    &[(1, 10, 4, 2, &[(0, 1, 2)]), (1, 20, 5, 5, &[])],
-);
+pub(crate) const LOCAL: SetRow = SetRow {
+    processors: 2,
+    homes: &[Some(2)],
+    tasks: &[
+        TaskRow {
+            processor: 1,
+            period: 10,
+            cost: 4,
+            local: 2,
+            entries: &[EntryRow {
+                resource: 0,
+                count: 1,
+                length: 2,
+            }],
+        },
+        task_row!(1, 20, 5, []),
+    ],
+};
 
 const PATH_COLUMNS: &[(u32, u32, Class, u64)] = &[
     (0, 0, Class::Direct, 2),

@@ -1,66 +1,14 @@
 ghost use Rattle.std.specs.Prelude.{◌≡◌, ◌<◌, length, map, IsTrue, IfOk};
-ghost use Rattle.sporadic_model.specs.Homes.{EachHasHome, HasHomesFor};
 ghost use Rattle.program_sources.specs.Bounds.{AreWithinDeadlines, IsInRange};
 
-use crate::cases::{BESIDE, CASES, Case, LOCAL, PATHS, Request, Set, Task};
+use crate::cases::{BESIDE, CASES, Case, LOCAL, PATHS};
 use crate::{ProgramSource, Written};
 use fragments::{Class, Fragment, cnt};
 use program_form::{Program, RowBlock};
-use sporadic_model::{
-    Parts, Protocol, RequestPart, ResourceId, ResourcePart, TaskId, TaskPart, TaskSet,
-};
+use sporadic_model::{Protocol, ResourceId, TaskId, TaskSet};
 use std::alloc::{AllocError, Global};
 use std::test::Fail;
-
-fn requests_of(alloc: Global, requests: &[Request]) -> Result<Vec<RequestPart>, AllocError> {
-    let mut list = Vec::new(alloc);
-    for (resource, count, length) in requests {
-        list.push(RequestPart {
-            resource: format!(in alloc; "r{resource}")?,
-            count: *count,
-            length: *length,
-        })?;
-    }
-    Ok(list)
-}
-
-fn tasks_of(alloc: Global, tasks: &[Task]) -> Result<Vec<TaskPart>, AllocError> {
-    let mut list = Vec::new(alloc);
-    for (number, task) in tasks.iter().enumerate() {
-        let (processor, period, cost, local, requests) = *task;
-        list.push(TaskPart {
-            name: format!(in alloc; "t{number}")?,
-            processor,
-            period,
-            deadline: period,
-            cost,
-            local,
-            requests: requests_of(alloc, requests)?,
-        })?;
-    }
-    Ok(list)
-}
-
-fn set_of(alloc: Global, set: Set) -> Result<TaskSet, Fail> {
-    let (processors, homes, tasks) = set;
-    let mut resources = Vec::new(alloc);
-    for (number, home) in homes.iter().enumerate() {
-        let name = format!(in alloc; "r{number}")?;
-        resources.push(ResourcePart { name, home: *home })?;
-    }
-    let tasks = tasks_of(alloc, tasks)?;
-    match TaskSet::new(
-        alloc,
-        Parts {
-            processors,
-            resources,
-            tasks,
-        },
-    ) {
-        Ok(set) => Ok(set),
-        Err(_) => Err("refused".into()),
-    }
-}
+use worked_sets::{SetRow, set_of, suits};
 
 fn are_within(set: &TaskSet, bounds: &[u64]) -> bool
     ensures { IsTrue result → AreWithinDeadlines set.now bounds.now }
@@ -74,26 +22,6 @@ fn are_within(set: &TaskSet, bounds: &[u64]) -> bool
         }
     }
     true
-}
-
-fn have_homes(set: &TaskSet) -> bool
-    ensures { IsTrue result → EachHasHome set.now }
-{
-    for q in 0..set.resources() {
-        if set.home(ResourceId(q)).is_none() {
-            return false;
-        }
-    }
-    true
-}
-
-fn suits(set: &TaskSet, protocol: Protocol) -> bool
-    ensures { IsTrue result → HasHomesFor protocol set.now }
-{
-    match protocol {
-        Protocol::Dpcp => have_homes(set),
-        Protocol::Mpcp | Protocol::FmlpPlus => true,
-    }
 }
 
 /// The program of the case, made by the source of the protocol's programs.
@@ -176,7 +104,12 @@ fn gives_the_rows(rt: HostRuntime) -> Result<(), Fail> {
 }
 
 /// The interference of the case's task at bounds that are no less than the costs.
-fn counted(alloc: Global, set: Set, protocol: Protocol, bounds: &[u64]) -> Result<u64, Fail> {
+fn counted(
+    alloc: Global,
+    set: SetRow<'_>,
+    protocol: Protocol,
+    bounds: &[u64],
+) -> Result<u64, Fail> {
     let set = set_of(alloc, set)?;
     let at_costs = set.tasks() > 1 && are_within(&set, bounds) && bounds[0] >= set.cost(TaskId(0));
     if at_costs && suits(&set, protocol) {

@@ -1,75 +1,78 @@
-ghost use Rattle.std.specs.Prelude.{◌<◌, length, IsTrue};
-ghost use Rattle.sporadic_model.specs.Homes.{EachHasHome, HasHomesFor};
-
 use crate::ahead::{Queue, solve_some};
 use crate::analysis::costs;
 use crate::meeting::{Meeting, Side};
 use crate::{Stop, Verdict, analyse, analyse_with};
 use program_form::Dual;
 use protocol_programs::Written;
-use sporadic_model::{Parts, Protocol, RequestPart, ResourceId, ResourcePart, TaskPart, TaskSet};
+use sporadic_model::{Protocol, TaskSet};
 use std::alloc::{AllocError, Global};
 use std::sync::atomic::{AtomicBool, AtomicU32, Ordering};
 use std::test::Fail;
 use std::thread::Threads;
+use worked_sets::{EntryRow, SetRow, TaskRow, entry_rows, set_of, suits, task_row};
 
 const MOST: u64 = 1_000_000;
 
-// A task: its processor, its period, which is its deadline, its cost, and for each entry the number of its resource and a
-// length. Each job makes one request of an entry.
-type Task = (u64, u64, u64, &'static [(usize, u64)]);
-
-// A set: the number of processors, the home of each resource, and the tasks.
-type Set = (u64, &'static [Option<u64>], &'static [Task]);
-
 // Three tasks without requests.
-const ALONE: Set = (1, &[], &[(1, 4, 1, &[]), (1, 6, 2, &[]), (1, 20, 3, &[])]);
+const ALONE: SetRow = SetRow {
+    processors: 1,
+    homes: &[],
+    tasks: &[
+        task_row!(1, 4, 1, []),
+        task_row!(1, 6, 2, []),
+        task_row!(1, 20, 3, []),
+    ],
+};
 
 // Two tasks that share a resource, each on a processor of its own.
-const PAIR: Set = (
-    2,
-    &[Some(2)],
-    &[(1, 10, 3, &[(0, 1)]), (2, 10, 4, &[(0, 2)])],
-);
+const PAIR: SetRow = SetRow {
+    processors: 2,
+    homes: &[Some(2)],
+    tasks: &[task_row!(1, 10, 3, [(0, 1)]), task_row!(2, 10, 4, [(0, 2)])],
+};
 
 // A task below another that requests nothing, and a third elsewhere.
-const BESIDE: Set = (
-    2,
-    &[None],
-    &[
-        (1, 10, 2, &[]),
-        (1, 20, 4, &[(0, 2)]),
-        (2, 20, 5, &[(0, 3)]),
+const BESIDE: SetRow = SetRow {
+    processors: 2,
+    homes: &[None],
+    tasks: &[
+        task_row!(1, 10, 2, []),
+        task_row!(1, 20, 4, [(0, 2)]),
+        task_row!(2, 20, 5, [(0, 3)]),
     ],
-);
+};
 
 // The same with a longer third task, of which two jobs come to count for the second one.
-const LONGER: Set = (
-    2,
-    &[None],
-    &[
-        (1, 10, 2, &[]),
-        (1, 20, 4, &[(0, 2)]),
-        (2, 20, 10, &[(0, 3)]),
+const LONGER: SetRow = SetRow {
+    processors: 2,
+    homes: &[None],
+    tasks: &[
+        task_row!(1, 10, 2, []),
+        task_row!(1, 20, 4, [(0, 2)]),
+        task_row!(2, 20, 10, [(0, 3)]),
     ],
-);
+};
 
 // Two tasks without requests, and without room for the lower one.
-const SHORT: Set = (1, &[], &[(1, 2, 1, &[]), (1, 2, 2, &[])]);
+const SHORT: SetRow = SetRow {
+    processors: 1,
+    homes: &[],
+    tasks: &[task_row!(1, 2, 1, []), task_row!(1, 2, 2, [])],
+};
 
 // The first task's optimum is 14/3.
-const THREE: Set = (
-    3,
-    &[None, None],
-    &[
-        (1, 100, 4, &[(0, 1), (1, 1)]),
-        (2, 100, 4, &[(0, 3), (1, 2)]),
-        (3, 100, 3, &[(0, 2)]),
+const THREE: SetRow = SetRow {
+    processors: 3,
+    homes: &[None, None],
+    tasks: &[
+        task_row!(1, 100, 4, [(0, 1), (1, 1)]),
+        task_row!(2, 100, 4, [(0, 3), (1, 2)]),
+        task_row!(3, 100, 3, [(0, 2)]),
     ],
-);
+};
 
 // Two tasks, each on a processor of its own, that request each of 32 resources.
-const EACH: &[(usize, u64)] = &[
+const EACH: &[EntryRow] = entry_rows![
     (0, 1),
     (1, 1),
     (2, 1),
@@ -105,52 +108,56 @@ const EACH: &[(usize, u64)] = &[
 ];
 
 // One request of each of four resources.
-const FOUR: &[(usize, u64)] = &[(0, 1), (1, 1), (2, 1), (3, 1)];
+const FOUR: &[EntryRow] = entry_rows![(0, 1), (1, 1), (2, 1), (3, 1)];
 
-const BUSY: Set = (2, &[None; 32], &[(1, 1000, 40, EACH), (2, 1000, 40, EACH)]);
+const BUSY: SetRow = SetRow {
+    processors: 2,
+    homes: &[None; 32],
+    tasks: &[task_row!(1, 1000, 40, EACH), task_row!(2, 1000, 40, EACH)],
+};
 
 // The tasks of `WIDE`. The first task's optimum is reached at one point alone, which holds 1 - 1/2^28 - 1/3^17 - 1/5^12.
-const WIDE_FIRST: Task = (1, 1_000_000_000, 10, &[(0, 1), (1, 1), (2, 1), (3, 1)]);
+const WIDE_FIRST: TaskRow = task_row!(1, 1_000_000_000, 10, [(0, 1), (1, 1), (2, 1), (3, 1)]);
 
-const WIDE_SECOND: Task = (
+const WIDE_SECOND: TaskRow = task_row!(
     2,
     1_000_000_000,
     300_000_001,
-    &[(0, 268_435_456), (1, 300_000_000)],
+    [(0, 268_435_456), (1, 300_000_000)]
 );
 
-const WIDE_THIRD: Task = (
+const WIDE_THIRD: TaskRow = task_row!(
     3,
     1_000_000_000,
     300_000_001,
-    &[(0, 129_140_163), (2, 300_000_000)],
+    [(0, 129_140_163), (2, 300_000_000)]
 );
 
-const WIDE_FOURTH: Task = (
+const WIDE_FOURTH: TaskRow = task_row!(
     4,
     1_000_000_000,
     300_000_001,
-    &[(0, 244_140_625), (3, 300_000_000)],
+    [(0, 244_140_625), (3, 300_000_000)]
 );
 
-const WIDE_FIFTH: Task = (5, 1_000_000_000, 2000, &[(0, 1000)]);
+const WIDE_FIFTH: TaskRow = task_row!(5, 1_000_000_000, 2000, [(0, 1000)]);
 
-const WIDE: Set = (
-    5,
-    &[None, None, None, None],
-    &[WIDE_FIRST, WIDE_SECOND, WIDE_THIRD, WIDE_FOURTH, WIDE_FIFTH],
-);
+const WIDE: SetRow = SetRow {
+    processors: 5,
+    homes: &[None, None, None, None],
+    tasks: &[WIDE_FIRST, WIDE_SECOND, WIDE_THIRD, WIDE_FOURTH, WIDE_FIFTH],
+};
 
 // Two tasks of a processor of their own, without room for the lower one.
-const HIGH: Task = (6, 2, 1, &[]);
+const HIGH: TaskRow = task_row!(6, 2, 1, []);
 
-const LOW: Task = (6, 2, 2, &[]);
+const LOW: TaskRow = task_row!(6, 2, 2, []);
 
 // These two before the tasks of `WIDE`, these two behind them, and the higher one alone before them.
-const LATE_THEN_WIDE: Set = (
-    6,
-    &[None, None, None, None],
-    &[
+const LATE_THEN_WIDE: SetRow = SetRow {
+    processors: 6,
+    homes: &[None, None, None, None],
+    tasks: &[
         HIGH,
         LOW,
         WIDE_FIRST,
@@ -159,12 +166,12 @@ const LATE_THEN_WIDE: Set = (
         WIDE_FOURTH,
         WIDE_FIFTH,
     ],
-);
+};
 
-const WIDE_THEN_LATE: Set = (
-    6,
-    &[None, None, None, None],
-    &[
+const WIDE_THEN_LATE: SetRow = SetRow {
+    processors: 6,
+    homes: &[None, None, None, None],
+    tasks: &[
         WIDE_FIRST,
         WIDE_SECOND,
         WIDE_THIRD,
@@ -173,12 +180,12 @@ const WIDE_THEN_LATE: Set = (
         HIGH,
         LOW,
     ],
-);
+};
 
-const HIGH_THEN_WIDE: Set = (
-    6,
-    &[None, None, None, None],
-    &[
+const HIGH_THEN_WIDE: SetRow = SetRow {
+    processors: 6,
+    homes: &[None, None, None, None],
+    tasks: &[
         HIGH,
         WIDE_FIRST,
         WIDE_SECOND,
@@ -186,80 +193,7 @@ const HIGH_THEN_WIDE: Set = (
         WIDE_FOURTH,
         WIDE_FIFTH,
     ],
-);
-
-fn requests_of(alloc: Global, requests: &[(usize, u64)]) -> Result<Vec<RequestPart>, AllocError> {
-    let mut list = Vec::new(alloc);
-    for (resource, length) in requests {
-        list.push(RequestPart {
-            resource: format!(in alloc; "r{resource}")?,
-            count: 1,
-            length: *length,
-        })?;
-    }
-    Ok(list)
-}
-
-fn tasks_of(alloc: Global, tasks: &[Task]) -> Result<Vec<TaskPart>, AllocError> {
-    let mut list = Vec::new(alloc);
-    for (number, task) in tasks.iter().enumerate() {
-        let (processor, period, cost, requests) = *task;
-        list.push(TaskPart {
-            name: format!(in alloc; "t{number}")?,
-            processor,
-            period,
-            deadline: period,
-            cost,
-            local: cost,
-            requests: requests_of(alloc, requests)?,
-        })?;
-    }
-    Ok(list)
-}
-
-fn set_with(
-    alloc: Global,
-    processors: u64,
-    homes: &[Option<u64>],
-    tasks: &[Task],
-) -> Result<TaskSet, Fail> {
-    let mut resources = Vec::new(alloc);
-    for (number, home) in homes.iter().enumerate() {
-        let name = format!(in alloc; "r{number}")?;
-        resources.push(ResourcePart { name, home: *home })?;
-    }
-    let parts = Parts {
-        processors,
-        resources,
-        tasks: tasks_of(alloc, tasks)?,
-    };
-    Ok(TaskSet::new(alloc, parts)?)
-}
-
-fn set_of(alloc: Global, set: Set) -> Result<TaskSet, Fail> {
-    let (processors, homes, tasks) = set;
-    set_with(alloc, processors, homes, tasks)
-}
-
-fn have_homes(set: &TaskSet) -> bool
-    ensures { IsTrue result → EachHasHome set.now }
-{
-    for q in 0..set.resources() {
-        if set.home(ResourceId(q)).is_none() {
-            return false;
-        }
-    }
-    true
-}
-
-fn suits(set: &TaskSet, protocol: Protocol) -> bool
-    ensures { IsTrue result → HasHomesFor protocol set.now }
-{
-    match protocol {
-        Protocol::Dpcp => have_homes(set),
-        Protocol::Mpcp | Protocol::FmlpPlus => true,
-    }
-}
+};
 
 fn is_dual(dual: &Dual, wanted: (u64, &[u64])) -> bool {
     dual.den == wanted.0 && dual.num.as_slice() == wanted.1
@@ -297,7 +231,7 @@ fn is_wanted(verdict: &Result<Verdict, Stop>, wanted: &Wanted<'_>) -> bool {
 fn gives<R: Threads + Sync>(
     rt: &R,
     alloc: Global,
-    set: Set,
+    set: SetRow<'_>,
     protocol: Protocol,
     allowance: u64,
     wanted: Wanted<'_>,
@@ -324,6 +258,35 @@ fn three_tasks_take_four_rounds_of_three_units(rt: HostRuntime) -> Result<(), Fa
             ALONE,
             Protocol::FmlpPlus,
             11,
+            Wanted::Allowance
+        )?
+    );
+    Ok(())
+}
+
+// A task that leaves one tick in each of its periods, and one that requests nothing either.
+const MANY: SetRow = SetRow {
+    processors: 1,
+    homes: &[],
+    tasks: &[
+        task_row!(1, 1000, 999, []),
+        task_row!(1, 1_000_000_000, 1500, []),
+    ],
+};
+
+// The bound of the second task is 1500 + 999 k with k jobs of the first, one or two more in each round, so it stands still at 1,500
+// jobs. A round takes two units, and 2,500 are too few.
+#[test]
+fn more_than_a_thousand_rounds_come_to_an_end(rt: HostRuntime) -> Result<(), Fail> {
+    let best = Wanted::Best(&[999, 1_500_000], &[NOTHING, NOTHING]);
+    assert!(rt; gives(&rt, rt.alloc(), MANY, Protocol::FmlpPlus, 3000, best)?);
+    assert!(rt;
+        gives(
+            &rt,
+            rt.alloc(),
+            MANY,
+            Protocol::FmlpPlus,
+            2500,
             Wanted::Allowance
         )?
     );
@@ -477,11 +440,16 @@ fn two_tasks_are_at_work_at_the_same_time(rt: HostRuntime) -> Result<(), Fail> {
 // Twenty tasks, each on a processor of its own, that request each of four resources. The first one has this cost.
 fn twenty(alloc: Global, cost: u64) -> Result<TaskSet, Fail> {
     let mut tasks = Vec::new(alloc);
-    tasks.push((1, 1000, cost, FOUR))?;
+    tasks.push(task_row!(1, 1000, cost, FOUR))?;
     for processor in 2..21 {
-        tasks.push((processor, 1000, 40, FOUR))?;
+        tasks.push(task_row!(processor, 1000, 40, FOUR))?;
     }
-    set_with(alloc, 20, &[None; 4], &tasks)
+    let set = SetRow {
+        processors: 20,
+        homes: &[None; 4],
+        tasks: &tasks,
+    };
+    Ok(set_of(alloc, set)?)
 }
 
 // How many programs of the first round a thread solves that is alone.

@@ -1,0 +1,54 @@
+/// An entry of a task for a resource.
+#[derive(Clone, Copy, Debug)]
+pub struct EntryRow {
+    /// The number of the resource among those of the set, from 0.
+    pub resource: u64,
+    /// The greatest number of requests of one job.
+    pub count: u64,
+    /// The greatest number of ticks of one request.
+    pub length: u64,
+}
+
+/// A task, whose deadline is its period.
+#[derive(Clone, Copy, Debug)]
+pub struct TaskRow<'a> {
+    pub processor: u64,
+    pub period: u64,
+    pub cost: u64,
+    pub local: u64,
+    pub entries: &'a [EntryRow],
+}
+
+/// A set: how many processors it has, the home of each of its resources, and its tasks.
+#[derive(Clone, Copy, Debug)]
+pub struct SetRow<'a> {
+    pub processors: u64,
+    pub homes: &'a [Option<u64>],
+    pub tasks: &'a [TaskRow<'a>],
+}
+
+/// Entries, each by the number of its resource and the length of a job's one request.
+#[macro_export]
+macro_rules! entry_rows {
+    ($(($resource:expr, $length:expr)),* $(,)?) => {
+        &[$($crate::EntryRow { resource: $resource, count: 1, length: $length }),*]
+    };
+}
+
+/// The row of a task by its processor, its period, its cost, which is its local limit, and its entries, or in brackets the number
+/// of each entry's resource and the length of a job's one request.
+#[macro_export]
+macro_rules! task_row {
+    ($processor:expr, $period:expr, $cost:expr, [$(($resource:expr, $length:expr)),* $(,)?] $(,)?) => {
+        $crate::task_row!($processor, $period, $cost, $crate::entry_rows!($(($resource, $length)),*))
+    };
+    ($processor:expr, $period:expr, $cost:expr, $entries:expr $(,)?) => {
+        $crate::TaskRow {
+            processor: $processor,
+            period: $period,
+            cost: $cost,
+            local: $cost,
+            entries: $entries,
+        }
+    };
+}
