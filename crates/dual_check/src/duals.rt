@@ -28,12 +28,7 @@ fn first_uncovered(program: &Program, dual: &Dual) -> Option<u32>
     requires numerators { vec_len dual.now.num ≡ height program.now }
     ensures { Finds result (columns program.now) (HoldsColumn program.now (dual_seen dual.now)) }
 {
-    for column in 0..program.columns() {
-        if !holds_column(program, dual, column) {
-            return Some(column);
-        }
-    }
-    None
+    (0..program.columns()).find(|column| !holds_column(program, dual, *column))
 }
 
 fn weigh(program: &Program, dual: &Dual, bound: u64) -> DualWorth

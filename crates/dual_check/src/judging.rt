@@ -39,12 +39,9 @@ fn first_late(set: &TaskSet, bounds: &[u64]) -> Option<TaskId>
     requires { length bounds.now ≡ length set.now.tasks }
     ensures { Finds (option_map (λ x. x.0) result) (length set.now.tasks) (λ i. slice_index bounds.now i ≤ (task_at set.now i).deadline) }
 {
-    for i in 0..set.tasks() {
-        if bounds[i as usize] > set.deadline(TaskId(i)) {
-            return Some(TaskId(i));
-        }
-    }
-    None
+    (0..set.tasks())
+        .map(TaskId)
+        .find(|i| bounds[i.0 as usize] > set.deadline(*i))
 }
 
 /// The value of a dual that holds all columns.
