@@ -1,14 +1,15 @@
-ghost use Rattle.std.specs.Prelude.{◌≡◌, ◌<◌, ◌≤◌, true, length, map, IfOk, slice_index_or};
-ghost use Rattle.program_form.specs.Certificate.{dual_seen};
+ghost use Rattle.std.specs.Prelude.{◌≡◌, ◌<◌, ◌≤◌, true, length, IfOk, slice_index_or};
+ghost use Rattle.program_form.specs.Certificate.{certificate_seen};
 ghost use Rattle.sporadic_model.specs.declared.limits.TheConstants.{MOST_TICKS};
 ghost use Rattle.sporadic_model.specs.Homes.{HasHomesFor};
-ghost use Rattle.response_fixpoint.specs.Rounds.{Schedulable, NotShown, Wide, Allowance};
+ghost use Rattle.response_fixpoint.specs.Rounds.{NotShown, Wide};
 ghost use Rattle.schedule_model.specs.RowDef.{trace_in, ticks_of};
 ghost use Rattle.schedule_model.specs.Fitting.{is_fitting, IsMadeFor};
+ghost use Rattle.cert_json.specs.Text.{certificate_text};
 ghost use Rattle.trace_csv.specs.Written.{rows_text};
 ghost use Rattle.trace_conform.specs.Measured.{measure_seen, no_measure};
 ghost use Rattle.trace_conform.specs.ByProtocol.{rules_of, interference_of};
-ghost use Rattle.answer_texts.specs.Texts.{lawful_text, broken_text};
+ghost use Rattle.answer_texts.specs.Texts.{allowance_text, lawful_text, broken_text};
 ghost use Rattle.block_top.specs.Commands.{ending_answer, IsAnalysis, IsTable, IsConformance, IsSimulation};
 ghost use Rattle.block_top.specs.Outcome.{refused_words};
 ghost use Rattle.block_top.specs.Replies.{reply_seen, Answered, RepliesTo};
@@ -31,13 +32,13 @@ use trace_csv::write_rows;
 fn certificate_reply(
     alloc: Global,
     protocol: Protocol,
-    set: &TaskSet,
     certificate: &Certificate,
 ) -> Result<Reply, AllocError>
-    ensures { IfOk result (λ r. reply_seen r
-        ≡ ending_answer protocol set.now (Schedulable certificate.now.bounds.items (map dual_seen certificate.now.duals.items))) }
+    ensures { IfOk result (λ r. reply_seen r ≡ record {
+      status = 0;
+      text = certificate_text protocol (certificate_seen certificate.now);
+    }) }
 {
-    let _tasks = set.tasks();
     Ok(Reply {
         status: 0,
         text: cert_json::write(alloc, protocol, certificate)?,
@@ -78,10 +79,9 @@ fn wide_reply(
 }
 
 /// The reply where the programs want more units than the allowance.
-fn allowance_reply(alloc: Global, protocol: Protocol, set: &TaskSet) -> Result<Reply, AllocError>
-    ensures { IfOk result (λ r. reply_seen r ≡ ending_answer protocol set.now Allowance) }
+fn allowance_reply(alloc: Global) -> Result<Reply, AllocError>
+    ensures { IfOk result (λ r. reply_seen r ≡ record { status = 6; text = allowance_text }) }
 {
-    let _tasks = set.tasks();
     Ok(Reply {
         status: 6,
         text: Vec::from_slice(alloc, b"allowance\n")?,
@@ -99,17 +99,12 @@ fn verdict_reply(
     ensures { IfOk result (λ r. RepliesTo protocol set.now verdict (reply_seen r)) }
 {
     match verdict {
-        Ok(Verdict::Schedulable(certificate)) => certificate_reply(
-            alloc,
-            protocol,
-            set,
-            &certificate,
-        ),
+        Ok(Verdict::Schedulable(certificate)) => certificate_reply(alloc, protocol, &certificate),
         Ok(Verdict::NotShown { task, bound }) => {
             not_shown_reply(alloc, protocol, set, task, bound)
         }
         Err(Stop::Wide(task)) => wide_reply(alloc, protocol, set, task),
-        Err(Stop::Allowance) => allowance_reply(alloc, protocol, set),
+        Err(Stop::Allowance) => allowance_reply(alloc),
         Err(Stop::Memory) => Err(AllocError),
     }
 }
