@@ -1,13 +1,16 @@
-use crate::taking::{are_at_home, fits};
+ghost use Rattle.std.specs.Prelude.{◌≡◌, true};
+ghost use Rattle.sporadic_model.specs.Homes.{EachHasHome};
+
 use crate::told::take;
 use dpcp_rules::Dpcp;
 use fmlp_rules::FmlpPlus;
 use mpcp_rules::Mpcp;
-use phase_machine::{Judge, Machine};
+use phase_machine::{Judge, Machine, is_row_for};
 use schedule_model::{JobId, JobList, Row, RowList, Rule};
 use sporadic_model::Protocol;
 use std::alloc::{AllocError, Global};
 use std::test::Fail;
+use taskset_json::home_check;
 
 fn rule_word(rule: Rule) -> &'static str {
     match rule {
@@ -19,8 +22,15 @@ fn rule_word(rule: Rule) -> &'static str {
     }
 }
 
+/// Has each resource of the machine's set a home?
+fn are_at_home(machine: &Machine) -> bool
+    ensures { result ≡ true → EachHasHome machine.now.list.set }
+{
+    home_check(machine.jobs().set(), Protocol::Dpcp).is_ok()
+}
+
 fn judge(protocol: Protocol, machine: &Machine, row: &Row) -> Result<Result<(), Rule>, Fail> {
-    if !fits(machine, row) {
+    if !is_row_for(machine, row) {
         return Err("not a row for the jobs".into());
     }
     match protocol {
@@ -36,7 +46,7 @@ fn judge(protocol: Protocol, machine: &Machine, row: &Row) -> Result<Result<(), 
 }
 
 fn is_blocked(protocol: Protocol, machine: &Machine, row: &Row, j: JobId) -> Result<bool, Fail> {
-    if !fits(machine, row) || j.0 >= machine.jobs().len() {
+    if !is_row_for(machine, row) || j.0 >= machine.jobs().len() {
         return Err("not a row for the jobs".into());
     }
     match protocol {
@@ -69,7 +79,7 @@ fn full_row(alloc: Global, machine: &Machine) -> Result<Row, AllocError> {
 /// The row that is chosen next.
 fn chosen(alloc: Global, protocol: Protocol, machine: &Machine) -> Result<Row, Fail> {
     let mut row = full_row(alloc, machine)?;
-    if !fits(machine, &row) {
+    if !is_row_for(machine, &row) {
         return Err("no jobs".into());
     }
     match protocol {

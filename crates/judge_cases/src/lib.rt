@@ -4,8 +4,6 @@
 #[cfg(test)]
 mod judged;
 #[cfg(test)]
-mod taking;
-#[cfg(test)]
 mod tests;
 #[cfg(test)]
 mod told;

@@ -1,7 +1,6 @@
 ghost use Rattle.std.specs.Prelude.{◌<◌, length};
 
-use crate::taking::can_take;
-use phase_machine::{Machine, Phase};
+use phase_machine::{Machine, Phase, can_take};
 use schedule_model::{JobId, JobList, Row, RowList};
 use sporadic_model::{ResourceId, TaskId};
 use std::alloc::{AllocError, Global};

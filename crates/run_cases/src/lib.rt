@@ -4,4 +4,6 @@
 #[cfg(test)]
 mod cert_tests;
 #[cfg(test)]
+mod size_tests;
+#[cfg(test)]
 mod tests;

@@ -61,7 +61,7 @@ fn ran_over<R: Threads + Sync>(
 }
 
 /// Runs the words over a shelf and a sink that don't fail.
-fn ran<R: Threads + Sync>(
+pub(crate) fn ran<R: Threads + Sync>(
     rt: &R,
     alloc: Global,
     words: &[&str],
