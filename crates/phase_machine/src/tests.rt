@@ -5,54 +5,14 @@ ghost use Rattle.schedule_model.specs.Seen.{segment_seen};
 
 use super::*;
 use schedule_model::{Job, JobId, JobList, Row, Segment};
-use sporadic_model::{Parts, RequestPart, ResourceId, ResourcePart, TaskId, TaskPart, TaskSet};
+use sporadic_model::{ResourceId, TaskId, TaskSet};
 use std::alloc::{AllocError, Global};
 use std::test::Fail;
+use worked_sets::{SetRow, set_of, task_row};
 
 const Q: ResourceId = ResourceId(0);
 
-/// A task by its processor, its period and cost, and the length of its one request of `q`, if it may make one.
-type Task = (u64, u64, u64, Option<u64>);
-
-fn task_of(alloc: Global, name: &str, task: &Task) -> Result<TaskPart, AllocError> {
-    let (processor, period, cost, length) = *task;
-    let mut requests = Vec::new(alloc);
-    if let Some(length) = length {
-        requests.push(RequestPart {
-            resource: String::from_str(alloc, "q")?,
-            count: 1,
-            length,
-        })?;
-    }
-    Ok(TaskPart {
-        name: String::from_str(alloc, name)?,
-        processor,
-        period,
-        deadline: period,
-        cost,
-        local: cost,
-        requests,
-    })
-}
-
-/// Two tasks, `t1` the higher, and a resource `q`.
-fn set_of(alloc: Global, processors: u64, tasks: &[Task; 2]) -> Result<TaskSet, Fail> {
-    let mut parts = Parts {
-        processors,
-        resources: Vec::new(alloc),
-        tasks: Vec::new(alloc),
-    };
-    let name = String::from_str(alloc, "q")?;
-    parts.resources.push(ResourcePart { name, home: None })?;
-    parts.tasks.push(task_of(alloc, "t1", &tasks[0])?)?;
-    parts.tasks.push(task_of(alloc, "t2", &tasks[1])?)?;
-    match TaskSet::new(alloc, parts) {
-        Ok(set) => Ok(set),
-        Err(_) => Err("refused".into()),
-    }
-}
-
-/// The local ticks of a segment, and the length of its request of `q`, if it has one.
+/// The local ticks of a segment, and the length of its request of `r0`, if it has one.
 type Part = (u64, Option<u64>);
 
 /// A job by its task, its release and its script.
@@ -236,7 +196,11 @@ fn first_other_stretch(
     Ok(None)
 }
 
-const PAIR: [Task; 2] = [(1, 10, 3, Some(1)), (2, 10, 4, Some(2))];
+const PAIR: SetRow = SetRow {
+    processors: 2,
+    homes: &[None],
+    tasks: &[task_row!(1, 10, 3, [(0, 1)]), task_row!(2, 10, 4, [(0, 2)])],
+};
 
 const PAIR_JOBS: [Work; 2] = [
     (0, 0, &[(1, Some(1)), (1, None)]),
@@ -323,7 +287,11 @@ const HIGHER_FIRST: [Tick; 6] = [
     (&[ENDED, ENDED], [None, None], None, &[None, None], None),
 ];
 
-const ONE_PROCESSOR: [Task; 2] = [(1, 10, 3, Some(1)), (1, 2, 2, None)];
+const ONE_PROCESSOR: SetRow = SetRow {
+    processors: 1,
+    homes: &[None],
+    tasks: &[task_row!(1, 10, 3, [(0, 1)]), task_row!(1, 2, 2, [])],
+};
 
 const IN_TURN: [Work; 3] = [
     (0, 0, &[(1, Some(1))]),
@@ -372,7 +340,11 @@ const ONE_AT_A_TIME: [Tick; 6] = [
     (&[ENDED, ENDED, ENDED], [None, None], None, &[None], None),
 ];
 
-const LONG: [Task; 2] = [(1, 100, 30, Some(10)), (1, 100, 20, None)];
+const LONG: SetRow = SetRow {
+    processors: 1,
+    homes: &[None],
+    tasks: &[task_row!(1, 100, 30, [(0, 10)]), task_row!(1, 100, 20, [])],
+};
 
 const LONG_JOBS: [Work; 2] = [(0, 0, &[(12, Some(8)), (5, None)]), (1, 5, &[(10, None)])];
 
@@ -428,7 +400,7 @@ const BY_STRETCHES: [Stretch; 7] = [
 
 #[test]
 fn takes_rows_by_stretches(rt: HostRuntime) -> Result<(), Fail> {
-    let set = set_of(rt.alloc(), 1, &LONG)?;
+    let set = set_of(rt.alloc(), LONG)?;
     let jobs = list_of(rt.alloc(), &set, &LONG_JOBS)?;
     assert_eq!(rt;
         first_other_stretch(rt.alloc(), &jobs, &BY_STRETCHES)?,
@@ -439,7 +411,7 @@ fn takes_rows_by_stretches(rt: HostRuntime) -> Result<(), Fail> {
 
 #[test]
 fn answers_of_the_rows_that_it_took(rt: HostRuntime) -> Result<(), Fail> {
-    let set = set_of(rt.alloc(), 2, &PAIR)?;
+    let set = set_of(rt.alloc(), PAIR)?;
     let jobs = list_of(rt.alloc(), &set, &PAIR_JOBS)?;
     assert_eq!(rt; first_other(rt.alloc(), &jobs, &LOWER_FIRST)?, None);
     assert_eq!(rt; first_other(rt.alloc(), &jobs, &HIGHER_FIRST)?, None);
@@ -448,7 +420,7 @@ fn answers_of_the_rows_that_it_took(rt: HostRuntime) -> Result<(), Fail> {
 
 #[test]
 fn carries_one_job_of_a_task_after_the_other(rt: HostRuntime) -> Result<(), Fail> {
-    let set = set_of(rt.alloc(), 1, &ONE_PROCESSOR)?;
+    let set = set_of(rt.alloc(), ONE_PROCESSOR)?;
     let jobs = list_of(rt.alloc(), &set, &IN_TURN)?;
     assert_eq!(rt; first_other(rt.alloc(), &jobs, &ONE_AT_A_TIME)?, None);
     Ok(())

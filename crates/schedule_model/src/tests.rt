@@ -5,9 +5,10 @@ ghost use Rattle.schedule_model.specs.Fitting.{IsMadeFor};
 ghost use Rattle.schedule_model.specs.Seen.{segment_seen};
 
 use super::*;
-use sporadic_model::{Parts, RequestPart, ResourceId, ResourcePart, TaskId, TaskPart, TaskSet};
+use sporadic_model::{ResourceId, TaskId, TaskSet};
 use std::alloc::{AllocError, Global};
 use std::test::Fail;
+use worked_sets::{EntryRow, SetRow, TaskRow, set_of, task_row};
 
 const Q: ResourceId = ResourceId(0);
 
@@ -20,47 +21,6 @@ fn segment((local, length): Part) -> Segment {
         None => None,
     };
     Segment { local, request }
-}
-
-/// A task by its name, processor, period, cost and local limit, with the count and the length of its
-/// entry for the resource `q`.
-type Task = (&'static str, u64, [u64; 3], (u64, u64));
-
-fn task_of(alloc: Global, task: &Task) -> Result<TaskPart, AllocError> {
-    let (name, processor, [period, cost, local], (count, length)) = *task;
-    let name = String::from_str(alloc, name)?;
-    let mut requests = Vec::new(alloc);
-    requests.push(RequestPart {
-        resource: String::from_str(alloc, "q")?,
-        count,
-        length,
-    })?;
-    Ok(TaskPart {
-        name,
-        processor,
-        period,
-        deadline: period,
-        cost,
-        local,
-        requests,
-    })
-}
-
-fn set_of(alloc: Global, processors: u64, tasks: &[Task]) -> Result<TaskSet, Fail> {
-    let mut parts = Parts {
-        processors,
-        resources: Vec::new(alloc),
-        tasks: Vec::new(alloc),
-    };
-    let name = String::from_str(alloc, "q")?;
-    parts.resources.push(ResourcePart { name, home: None })?;
-    for task in tasks {
-        parts.tasks.push(task_of(alloc, task)?)?;
-    }
-    match TaskSet::new(alloc, parts) {
-        Ok(set) => Ok(set),
-        Err(_) => Err("refused".into()),
-    }
 }
 
 fn job_of(alloc: Global, task: u32, release: u64, script: &[Part]) -> Result<Job, AllocError> {
@@ -111,7 +71,36 @@ fn pushed(jobs: &mut JobList, job: Job) -> Option<Result<(), JobRefusal>> {
 /// The task, the release and the script of a job, and the refusal that is wanted.
 type Case = (u32, u64, &'static [Part], Option<JobRefusal>);
 
-const TASKS: [Task; 2] = [("t1", 1, [10, 4, 3], (1, 1)), ("t2", 2, [10, 4, 2], (1, 2))];
+const PAIR: SetRow = SetRow {
+    processors: 2,
+    homes: &[None],
+    tasks: &[
+        TaskRow {
+            local: 3,
+            ..task_row!(1, 10, 4, [(0, 1)])
+        },
+        TaskRow {
+            local: 2,
+            ..task_row!(2, 10, 4, [(0, 2)])
+        },
+    ],
+};
+
+/// A task whose jobs may be as many and have as many segments as a list takes.
+const BUSY: SetRow = SetRow {
+    processors: 1,
+    homes: &[None],
+    tasks: &[task_row!(
+        1,
+        1000,
+        1000,
+        &[EntryRow {
+            resource: 0,
+            count: 1000,
+            length: 1,
+        }]
+    )],
+};
 
 const CASES: [Case; 22] = [
     (0, 0, &[], Some(JobRefusal::Script)),
@@ -150,7 +139,7 @@ const CASES: [Case; 22] = [
 
 #[test]
 fn takes_jobs_or_names_the_first_refusal(rt: HostRuntime) -> Result<(), Fail> {
-    let set = set_of(rt.alloc(), 2, &TASKS)?;
+    let set = set_of(rt.alloc(), PAIR)?;
     let mut jobs = JobList::new(rt.alloc(), &set);
     for (task, release, script, refusal) in CASES {
         let before = jobs.len();
@@ -180,7 +169,7 @@ fn takes_jobs_or_names_the_first_refusal(rt: HostRuntime) -> Result<(), Fail> {
 
 #[test]
 fn keeps_the_limits_on_jobs_and_segments(rt: HostRuntime) -> Result<(), Fail> {
-    let set = set_of(rt.alloc(), 1, &[("t1", 1, [1000, 1000, 1000], (1000, 1))])?;
+    let set = set_of(rt.alloc(), BUSY)?;
     let mut jobs = JobList::new(rt.alloc(), &set);
     for j in 0..100_000u64 {
         let job = job_of(rt.alloc(), 0, 1000 * j, &[(1, None)])?;
@@ -285,8 +274,12 @@ fn first_jobs<'a>(alloc: Global, set: &'a TaskSet, count: u32) -> Result<JobList
 
 #[test]
 fn takes_rows_or_names_the_first_refusal(rt: HostRuntime) -> Result<(), Fail> {
-    let set = set_of(rt.alloc(), 2, &TASKS)?;
-    let wider = set_of(rt.alloc(), 3, &TASKS)?;
+    let set = set_of(rt.alloc(), PAIR)?;
+    let wide = SetRow {
+        processors: 3,
+        ..PAIR
+    };
+    let wider = set_of(rt.alloc(), wide)?;
     let jobs = first_jobs(rt.alloc(), &set, 2)?;
     let fewer = first_jobs(rt.alloc(), &set, 1)?;
     let others = first_jobs(rt.alloc(), &wider, 2)?;
