@@ -65,15 +65,16 @@ fn work_of(solutions: &[Solution]) -> u64 {
     work
 }
 
-/// How many threads are worth starting for the programs of a round, by what those of the round before took and by how many processors
-/// there are. The answer of the round is the same with any number.
+/// How many threads are worth starting for the programs of a round, by what those of the round before took, by how many processors
+/// there are, and at most one for each task. The answer of the round is the same with any number.
 pub fn threads_for<R: Threads>(rt: &R, set: &TaskSet, earlier: &[Solution]) -> usize {
+    let tasks = set.tasks();
     let work = if earlier.is_empty() {
-        first_work(set).saturating_mul(set.tasks() as u64)
+        first_work(set).saturating_mul(tasks as u64)
     } else {
         work_of(earlier)
     };
-    let worth = work / WORTH_A_THREAD;
+    let worth = (work / WORTH_A_THREAD).min(tasks as u64);
     if worth < 2 {
         return 0;
     }
