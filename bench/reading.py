@@ -17,7 +17,7 @@ CONSTRUCTOR = re.compile(r"  ([A-Z]\w*) :")
 NAME = re.compile(r"[A-Za-z_][\w-]*(?:\.[A-Za-z_][\w-]*)?")
 
 CHECKED = ["soundness_laws/Sound:Sound", "dual_check/Soundness:SoundUnder", "sporadic_model/Accepted:IsAccepted"]
-ANALYSED = ["block_top/Headline:IsHeadline,Analyses"]
+ANALYSED = ["run_plans/Headline:IsHeadline,Analyses"]
 
 
 def place_of(crate, parts):

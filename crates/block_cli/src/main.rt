@@ -2,73 +2,18 @@
 //! standard output.
 #![tactic(auto)]
 
-ghost use Rattle.std.specs.Prelude.{◌≡◌, drop, IfOk};
-ghost use Rattle.std.specs.Vec.Iter.{into_iter_items};
-ghost use Rattle.std.specs.Process.{exit_status};
-ghost use Rattle.command_words.specs.Words.{words_seen};
-ghost use Rattle.block_cli.specs.Edge.{GivesWords, IsStatusOf, number_of};
-
-use block_top::{Status, run};
-use outside_ports::{FileShelf, OutSink};
-use std::alloc::{AllocError, Global};
-use std::env::Args;
-use std::io::ErrorKind;
+use block_top::Status;
+use program_edge::{ended, status_of, words_of};
+use std::alloc::AllocError;
+use std::env;
 use std::process::ExitCode;
 use std::rt::Runtime;
 use std::thread::Threads;
-use std::{env, io};
-
-/// The words after the program's name.
-fn words_behind_name(alloc: Global, given: Args) -> Result<Vec<String>, AllocError>
-    ensures { IfOk result (λ words. words.items ≡ drop 1 (into_iter_items given)) }
-{
-    let mut words = Vec::new(alloc);
-    let mut rest = given;
-    rest.next();
-    while let Some(word) = rest.next() {
-        words.push(word)?;
-    }
-    Ok(words)
-}
-
-/// The words that std gives. There are none where one isn't UTF-8.
-fn words_of(alloc: Global, given: io::Result<Args>) -> Result<Vec<String>, AllocError>
-    ensures { GivesWords given result }
-{
-    match given {
-        Ok(args) => words_behind_name(alloc, args),
-        Err(error) if error.kind() == ErrorKind::OutOfMemory => Err(AllocError),
-        Err(_) => Ok(Vec::new(alloc)),
-    }
-}
-
-/// Answers the words over the system's files and standard output. An error is want of memory before anything was tried.
-fn status_of<R: Runtime + AllocGlobal + Threads + Sync>(
-    rt: &R,
-    words: &[String],
-) -> Result<Status, AllocError>
-    ensures { IfOk result (λ status. IsStatusOf (words_seen words.now) status.0) }
-{
-    let mut shelf = FileShelf::new(rt)?;
-    let mut sink = OutSink::new(rt)?;
-    let alloc: Global = rt.alloc();
-    Ok(run(rt, alloc, words, &mut shelf, &mut sink))
-}
 
 /// Answers the words that the program was given. An error is want of memory before anything was tried.
 fn answered<R: Runtime + AllocGlobal + Threads + Sync>(rt: &R) -> Result<Status, AllocError> {
     let words = words_of(rt.alloc(), env::args(rt))?;
     status_of(rt, &words)
-}
-
-/// How the process ends.
-fn ended(answer: Result<Status, AllocError>) -> ExitCode
-    ensures { exit_status result ≡ number_of answer }
-{
-    match answer {
-        Ok(Status(status)) => ExitCode::from(status),
-        Err(AllocError) => ExitCode::from(7),
-    }
 }
 
 fn main(rt: HostRuntime) -> ExitCode {

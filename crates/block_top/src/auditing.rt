@@ -8,15 +8,15 @@ ghost use Rattle.schedule_model.specs.Fitting.{IsMadeFor};
 ghost use Rattle.dual_check.specs.Answers.{HasDenominators};
 ghost use Rattle.audit_figures.specs.Figures.{no_figures};
 ghost use Rattle.answer_texts.specs.Texts.{kept_text};
-ghost use Rattle.block_top.specs.Commands.{IsAudit};
-ghost use Rattle.block_top.specs.Replies.{reply_seen, Answered};
+ghost use Rattle.run_plans.specs.Commands.{IsAudit};
+ghost use Rattle.run_plans.specs.Replies.{reply_seen, Answered};
 
-use crate::halt::{Halt, Reply};
 use crate::judging::invalid_reply;
 use crate::work::broken_reply;
 use answer_texts::kept_lines;
 use audit_figures::{AuditStop, TaskFigures, audit};
 use program_form::Certificate;
+use run_plans::{Halt, Reply};
 use schedule_model::{JobList, RowList};
 use sporadic_model::{Protocol, TaskSet};
 use std::alloc::{AllocError, Global};

@@ -3,16 +3,16 @@ ghost use Rattle.outside_ports.specs.declared.whole.TheConstants.{GREATEST_INPUT
 ghost use Rattle.program_form.specs.Certificate.{certificate_seen};
 ghost use Rattle.sporadic_model.specs.Homes.{HasHomesFor};
 ghost use Rattle.dual_check.specs.Answers.{HasDenominators};
-ghost use Rattle.block_top.specs.Plans.{refused};
+ghost use Rattle.run_plans.specs.Plans.{refused};
 ghost use Rattle.refusal_texts.specs.Refusals.{reason_text, cert_reason_text, jobs_reason_text, rows_reason_text};
-ghost use Rattle.block_top.specs.Inputs.{set_input, cert_input, jobs_input, rows_input};
-ghost use Rattle.block_top.specs.Replies.{HaltsWith, IsLoaded, IsTaken, IsGot, cert_taken, cert_got, ReadsSetFor, Keeps};
+ghost use Rattle.run_plans.specs.Inputs.{set_input, cert_input, jobs_input, rows_input};
+ghost use Rattle.run_plans.specs.Replies.{HaltsWith, IsLoaded, IsTaken, IsGot, cert_taken, cert_got, ReadsSetFor, Keeps};
 
-use crate::halt::{Halt, fault, refusal};
 use cert_json::CertRefusal;
 use outside_ports::{LoadFault, Shelf, load};
 use program_form::Certificate;
 use refusal_texts::{cert_reason, jobs_reason, reason, rows_reason};
+use run_plans::{Halt, fault, refusal};
 use schedule_model::{JobList, RowList};
 use sporadic_model::{Protocol, TaskSet};
 use std::alloc::{AllocError, Global};

@@ -5,15 +5,15 @@ ghost use Rattle.program_form.specs.Certificate.{certificate_seen};
 ghost use Rattle.sporadic_model.specs.Homes.{HasHomesFor};
 ghost use Rattle.dual_check.specs.Answers.{HasDenominators};
 ghost use Rattle.answer_texts.specs.Texts.{invalid_text};
-ghost use Rattle.block_top.specs.Commands.{IsJudgement, checked_answer, reported_answer};
-ghost use Rattle.block_top.specs.Replies.{reply_seen, Answered};
+ghost use Rattle.run_plans.specs.Commands.{IsJudgement, checked_answer, reported_answer};
+ghost use Rattle.run_plans.specs.Replies.{reply_seen, Answered};
 ghost use Rattle.answer_texts.specs.Failing.{FailsTask};
 
-use crate::halt::{Halt, Reply};
 use answer_texts::invalid_line;
 use dual_check::{Invalid, check};
 use program_form::Certificate;
 use report::full_table;
+use run_plans::{Halt, Reply};
 use sporadic_model::{Protocol, TaskSet};
 use std::alloc::{AllocError, Global};
 

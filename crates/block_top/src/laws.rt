@@ -1,8 +1,8 @@
 ghost use Rattle.std.specs.Prelude.{◌≡◌, ◌-◌, ◌^◌, ◌<◌, IsSome, IfSome, IfErr};
 ghost use Rattle.sporadic_model.specs.Homes.{HasHomesFor};
-ghost use Rattle.block_top.specs.Checked.{ChecksWhatWasWritten, FindsValid};
+ghost use Rattle.run_plans.specs.Checked.{ChecksWhatWasWritten, FindsValid};
 ghost use Rattle.command_words.specs.Words.{words_seen};
-ghost use Rattle.block_top.specs.Twice.{IsCompleteOver};
+ghost use Rattle.run_plans.specs.Twice.{IsCompleteOver};
 
 use crate::top::{Status, run};
 use dual_check::{Invalid, Valid, check};

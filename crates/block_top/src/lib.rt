@@ -3,7 +3,6 @@
 
 mod auditing;
 mod commands;
-mod halt;
 mod input;
 mod judging;
 mod laws;

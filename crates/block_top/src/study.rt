@@ -1,11 +1,11 @@
 //! The work of `study`, which reads no input.
 
 ghost use Rattle.std.specs.Prelude.{◌≤◌};
-ghost use Rattle.block_top.specs.Commands.{IsStudyAnswer};
-ghost use Rattle.block_top.specs.Replies.{Answered};
+ghost use Rattle.run_plans.specs.Commands.{IsStudyAnswer};
+ghost use Rattle.run_plans.specs.Replies.{Answered};
 
-use crate::halt::{Halt, Reply};
 use answer_texts::study_lines;
+use run_plans::{Halt, Reply};
 use std::alloc::Global;
 use std::thread::Threads;
 use study_gen::study;

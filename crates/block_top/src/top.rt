@@ -1,7 +1,7 @@
 ghost use Rattle.std.specs.Prelude.{◌≡◌, is_some, ◌≤◌};
 ghost use Rattle.command_words.specs.Words.{words_seen};
-ghost use Rattle.block_top.specs.Replies.{Keeps};
-ghost use Rattle.block_top.specs.Run.{IsRun};
+ghost use Rattle.run_plans.specs.Replies.{Keeps};
+ghost use Rattle.run_plans.specs.Run.{IsRun};
 
 use crate::commands::reply_to;
 use outside_ports::{Shelf, Sink, SinkFault, put_all};

@@ -7,8 +7,6 @@ mod laws;
 mod reading;
 mod refusal;
 mod refusing;
-#[cfg(test)]
-mod tests;
 mod words;
 mod writing;
 mod written;

@@ -10,8 +10,6 @@ mod duals;
 mod judging;
 mod laws;
 mod sums;
-#[cfg(test)]
-mod tests;
 
 pub use answer::{Invalid, Valid};
 pub use judging::{check, check_with, has_denominators};

@@ -250,6 +250,3 @@ fn dens(a: Frac, b: Frac) -> i128
 {
     a.den as i128 * b.den as i128
 }
-
-#[cfg(test)]
-mod tests;

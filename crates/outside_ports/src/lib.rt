@@ -8,8 +8,6 @@ mod memory_sink;
 mod out_sink;
 mod shelf;
 mod sink;
-#[cfg(test)]
-mod tests;
 mod whole;
 
 pub use file_shelf::FileShelf;

@@ -11,8 +11,6 @@ mod script;
 mod starting;
 mod stepping;
 mod stretch;
-#[cfg(test)]
-mod tests;
 mod trying;
 
 pub use judge::Judge;

@@ -9,8 +9,6 @@ mod certificate;
 mod laws;
 mod program;
 mod row_block;
-#[cfg(test)]
-mod tests;
 
 pub use certificate::{Certificate, Dual};
 pub use laws::{

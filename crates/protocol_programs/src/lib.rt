@@ -9,8 +9,3 @@ pub use counting::interference;
 pub use program_sources::ProgramSource;
 pub use programs::program;
 pub use written::Written;
-
-#[cfg(test)]
-mod cases;
-#[cfg(test)]
-mod tests;

@@ -6,6 +6,3 @@ mod table;
 
 pub use proved::full_table;
 pub use table::set_table;
-
-#[cfg(test)]
-mod tests;

@@ -1,9 +1,26 @@
-//! Worked runs of the program's one call, over files in memory.
+//! Worked runs of the program's one call, over files in memory, some of which fail; and what its commands stand on: ports, certificates as they
+//! are checked, tables, studies, charges and audits.
 #![tactic(auto)]
 
 #[cfg(test)]
+mod audit_tests;
+#[cfg(test)]
 mod cert_tests;
+#[cfg(test)]
+mod charge_tests;
+#[cfg(test)]
+mod check_tests;
+#[cfg(test)]
+mod hostile_tests;
+#[cfg(test)]
+mod port_tests;
 #[cfg(test)]
 mod size_tests;
 #[cfg(test)]
+mod study_tests;
+#[cfg(test)]
+mod table_tests;
+#[cfg(test)]
 mod tests;
+#[cfg(test)]
+mod texts;

@@ -12,8 +12,6 @@ mod row;
 mod row_list;
 mod rule;
 mod script;
-#[cfg(test)]
-mod tests;
 
 pub use job::{Job, JobId, Segment};
 pub use job_list::JobList;

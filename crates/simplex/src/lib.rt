@@ -133,6 +133,3 @@ fn run(alloc: Global, program: &Program, units: u64) -> Result<Solved, SolveStop
     }
     Err(SolveStop::Units)
 }
-
-#[cfg(test)]
-mod tests;

@@ -23,6 +23,3 @@ pub use parts::{Parts, RequestPart, ResourcePart, TaskPart};
 pub use refusal::{ModelRefusal, Place, SizeOf};
 pub use set_laws::{limits_are_fixed, refusals_are_exact};
 pub use task_set::TaskSet;
-
-#[cfg(test)]
-mod tests;

@@ -9,6 +9,3 @@ mod parts;
 
 pub use counting::{StudyCounts, study};
 pub use parts::make_set;
-
-#[cfg(test)]
-mod tests;

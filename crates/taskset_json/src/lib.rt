@@ -9,8 +9,6 @@ mod members;
 mod reading;
 mod refusal;
 mod shape;
-#[cfg(test)]
-mod tests;
 mod written;
 
 pub use form::{Kind, Member, is_object_of, must};

@@ -7,8 +7,6 @@ mod refusal;
 mod rows;
 mod script;
 mod table;
-#[cfg(test)]
-mod tests;
 mod writing;
 
 pub use jobs::read_jobs;

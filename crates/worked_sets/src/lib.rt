@@ -8,6 +8,3 @@ mod rows;
 pub use building::set_of;
 pub use homes::suits;
 pub use rows::{EntryRow, SetRow, TaskRow};
-
-#[cfg(test)]
-mod tests;

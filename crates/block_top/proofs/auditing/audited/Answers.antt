@@ -4,10 +4,10 @@ use Rattle.schedule_model.specs.RowDef.{trace_in, ticks_of}
 use Rattle.schedule_model.proofs.RowListLaws.{made_fits}
 use Rattle.audit_figures.specs.Figures.{no_figures}
 use Rattle.std.specs.Prelude.{slice_index_or}
-use Rattle.block_top.specs.Plans.{Answer}
+use Rattle.run_plans.specs.Plans.{Answer}
 use Rattle.answer_texts.specs.Texts.{kept_text}
-use Rattle.block_top.specs.Replies.{reply_seen}
-use Rattle.block_top.proofs.AuditLaws.{kept_audit}
+use Rattle.run_plans.specs.Replies.{reply_seen}
+use Rattle.run_plans.proofs.AuditLaws.{kept_audit}
 use Rattle.block_top.proofs.auditing.audited.Goals as goal
 
 pub audit-requires-clause-fits : goal.audit-requires-clause-fits

@@ -1,9 +1,9 @@
 use Rattle.program_form.specs.Certificate.{certificate_seen}
-use Rattle.block_top.specs.Inputs.{cert_input}
-use Rattle.block_top.specs.Commands.{auditing_jobs}
-use Rattle.block_top.specs.Outcome.{IsReplyOf}
-use Rattle.block_top.specs.Replies.{Answered}
-use Rattle.block_top.proofs.ReplyLaws.{replied_got}
+use Rattle.run_plans.specs.Inputs.{cert_input}
+use Rattle.run_plans.specs.Commands.{auditing_jobs}
+use Rattle.run_plans.specs.Outcome.{IsReplyOf}
+use Rattle.run_plans.specs.Replies.{Answered}
+use Rattle.run_plans.proofs.ReplyLaws.{replied_got}
 use Rattle.block_top.proofs.commands.audited_reply.Goals as goal
 
 pub returns-clause-reply : goal.returns-clause-reply

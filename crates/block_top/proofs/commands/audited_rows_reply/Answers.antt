@@ -1,9 +1,9 @@
 use Rattle.program_form.specs.Certificate.{CertificateDef, certificate_seen}
 use Rattle.schedule_model.specs.RowDef.{trace_in, ticks_of}
-use Rattle.block_top.specs.Plans.{Answer, Working}
-use Rattle.block_top.specs.Inputs.{rows_input}
-use Rattle.block_top.specs.Commands.{IsAudit, audit_of}
-use Rattle.block_top.proofs.ReplyLaws.{replied_work}
+use Rattle.run_plans.specs.Plans.{Answer, Working}
+use Rattle.run_plans.specs.Inputs.{rows_input}
+use Rattle.run_plans.specs.Commands.{IsAudit, audit_of}
+use Rattle.run_plans.proofs.ReplyLaws.{replied_work}
 use Rattle.block_top.proofs.commands.audited_rows_reply.Goals as goal
 
 pub returns-clause-reply : goal.returns-clause-reply

@@ -1,10 +1,10 @@
 use Rattle.std.proofs.Common.{ℕ, sym, ap, subst, inr}
 use Rattle.command_words.specs.Words.{Form, Study}
-use Rattle.block_top.specs.Commands.{IsStudyAnswer, plan_of}
+use Rattle.run_plans.specs.Commands.{IsStudyAnswer, plan_of}
 use Rattle.command_words.specs.FormSeen.{form_seen}
-use Rattle.block_top.specs.Outcome.{Shown, IsReplyOf}
-use Rattle.block_top.specs.Replies.{Answered}
-use Rattle.block_top.proofs.ReplyLaws.{answered_also}
+use Rattle.run_plans.specs.Outcome.{Shown, IsReplyOf}
+use Rattle.run_plans.specs.Replies.{Answered}
+use Rattle.run_plans.proofs.ReplyLaws.{answered_also}
 use Rattle.block_top.proofs.commands.command_reply.Goals as goal
 
 pub returns-in-Study-clause-reply : goal.returns-in-Study-clause-reply

@@ -1,8 +1,8 @@
-use Rattle.block_top.specs.Inputs.{set_input}
-use Rattle.block_top.specs.Commands.{judging_jobs}
-use Rattle.block_top.specs.Outcome.{IsReplyOf}
-use Rattle.block_top.specs.Replies.{Answered}
-use Rattle.block_top.proofs.ReplyLaws.{replied_got}
+use Rattle.run_plans.specs.Inputs.{set_input}
+use Rattle.run_plans.specs.Commands.{judging_jobs}
+use Rattle.run_plans.specs.Outcome.{IsReplyOf}
+use Rattle.run_plans.specs.Replies.{Answered}
+use Rattle.run_plans.proofs.ReplyLaws.{replied_got}
 use Rattle.block_top.proofs.commands.conform_reply.Goals as goal
 
 pub returns-clause-reply : goal.returns-clause-reply

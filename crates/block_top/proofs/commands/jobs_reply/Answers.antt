@@ -1,11 +1,11 @@
 use Rattle.std.proofs.Common.{sym, subst}
 use Rattle.sporadic_model.specs.SetDef.{SetDef}
 use Rattle.sporadic_model.specs.Homes.{HasHomesFor}
-use Rattle.block_top.specs.Inputs.{jobs_input}
-use Rattle.block_top.specs.Commands.{judging_rows}
-use Rattle.block_top.specs.Outcome.{IsReplyOf}
-use Rattle.block_top.specs.Replies.{Answered}
-use Rattle.block_top.proofs.ReplyLaws.{replied_got}
+use Rattle.run_plans.specs.Inputs.{jobs_input}
+use Rattle.run_plans.specs.Commands.{judging_rows}
+use Rattle.run_plans.specs.Outcome.{IsReplyOf}
+use Rattle.run_plans.specs.Replies.{Answered}
+use Rattle.run_plans.proofs.ReplyLaws.{replied_got}
 use Rattle.block_top.proofs.commands.jobs_reply.Goals as goal
 
 pub rows_reply-requires : goal.rows_reply-requires

@@ -1,8 +1,8 @@
 use Rattle.program_form.specs.Certificate.{CertificateDef, certificate_seen}
-use Rattle.block_top.specs.Plans.{Answer, Working}
-use Rattle.block_top.specs.Inputs.{cert_input}
-use Rattle.block_top.specs.Commands.{IsJudgement, reported_answer, full_table_of}
-use Rattle.block_top.proofs.ReplyLaws.{replied_work}
+use Rattle.run_plans.specs.Plans.{Answer, Working}
+use Rattle.run_plans.specs.Inputs.{cert_input}
+use Rattle.run_plans.specs.Commands.{IsJudgement, reported_answer, full_table_of}
+use Rattle.run_plans.proofs.ReplyLaws.{replied_work}
 use Rattle.block_top.proofs.commands.proved_table_reply.Goals as goal
 
 pub returns-clause-reply : goal.returns-clause-reply

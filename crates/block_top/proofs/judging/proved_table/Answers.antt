@@ -2,7 +2,7 @@ use Rattle.std.proofs.Common.{◌≡◌, ℕ, List, ap, inl}
 use Rattle.std.specs.Prelude.{slice_index}
 use Rattle.program_form.specs.Certificate.{CertificateDef, certificate_seen}
 use Rattle.report.specs.FullTable.{full_text}
-use Rattle.block_top.proofs.JudgementLaws.{listed_table}
+use Rattle.run_plans.proofs.JudgementLaws.{listed_table}
 use Rattle.block_top.proofs.judging.proved_table.Goals as goal
 
 pub returns-in_ok-full_table-in-Ok : goal.returns-in_ok-full_table-in-Ok

@@ -1,6 +1,6 @@
 use Rattle.command_words.specs.Words.{words_seen}
-use Rattle.block_top.specs.Headline.{Call}
-use Rattle.block_top.proofs.CheckedLaws.{finds_valid}
+use Rattle.run_plans.specs.Headline.{Call}
+use Rattle.run_plans.proofs.CheckedLaws.{finds_valid}
 use Rattle.block_top.proofs.laws.analysed_then_checked.Goals as goal
 
 pub returns : goal.returns

@@ -1,7 +1,7 @@
 use Rattle.std.proofs.Common.{refl, arith, ◌∙◌, ◌^◌, ◌-◌, ◌<◌, ◌≤◌}
 use Rattle.command_words.specs.Words.{words_seen}
-use Rattle.block_top.specs.Headline.{Call}
-use Rattle.block_top.proofs.TwiceLaws.{complete_over}
+use Rattle.run_plans.specs.Headline.{Call}
+use Rattle.run_plans.proofs.TwiceLaws.{complete_over}
 use Rattle.block_top.proofs.laws.two_runs.Goals as goal
 
 pub returns-clause-first : goal.returns-clause-first

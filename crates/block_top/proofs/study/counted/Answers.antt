@@ -1,5 +1,5 @@
 use Rattle.std.proofs.Common.{ℕ, List, ap}
-use Rattle.block_top.specs.Plans.{Answer}
+use Rattle.run_plans.specs.Plans.{Answer}
 use Rattle.block_top.proofs.study.counted.Goals as goal
 
 pub returns : goal.returns

@@ -2,9 +2,9 @@ use Rattle.std.proofs.Common.{refl, ◌≡◌, ◌-◌, ◌≤◌, ℕ, length}
 use Rattle.std.specs.Io.KnownBytes.{Appends}
 use Rattle.outside_ports.specs.Prefix.{AppendsPart}
 use Rattle.command_words.specs.Words.{words_seen}
-use Rattle.block_top.specs.Replies.{reply_seen}
-use Rattle.block_top.specs.Headline.{Call}
-use Rattle.block_top.proofs.RunLaws.{run_written, run_cut}
+use Rattle.run_plans.specs.Replies.{reply_seen}
+use Rattle.run_plans.specs.Headline.{Call}
+use Rattle.run_plans.proofs.RunLaws.{run_written, run_cut}
 use Rattle.block_top.proofs.top.run.Goals as goal
 
 pub returns-in-Ok-put_all-clause-run : goal.returns-in-Ok-put_all-clause-run

@@ -1,4 +1,4 @@
-use Rattle.block_top.proofs.ReplyLaws.{analysis_replied, names_task}
+use Rattle.run_plans.proofs.ReplyLaws.{analysis_replied, names_task}
 use Rattle.block_top.proofs.work.analysis.Goals as goal
 
 pub verdict_reply-requires : goal.verdict_reply-requires

@@ -1,8 +1,8 @@
 use Rattle.schedule_model.specs.RowDef.{trace_in, ticks_of}
 use Rattle.schedule_model.proofs.RowListLaws.{made_fits}
 use Rattle.trace_conform.specs.ByProtocol.{rules_of, interference_of}
-use Rattle.block_top.specs.Replies.{reply_seen}
-use Rattle.block_top.proofs.ConformLaws.{measured_conformance}
+use Rattle.run_plans.specs.Replies.{reply_seen}
+use Rattle.run_plans.proofs.ConformLaws.{measured_conformance}
 use Rattle.block_top.proofs.work.conformance.Goals as goal
 
 pub conform-requires-clause-fits : goal.conform-requires-clause-fits

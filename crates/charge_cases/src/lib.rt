@@ -1,5 +1,0 @@
-//! Worked cases of charged schedules, from the texts of a set, of its jobs and of the rows.
-#![tactic(auto)]
-
-#[cfg(test)]
-mod tests;

@@ -1,0 +1,19 @@
+//! Worked fractions and programs, and worked sets of tasks with the programs that the protocols give them.
+#![tactic(auto)]
+
+#[cfg(test)]
+mod building_tests;
+#[cfg(test)]
+mod form_tests;
+#[cfg(test)]
+mod fraction_tests;
+#[cfg(test)]
+mod protocol_rows;
+#[cfg(test)]
+mod protocol_tests;
+#[cfg(test)]
+mod set_tests;
+#[cfg(test)]
+mod simplex_tests;
+#[cfg(test)]
+mod threads;

@@ -1,0 +1,199 @@
+ghost use Rattle.std.specs.Prelude.{◌<◌, length, map, IsTrue};
+ghost use Rattle.program_sources.specs.Bounds.{AreWithinDeadlines};
+
+use crate::protocol_rows::{BESIDE, CASES, Case, LOCAL, PATHS};
+use crate::threads::may_cross_threads;
+use fragments::{Class, Fragment, cnt};
+use program_form::{Program, RowBlock};
+use protocol_programs::{ProgramSource, Written};
+use sporadic_model::{Protocol, ResourceId, TaskId, TaskSet};
+use std::alloc::{AllocError, Global};
+use std::test::Fail;
+use worked_sets::{SetRow, set_of, suits};
+
+fn are_within(set: &TaskSet, bounds: &[u64]) -> bool
+    ensures { IsTrue result → AreWithinDeadlines set.now bounds.now }
+{
+    if bounds.len() != set.tasks() as usize {
+        return false;
+    }
+    for i in 0..set.tasks() {
+        if bounds[i as usize] > set.deadline(TaskId(i)) {
+            return false;
+        }
+    }
+    true
+}
+
+/// The program of the case, made by the source of the protocol's programs.
+fn formed(alloc: Global, set: &TaskSet, case: &Case) -> Result<Program, Fail> {
+    let task = TaskId(case.task);
+    if case.task < set.tasks() && suits(set, case.protocol) && are_within(set, case.bounds) {
+        return Ok(Written(case.protocol).program(alloc, set, task, case.bounds)?);
+    }
+    Err("out of range".into())
+}
+
+/// Are these the columns?
+fn are_columns(columns: &[Fragment], wanted: &[(u32, u32, Class, u64)]) -> bool {
+    columns.len() == wanted.len()
+        && columns.iter().zip(wanted.iter()).all(|(column, (task, resource, class, _))| {
+            column.task.0 == *task && column.resource.0 == *resource && column.class == *class
+        })
+}
+
+/// The coefficients of a row.
+fn row_of(alloc: Global, program: &Program, r: u32) -> Result<Vec<u64>, AllocError>
+    requires { r < length program.now.rows }
+{
+    let mut row = Vec::new(alloc);
+    for c in 0..program.columns() {
+        row.push(program.entry(r, c))?;
+    }
+    Ok(row)
+}
+
+#[test]
+fn gives_the_columns(rt: HostRuntime) -> Result<(), Fail> {
+    let alloc = rt.alloc();
+    for case in CASES {
+        let set = set_of(alloc, case.set)?;
+        if case.task >= set.tasks() || !suits(&set, case.protocol) {
+            return Err("out of range".into());
+        }
+        let columns = fragments::fragments(alloc, &set, case.protocol, TaskId(case.task))?;
+        assert!(rt; are_columns(&columns, case.columns));
+    }
+    Ok(())
+}
+
+#[test]
+fn gives_the_costs_and_the_limits(rt: HostRuntime) -> Result<(), Fail> {
+    let alloc = rt.alloc();
+    for case in CASES {
+        let set = set_of(alloc, case.set)?;
+        let program = formed(alloc, &set, case)?;
+        assert_eq!(rt; program.columns() as usize, case.columns.len());
+        assert_eq!(rt; program.rows() as usize, case.limits.len());
+        for c in 0..program.columns() {
+            let wanted = case.columns.get(c as usize).copied();
+            assert_eq!(rt; Some(program.cost(c)), wanted.map(|column| column.3));
+        }
+        for r in 0..program.rows() {
+            assert_eq!(rt;
+                Some(program.limit(r)),
+                case.limits.get(r as usize).copied()
+            );
+        }
+    }
+    Ok(())
+}
+
+#[test]
+fn gives_the_rows(rt: HostRuntime) -> Result<(), Fail> {
+    let alloc = rt.alloc();
+    for case in CASES {
+        let set = set_of(alloc, case.set)?;
+        let program = formed(alloc, &set, case)?;
+        assert_eq!(rt; program.rows() as usize, case.rows.len());
+        for r in 0..program.rows() {
+            let row = row_of(alloc, &program, r)?;
+            assert_eq!(rt; Some(row.as_slice()), case.rows.get(r as usize).copied());
+        }
+    }
+    Ok(())
+}
+
+/// The interference of the case's task at bounds that are no less than the costs.
+fn counted(
+    alloc: Global,
+    set: SetRow<'_>,
+    protocol: Protocol,
+    bounds: &[u64],
+) -> Result<u64, Fail> {
+    let set = set_of(alloc, set)?;
+    let at_costs = set.tasks() > 1 && are_within(&set, bounds) && bounds[0] >= set.cost(TaskId(0));
+    if at_costs && suits(&set, protocol) {
+        return Ok(Written(protocol).interference(&set, TaskId(1), bounds));
+    }
+    Err("out of range".into())
+}
+
+// At the bounds 4 and 9 two jobs of cost 2 count: the quotient of 9 + (4 - 2) and 10, rounded up, is 2. Of the task with a
+// local limit, at the bounds 6 and 9, two jobs: of its cost 4 under MPCP, where 9 + (6 - 4) is 11, and of its local limit 2
+// under DPCP, where 9 + (6 - 2) is 13.
+#[test]
+fn counts_the_interference(rt: HostRuntime) -> Result<(), Fail> {
+    let alloc = rt.alloc();
+    assert_eq!(rt; counted(alloc, BESIDE, Protocol::FmlpPlus, &[4, 9, 7])?, 4);
+    assert_eq!(rt; counted(alloc, LOCAL, Protocol::Mpcp, &[6, 9])?, 8);
+    assert_eq!(rt; counted(alloc, LOCAL, Protocol::Dpcp, &[6, 9])?, 4);
+    Ok(())
+}
+
+/// Has the block these rows and these limits?
+fn is_block(block: &RowBlock, rows: &[&'static [u64]], limits: &[u64]) -> bool {
+    block.limits.as_slice() == limits
+        && block.rows.len() == rows.len()
+        && block
+            .rows
+            .iter()
+            .zip(rows.iter())
+            .all(|(row, wanted)| row.as_slice() == *wanted)
+}
+
+/// Bounds equal to the costs of the set of the paths.
+const PATH_BOUNDS: [u64; 6] = [10; 6];
+
+// Eight common rows of the program of the paths, and none of preemption.
+#[test]
+fn gives_common_rows_and_those_of_preemption(rt: HostRuntime) -> Result<(), Fail> {
+    let alloc = rt.alloc();
+    let set = set_of(alloc, PATHS)?;
+    if set.tasks() != 6 || !are_within(&set, &PATH_BOUNDS) {
+        return Err("out of range".into());
+    }
+    let (i, mpcp) = (TaskId(3), Protocol::Mpcp);
+    let columns = fragments::fragments(alloc, &set, mpcp, i)?;
+    let common = direct_constraints::common(alloc, &set, mpcp, i, &PATH_BOUNDS, &columns)?;
+    let limits = [1, 1, 1, 1, 10, 10, 10, 10];
+    assert_eq!(rt; common.limits.as_slice(), limits.as_slice());
+    let preemption = preempt_constraints::rows(alloc, &set, mpcp, i, &PATH_BOUNDS, &columns)?;
+    assert!(rt; is_block(&preemption, &[], &[]));
+    Ok(())
+}
+
+// One row of lower holders, and one of holdings.
+#[test]
+fn gives_direct_and_indirect_rows(rt: HostRuntime) -> Result<(), Fail> {
+    let alloc = rt.alloc();
+    let set = set_of(alloc, PATHS)?;
+    if set.tasks() != 6 || !are_within(&set, &PATH_BOUNDS) {
+        return Err("out of range".into());
+    }
+    let (i, mpcp) = (TaskId(3), Protocol::Mpcp);
+    let columns = fragments::fragments(alloc, &set, mpcp, i)?;
+    let own = direct_constraints::own(alloc, &set, mpcp, i, &PATH_BOUNDS, &columns)?;
+    assert!(rt; is_block(&own, &[&[0, 0, 0, 1]], &[1]));
+    let indirect = indirect_constraints::rows(alloc, &set, mpcp, i, &PATH_BOUNDS, &columns)?;
+    assert!(rt; is_block(&indirect, &[&[0, 0, 1, 0]], &[3]));
+    Ok(())
+}
+
+// The bounds 60 and 60 are more than a period of 100 together, so two jobs count.
+#[test]
+fn counts_the_requests_in_a_window(rt: HostRuntime) -> Result<(), Fail> {
+    let set = set_of(rt.alloc(), PATHS)?;
+    let bounds = [60; 6];
+    if set.tasks() != 6 || set.resources() != 2 || !are_within(&set, &bounds) {
+        return Err("out of range".into());
+    }
+    assert_eq!(rt; cnt(&set, TaskId(3), TaskId(4), ResourceId(1), &bounds), 2);
+    Ok(())
+}
+
+#[test]
+fn sources_may_cross_threads() {
+    may_cross_threads(&Written(Protocol::Mpcp));
+    may_cross_threads(&(Class::Direct, TaskId(0)));
+}

@@ -1,0 +1,182 @@
+use crate::texts::set_of;
+use audit_figures::{AuditStop, TaskFigures, audit};
+use dual_check::{Invalid, has_denominators};
+use program_form::{Certificate, Dual};
+use schedule_model::{JobList, RowList, Rule};
+use sporadic_model::{Protocol, TaskId, TaskSet};
+use std::alloc::{AllocError, Global};
+use std::test::Fail;
+use taskset_json::home_check;
+use worked_files::*;
+
+/// Bounds, and the numerators of each dual, whose denominators are 1.
+type Proof = (&'static [u64], &'static [&'static [u64]]);
+
+fn certificate_of(alloc: Global, proof: Proof) -> Result<Certificate, AllocError> {
+    let (bounds, numerators) = proof;
+    let mut duals = Vec::new(alloc);
+    for num in numerators {
+        duals.push(Dual {
+            den: 1,
+            num: Vec::from_slice(alloc, num)?,
+        })?;
+    }
+    Ok(Certificate {
+        bounds: Vec::from_slice(alloc, bounds)?,
+        duals,
+    })
+}
+
+/// What is answered of the rows and the certificate.
+fn audited(
+    alloc: Global,
+    protocol: Protocol,
+    certificate: &Certificate,
+    jobs: &JobList,
+    rows: &RowList,
+) -> Result<Result<Vec<TaskFigures>, AuditStop>, Fail> {
+    if home_check(jobs.set(), protocol).is_err() {
+        return Err("a resource has no home".into());
+    }
+    if !rows.fits(jobs) || !has_denominators(certificate) {
+        return Err("the rows or the denominators do not fit".into());
+    }
+    Ok(audit(alloc, protocol, certificate, jobs, rows))
+}
+
+/// The same for the texts of a set, jobs and rows.
+fn audit_of(
+    alloc: Global,
+    protocol: Protocol,
+    proof: Proof,
+    schedule: [&str; 3],
+) -> Result<Result<Vec<TaskFigures>, AuditStop>, Fail> {
+    let [set, jobs, rows] = schedule;
+    let set = set_of(alloc, set)?;
+    let Ok(jobs) = trace_csv::read_jobs(alloc, &set, jobs.as_bytes()) else {
+        return Err("the jobs are refused".into());
+    };
+    let Ok(rows) = trace_csv::read_rows(alloc, &jobs, rows.as_bytes()) else {
+        return Err("the rows are refused".into());
+    };
+    let certificate = certificate_of(alloc, proof)?;
+    audited(alloc, protocol, &certificate, &jobs, &rows)
+}
+
+/// The response, the bound, the blocking, the value, and the ticks of the three classes.
+type Numbers = (Option<u64>, u64, u64, u64, u64, u64, u64);
+
+fn figures_of(alloc: Global, tasks: &[Numbers]) -> Result<Vec<TaskFigures>, AllocError> {
+    let mut figures = Vec::new(alloc);
+    for numbers in tasks {
+        let (response, bound, blocking, value, direct, indirect, preemption) = *numbers;
+        figures.push(TaskFigures {
+            response,
+            bound,
+            blocking,
+            value,
+            direct,
+            indirect,
+            preemption,
+        })?;
+    }
+    Ok(figures)
+}
+
+/// The least bounds of `PAIR` under FMLP+, and greater ones with other duals.
+const PAIR_PROOF: Proof = (&[5, 5], &[&[2, 0, 0, 0], &[1, 0, 0, 0]]);
+
+const PAIR_WIDER: Proof = (&[6, 5], &[&[0, 0, 2, 0], &[0, 0, 1, 0]]);
+
+const HOME_PROOF: Proof = (&[6, 6], &[&[2, 0, 0], &[1, 1, 0]]);
+
+/// The schedule ends while the job of `t1` waits for `q`: it is not finished.
+const PAIR_CUT: &str = "ticks,P1,P2,q\n1,1,2,\n1,,2,2\n";
+
+/// A schedule under a protocol, a certificate, and the figures.
+type Case = (Protocol, Proof, [&'static str; 3], &'static [Numbers]);
+
+const CASES: [Case; 4] = [
+    (
+        Protocol::FmlpPlus,
+        PAIR_PROOF,
+        [PAIR, PAIR_JOBS, PAIR_LOWER_FIRST],
+        &[(Some(5), 5, 2, 2, 2, 0, 0), (Some(4), 5, 0, 1, 0, 0, 0)],
+    ),
+    (
+        Protocol::FmlpPlus,
+        PAIR_WIDER,
+        [PAIR, PAIR_JOBS, PAIR_LOWER_FIRST],
+        &[(Some(5), 6, 2, 2, 2, 0, 0), (Some(4), 5, 0, 1, 0, 0, 0)],
+    ),
+    (
+        Protocol::FmlpPlus,
+        PAIR_PROOF,
+        [PAIR, PAIR_JOBS, PAIR_CUT],
+        &[(None, 5, 1, 2, 1, 0, 0), (None, 5, 0, 1, 0, 0, 0)],
+    ),
+    (
+        Protocol::Dpcp,
+        HOME_PROOF,
+        [HOME, HOME_JOBS, HOME_ROWS],
+        &[(Some(4), 6, 1, 2, 0, 1, 0), (Some(4), 6, 0, 2, 0, 0, 0)],
+    ),
+];
+
+#[test]
+fn schedules_stand_beside_their_certificates(rt: HostRuntime) -> Result<(), Fail> {
+    for (protocol, proof, schedule, wanted) in CASES {
+        let Ok(figures) = audit_of(rt.alloc(), protocol, proof, schedule)? else {
+            return Err("no figures".into());
+        };
+        assert_eq!(rt;
+            figures,
+            figures_of(rt.alloc(), wanted)?,
+            "at {}",
+            schedule[2]
+        );
+    }
+    Ok(())
+}
+
+/// Bounds and duals for `PAIR`, rows, and what stops it.
+type Stop = (Proof, &'static str, AuditStop);
+
+const STOPS: [Stop; 3] = [
+    (
+        (&[4, 5], &[&[2, 0, 0, 0], &[1, 0, 0, 0]]),
+        PAIR_LOWER_FIRST,
+        AuditStop::Invalid(Invalid::Small(TaskId(0))),
+    ),
+    (
+        (&[5], &[&[2, 0, 0, 0]]),
+        PAIR_CROSSED,
+        AuditStop::Invalid(Invalid::Size),
+    ),
+    (
+        PAIR_PROOF,
+        PAIR_CROSSED,
+        AuditStop::Broken {
+            tick: 0,
+            rule: Rule::Run,
+        },
+    ),
+];
+
+// A certificate is judged before the rows.
+#[test]
+fn invalid_certificates_and_broken_rules_stop_it(rt: HostRuntime) -> Result<(), Fail> {
+    for (proof, rows, wanted) in STOPS {
+        let answer = audit_of(
+            rt.alloc(),
+            Protocol::FmlpPlus,
+            proof,
+            [PAIR, PAIR_JOBS, rows],
+        )?;
+        let Err(stop) = answer else {
+            return Err("figures".into());
+        };
+        assert_eq!(rt; stop, wanted, "at {}", rows);
+    }
+    Ok(())
+}

@@ -1,0 +1,131 @@
+-- Laws of judging a schedule: there is one answer, with status 0 or 1.
+use Rattle.std.proofs.Common.{◌≡◌, ℕ, ◌<◌, ◌++◌, ◌==◌, refl, sym, ◌∙◌, ap, subst, arith, inl, inr, ◌⊎◌}
+use Rattle.std.proofs.lemmas.Bool.{cases_lt}
+use Rattle.std.specs.Prelude.{Bool, length, codes, decimal, if◌then◌else◌, slice_index_or}
+use Rattle.sporadic_model.specs.SetDef.{SetDef, task_at}
+use Rattle.sporadic_model.specs.declared.ids.Protocol.{Protocol}
+use Rattle.schedule_model.specs.JobDef.{JobsDef}
+use Rattle.schedule_model.specs.RowDef.{Trace, trace_in, ticks_of}
+use Rattle.schedule_model.specs.Fitting.{RowsDef}
+use Rattle.schedule_model.specs.Keeping.{rule_number, KeepsBefore, IsFirstUnlawful}
+use Rattle.schedule_model.specs.Measures.{MeasuresDef, measures_of}
+use Rattle.schedule_model.specs.declared.rule.Rule.{Rule}
+use Rattle.schedule_model.specs.declared.rule.Rule.TheVariants as rule
+use Rattle.trace_conform.specs.ByProtocol.{rules_of, interference_of}
+use Rattle.trace_conform.specs.Measured.{measure_seen, no_measure}
+use Rattle.trace_conform.specs.Conforming.{AreMeasures}
+use Rattle.trace_conform.specs.declared.measures.Measured.{Measured}
+use Rattle.run_plans.specs.Plans.{Answer}
+use Rattle.answer_texts.specs.Texts.{measures_line, measures_lines, lawful_text, broken_text}
+use Rattle.run_plans.specs.Commands.{IsConformance, conformance_of}
+use Rattle.answer_texts.proofs.Lines.{lines_same}
+use Rattle.run_plans.proofs.PlanLaws.{IsPlain, IsLawfulWork, plain_at, plain_same}
+
+-- A rule is known by its number.
+rule_with : ℕ → Rule
+rule_with n = if n == 1 then rule.Run else if n == 2 then rule.Keep else if n == 3 then rule.Grant
+    else if n == 4 then rule.Idle else rule.Priority
+
+rule_with_own : (r : Rule) → rule_with (rule_number r) ≡ r
+unfolding rule_with
+rule_with_own rule.Run = refl
+rule_with_own rule.Keep = refl
+rule_with_own rule.Grant = refl
+rule_with_own rule.Idle = refl
+rule_with_own rule.Priority = refl
+
+same_rule : (r s : Rule) → rule_number r ≡ rule_number s → r ≡ s
+same_rule r s same = sym (rule_with_own r) ∙ ap rule_with same ∙ rule_with_own s
+
+-- The first row that breaks a rule is one, and so is the first rule that it breaks.
+no_later : (keeps : Rule → Trace → ℕ → Type 0) (w : Trace) (n t u : ℕ) (r s : Rule) → IsFirstUnlawful keeps w n t r
+    → IsFirstUnlawful keeps w n u s → t < u → ⊥
+no_later keeps w n t u r s p q less = p.breaks.broken (q.before t less r)
+
+no_earlier_rule : (keeps : Rule → Trace → ℕ → Type 0) (w : Trace) (n t : ℕ) (r s : Rule) → IsFirstUnlawful keeps w n t r
+    → IsFirstUnlawful keeps w n t s → rule_number r < rule_number s → ⊥
+no_earlier_rule keeps w n t r s p q less = p.breaks.broken (q.breaks.earlier r less)
+
+one_tick : (keeps : Rule → Trace → ℕ → Type 0) (w : Trace) (n t u : ℕ) (r s : Rule) → IsFirstUnlawful keeps w n t r
+    → IsFirstUnlawful keeps w n u s → t ≡ u
+one_tick keeps w n t u r s p q = elim (cases_lt t u) [
+  | inl less ↦ absurd (no_later keeps w n t u r s p q less)
+  | inr most ↦ elim (cases_lt u t) [ inl less ↦ absurd (no_later keeps w n u t s r q p less) | inr least ↦ omega arith ]
+]
+
+one_rule : (keeps : Rule → Trace → ℕ → Type 0) (w : Trace) (n t : ℕ) (r s : Rule) → IsFirstUnlawful keeps w n t r
+    → IsFirstUnlawful keeps w n t s → r ≡ s
+one_rule keeps w n t r s p q = elim (cases_lt (rule_number r) (rule_number s)) [
+  | inl less ↦ absurd (no_earlier_rule keeps w n t r s p q less)
+  | inr most ↦ elim (cases_lt (rule_number s) (rule_number r)) [
+    | inl less ↦ absurd (no_earlier_rule keeps w n t s r q p less)
+    | inr least ↦ same_rule r s (omega arith)
+  ]
+]
+
+abbrev pub broken_answer : ℕ → Rule → Answer
+broken_answer tick r = record { status = 1; text = broken_text tick r }
+
+pub one_broken : (keeps : Rule → Trace → ℕ → Type 0) (w : Trace) (n t u : ℕ) (r s : Rule)
+    → IsFirstUnlawful keeps w n t r → IsFirstUnlawful keeps w n u s → broken_answer t r ≡ broken_answer u s
+one_broken keeps w n t u r s p q =
+    let ticks : t ≡ u = one_tick keeps w n t u r s p q in
+    let p' : IsFirstUnlawful keeps w n u r = subst (λ x. IsFirstUnlawful keeps w n x r) ticks p in
+    ap (λ x. broken_answer x r) ticks ∙ ap (λ x. broken_answer u x) (one_rule keeps w n u r s p' q)
+
+-- A schedule that keeps the rules has no row that breaks one.
+pub not_both : (keeps : Rule → Trace → ℕ → Type 0) (w : Trace) (n t : ℕ) (r : Rule) → KeepsBefore keeps w n
+    → IsFirstUnlawful keeps w n t r → ⊥
+not_both keeps w n t r kept p = p.breaks.broken (kept t p.within r)
+
+one_conformance : (keeps : Rule → Trace → ℕ → Type 0) (interferes : Trace → ℕ → ℕ → Bool) (w : Trace) (n : ℕ)
+    (a b : Answer) → IsConformance keeps interferes w n a → IsConformance keeps interferes w n b → a ≡ b
+one_conformance keeps interferes w n a b (inl (kept, is)) (inl (kept', is')) = is ∙ sym is'
+one_conformance keeps interferes w n a b (inl (kept, is)) (inr (t, r, first, is')) = absurd (not_both keeps w n t r kept first)
+one_conformance keeps interferes w n a b (inr (t, r, first, is)) (inl (kept, is')) = absurd (not_both keeps w n t r kept first)
+one_conformance keeps interferes w n a b (inr (t, r, first, is)) (inr (u, s, first', is')) =
+    is ∙ one_broken keeps w n t u r s first first' ∙ sym is'
+
+conformance_status : (keeps : Rule → Trace → ℕ → Type 0) (interferes : Trace → ℕ → ℕ → Bool) (w : Trace) (n : ℕ)
+    (a : Answer) → IsConformance keeps interferes w n a → (a.status ≡ 0) ⊎ (a.status ≡ 1)
+conformance_status keeps interferes w n a (inl (kept, is)) = inl (ap (λ x. x.status) is)
+conformance_status keeps interferes w n a (inr (t, r, first, is)) = inr (ap (λ x. x.status) is)
+
+conformance_plain : (keeps : Rule → Trace → ℕ → Type 0) (interferes : Trace → ℕ → ℕ → Bool) (w : Trace) (n : ℕ)
+    (a : Answer) → IsConformance keeps interferes w n a → IsPlain a
+conformance_plain keeps interferes w n a (inl (kept, is)) =
+    let text = lawful_text w.set n (measures_of interferes w n) in
+    plain_same a (record { status = 0; text = text }) is (plain_at 0 text (inl (inl refl)))
+conformance_plain keeps interferes w n a (inr (t, r, first, is)) =
+    plain_same a (broken_answer t r) is (plain_at 1 (broken_text t r) (inl (inr refl)))
+
+pub conformance_lawful : (protocol : Protocol) (jobs : JobsDef) (rows : RowsDef) → IsLawfulWork (conformance_of protocol jobs rows)
+conformance_lawful protocol jobs rows =
+    let keeps = rules_of protocol in
+    let interferes = interference_of protocol in
+    let w = trace_in jobs rows.runs in
+    let n = ticks_of rows.runs in
+    record {
+      one = one_conformance keeps interferes w n;
+      plain = conformance_plain keeps interferes w n;
+      well = λ well a is. conformance_status keeps interferes w n a is;
+    }
+
+-- The text with the measures that were taken is that with the measures of the schedule.
+lawful_same : (set : SetDef) (n : ℕ) (f g : ℕ → MeasuresDef) → ((x : ℕ) → x < length set.tasks → f x ≡ g x)
+    → lawful_text set n f ≡ lawful_text set n g
+lawful_same set n f g same =
+    let lines : measures_lines set f ≡ measures_lines set g =
+    lines_same (λ x. measures_line (task_at set x).name (f x)) (λ x. measures_line (task_at set x).name (g x)) (length set.tasks)
+    (λ x below. ap (λ m. measures_line (task_at set x).name m) (same x below)) in
+    ap (λ t. codes "lawful " ++ (decimal n ++ (codes "\n" ++ t))) lines
+
+pub measured_conformance : (keeps : Rule → Trace → ℕ → Type 0) (interferes : Trace → ℕ → ℕ → Bool) (w : Trace) (n : ℕ)
+    (m : Measured) (a : Answer) → KeepsBefore keeps w n × AreMeasures interferes w n m
+    → a
+    ≡ record { status = 0; text = lawful_text w.set n (λ x. measure_seen (slice_index_or m.tasks.items x no_measure)) }
+    → IsConformance keeps interferes w n a
+measured_conformance keeps interferes w n m a (kept, measures) is =
+    let texts = lawful_same w.set n (λ x. measure_seen (slice_index_or m.tasks.items x no_measure))
+    (measures_of interferes w n) measures.each in
+    inl (kept, is ∙ ap (λ t. record { status = 0; text = t }) texts)

@@ -1,0 +1,300 @@
+-- What is true of a call, from what was replied and what was written.
+use Rattle.std.proofs.Common.{◌≡◌, ◌≢◌, ℕ, ◌-◌, ◌<◌, ◌≤◌, ◌↔◌, List, length, refl, sym, ◌∙◌, ap, subst, arith, inl, inr, ◌⊎◌, Some, None}
+use Rattle.std.specs.Prelude.{Option, MatchOption, codes}
+use Rattle.outside_ports.specs.Counts.{Rose}
+use Rattle.outside_ports.specs.Names.{Inputs}
+use Rattle.outside_ports.specs.declared.whole.TheConstants.{GREATEST_INPUT_BYTES}
+use Rattle.program_form.specs.Certificate.{DualDef}
+use Rattle.sporadic_model.specs.SetDef.{SetDef}
+use Rattle.sporadic_model.specs.declared.ids.Protocol.{Protocol}
+use Rattle.response_fixpoint.specs.Rounds.{Ending, Schedulable, NotShown, Wide, Allowance, EndsIn}
+use Rattle.response_fixpoint.specs.Runs.{rounds_of}
+use Rattle.response_fixpoint.specs.Written.{written, RequestsNothing}
+use Rattle.response_fixpoint.proofs.EndLaws.{schedulable_best, not_shown_none}
+use Rattle.response_fixpoint.proofs.WrittenLaws.{no_columns, written_above}
+use Rattle.response_fixpoint.proofs.RunLaws.{rounds_never_wide}
+use Rattle.program_sources.specs.Fitting.{AreFitting}
+use Rattle.run_plans.specs.Plans.{Answer, Working, refused, IsWorking, IsOutcomeOf}
+use Rattle.command_words.specs.Words.{Form, Analyse, Check, form_of}
+use Rattle.run_plans.specs.Inputs.{set_input}
+use Rattle.run_plans.specs.Commands.{ending_answer, IsAnalysis, analysis_of, plan_of}
+use Rattle.run_plans.specs.Outcome.{Shown, shown_by, told, refused_words, IsOutcome, IsReplyOf, IsReply}
+use Rattle.run_plans.specs.Headline.{Call, RanOut, WritesSchedulable, Analyses, IsHeadline}
+use Rattle.run_plans.specs.Run.{shelf_of, Gives, FailsToWrite, Replies, GivesOutcome, IsRun, AnalysisEnds, IsWideEnding, IsAllowanceEnding}
+use Rattle.run_plans.proofs.PlanLaws.{told_implied, outcome_implied, rest_of, one_of_plan, plan_plain, plan_well, plan_longer, fault_status}
+use Rattle.run_plans.proofs.InputLaws.{set_reads_once}
+use Rattle.run_plans.proofs.CommandLaws.{lawful, wide_ending, only_wide, only_short}
+use Rattle.run_plans.proofs.SoundLaws.{sound_outcome}
+use Rattle.run_plans.proofs.SetTextLaws.{reads_text}
+
+-- What follows from a reply to words of this form, or of none.
+pub record Replied (shelf : Shown) (o : Option Form) (a : Answer) : Type 0 where
+  pub two : a.status ≡ 2 → o ≡ None
+  pub none : o ≡ None → a ≡ refused_words
+  pub four : a.status ≡ 4 → Rose shelf.before shelf.now
+  pub five : a.status ≡ 5 → (form : Form) × (o ≡ Some form) × AnalysisEnds (shown_by shelf) form IsWideEnding
+  pub six : a.status ≡ 6 → (form : Form) × (o ≡ Some form) × AnalysisEnds (shown_by shelf) form IsAllowanceEnding
+  pub most : a.status ≤ 6
+  pub long : (form : Form) → o ≡ Some form → (IsWorking (plan_of form) → ⊥) → GREATEST_INPUT_BYTES < shelf.given
+      → (word : List ℕ) × (a ≡ refused word (codes "toolong"))
+  pub outcome : (inputs : Inputs) → shelf.names ≡ Some inputs
+      → (MatchOption o (a ≡ refused_words) (λ form. IsOutcomeOf (told inputs) (plan_of form) a))
+      ⊎ (Rose shelf.before shelf.now × (a.status ≡ 4))
+
+not_none : (form : Form) (o : Option Form) → o ≡ Some form → o ≡ None → ⊥
+not_none form o some none = let both : Some form ≡ None = sym some ∙ none in cc
+
+same_form : (form other : Form) → Some form ≡ Some other → form ≡ other
+same_form form other e = cc
+
+pub replied : (shelf : Shown) (o : Option Form) (a : Answer)
+    → MatchOption o (a ≡ refused_words) (λ form. IsReplyOf shelf (plan_of form) a) → Replied shelf o a
+replied shelf None a is =
+    let two : a.status ≡ 2 = ap (λ x. x.status) is in
+    record {
+      two = λ e. refl;
+      none = λ e. is;
+      four = λ e. absurd (omega (arith, two, e));
+      five = λ e. absurd (omega (arith, two, e));
+      six = λ e. absurd (omega (arith, two, e));
+      most = omega (arith, two);
+      long = λ form some more long. absurd (not_none form None some refl);
+      outcome = λ inputs tells. inl is;
+    }
+replied shelf (Some form) a (inl (rose, small, fault)) =
+    let four : a.status ≡ 4 = fault_status (shown_by shelf) (plan_of form) a fault in
+    record {
+      two = λ e. absurd (omega (arith, four, e));
+      none = λ e. absurd (not_none form (Some form) refl e);
+      four = λ e. rose;
+      five = λ e. absurd (omega (arith, four, e));
+      six = λ e. absurd (omega (arith, four, e));
+      most = omega (arith, four);
+      long = λ other some more long. absurd (omega (arith, small, long));
+      outcome = λ inputs tells. inr (rose, four);
+    }
+replied shelf (Some form) a (inr out) =
+    let plain = plan_plain (shown_by shelf) (plan_of form) (lawful form) a out in
+    record {
+      two = λ e. absurd (plain.words e);
+      none = λ e. absurd (not_none form (Some form) refl e);
+      four = λ e. absurd (plain.fault e);
+      five = λ e. (form, refl, only_wide (shown_by shelf) form a out e);
+      six = λ e. (form, refl, only_short (shown_by shelf) form a out e);
+      most = plain.most;
+      long = λ other some more long. (
+          let same : form ≡ other = same_form form other some in
+          plan_longer shelf (plan_of form) (λ w. more (subst (λ (x : Form). IsWorking (plan_of x)) same w)) a out long);
+      outcome = λ inputs tells. inl (outcome_implied (shown_by shelf) (told inputs) (told_implied shelf inputs tells) (plan_of form) a out);
+    }
+
+-- Words and named inputs have one outcome.
+one_of_form : (inputs : Inputs) (o : Option Form) (a b : Answer)
+    → MatchOption o (a ≡ refused_words) (λ form. IsOutcomeOf (told inputs) (plan_of form) a)
+    → MatchOption o (b ≡ refused_words) (λ form. IsOutcomeOf (told inputs) (plan_of form) b) → a ≡ b
+one_of_form inputs None a b p q = p ∙ sym q
+one_of_form inputs (Some form) a b p q = one_of_plan inputs (plan_of form) (lawful form) a b p q
+
+pub one_outcome : (inputs : Inputs) (words : List (List ℕ)) (a b : Answer) → IsOutcome inputs words a → IsOutcome inputs words b → a ≡ b
+one_outcome inputs words a b p q = one_of_form inputs (form_of words) a b p q
+
+pub of_form : (inputs : Inputs) (words : List (List ℕ)) (form : Form) (a : Answer) → form_of words ≡ Some form
+    → IsOutcome inputs words a → IsOutcomeOf (told inputs) (plan_of form) a
+of_form inputs words form a is out =
+    subst (λ (o : Option Form). MatchOption o (a ≡ refused_words) (λ f. IsOutcomeOf (told inputs) (plan_of f) a)) is out
+
+-- What a call that analyses a set answers, where it gives its outcome.
+record Ended (protocol : Protocol) (set : SetDef) (allowance : ℕ) (a : Answer) : Type 0 where
+  ending : Ending
+  ends : EndsIn (rounds_of (written protocol set)) allowance ending
+  is : a ≡ ending_answer protocol set ending
+
+ended : (call : Call) (protocol : Protocol) (set : SetDef) (analyses : Analyses call protocol set) (a : Answer)
+    → IsOutcome analyses.inputs call.words a → Ended protocol set analyses.allowance a
+ended call protocol set analyses a out =
+    let plan = of_form analyses.inputs call.words (Analyse protocol analyses.name analyses.allowance) a analyses.form_is out in
+    let read = analyses.read in
+    let analysis : IsAnalysis protocol set analyses.allowance a =
+    rest_of analyses.inputs (set_input protocol) analyses.name
+    (λ bytes x. Working (analysis_of protocol x analyses.allowance)) read.bytes set a (set_reads_once protocol)
+    ((read.named, read.short), reads_text protocol read.bytes set read.text) plan in
+    record { ending = analysis.0; ends = analysis.1; is = analysis.2 }
+
+writes : (call : Call) (protocol : Protocol) (set : SetDef) (allowance : ℕ) (bounds : List ℕ) (duals : List DualDef)
+    (a : Answer) → EndsIn (rounds_of (written protocol set)) allowance (Schedulable bounds duals)
+    → a ≡ ending_answer protocol set (Schedulable bounds duals) → Gives call a → WritesSchedulable call protocol set
+writes call protocol set allowance bounds duals a ends is gives =
+    let right = schedulable_best (written protocol set) allowance bounds duals (written_above protocol set) ends in
+    let moved : Gives call (ending_answer protocol set (Schedulable bounds duals)) = subst (λ (x : Answer). Gives call x) is gives in
+    (record { bounds = bounds; duals = duals }, moved.0, moved.1, right.least, right.optimal)
+
+-- The headline's two halves without its last premise.
+least_of : (call : Call) (protocol : Protocol) (set : SetDef) (n : ℕ) (e : Ending) (a : Answer)
+    → EndsIn (rounds_of (written protocol set)) n e → a ≡ ending_answer protocol set e → Gives call a → call.status ≡ 0
+    → WritesSchedulable call protocol set
+least_of call protocol set n (Schedulable bounds duals) a ends is gives zero = writes call protocol set n bounds duals a ends is gives
+least_of call protocol set n (NotShown i value) a ends is gives zero =
+    let s : a.status ≡ 1 = ap (λ x. x.status) is in absurd (omega (arith, gives.0))
+least_of call protocol set n (Wide i) a ends is gives zero = let s : a.status ≡ 5 = ap (λ x. x.status) is in absurd (omega (arith, gives.0))
+least_of call protocol set n Allowance a ends is gives zero =
+    let s : a.status ≡ 6 = ap (λ x. x.status) is in absurd (omega (arith, gives.0))
+
+none_of : (call : Call) (protocol : Protocol) (set : SetDef) (n : ℕ) (e : Ending) (a : Answer)
+    → EndsIn (rounds_of (written protocol set)) n e → a ≡ ending_answer protocol set e → Gives call a → call.status ≡ 1
+    → (s : List ℕ) → AreFitting (written protocol set) s → ⊥
+none_of call protocol set n (Schedulable bounds duals) a ends is gives one =
+    let s : a.status ≡ 0 = ap (λ x. x.status) is in absurd (omega (arith, gives.0))
+none_of call protocol set n (NotShown i value) a ends is gives one =
+    not_shown_none (written protocol set) n i value (written_above protocol set) ends
+none_of call protocol set n (Wide i) a ends is gives one = let s : a.status ≡ 5 = ap (λ x. x.status) is in absurd (omega (arith, gives.0))
+none_of call protocol set n Allowance a ends is gives one = let s : a.status ≡ 6 = ap (λ x. x.status) is in absurd (omega (arith, gives.0))
+
+exactly_of : (call : Call) (protocol : Protocol) (set : SetDef) (n : ℕ) (e : Ending) (a : Answer)
+    → EndsIn (rounds_of (written protocol set)) n e → a ≡ ending_answer protocol set e → Gives call a
+    → call.status ≢ 5 → call.status ≢ 6 → WritesSchedulable call protocol set ↔ ((s : List ℕ) × AreFitting (written protocol set) s)
+exactly_of call protocol set n (Schedulable bounds duals) a ends is gives no_wide no_allowance =
+    (λ w. (w.0.bounds, w.3.fitting), λ fits. writes call protocol set n bounds duals a ends is gives)
+exactly_of call protocol set n (NotShown i value) a ends is gives no_wide no_allowance = (
+  λ w. (w.0.bounds, w.3.fitting),
+  λ fits. absurd (not_shown_none (written protocol set) n i value (written_above protocol set) ends fits.0 fits.1),
+)
+exactly_of call protocol set n (Wide i) a ends is gives no_wide no_allowance = absurd (no_wide (gives.0 ∙ ap (λ x. x.status) is))
+exactly_of call protocol set n Allowance a ends is gives no_wide no_allowance = absurd (no_allowance (gives.0 ∙ ap (λ x. x.status) is))
+
+headline_of : (call : Call) (protocol : Protocol) (set : SetDef) (n : ℕ) (a : Answer) → Ended protocol set n a
+    → Gives call a → IsHeadline call protocol set
+headline_of call protocol set n a e gives = record {
+  exactly = λ shelf sink ran no_wide no_allowance. exactly_of call protocol set n e.ending a e.ends e.is gives no_wide no_allowance;
+  least = least_of call protocol set n e.ending a e.ends e.is gives;
+  none = none_of call protocol set n e.ending a e.ends e.is gives;
+}
+
+-- An analysis of a set that requests nothing is never wide.
+never_five : (protocol : Protocol) (set : SetDef) (n : ℕ) (a : Answer) → Ended protocol set n a → RequestsNothing set → a.status ≡ 5 → ⊥
+never_five protocol set n a e nothing five =
+    let wide = wide_ending protocol set e.ending a e.is five in
+    rounds_never_wide (written protocol set) n wide.0 (no_columns protocol set nothing)
+    (subst (λ (x : Ending). EndsIn (rounds_of (written protocol set)) n x) wide.1 e.ends)
+
+-- What is so of a call whose status is that of a fault or of want of memory, for which there is a cause.
+other_headline : (call : Call) (protocol : Protocol) (set : SetDef) → ((call.status ≡ 4) ⊎ RanOut call)
+    → (Rose call.shelf_before call.shelf_now ⊎ (Rose call.sink_before call.sink_now ⊎ RanOut call))
+    → IsHeadline call protocol set
+other_headline call protocol set status cause = record {
+  exactly = λ no_shelf no_sink no_want no_wide no_allowance. elim cause [
+    | inl shelf ↦ absurd (no_shelf shelf)
+    | inr other ↦ elim other [ inl sink ↦ absurd (no_sink sink) | inr ran ↦ absurd (no_want ran) ]
+  ];
+  least = λ zero. absurd (apart call 0 status (λ e. absurd (omega (arith, e))) (λ e. absurd (omega (arith, e))) zero);
+  none = λ one. absurd (apart call 1 status (λ e. absurd (omega (arith, e))) (λ e. absurd (omega (arith, e))) one);
+} where
+  apart : (call : Call) (n : ℕ) → ((call.status ≡ 4) ⊎ RanOut call) → (n ≡ 4 → ⊥) → (n ≡ 7 → ⊥) → call.status ≡ n → ⊥
+  apart call n (inl f) four seven is = four (sym is ∙ f)
+  apart call n (inr ran) four seven is = seven (sym is ∙ ran.status)
+
+-- A call whose reply went out whole.
+gave_run : (call : Call) (replies : Replies call) → Replied (shelf_of call) (form_of call.words) replies.reply
+    → Gives call replies.reply → IsRun call
+gave_run call replies r gives =
+    let a = replies.reply in
+    let is : call.status ≡ a.status = gives.0 in
+    record {
+      answers = inl replies;
+      refused_words = λ e. r.two (sym is ∙ e);
+      no_form = λ none. inl (is ∙ ap (λ x. x.status) (r.none none));
+      faults = λ e. inl (r.four (sym is ∙ e));
+      want = λ e. (let most = r.most in absurd (omega (arith, most, is, e)));
+      exactly = λ inputs b tells out. elim (r.outcome inputs tells) [
+        | inl mine ↦ inl (subst (λ (x : Answer). Gives call x) (one_outcome inputs call.words a b mine out) gives)
+        | inr fault ↦ inr (inl (is ∙ fault.1))
+      ];
+      wide = λ e. r.five (sym is ∙ e);
+      never_wide = λ protocol set analyses nothing e. elim (r.outcome analyses.inputs analyses.told) [
+        | inl mine ↦ never_five protocol set analyses.allowance a (ended call protocol set analyses a mine) nothing (sym is ∙ e)
+        | inr fault ↦ absurd (omega (arith, is, fault.1, e))
+      ];
+      allowance = λ e. r.six (sym is ∙ e);
+      complete = λ inputs form premise. elim (r.outcome inputs premise.tells_names) [
+        | inl mine ↦ inl (well inputs form premise.form_is mine (plan_well inputs (plan_of form) (lawful form)
+            premise.ends a (of_form inputs call.words form a premise.form_is mine)))
+        | inr fault ↦ absurd (premise.shelf fault.0)
+      ];
+      headline = λ protocol set analyses. elim (r.outcome analyses.inputs analyses.told) [
+        | inl mine ↦ headline_of call protocol set analyses.allowance a (ended call protocol set analyses a mine) gives
+        | inr fault ↦ other_headline call protocol set (inl (is ∙ fault.1)) (inl fault.0)
+      ];
+      sound = λ protocol set c checks zero. elim (r.outcome checks.inputs checks.told) [
+        | inl mine ↦ sound_outcome call protocol set c checks a
+            (of_form checks.inputs call.words (Check protocol checks.name checks.cert) a checks.form_is mine)
+            (sym is ∙ zero)
+        | inr fault ↦ absurd (omega (arith, is, fault.1, zero))
+      ];
+    } where
+      well : (inputs : Inputs) (form : Form) → form_of call.words ≡ Some form
+          → IsOutcome inputs call.words replies.reply → (replies.reply.status ≡ 0) ⊎ (replies.reply.status ≡ 1)
+          → ((call.status ≡ 0) ⊎ (call.status ≡ 1)) × GivesOutcome call inputs
+      well inputs form form_is mine (inl zero) = (inl (gives.0 ∙ zero), record { outcome = replies.reply; is = mine; gives = gives })
+      well inputs form form_is mine (inr one) = (inr (gives.0 ∙ one), record { outcome = replies.reply; is = mine; gives = gives })
+
+-- A call whose reply was not written whole.
+cut_run : (call : Call) (replies : Replies call) → Replied (shelf_of call) (form_of call.words) replies.reply
+    → FailsToWrite call replies.reply → IsRun call
+cut_run call replies r fails =
+    let four : call.status ≡ 4 = fails.status in
+    record {
+      answers = inl replies;
+      refused_words = λ e. absurd (omega (arith, four, e));
+      no_form = λ none. inr (inl (subst (λ (x : Answer). FailsToWrite call x) (r.none none) fails));
+      faults = λ e. inr fails.rose;
+      want = λ e. absurd (omega (arith, four, e));
+      exactly = λ inputs b tells out. inr (inl four);
+      wide = λ e. absurd (omega (arith, four, e));
+      never_wide = λ protocol set analyses nothing e. absurd (omega (arith, four, e));
+      allowance = λ e. absurd (omega (arith, four, e));
+      complete = λ inputs form premise. absurd (premise.sink fails.rose);
+      headline = λ protocol set analyses. other_headline call protocol set (inl four) (inr (inl fails.rose));
+      sound = λ protocol set c checks zero. absurd (omega (arith, four, zero));
+    }
+
+-- A call that had no memory.
+pub run_ran_out : (call : Call) → RanOut call → IsRun call
+run_ran_out call ran =
+    let seven : call.status ≡ 7 = ran.status in
+    record {
+      answers = inr ran;
+      refused_words = λ e. absurd (omega (arith, seven, e));
+      no_form = λ none. inr (inr ran);
+      faults = λ e. absurd (omega (arith, seven, e));
+      want = λ e. ran;
+      exactly = λ inputs b tells out. inr (inr ran);
+      wide = λ e. absurd (omega (arith, seven, e));
+      never_wide = λ protocol set analyses nothing e. absurd (omega (arith, seven, e));
+      allowance = λ e. absurd (omega (arith, seven, e));
+      complete = λ inputs form premise. inr ran;
+      headline = λ protocol set analyses. other_headline call protocol set (inr ran) (inr (inr ran));
+      sound = λ protocol set c checks zero. absurd (omega (arith, seven, zero));
+    }
+
+-- What the sink promised for a reply that is this long.
+abbrev pub HasRoom : Call → Answer → Type 0
+HasRoom call a = (room : ℕ) → length a.text ≤ room → call.takes room
+    → Gives call a × call.takes_now (room - length a.text) × (call.sink_now ≡ call.sink_before)
+
+-- What was replied went out whole, or it did not.
+pub run_replied : (call : Call) (a : Answer) → IsReply (shelf_of call) call.words a
+    → (Gives call a ⊎ FailsToWrite call a) → HasRoom call a → IsRun call
+run_replied call a reply out room =
+    let r = replied (shelf_of call) (form_of call.words) a reply in
+    let replies : Replies call = record { reply = a; is = reply; out = out; room = room; longer = r.long } in
+    elim out [ inl gives ↦ gave_run call replies r gives | inr fails ↦ cut_run call replies r fails ]
+
+-- The same from what writing the text promises.
+pub run_written : (call : Call) (a : Answer) → IsReply (shelf_of call) call.words a → Gives call a
+    → ((room : ℕ) → length a.text ≤ room → call.takes room
+    → call.takes_now (room - length a.text) × (call.sink_now ≡ call.sink_before)) → IsRun call
+run_written call a reply gives takes = run_replied call a reply (inl gives)
+    (λ room fits held. (let kept = takes room fits held in (gives, kept.0, kept.1)))
+
+pub run_cut : (call : Call) (a : Answer) → IsReply (shelf_of call) call.words a → FailsToWrite call a
+    → ((room : ℕ) → length a.text ≤ room → call.takes room → ⊥) → IsRun call
+run_cut call a reply fails none = run_replied call a reply (inr fails) (λ room fits held. absurd (none room fits held))

@@ -1,0 +1,177 @@
+-- The commands: what each form of words does.
+use Rattle.std.specs.Prelude.{◌≡◌, ℕ, ◌⊎◌, Bool, List, slice_index}
+use Rattle.program_form.specs.Certificate.{CertificateDef}
+use Rattle.program_sources.specs.Valid.{IsValid, value_at}
+use Rattle.sporadic_model.specs.SetDef.{SetDef, task_at}
+use Rattle.sporadic_model.specs.declared.ids.Protocol.{Protocol}
+use Rattle.response_fixpoint.specs.Rounds.{Ending, Schedulable, NotShown, Wide, Allowance, EndsIn}
+use Rattle.response_fixpoint.specs.Runs.{rounds_of}
+use Rattle.response_fixpoint.specs.Written.{written}
+use Rattle.cert_json.specs.Text.{certificate_text}
+use Rattle.dual_check.specs.Failures.{IsFailure}
+use Rattle.dual_check.specs.declared.answer.Invalid.{Invalid}
+use Rattle.report.specs.Table.{table_text}
+use Rattle.report.specs.FullTable.{full_text}
+use Rattle.schedule_model.specs.JobDef.{JobsDef}
+use Rattle.schedule_model.specs.RowDef.{RunDef, Trace, trace_in, ticks_of}
+use Rattle.schedule_model.specs.Fitting.{RowsDef}
+use Rattle.schedule_model.specs.Keeping.{KeepsBefore, IsFirstUnlawful}
+use Rattle.schedule_model.specs.Measures.{measures_of}
+use Rattle.schedule_model.specs.declared.rule.Rule.{Rule}
+use Rattle.trace_conform.specs.ByProtocol.{rules_of, interference_of}
+use Rattle.trace_csv.specs.Written.{rows_text}
+use Rattle.sim_engine.specs.ByProtocol.{choice_of}
+use Rattle.sim_engine.specs.Simulated.{IsSimulated}
+use Rattle.study_gen.specs.Counts.{IsStudy}
+use Rattle.study_gen.specs.declared.counting.StudyCounts.{StudyCounts}
+use Rattle.run_plans.specs.Plans.{Answer, Work, Plan, Working, Reading}
+use Rattle.command_words.specs.Words.{Form, Analyse, Check, Report, FullReport, Conform, Simulate, Study, Audit}
+use Rattle.answer_texts.specs.Texts.{not_shown_text, wide_text, allowance_text, lawful_text, broken_text, valid_text}
+use Rattle.answer_texts.specs.Texts.{invalid_text, study_text, kept_text}
+use Rattle.charge.specs.ByProtocol.{charges_of}
+use Rattle.audit_figures.specs.Figures.{figures_of}
+use Rattle.run_plans.specs.Inputs.{set_input, cert_input, jobs_input, rows_input}
+
+-- What goes out where the rounds of the set end so.
+abbrev pub ending_answer : Protocol → SetDef → Ending → Answer
+ending_answer protocol set (Schedulable bounds duals) =
+    record { status = 0; text = certificate_text protocol (record { bounds = bounds; duals = duals }) }
+ending_answer protocol set (NotShown i value) =
+    record { status = 1; text = not_shown_text (task_at set i).name value (task_at set i).deadline }
+ending_answer protocol set (Wide i) = record { status = 5; text = wide_text (task_at set i).name }
+ending_answer protocol set Allowance = record { status = 6; text = allowance_text }
+
+-- The answer of an analysis with this allowance.
+abbrev pub IsAnalysis : Protocol → SetDef → ℕ → Answer → Type 0
+IsAnalysis protocol set allowance answer =
+    (e : Ending) × (EndsIn (rounds_of (written protocol set)) allowance e) × (answer ≡ ending_answer protocol set e)
+
+-- It has status 0 or 1 where the rounds come to a verdict.
+abbrev pub analysis_of : Protocol → SetDef → ℕ → Work
+analysis_of protocol set allowance = record {
+  answers = IsAnalysis protocol set allowance;
+  ends = ((i : ℕ) → EndsIn (rounds_of (written protocol set)) allowance (Wide i) → ⊥)
+      × (EndsIn (rounds_of (written protocol set)) allowance Allowance → ⊥);
+}
+
+-- The answer of a table, which there is of every set.
+abbrev pub IsTable : SetDef → Answer → Type 0
+IsTable set answer = answer ≡ record { status = 0; text = table_text set }
+
+abbrev pub table_of : SetDef → Work
+table_of set = record { answers = IsTable set; ends = Unit {0} }
+
+-- The answer on a certificate: this one where it is valid, else its first failure.
+abbrev pub IsJudgement : Protocol → SetDef → CertificateDef → Answer → Answer → Type 0
+IsJudgement protocol set c valid answer =
+    (IsValid (written protocol set) c × (answer ≡ valid))
+    ⊎ ((e : Invalid) × (IsFailure e (written protocol set) c) × (answer ≡ record { status = 1; text = invalid_text set e }))
+
+-- Judging a certificate, and the table of a set with what a certificate proves. There always is an answer.
+abbrev pub checked_answer : Answer
+checked_answer = record { status = 0; text = valid_text }
+
+abbrev pub reported_answer : Protocol → SetDef → CertificateDef → Answer
+reported_answer protocol set c = record { status = 0; text = full_text set c.bounds (value_at (written protocol set) c) }
+
+abbrev pub check_of : Protocol → SetDef → CertificateDef → Work
+check_of protocol set c = record { answers = IsJudgement protocol set c checked_answer; ends = Unit {0} }
+
+abbrev pub full_table_of : Protocol → SetDef → CertificateDef → Work
+full_table_of protocol set c = record { answers = IsJudgement protocol set c (reported_answer protocol set c); ends = Unit {0} }
+
+-- Reading a certificate for the protocol, and working on it.
+abbrev pub with_certificate : Protocol → List ℕ → (CertificateDef → Work) → Plan
+with_certificate protocol name work = Reading (cert_input protocol) name (λ bytes c. Working (work c))
+
+-- The answer on n rows, where these are the rules and the ticks of interference: each row keeps the rules, and here are
+-- the measures of all tasks; or here is the first row that breaks one, with the first rule that it breaks.
+abbrev pub IsConformance : (Rule → Trace → ℕ → Type 0) → (Trace → ℕ → ℕ → Bool) → Trace → ℕ → Answer → Type 0
+IsConformance keeps interferes w n answer =
+    (KeepsBefore keeps w n × (answer ≡ record { status = 0; text = lawful_text w.set n (measures_of interferes w n) }))
+    ⊎ ((tick : ℕ) × (r : Rule) × (IsFirstUnlawful keeps w n tick r) × (answer ≡ record { status = 1; text = broken_text tick r }))
+
+-- Judging and measuring these rows of the jobs, which there always is.
+abbrev pub conformance_of : Protocol → JobsDef → RowsDef → Work
+conformance_of protocol jobs rows = record {
+  answers = IsConformance (rules_of protocol) (interference_of protocol) (trace_in jobs rows.runs) (ticks_of rows.runs);
+  ends = Unit {0};
+}
+
+-- Reading the rows of a schedule of these jobs, and judging them.
+abbrev pub judging_rows : Protocol → List ℕ → JobsDef → Plan
+judging_rows protocol rows list = Reading (rows_input list) rows (λ bytes schedule. Working (conformance_of protocol list schedule))
+
+-- Reading jobs of this set and then the rows of a schedule, and judging them.
+abbrev pub judging_jobs : Protocol → List ℕ → List ℕ → SetDef → Plan
+judging_jobs protocol jobs rows set = Reading (jobs_input set) jobs (λ bytes list. judging_rows protocol rows list)
+
+-- The answer of a simulation of these jobs over n ticks: the rows that the protocol chooses.
+abbrev pub IsSimulation : Protocol → JobsDef → ℕ → Answer → Type 0
+IsSimulation protocol list n answer = (runs : List RunDef) × IsSimulated (choice_of protocol) list n runs
+    × (answer ≡ record { status = 0; text = rows_text list.set runs })
+
+-- Simulating these jobs, which there always is.
+abbrev pub simulation_of : Protocol → JobsDef → ℕ → Work
+simulation_of protocol list n = record { answers = IsSimulation protocol list n; ends = Unit {0} }
+
+-- Reading jobs of this set, and simulating them.
+abbrev pub simulating_jobs : Protocol → List ℕ → ℕ → SetDef → Plan
+simulating_jobs protocol jobs n set = Reading (jobs_input set) jobs (λ bytes list. Working (simulation_of protocol list n))
+
+-- The answer of a study: what it counts.
+abbrev pub IsStudyAnswer : ℕ → ℕ → Answer → Type 0
+IsStudyAnswer seed sets answer = (c : StudyCounts) × IsStudy seed sets c
+    × (answer ≡ record { status = 0; text = study_text c.counts.items c.stopped })
+
+-- Making and counting sets, which always ends.
+abbrev pub study_of : ℕ → ℕ → Work
+study_of seed sets = record { answers = IsStudyAnswer seed sets; ends = Unit {0} }
+
+-- The answer on n rows where one that keeps the rules has this answer: it; or here is the first row that breaks a rule, with the
+-- first rule that it breaks.
+abbrev pub IsKept : (Rule → Trace → ℕ → Type 0) → Trace → ℕ → Answer → Answer → Type 0
+IsKept keeps w n kept answer =
+    (KeepsBefore keeps w n × (answer ≡ kept))
+    ⊎ ((tick : ℕ) × (r : Rule) × (IsFirstUnlawful keeps w n tick r) × (answer ≡ record { status = 1; text = broken_text tick r }))
+
+-- The figures of all tasks over n rows.
+abbrev pub kept_answer : Protocol → CertificateDef → Trace → ℕ → Answer
+kept_answer protocol c w n = record {
+  status = 0;
+  text = kept_text w.set n (figures_of (charges_of protocol) (interference_of protocol) w (slice_index c.bounds)
+      (value_at (written protocol w.set) c) n);
+}
+
+-- The answer on a certificate and n rows: where the certificate is valid, that on the rows; else its first failure.
+abbrev pub IsAudit : Protocol → CertificateDef → Trace → ℕ → Answer → Type 0
+IsAudit protocol c w n answer =
+    (IsValid (written protocol w.set) c × IsKept (rules_of protocol) w n (kept_answer protocol c w n) answer)
+    ⊎ ((e : Invalid) × (IsFailure e (written protocol w.set) c) × (answer ≡ record { status = 1; text = invalid_text w.set e }))
+
+-- Judging both, and setting them beside each other, which there always is.
+abbrev pub audit_of : Protocol → CertificateDef → JobsDef → RowsDef → Work
+audit_of protocol c jobs rows = record { answers = IsAudit protocol c (trace_in jobs rows.runs) (ticks_of rows.runs); ends = Unit {0} }
+
+-- Reading the rows of a schedule of these jobs; before them jobs of this set; and before these a certificate.
+abbrev pub auditing_rows : Protocol → CertificateDef → List ℕ → JobsDef → Plan
+auditing_rows protocol c rows list = Reading (rows_input list) rows (λ bytes schedule. Working (audit_of protocol c list schedule))
+
+abbrev pub auditing_jobs : Protocol → CertificateDef → List ℕ → List ℕ → SetDef → Plan
+auditing_jobs protocol c jobs rows set = Reading (jobs_input set) jobs (λ bytes list. auditing_rows protocol c rows list)
+
+abbrev pub auditing : Protocol → List ℕ → List ℕ → List ℕ → SetDef → Plan
+auditing protocol cert jobs rows set = Reading (cert_input protocol) cert (λ bytes c. auditing_jobs protocol c jobs rows set)
+
+-- What each form of words does.
+abbrev pub plan_of : Form → Plan
+plan_of (Analyse protocol name allowance) = Reading (set_input protocol) name (λ bytes set. Working (analysis_of protocol set allowance))
+plan_of (Check protocol set cert) =
+    Reading (set_input protocol) set (λ bytes tasks. with_certificate protocol cert (check_of protocol tasks))
+plan_of (FullReport protocol set cert) =
+    Reading (set_input protocol) set (λ bytes tasks. with_certificate protocol cert (full_table_of protocol tasks))
+plan_of (Report protocol name) = Reading (set_input protocol) name (λ bytes set. Working (table_of set))
+plan_of (Conform protocol set jobs rows) = Reading (set_input protocol) set (λ bytes tasks. judging_jobs protocol jobs rows tasks)
+plan_of (Simulate protocol set jobs ticks) = Reading (set_input protocol) set (λ bytes tasks. simulating_jobs protocol jobs ticks tasks)
+plan_of (Study seed sets) = Working (study_of seed sets)
+plan_of (Audit protocol set cert jobs rows) = Reading (set_input protocol) set (λ bytes tasks. auditing protocol cert jobs rows tasks)

@@ -1,0 +1,115 @@
+-- What one call of the program does.
+use Rattle.std.specs.Prelude.{◌≡◌, ◌≢◌, ℕ, ◌-◌, ◌<◌, ◌≤◌, ◌⊎◌, List, length, codes, None, Some, IsSome}
+use Rattle.std.specs.Io.KnownBytes.{Appends}
+use Rattle.outside_ports.specs.Counts.{Rose}
+use Rattle.outside_ports.specs.Names.{Inputs}
+use Rattle.outside_ports.specs.Prefix.{AppendsPart}
+use Rattle.outside_ports.specs.declared.whole.TheConstants.{GREATEST_INPUT_BYTES}
+use Rattle.program_form.specs.Certificate.{CertificateDef}
+use Rattle.sporadic_model.specs.SetDef.{SetDef}
+use Rattle.sporadic_model.specs.declared.ids.Protocol.{Protocol}
+use Rattle.response_fixpoint.specs.Rounds.{Ending, Wide, Allowance, EndsIn}
+use Rattle.response_fixpoint.specs.Runs.{rounds_of}
+use Rattle.response_fixpoint.specs.Written.{written, RequestsNothing}
+use Rattle.run_plans.specs.Plans.{Answer, Known, refused, IsWorking, IsRead, EndsWell}
+use Rattle.command_words.specs.Words.{Form, Analyse, form_of}
+use Rattle.run_plans.specs.Inputs.{set_input}
+use Rattle.run_plans.specs.Commands.{plan_of}
+use Rattle.run_plans.specs.Outcome.{Shown, shown_by, told, refused_words, IsOutcome, IsReply}
+use Rattle.run_plans.specs.Headline.{Call, RanOut, Analyses, IsHeadline, Checks, IsSoundCheck}
+
+-- What the shelf shows of the call.
+abbrev pub shelf_of : Call → Shown
+shelf_of call = record { names = call.names; before = call.shelf_before; now = call.shelf_now; given = call.given }
+
+-- Has the whole text gone out, with this status?
+abbrev pub Gives : Call → Answer → Type 0
+Gives call answer = (call.status ≡ answer.status) × Appends call.written_before call.written_now answer.text
+
+-- The text was not written whole, for which the sink's count of faults rose. A proper prefix of it went out.
+pub record FailsToWrite (call : Call) (answer : Answer) : Type 0 where
+  pub rose : Rose call.sink_before call.sink_now
+  pub part : AppendsPart call.written_before call.written_now answer.text
+  pub status : call.status ≡ 4
+
+-- The answer to words without a form was not written whole.
+abbrev pub FailsToRefuse : Call → Type 0
+FailsToRefuse call = FailsToWrite call refused_words
+
+-- The call replies: with an outcome, or that an input could not be read, for which the shelf's count of faults rose and
+-- every input before it is there and accepted. The whole text goes out with its status, or a write fails, which it
+-- doesn't where the sink promised to take so many bytes.
+pub record Replies (call : Call) : Type 0 where
+  pub reply : Answer
+  pub is : IsReply (shelf_of call) call.words reply
+  pub out : Gives call reply ⊎ FailsToWrite call reply
+  pub room : (room : ℕ) → length reply.text ≤ room → call.takes room
+      → Gives call reply × call.takes_now (room - length reply.text) × (call.sink_now ≡ call.sink_before)
+  -- Where more bytes were given than an input may have, the reply says that an input is too long.
+  pub longer : (form : Form) → form_of call.words ≡ Some form → (IsWorking (plan_of form) → ⊥)
+      → GREATEST_INPUT_BYTES < call.given → (word : List ℕ) × (reply ≡ refused word (codes "toolong"))
+
+-- The outcome's whole text went out with its status.
+pub record GivesOutcome (call : Call) (inputs : Inputs) : Type 0 where
+  pub outcome : Answer
+  pub is : IsOutcome inputs call.words outcome
+  pub gives : Gives call outcome
+
+-- Completeness: the words have a form, the shelf tells its inputs, each that is named is there and accepted, the work on
+-- them comes to an end with status 0 or 1, the sink tells its bytes, and neither count of faults rises.
+pub record IsCompletePremise (call : Call) (inputs : Inputs) (form : Form) : Type 0 where
+  pub form_is : form_of call.words ≡ Some form
+  pub tells_names : call.names ≡ Some inputs
+  pub ends : EndsWell (told inputs) (plan_of form)
+  pub tells : IsSome call.written_before
+  pub shelf : Rose call.shelf_before call.shelf_now → ⊥
+  pub sink : Rose call.sink_before call.sink_now → ⊥
+
+-- Then the outcome goes out whole with status 0 or 1, or memory ran out.
+abbrev pub IsComplete : Call → Type 0
+IsComplete call = (inputs : Inputs) (form : Form) → IsCompletePremise call inputs form
+    → (((call.status ≡ 0) ⊎ (call.status ≡ 1)) × GivesOutcome call inputs) ⊎ RanOut call
+
+-- The words are those of `analyse`, and the named input may be a set whose rounds end so.
+pub record AnalysisEnds (known : Known) (form : Form) (IsEnding : Ending → Type 0) : Type 0 where
+  pub protocol : Protocol
+  pub name : List ℕ
+  pub allowance : ℕ
+  pub form_is : form ≡ Analyse protocol name allowance
+  pub bytes : List ℕ
+  pub set : SetDef
+  pub read : IsRead known (set_input protocol) name bytes set
+  pub ending : Ending
+  pub ends : EndsIn (rounds_of (written protocol set)) allowance ending
+  pub is : IsEnding ending
+
+abbrev pub IsWideEnding : Ending → Type 0
+IsWideEnding e = (i : ℕ) × (e ≡ Wide i)
+
+abbrev pub IsAllowanceEnding : Ending → Type 0
+IsAllowanceEnding e = e ≡ Allowance
+
+-- What is true of every call.
+pub record IsRun (call : Call) : Type 0 where
+  -- The call replies; or memory ran out, and nothing is written.
+  pub answers : Replies call ⊎ RanOut call
+  -- Status 2 comes exactly where the words have no form, except where a write fails or memory ran out.
+  pub refused_words : call.status ≡ 2 → form_of call.words ≡ None
+  pub no_form : form_of call.words ≡ None → (call.status ≡ 2) ⊎ (FailsToRefuse call ⊎ RanOut call)
+  -- Status 4 comes only where a count of faults rose, and status 7 only where memory ran out.
+  pub faults : call.status ≡ 4 → Rose call.shelf_before call.shelf_now ⊎ Rose call.sink_before call.sink_now
+  pub want : call.status ≡ 7 → RanOut call
+  -- Where the shelf tells its inputs, each outcome comes exactly where it is the outcome, except where a fault comes or
+  -- memory ran out.
+  pub exactly : (inputs : Inputs) (answer : Answer) → call.names ≡ Some inputs → IsOutcome inputs call.words answer
+      → Gives call answer ⊎ ((call.status ≡ 4) ⊎ RanOut call)
+  -- Status 5 comes only for words of `analyse` where the rounds end in a run that is too wide, and so not for a set that
+  -- requests nothing; status 6 only where they end with the allowance.
+  pub wide : call.status ≡ 5 → (form : Form) × (form_of call.words ≡ Some form) × AnalysisEnds (shown_by (shelf_of call)) form IsWideEnding
+  pub never_wide : (protocol : Protocol) (set : SetDef) → Analyses call protocol set → RequestsNothing set → call.status ≢ 5
+  pub allowance : call.status ≡ 6 → (form : Form) × (form_of call.words ≡ Some form)
+      × AnalysisEnds (shown_by (shelf_of call)) form IsAllowanceEnding
+  pub complete : IsComplete call
+  pub headline : (protocol : Protocol) (set : SetDef) → Analyses call protocol set → IsHeadline call protocol set
+  -- And what `check` accepts is sound.
+  pub sound : (protocol : Protocol) (set : SetDef) (c : CertificateDef) → Checks call protocol set c → IsSoundCheck call protocol set c

@@ -1,0 +1,9 @@
+//! Worked texts of sets, certificates and schedules as they are read and written.
+#![tactic(auto)]
+
+#[cfg(test)]
+mod certificate_tests;
+#[cfg(test)]
+mod schedule_tests;
+#[cfg(test)]
+mod set_tests;

@@ -1,0 +1,263 @@
+use schedule_model::{JobId, JobList, RowList, Segment};
+use sporadic_model::{Parts, RequestPart, ResourceId, ResourcePart, TaskId, TaskPart, TaskSet};
+use std::alloc::{AllocError, Global};
+use std::fmt::Write;
+use std::test::Fail;
+use trace_csv::{JobsRefusal, RowsRefusal, read_jobs, read_rows, write_rows};
+
+fn request(alloc: Global, length: u64) -> Result<Vec<RequestPart>, AllocError> {
+    let mut requests = Vec::new(alloc);
+    requests.push(RequestPart {
+        resource: String::from_str(alloc, "q")?,
+        count: 1,
+        length,
+    })?;
+    Ok(requests)
+}
+
+fn task(
+    alloc: Global,
+    name: &str,
+    processor: u64,
+    cost: u64,
+    length: u64,
+) -> Result<TaskPart, AllocError> {
+    Ok(TaskPart {
+        name: String::from_str(alloc, name)?,
+        processor,
+        period: 10,
+        deadline: 10,
+        cost,
+        local: cost,
+        requests: request(alloc, length)?,
+    })
+}
+
+/// Two tasks on two processors that share the resource `q`.
+fn two_tasks(alloc: Global) -> Result<TaskSet, Fail> {
+    let mut parts = Parts {
+        processors: 2,
+        resources: Vec::new(alloc),
+        tasks: Vec::new(alloc),
+    };
+    parts.resources.push(ResourcePart {
+        name: String::from_str(alloc, "q")?,
+        home: Some(2),
+    })?;
+    parts.tasks.push(task(alloc, "t1", 1, 3, 1)?)?;
+    parts.tasks.push(task(alloc, "t2", 2, 4, 2)?)?;
+    match TaskSet::new(alloc, parts) {
+        Ok(set) => Ok(set),
+        Err(_) => Err("refused".into()),
+    }
+}
+
+const JOBS: &str = "task,release,script\nt1,0,1 q:1 1\nt2,0,1 q:2 1\n";
+
+const ROWS: &str = "ticks,P1,P2,q\n1,1,2,\n2,,2,2\n1,1,2,1\n1,1,,\n";
+
+fn jobs_of<'a>(alloc: Global, set: &'a TaskSet) -> Result<JobList<'a>, Fail> {
+    match read_jobs(alloc, set, JOBS.as_bytes()) {
+        Ok(jobs) => Ok(jobs),
+        Err(_) => Err("refused".into()),
+    }
+}
+
+/// Where the rows fit the jobs: their text.
+fn written(alloc: Global, jobs: &JobList, rows: &RowList) -> Option<Result<Vec<u8>, AllocError>> {
+    if !rows.fits(jobs) {
+        return None;
+    }
+    Some(write_rows(alloc, jobs.set(), rows))
+}
+
+#[test]
+fn reads_jobs_and_rows_and_writes_the_same_rows(rt: HostRuntime) -> Result<(), Fail> {
+    let set = two_tasks(rt.alloc())?;
+    let jobs = jobs_of(rt.alloc(), &set)?;
+    assert!(rt; jobs.len() == 2);
+    let job = jobs.job(JobId(1));
+    assert_eq!(rt; (job.task, job.release), (TaskId(1), 0));
+    let first = Segment {
+        local: 1,
+        request: Some((ResourceId(0), 2)),
+    };
+    let last = Segment {
+        local: 1,
+        request: None,
+    };
+    assert!(rt; job.script.as_slice() == [first, last].as_slice());
+    let Ok(rows) = read_rows(rt.alloc(), &jobs, ROWS.as_bytes()) else {
+        return Err("refused".into());
+    };
+    let runs = rows.runs();
+    assert!(rt; rows.ticks() == 5 && runs.len() == 4);
+    let (one, two) = (Some(JobId(0)), Some(JobId(1)));
+    assert!(rt; runs[1].ticks == 2 && runs[1].row.running.as_slice() == [None, two].as_slice());
+    assert!(rt; runs[1].row.holders.as_slice() == [two].as_slice());
+    assert!(rt; runs[2].row.running.as_slice() == [one, two].as_slice());
+    match written(rt.alloc(), &jobs, &rows) {
+        Some(text) => assert_eq!(rt; text?.as_slice(), ROWS.as_bytes()),
+        None => return Err("does not fit".into()),
+    }
+    Ok(())
+}
+
+/// What follows the header of a file of jobs, and the number of jobs or the refusal that is wanted.
+type JobsCase = (&'static str, Result<u32, JobsRefusal>);
+
+const JOBS_CASES: [JobsCase; 31] = [
+    ("", Ok(0)),
+    ("t1,0,1 q:1 1\nt2,0,1 q:2 1\n", Ok(2)),
+    ("t1,0,1\r\nt2,0\r\n", Err(JobsRefusal::Fields(2))),
+    ("t1,1000000000,1 q:1", Ok(1)),
+    ("\"t1\",0,\"1 q:1\"\n", Ok(1)),
+    ("t1,0,1\n\n\nt2,0\n", Err(JobsRefusal::Fields(2))),
+    ("t1,0\n", Err(JobsRefusal::Fields(1))),
+    ("t1,0,1,1\n", Err(JobsRefusal::Fields(1))),
+    ("t1,0,1\nt2,0\n", Err(JobsRefusal::Fields(2))),
+    ("t1,01,1\n", Err(JobsRefusal::Number(1))),
+    ("t1,-1,1\n", Err(JobsRefusal::Number(1))),
+    ("t1,1000000001,1\n", Err(JobsRefusal::Number(1))),
+    ("t9,x,1\n", Err(JobsRefusal::Number(1))),
+    ("t1,0,1\nt2,\"1\n0\",1\n", Err(JobsRefusal::Number(2))),
+    ("t9,0,x\n", Err(JobsRefusal::UnknownName(1))),
+    ("t1 ,0,1\n", Err(JobsRefusal::UnknownName(1))),
+    ("t1,0,1 z:1\n", Err(JobsRefusal::UnknownName(1))),
+    ("t1,0,1 z:1 1 :1\n", Err(JobsRefusal::Script(1))),
+    ("t1,0,1 q:1:1\n", Err(JobsRefusal::Script(1))),
+    ("t1,0,\n", Err(JobsRefusal::Script(1))),
+    ("t1,0,q:1 1\n", Err(JobsRefusal::Script(1))),
+    ("t1,0,1 1\n", Err(JobsRefusal::Script(1))),
+    ("t1,0,1  q:1\n", Err(JobsRefusal::Script(1))),
+    ("t1,0,\"1\nq:1\"\n", Err(JobsRefusal::Script(1))),
+    ("t1,0,1 :1\n", Err(JobsRefusal::Script(1))),
+    (
+        "t1,0,1 rrrrrrrrrrrrrrrrrrrrrrrrrrrrrrrrr:1\n",
+        Err(JobsRefusal::Script(1)),
+    ),
+    ("t1,0,0\n", Err(JobsRefusal::Script(1))),
+    ("t1,0,4\n", Err(JobsRefusal::OverBudget(1))),
+    ("t1,0,1 q:1 1 q:1\n", Err(JobsRefusal::OverBudget(1))),
+    ("t1,0,1\nt1,9,1\n", Err(JobsRefusal::TooClose(2))),
+    ("t1,0,1\n\nt1,9,4\n", Err(JobsRefusal::OverBudget(2))),
+];
+
+fn answer_to_jobs(alloc: Global, set: &TaskSet, text: &str) -> Result<u32, JobsRefusal> {
+    match read_jobs(alloc, set, text.as_bytes()) {
+        Ok(jobs) => Ok(jobs.len()),
+        Err(refusal) => Err(refusal),
+    }
+}
+
+#[test]
+fn reads_jobs_or_names_the_first_refused_line(rt: HostRuntime) -> Result<(), Fail> {
+    let set = two_tasks(rt.alloc())?;
+    for (lines, wanted) in JOBS_CASES {
+        let text = format!(in rt.alloc(); "task,release,script\n{lines}")?;
+        let answer = answer_to_jobs(rt.alloc(), &set, text.as_str());
+        assert!(rt; answer == wanted, "at {lines}");
+    }
+    Ok(())
+}
+
+#[test]
+fn asks_for_the_header_of_jobs(rt: HostRuntime) -> Result<(), Fail> {
+    let set = two_tasks(rt.alloc())?;
+    let refused = Err(JobsRefusal::Fields(0));
+    assert!(rt; answer_to_jobs(rt.alloc(), &set, "") == refused);
+    assert!(rt; answer_to_jobs(rt.alloc(), &set, "task,release\n") == refused);
+    assert!(rt; answer_to_jobs(rt.alloc(), &set, "t1,0,1\n") == refused);
+    assert!(rt; answer_to_jobs(rt.alloc(), &set, "\n\"task\",release,\"script\"\n") == Ok(0));
+    Ok(())
+}
+
+/// What follows the header of a file of rows, and the number of ticks or the refusal that is wanted.
+type RowsCase = (&'static str, Result<u64, RowsRefusal>);
+
+const ROWS_CASES: [RowsCase; 19] = [
+    ("", Ok(0)),
+    ("3,\"1\",2,\r\n2,,,2", Ok(5)),
+    ("1000000000,1,2,\n", Ok(1_000_000_000)),
+    ("1,1,2\n", Err(RowsRefusal::Fields(1))),
+    ("1,1,2,,\n", Err(RowsRefusal::Fields(1))),
+    ("1,x,2,\n", Err(RowsRefusal::Number(1))),
+    ("1,01,2,\n", Err(RowsRefusal::Number(1))),
+    ("1,3,x,\n", Err(RowsRefusal::Number(1))),
+    ("1, ,2,\n", Err(RowsRefusal::Number(1))),
+    ("0,1,2,\n", Err(RowsRefusal::Number(1))),
+    (",1,2,\n", Err(RowsRefusal::Number(1))),
+    ("1000000001,1,2,\n", Err(RowsRefusal::Number(1))),
+    ("1,0,2,\n", Err(RowsRefusal::UnknownJob(1))),
+    ("1,3,2,\n", Err(RowsRefusal::UnknownJob(1))),
+    ("1,,,3\n", Err(RowsRefusal::UnknownJob(1))),
+    (
+        "1,,,\n1,,111111111111111111111111111111,\n",
+        Err(RowsRefusal::UnknownJob(2)),
+    ),
+    ("1,1,2,\n\n\n1,3,,\n", Err(RowsRefusal::UnknownJob(2))),
+    ("1000000000,1,2,\n1,1,2,\n", Err(RowsRefusal::TooLong(2))),
+    ("1000000000,1,2,\n1,1,3,\n", Err(RowsRefusal::UnknownJob(2))),
+];
+
+fn answer_to_rows(alloc: Global, jobs: &JobList, text: &str) -> Result<u64, RowsRefusal> {
+    match read_rows(alloc, jobs, text.as_bytes()) {
+        Ok(rows) => Ok(rows.ticks()),
+        Err(refusal) => Err(refusal),
+    }
+}
+
+#[test]
+fn reads_rows_or_names_the_first_refused_line(rt: HostRuntime) -> Result<(), Fail> {
+    let set = two_tasks(rt.alloc())?;
+    let jobs = jobs_of(rt.alloc(), &set)?;
+    for (lines, wanted) in ROWS_CASES {
+        let text = format!(in rt.alloc(); "ticks,P1,P2,q\n{lines}")?;
+        let answer = answer_to_rows(rt.alloc(), &jobs, text.as_str());
+        assert!(rt; answer == wanted, "at {lines}");
+    }
+    let refused = Err(RowsRefusal::Fields(0));
+    assert!(rt; answer_to_rows(rt.alloc(), &jobs, "") == refused);
+    assert!(rt; answer_to_rows(rt.alloc(), &jobs, "ticks,P1,P2\n") == refused);
+    assert!(rt; answer_to_rows(rt.alloc(), &jobs, "\"ticks\",P1,\"P2\",q") == Ok(0));
+    Ok(())
+}
+
+/// A thousand jobs of the first task.
+fn many_jobs(alloc: Global) -> Result<String, AllocError> {
+    let mut text = String::from_str(alloc, "task,release,script\n")?;
+    for j in 0..1000u64 {
+        writeln!(text, "t1,{},1 q:1 1", 1_000_000 * j)?;
+    }
+    Ok(text)
+}
+
+/// A thousand runs, which name each job, and last 10^9 ticks in all.
+fn many_rows(alloc: Global) -> Result<String, AllocError> {
+    let mut text = String::from_str(alloc, "ticks,P1,P2,q\n")?;
+    for j in 0..1000u64 {
+        writeln!(text, "1000000,{},,{}", j + 1, 1000 - j)?;
+    }
+    Ok(text)
+}
+
+#[test]
+fn reads_a_thousand_jobs_and_rows_and_writes_the_same_rows(rt: HostRuntime) -> Result<(), Fail> {
+    let set = two_tasks(rt.alloc())?;
+    let text = many_jobs(rt.alloc())?;
+    let Ok(jobs) = read_jobs(rt.alloc(), &set, text.as_bytes()) else {
+        return Err("refused".into());
+    };
+    assert!(rt; jobs.len() == 1000);
+    assert_eq!(rt; jobs.job(JobId(999)).release, 999_000_000);
+    let text = many_rows(rt.alloc())?;
+    let Ok(rows) = read_rows(rt.alloc(), &jobs, text.as_bytes()) else {
+        return Err("refused".into());
+    };
+    assert!(rt; rows.ticks() == 1_000_000_000 && rows.runs().len() == 1000);
+    match written(rt.alloc(), &jobs, &rows) {
+        Some(again) => assert!(rt; again?.as_slice() == text.as_bytes()),
+        None => return Err("does not fit".into()),
+    }
+    Ok(())
+}
