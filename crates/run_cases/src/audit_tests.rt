@@ -1,4 +1,3 @@
-use crate::texts::set_of;
 use audit_figures::{AuditStop, TaskFigures, audit};
 use dual_check::{Invalid, has_denominators};
 use program_form::{Certificate, Dual};
@@ -52,13 +51,9 @@ fn audit_of(
     schedule: [&str; 3],
 ) -> Result<Result<Vec<TaskFigures>, AuditStop>, Fail> {
     let [set, jobs, rows] = schedule;
-    let set = set_of(alloc, set)?;
-    let Ok(jobs) = trace_csv::read_jobs(alloc, &set, jobs.as_bytes()) else {
-        return Err("the jobs are refused".into());
-    };
-    let Ok(rows) = trace_csv::read_rows(alloc, &jobs, rows.as_bytes()) else {
-        return Err("the rows are refused".into());
-    };
+    let set = set_from(alloc, set)?;
+    let jobs = trace_csv::read_jobs(alloc, &set, jobs.as_bytes())?;
+    let rows = trace_csv::read_rows(alloc, &jobs, rows.as_bytes())?;
     let certificate = certificate_of(alloc, proof)?;
     audited(alloc, protocol, &certificate, &jobs, &rows)
 }

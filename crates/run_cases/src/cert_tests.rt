@@ -5,6 +5,7 @@ use sporadic_model::Protocol;
 use std::alloc::{AllocError, Global};
 use std::test::Fail;
 use std::thread::Threads;
+use worked_files::set_from;
 
 /// A shelf with a set and a certificate.
 fn shelf_of(alloc: Global, set: &str, cert: &str) -> Result<MemShelf, AllocError> {
@@ -83,10 +84,7 @@ fn what_is_analysed_is_checked(rt: HostRuntime) -> Result<(), Fail> {
 #[test]
 fn a_set_is_analysed_and_checked(rt: HostRuntime) -> Result<(), Fail> {
     let alloc = rt.alloc();
-    let Ok(set) = taskset_json::read(alloc, SET_A.as_bytes()) else {
-        assert!(rt; false, "the set is accepted");
-        return Ok(());
-    };
+    let set = set_from(alloc, SET_A)?;
     match analyse_and_check(&rt, alloc, &set, Protocol::FmlpPlus, 8) {
         Some(Ok(valid)) => assert_eq!(rt; valid.values.as_slice(), [2, 1].as_slice()),
         _ => assert!(rt; false, "the certificate is valid"),

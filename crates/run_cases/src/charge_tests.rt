@@ -1,4 +1,3 @@
-use crate::texts::set_of;
 use charge::{ChargeItem, ChargeStop, ChargeTable, are_bounds, charge};
 use fragments::Class;
 use schedule_model::{JobId, JobList, RowList, Rule};
@@ -33,13 +32,9 @@ fn charges_of(
     bounds: &[u64],
 ) -> Result<Result<ChargeTable, ChargeStop>, Fail> {
     let [set, jobs, rows] = schedule;
-    let set = set_of(alloc, set)?;
-    let Ok(jobs) = trace_csv::read_jobs(alloc, &set, jobs.as_bytes()) else {
-        return Err("the jobs are refused".into());
-    };
-    let Ok(rows) = trace_csv::read_rows(alloc, &jobs, rows.as_bytes()) else {
-        return Err("the rows are refused".into());
-    };
+    let set = set_from(alloc, set)?;
+    let jobs = trace_csv::read_jobs(alloc, &set, jobs.as_bytes())?;
+    let rows = trace_csv::read_rows(alloc, &jobs, rows.as_bytes())?;
     charges(alloc, protocol, &jobs, &rows, bounds)
 }
 

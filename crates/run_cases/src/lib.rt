@@ -1,5 +1,5 @@
-//! Worked runs of the program's one call, over files in memory, some of which fail; and what its commands stand on: ports, certificates as they
-//! are checked, tables, studies, charges and audits.
+//! Worked runs of the program's one call, over files in memory, some of which fail; and what its commands stand on: ports, certificates
+//! as they are checked, tables, studies, charges and audits.
 #![tactic(auto)]
 
 #[cfg(test)]
@@ -22,5 +22,3 @@ mod study_tests;
 mod table_tests;
 #[cfg(test)]
 mod tests;
-#[cfg(test)]
-mod texts;

@@ -1,4 +1,4 @@
-use crate::texts::{rule_word, set_of};
+use crate::texts::rule_word;
 use schedule_model::{JobList, RowList, Rule};
 use sporadic_model::{Protocol, TaskSet};
 use std::alloc::{AllocError, Global};
@@ -42,13 +42,9 @@ fn answer(
 /// The same as a text, for the texts of a set, jobs and rows; `broken TICK RULE` where a row breaks a rule.
 fn answer_text(alloc: Global, protocol: Protocol, schedule: [&str; 3]) -> Result<String, Fail> {
     let [set, jobs, rows] = schedule;
-    let set = set_of(alloc, set)?;
-    let Ok(jobs) = trace_csv::read_jobs(alloc, &set, jobs.as_bytes()) else {
-        return Err("the jobs are refused".into());
-    };
-    let Ok(rows) = trace_csv::read_rows(alloc, &jobs, rows.as_bytes()) else {
-        return Err("the rows are refused".into());
-    };
+    let set = set_from(alloc, set)?;
+    let jobs = trace_csv::read_jobs(alloc, &set, jobs.as_bytes())?;
+    let rows = trace_csv::read_rows(alloc, &jobs, rows.as_bytes())?;
     match answer(alloc, protocol, &jobs, &rows)? {
         Ok(measured) => Ok(measured_text(alloc, rows.ticks(), &measured)?),
         Err(Unlawful::Broken { tick, rule }) => {

@@ -1,5 +1,4 @@
 use crate::judged::judged;
-use crate::texts::set_of;
 use crate::told::told;
 use sporadic_model::{Protocol, TaskSet};
 use std::alloc::Global;
@@ -9,26 +8,18 @@ use worked_files::*;
 /// What is told of a schedule, given as the texts of its set, jobs and rows.
 fn told_of(alloc: Global, schedule: [&str; 3]) -> Result<String, Fail> {
     let [set, jobs, rows] = schedule;
-    let set = set_of(alloc, set)?;
-    let Ok(jobs) = trace_csv::read_jobs(alloc, &set, jobs.as_bytes()) else {
-        return Err("the jobs are refused".into());
-    };
-    let Ok(rows) = trace_csv::read_rows(alloc, &jobs, rows.as_bytes()) else {
-        return Err("the rows are refused".into());
-    };
+    let set = set_from(alloc, set)?;
+    let jobs = trace_csv::read_jobs(alloc, &set, jobs.as_bytes())?;
+    let rows = trace_csv::read_rows(alloc, &jobs, rows.as_bytes())?;
     told(alloc, &jobs, &rows)
 }
 
 /// How the schedule is judged.
 fn judged_of(alloc: Global, protocol: Protocol, schedule: [&str; 3]) -> Result<String, Fail> {
     let [set, jobs, rows] = schedule;
-    let set = set_of(alloc, set)?;
-    let Ok(jobs) = trace_csv::read_jobs(alloc, &set, jobs.as_bytes()) else {
-        return Err("the jobs are refused".into());
-    };
-    let Ok(rows) = trace_csv::read_rows(alloc, &jobs, rows.as_bytes()) else {
-        return Err("the rows are refused".into());
-    };
+    let set = set_from(alloc, set)?;
+    let jobs = trace_csv::read_jobs(alloc, &set, jobs.as_bytes())?;
+    let rows = trace_csv::read_rows(alloc, &jobs, rows.as_bytes())?;
     judged(alloc, protocol, &jobs, &rows)
 }
 

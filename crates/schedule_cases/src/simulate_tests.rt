@@ -10,18 +10,13 @@ use std::test::Fail;
 use taskset_json::home_check;
 use trace_conform::{TaskMeasure, conform};
 use trace_csv::{read_jobs, write_rows};
+use worked_files::set_from;
 
 /// The set from its text, which has the homes that the protocol asks for.
 fn set_of(alloc: Global, protocol: Protocol, text: &str) -> Result<TaskSet, Fail>
     ensures { IfOk result (λ set. HasHomesFor protocol set) }
 {
-    if text.len() >= 2_147_483_648 {
-        return Err("too long".into());
-    }
-    let set = match taskset_json::read(alloc, text.as_bytes()) {
-        Ok(set) => set,
-        Err(_) => return Err("the set is refused".into()),
-    };
+    let set = set_from(alloc, text)?;
     match home_check(&set, protocol) {
         Ok(()) => Ok(set),
         Err(_) => Err("a home is missing".into()),

@@ -1,67 +1,10 @@
 use schedule_model::{JobId, JobList, RowList, Segment};
-use sporadic_model::{Parts, RequestPart, ResourceId, ResourcePart, TaskId, TaskPart, TaskSet};
+use sporadic_model::{ResourceId, TaskId, TaskSet};
 use std::alloc::{AllocError, Global};
 use std::fmt::Write;
 use std::test::Fail;
 use trace_csv::{JobsRefusal, RowsRefusal, read_jobs, read_rows, write_rows};
-
-fn request(alloc: Global, length: u64) -> Result<Vec<RequestPart>, AllocError> {
-    let mut requests = Vec::new(alloc);
-    requests.push(RequestPart {
-        resource: String::from_str(alloc, "q")?,
-        count: 1,
-        length,
-    })?;
-    Ok(requests)
-}
-
-fn task(
-    alloc: Global,
-    name: &str,
-    processor: u64,
-    cost: u64,
-    length: u64,
-) -> Result<TaskPart, AllocError> {
-    Ok(TaskPart {
-        name: String::from_str(alloc, name)?,
-        processor,
-        period: 10,
-        deadline: 10,
-        cost,
-        local: cost,
-        requests: request(alloc, length)?,
-    })
-}
-
-/// Two tasks on two processors that share the resource `q`.
-fn two_tasks(alloc: Global) -> Result<TaskSet, Fail> {
-    let mut parts = Parts {
-        processors: 2,
-        resources: Vec::new(alloc),
-        tasks: Vec::new(alloc),
-    };
-    parts.resources.push(ResourcePart {
-        name: String::from_str(alloc, "q")?,
-        home: Some(2),
-    })?;
-    parts.tasks.push(task(alloc, "t1", 1, 3, 1)?)?;
-    parts.tasks.push(task(alloc, "t2", 2, 4, 2)?)?;
-    match TaskSet::new(alloc, parts) {
-        Ok(set) => Ok(set),
-        Err(_) => Err("refused".into()),
-    }
-}
-
-const JOBS: &str = "task,release,script\nt1,0,1 q:1 1\nt2,0,1 q:2 1\n";
-
-const ROWS: &str = "ticks,P1,P2,q\n1,1,2,\n2,,2,2\n1,1,2,1\n1,1,,\n";
-
-fn jobs_of<'a>(alloc: Global, set: &'a TaskSet) -> Result<JobList<'a>, Fail> {
-    match read_jobs(alloc, set, JOBS.as_bytes()) {
-        Ok(jobs) => Ok(jobs),
-        Err(_) => Err("refused".into()),
-    }
-}
+use worked_files::{PAIR, PAIR_JOBS, PAIR_LOWER_FIRST, set_from};
 
 /// Where the rows fit the jobs: their text.
 fn written(alloc: Global, jobs: &JobList, rows: &RowList) -> Option<Result<Vec<u8>, AllocError>> {
@@ -73,8 +16,8 @@ fn written(alloc: Global, jobs: &JobList, rows: &RowList) -> Option<Result<Vec<u
 
 #[test]
 fn reads_jobs_and_rows_and_writes_the_same_rows(rt: HostRuntime) -> Result<(), Fail> {
-    let set = two_tasks(rt.alloc())?;
-    let jobs = jobs_of(rt.alloc(), &set)?;
+    let set = set_from(rt.alloc(), PAIR)?;
+    let jobs = read_jobs(rt.alloc(), &set, PAIR_JOBS.as_bytes())?;
     assert!(rt; jobs.len() == 2);
     let job = jobs.job(JobId(1));
     assert_eq!(rt; (job.task, job.release), (TaskId(1), 0));
@@ -87,9 +30,7 @@ fn reads_jobs_and_rows_and_writes_the_same_rows(rt: HostRuntime) -> Result<(), F
         request: None,
     };
     assert!(rt; job.script.as_slice() == [first, last].as_slice());
-    let Ok(rows) = read_rows(rt.alloc(), &jobs, ROWS.as_bytes()) else {
-        return Err("refused".into());
-    };
+    let rows = read_rows(rt.alloc(), &jobs, PAIR_LOWER_FIRST.as_bytes())?;
     let runs = rows.runs();
     assert!(rt; rows.ticks() == 5 && runs.len() == 4);
     let (one, two) = (Some(JobId(0)), Some(JobId(1)));
@@ -97,7 +38,7 @@ fn reads_jobs_and_rows_and_writes_the_same_rows(rt: HostRuntime) -> Result<(), F
     assert!(rt; runs[1].row.holders.as_slice() == [two].as_slice());
     assert!(rt; runs[2].row.running.as_slice() == [one, two].as_slice());
     match written(rt.alloc(), &jobs, &rows) {
-        Some(text) => assert_eq!(rt; text?.as_slice(), ROWS.as_bytes()),
+        Some(text) => assert_eq!(rt; text?.as_slice(), PAIR_LOWER_FIRST.as_bytes()),
         None => return Err("does not fit".into()),
     }
     Ok(())
@@ -152,7 +93,7 @@ fn answer_to_jobs(alloc: Global, set: &TaskSet, text: &str) -> Result<u32, JobsR
 
 #[test]
 fn reads_jobs_or_names_the_first_refused_line(rt: HostRuntime) -> Result<(), Fail> {
-    let set = two_tasks(rt.alloc())?;
+    let set = set_from(rt.alloc(), PAIR)?;
     for (lines, wanted) in JOBS_CASES {
         let text = format!(in rt.alloc(); "task,release,script\n{lines}")?;
         let answer = answer_to_jobs(rt.alloc(), &set, text.as_str());
@@ -163,7 +104,7 @@ fn reads_jobs_or_names_the_first_refused_line(rt: HostRuntime) -> Result<(), Fai
 
 #[test]
 fn asks_for_the_header_of_jobs(rt: HostRuntime) -> Result<(), Fail> {
-    let set = two_tasks(rt.alloc())?;
+    let set = set_from(rt.alloc(), PAIR)?;
     let refused = Err(JobsRefusal::Fields(0));
     assert!(rt; answer_to_jobs(rt.alloc(), &set, "") == refused);
     assert!(rt; answer_to_jobs(rt.alloc(), &set, "task,release\n") == refused);
@@ -209,8 +150,8 @@ fn answer_to_rows(alloc: Global, jobs: &JobList, text: &str) -> Result<u64, Rows
 
 #[test]
 fn reads_rows_or_names_the_first_refused_line(rt: HostRuntime) -> Result<(), Fail> {
-    let set = two_tasks(rt.alloc())?;
-    let jobs = jobs_of(rt.alloc(), &set)?;
+    let set = set_from(rt.alloc(), PAIR)?;
+    let jobs = read_jobs(rt.alloc(), &set, PAIR_JOBS.as_bytes())?;
     for (lines, wanted) in ROWS_CASES {
         let text = format!(in rt.alloc(); "ticks,P1,P2,q\n{lines}")?;
         let answer = answer_to_rows(rt.alloc(), &jobs, text.as_str());
@@ -243,17 +184,13 @@ fn many_rows(alloc: Global) -> Result<String, AllocError> {
 
 #[test]
 fn reads_a_thousand_jobs_and_rows_and_writes_the_same_rows(rt: HostRuntime) -> Result<(), Fail> {
-    let set = two_tasks(rt.alloc())?;
+    let set = set_from(rt.alloc(), PAIR)?;
     let text = many_jobs(rt.alloc())?;
-    let Ok(jobs) = read_jobs(rt.alloc(), &set, text.as_bytes()) else {
-        return Err("refused".into());
-    };
+    let jobs = read_jobs(rt.alloc(), &set, text.as_bytes())?;
     assert!(rt; jobs.len() == 1000);
     assert_eq!(rt; jobs.job(JobId(999)).release, 999_000_000);
     let text = many_rows(rt.alloc())?;
-    let Ok(rows) = read_rows(rt.alloc(), &jobs, text.as_bytes()) else {
-        return Err("refused".into());
-    };
+    let rows = read_rows(rt.alloc(), &jobs, text.as_bytes())?;
     assert!(rt; rows.ticks() == 1_000_000_000 && rows.runs().len() == 1000);
     match written(rt.alloc(), &jobs, &rows) {
         Some(again) => assert!(rt; again?.as_slice() == text.as_bytes()),

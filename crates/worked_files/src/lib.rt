@@ -1,6 +1,23 @@
 //! Worked task sets, jobs and schedules, as the texts of their files, for the crates that hold cases alone. Jobs are numbered
-//! from 1, as in the files; `t1` is the highest task of each set.
+//! from 1, as in the files; `t1` is the highest task of each set. The product calls nothing of it.
 #![tactic(auto)]
+
+ghost use Rattle.std.specs.Prelude.{IfOk, Ok};
+ghost use Rattle.taskset_json.specs.Answers.{Reads};
+
+use sporadic_model::TaskSet;
+use std::alloc::Global;
+use std::test::Fail;
+
+/// The set that a text holds. A text that is refused, or that has 2^31 bytes or more, fails the test.
+pub fn set_from(alloc: Global, text: &str) -> Result<TaskSet, Fail>
+    ensures { IfOk result (λ set. Reads (Ok set) text.now) }
+{
+    if text.len() >= 2_147_483_648 {
+        return Err("the text is too long".into());
+    }
+    Ok(taskset_json::read(alloc, text.as_bytes())?)
+}
 
 /// Two tasks on two processors that share `q`, which is at home on the second.
 pub const PAIR: &str = r#"{"processors":2,"resources":[{"name":"q","home":2}],"tasks":[
