@@ -15,6 +15,7 @@ from xml.etree import ElementTree
 TOP = Path(__file__).resolve().parent.parent
 TOOLS = TOP / "tools"
 PAIR = [TOP / "examples" / name for name in ("pair.json", "pair-jobs.csv", "pair-rows.csv")]
+JITTER = [TOP / "examples" / name for name in ("jitter.json", "jitter-jobs.csv", "jitter-rows.csv")]
 STUDY = "step mpcp fmlp+ dpcp\n1 20 20 20\n2 20 19 20\n3 11 9 12\nstopped 3\n"
 
 # a set, jobs and rows under DPCP: a request of another processor's task runs on its resource's home
@@ -37,12 +38,22 @@ HOMES_BOXES = (
     [("t1", 0, 1, 1, None), ("t2", 0, 1, 2, None), ("t2", 1, 3, 2, "a"), ("t1", 3, 4, 2, "a"), ("t1", 4, 5, 1, None), ("t2", 4, 5, 2, None), ("t3", 5, 7, 2, None)],
     [("t1", 1, 3), ("t3", 1, 4), ("t2", 3, 4)],
 )
+# nothing is blocked, though the two of receive are released 6 ticks apart
+JITTER_BOXES = (
+    [("receive", 4, 6, 1, None), ("display", 6, 10, 1, None), ("receive", 10, 12, 1, None), ("display", 12, 13, 1, None)],
+    [],
+)
+
+# of a job that is released late the arrival is marked too, and the deadline counts from it; what comes after the end isn't marked
+PAIR_MARKS = [("release", 0, "control"), ("release", 0, "sense")]
+JITTER_MARKS = [("arrival", 0, "receive"), ("release", 4, "receive"), ("deadline", 10, "receive"), ("release", 10, "receive"), ("release", 4, "display")]
 
 REFUSED = [
     ("draw_schedule.py", [], "draw_schedule.py: the words are SET JOBS ROWS OUT.svg"),
     ("draw_schedule.py", ["none", *PAIR[1:], "out.svg"], "draw_schedule.py: none can't be read: No such file or directory"),
     ("draw_schedule.py", [PAIR[1], *PAIR[1:], "out.svg"], None),
-    ("draw_schedule.py", [PAIR[0], PAIR[2], PAIR[2], "out.svg"], f"draw_schedule.py: {PAIR[2]} doesn't begin with the line task,release,script"),
+    ("draw_schedule.py", [PAIR[0], PAIR[2], PAIR[2], "out.svg"], f"draw_schedule.py: {PAIR[2]} doesn't begin with the line task,release,script or task,arrival,release,script"),
+    ("draw_schedule.py", [PAIR[0], "mixed", PAIR[2], "out.svg"], "draw_schedule.py: mixed, line 1 has 3 fields in place of 4"),
     ("draw_schedule.py", [*PAIR, "none/out.svg"], None),
     ("draw_study.py", ["study"], "draw_study.py: the words are STUDY.txt OUT.svg, and SETS or nothing"),
     ("draw_study.py", [PAIR[2], "out.svg"], None),
@@ -54,6 +65,10 @@ def boxes_of(paths):
     picture = schedule.picture_of(*paths)
     executed = [(box.job.task.name, box.start, box.end, box.processor, box.resource) for box in picture.executed]
     return sorted(executed, key=lambda box: (box[1], box[3])), [(box.job.task.name, box.start, box.end) for box in picture.blocked]
+
+
+def marks_of(paths):
+    return [(kind, tick, task.name) for kind, tick, task in schedule.marks_of(schedule.picture_of(*paths))]
 
 
 def python_that_draws():
@@ -87,15 +102,20 @@ def problems(folder):
         paths.append(Path(folder) / name)
         paths[-1].write_text(text)
     (Path(folder) / "study").write_text(STUDY)
-    for given, wanted in ((PAIR, PAIR_BOXES), (paths, HOMES_BOXES)):
+    (Path(folder) / "mixed").write_text("task,arrival,release,script\ncontrol,0,1\n")
+    for given, wanted in ((PAIR, PAIR_BOXES), (paths, HOMES_BOXES), (JITTER, JITTER_BOXES)):
         found = boxes_of(given)
         yield None if found == wanted else f"the boxes of {given[0].name} are {found}, and not {wanted}"
+    for given, wanted in ((PAIR, PAIR_MARKS), (JITTER, JITTER_MARKS)):
+        found = marks_of(given)
+        yield None if found == wanted else f"the marks of {given[0].name} are {found}, and not {wanted}"
     python = python_that_draws()
     if python is None:
         print("the pictures were not drawn: python3-matplotlib is missing")
         return
     yield drawn(python, "draw_schedule.py", [*PAIR, "out.svg"], folder, ["control", "sense", "in bus", "blocked", "P2", "ticks"])
     yield drawn(python, "draw_schedule.py", [*paths, "out.svg"], folder, ["t3", "in a", "release", "deadline"])
+    yield drawn(python, "draw_schedule.py", [*JITTER, "out.svg"], folder, ["receive", "arrival", "release", "deadline"])
     yield drawn(python, "draw_study.py", ["study", "out.svg"], folder, ["mpcp", "fmlp+", "dpcp", "schedulable sets", "3 analyses ended without an answer"])
     yield drawn(python, "draw_study.py", ["study", "out.svg", "20"], folder, ["schedulable sets, %"])
     for tool, words, line in REFUSED:

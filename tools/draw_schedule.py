@@ -5,7 +5,7 @@
 
 SET, JOBS and ROWS are files as the program reads them; OUT ends in .svg, or in .png or .pdf. There is a lane for each processor, and a
 colour for each task. A box is a job that executes; in a request it is hatched by the resource. An arrow upwards is a release, one
-downwards a deadline. The thin bars below a lane are ticks at which a job of that processor is blocked: active, not running, and not
+downwards a deadline, and a dotted one upwards the arrival of a job that is released later. The thin bars below a lane are ticks at which a job of that processor is blocked: active, not running, and not
 delayed by a higher task there. Where a job runs on another processor than its task's, requests run at homes, and only a higher job
 that is outside its requests delays.
 """
@@ -60,20 +60,22 @@ def draw_boxes(axes, picture, lanes, resources):
         axes.broken_barh([(box.start, box.end - box.start)], (lanes.bar(box.job.task), BAR * 0.75), **shown)
 
 
+ARROWS = {
+    "arrival": {"arrowstyle": "->", "linewidth": 1.2, "linestyle": ":"},
+    "deadline": {"arrowstyle": "-|>", "linewidth": 1.6},
+    "release": {"arrowstyle": "-|>", "linewidth": 1.6},
+}
+
+
 def draw_arrows(axes, picture, lanes):
-    """Releases and deadlines, side by side where several come at one tick."""
-    arrows = []
-    for job in picture.jobs:
-        arrows.append((job.task.processor, job.release, job.task, "up"))
-        arrows.append((job.task.processor, job.release + job.task.deadline, job.task, "down"))
-    arrows = [arrow for arrow in arrows if arrow[1] <= picture.ticks]
+    """Arrivals, deadlines and releases, side by side where several come at one tick."""
     counts = {}
-    for processor, tick, task, way in sorted(arrows, key=lambda arrow: (arrow[0], arrow[1], arrow[3], arrow[2].place)):
-        beside = counts[processor, tick] = counts.get((processor, tick), -1) + 1
-        x, base = tick + beside * picture.ticks / 110, lanes.bases[processor]
+    for kind, tick, task in sorted(schedule.marks_of(picture), key=lambda mark: (mark[2].processor, mark[1], mark[0], mark[2].place)):
+        beside = counts[task.processor, tick] = counts.get((task.processor, tick), -1) + 1
+        x, base = tick + beside * picture.ticks / 110, lanes.bases[task.processor]
         ends = [(x, base + 0.8), (x, base + 1.3)]
-        tip, foot = ends if way == "down" else reversed(ends)
-        axes.annotate("", xy=tip, xytext=foot, arrowprops={"arrowstyle": "-|>", "color": colour_of(task), "linewidth": 1.6, "shrinkA": 0, "shrinkB": 0})
+        tip, foot = ends if kind == "deadline" else reversed(ends)
+        axes.annotate("", xy=tip, xytext=foot, arrowprops={**ARROWS[kind], "color": colour_of(task), "shrinkA": 0, "shrinkB": 0})
 
 
 def draw_axes(axes, picture, lanes):
@@ -94,6 +96,8 @@ def draw_legend(axes, pyplot, picture, resources):
     patch, line = pyplot.Rectangle, pyplot.Line2D
     shown = [patch((0, 0), 1, 1, facecolor=colour_of(task), edgecolor="black", linewidth=0.6, label=task.name) for task in picture.tasks]
     shown += [patch((0, 0), 1, 1, facecolor="white", edgecolor="black", linewidth=0.6, hatch=hatch_of(name, resources), label=f"in {name}") for name in resources]
+    if any(kind == "arrival" for kind, _, _ in schedule.marks_of(picture)):
+        shown.append(line([], [], color="black", marker=r"$\uparrow$", linestyle="none", label="arrival"))
     shown += [
         line([], [], color="black", marker="^", linestyle="none", label="release"),
         line([], [], color="black", marker="v", linestyle="none", label="deadline"),

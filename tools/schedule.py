@@ -17,9 +17,10 @@ class Task:
 
 @dataclass
 class Job:
-    """A job: its task, its release, and its parts, each the name of a resource or None, and ticks."""
+    """A job: its task, its arrival, its release, and its parts, each the name of a resource or None, and ticks."""
 
     task: Task
+    arrival: int
     release: int
     parts: list
     done: int = 0
@@ -88,14 +89,14 @@ def read_set(path):
     return value, tasks, resources
 
 
-def lines_of(path, header):
-    """The lines of a CSV file after its header, which has to be this one."""
+def lines_of(path, *headers):
+    """The lines of a CSV file after its header, which has to be one of these."""
     lines = [line for line in csv.reader(io.StringIO(read(path))) if line]
-    if not lines or lines[0] != header:
-        stop(f"{path} doesn't begin with the line {','.join(header)}")
+    if not lines or lines[0] not in headers:
+        stop(f"{path} doesn't begin with the line {' or '.join(','.join(header) for header in headers)}")
     for number, line in enumerate(lines[1:], 1):
-        if len(line) != len(header):
-            stop(f"{path}, line {number} has {len(line)} fields in place of {len(header)}")
+        if len(line) != len(lines[0]):
+            stop(f"{path}, line {number} has {len(line)} fields in place of {len(lines[0])}")
     return lines[1:]
 
 
@@ -114,12 +115,14 @@ def part_of(token, resources, path, number):
 
 def read_jobs(path, tasks, resources):
     jobs = []
-    for number, (name, release, script) in enumerate(lines_of(path, ["task", "release", "script"]), 1):
+    headers = ["task", "release", "script"], ["task", "arrival", "release", "script"]
+    for number, (name, *ticks, script) in enumerate(lines_of(path, *headers), 1):
         task = next((task for task in tasks if task.name == name), None)
         if task is None:
             stop(f"{path}, line {number}: the set has no task {name!r}")
         parts = [part_of(token, resources, path, number) for token in script.split(" ")]
-        jobs.append(Job(task, whole(release, 0, path, number), parts))
+        ticks = [whole(tick, 0, path, number) for tick in ticks]
+        jobs.append(Job(task, ticks[0], ticks[-1], parts))
     return jobs
 
 
@@ -179,6 +182,17 @@ def take(picture, run, tick, ticks, at_homes):
         add(picture.executed, Box(job, tick, tick + ticks, k, job.resource()))
     for job in running.values():
         job.run(ticks)
+
+
+def marks_of(picture):
+    """What is marked at which tick of which job, up to the end: its release, its arrival where that is another tick, and its deadline."""
+    marks = []
+    for job in picture.jobs:
+        if job.arrival != job.release:
+            marks.append(("arrival", job.arrival, job.task))
+        marks.append(("release", job.release, job.task))
+        marks.append(("deadline", job.arrival + job.task.deadline, job.task))
+    return [mark for mark in marks if mark[1] <= picture.ticks]
 
 
 def picture_of(set_path, jobs_path, rows_path):

@@ -82,10 +82,9 @@ def differences(case, program):
     out, err, status = setting.run(case, program)
     if case.saves:
         (case.at / case.saves).write_bytes(out)
-    wanted = out if case.saves else setting.as_bytes(case.says)
     found = []
-    if out != wanted:
-        found.append(f"    it wrote {clipped(out)}\n    and not  {clipped(wanted)}")
+    if not case.saves and not setting.matches(case.says, out):
+        found.append(f"    it wrote {clipped(out)}\n    and not  {clipped(case.says)}")
     if err:
         found.append(f"    to standard error it wrote {clipped(err)}")
     if status != case.status:

@@ -38,7 +38,8 @@ def accepted_sets(cases):
     for name, case in cases:
         text = case.files.get("set")
         value = parsed(text) if isinstance(text, str) else None
-        if value is not None and not (case.says or "").startswith(("refused set", "fault read set")):
+        says = case.says if isinstance(case.says, str) else ""
+        if value is not None and not says.startswith(("refused set", "fault read set")):
             yield f"{name}: {case.shows}", value
 
 

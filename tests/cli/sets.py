@@ -58,6 +58,13 @@ PAIR_FULL_TABLE = (
     "load 1 300000\nload 2 400000\n"
 )
 
+# t1 may be released up to 4 ticks after it arrives, so that two of its jobs may come 6 ticks apart
+LATE = task_set(1, [], task("t1", 1, 10, 2, jitter=4), task("t2", 1, 20, 5))
+LATE_CERTIFICATE = certificate("fmlp+", [2, 9], [[], []])
+LATE_JOBS = "task,arrival,release,script\nt1,0,4,2\nt1,10,10,2\nt2,4,4,5\n"
+LATE_ROWS = "ticks,P1\n4,\n2,1\n4,3\n2,2\n1,3\n"
+LATE_MEASURED = "lawful 13\nt1 2 2 0\nt2 1 9 0\n"
+
 # each of eight generated sets, one of each step, is schedulable under each protocol
 STUDIED = "step mpcp fmlp+ dpcp\n" + "".join(f"{step} 1 1 1\n" for step in range(1, 9)) + "stopped 0\n"
 

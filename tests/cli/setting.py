@@ -1,5 +1,6 @@
 """What a case of the end-to-end test is made of, and how it is run."""
 import os
+import re
 import resource
 import signal
 import subprocess
@@ -20,7 +21,7 @@ NOBODY = 65534
 class Case:
     """One run of the program: what it shows, its words, the whole of what it writes to standard output, and its status.
 
-    Standard error has to stay empty. The words are one text that is split at spaces, or a list of texts or bytes. The program runs
+    What it writes may be given as a pattern, which then has to match the whole of it. Standard error has to stay empty. The words are one text that is split at spaces, or a list of texts or bytes. The program runs
     in a folder that holds the files: a name, and a text, bytes or one of the kinds below. Where `at` is given it runs there instead.
     """
 
@@ -39,6 +40,8 @@ class Case:
     """What the system answers in place of the truth: Fault and Pieces of `tracing`."""
     as_nobody: bool = False
     """Whether another user runs it where root runs the test, since root reads every file."""
+    before: tuple = ()
+    """What the program is run for beforehand in the same folder: words, and the file that gets the answer."""
     at: object = None
     saves: str = ""
     """The file there to which the answer is saved, which may then be any."""
@@ -161,6 +164,8 @@ def run(case, program):
         folder.chmod(0o755)
         (folder / "files").mkdir()
         later = [make(folder / "files" / file, kind) for file, kind in case.files.items()]
+        for words, saved in case.before:
+            run_before(program, words.split(), folder / "files", saved)
         with (folder / "out").open("w+b") as out, (folder / "err").open("w+b") as err:
             started = start(case, program, folder / "files", out, err)
             for thread in filter(None, later):
@@ -169,6 +174,16 @@ def run(case, program):
             out.seek(0)
             err.seek(0)
             return out.read(), err.read(), status
+
+
+def run_before(program, words, folder, saved):
+    with (folder / saved).open("wb") as out:
+        subprocess.run([program, *words], cwd=folder, stdin=subprocess.DEVNULL, stdout=out, timeout=SECONDS, check=True)
+
+
+def matches(says, out):
+    """Whether the whole of what was written is what the case says."""
+    return bool(says.fullmatch(out.decode())) if isinstance(says, re.Pattern) else out == as_bytes(says)
 
 
 def start(case, program, folder, out, err):

@@ -9,10 +9,10 @@ use Rattle.audit_figures.specs.declared.beside.TaskFigures.{TaskFigures}
 use Rattle.dual_check.specs.declared.answer.Invalid.{Invalid}
 use Rattle.dual_check.specs.declared.answer.Invalid.TheVariants as invalid
 
--- A set that isn't shown: the task, the value that passes its deadline, and the deadline.
+-- A set that isn't shown: the task, the value that passes its latest bound, and that bound.
 abbrev pub not_shown_text : List ℕ → ℕ → ℕ → List ℕ
-not_shown_text name value deadline =
-    codes "not shown " ++ (name ++ (codes " " ++ (decimal value ++ (codes " " ++ (decimal deadline ++ codes "\n")))))
+not_shown_text name value latest =
+    codes "not shown " ++ (name ++ (codes " " ++ (decimal value ++ (codes " " ++ (decimal latest ++ codes "\n")))))
 
 -- A set of which this task's program forms a fraction that is too wide.
 abbrev pub wide_text : List ℕ → List ℕ

@@ -16,16 +16,16 @@ use std::alloc::{AllocError, Global};
 use text_pieces::push_number;
 use trace_conform::TaskMeasure;
 
-/// The text for a task whose value passes its deadline.
+/// The text for a task whose value passes its latest bound, which is its deadline less its jitter.
 pub fn not_shown_line(
     alloc: Global,
     name: &str,
     value: u64,
-    deadline: u64,
+    latest: u64,
 ) -> Result<Vec<u8>, AllocError>
-    ensures { IfOk result (λ text. text.items ≡ not_shown_text name.now value deadline) }
+    ensures { IfOk result (λ text. text.items ≡ not_shown_text name.now value latest) }
 {
-    let text = format!(in alloc; "not shown {name} {value} {deadline}\n")?;
+    let text = format!(in alloc; "not shown {name} {value} {latest}\n")?;
     Ok(text.into_bytes())
 }
 

@@ -22,14 +22,14 @@ use Rattle.audit_figures.specs.Figures.{class_sum, blocked_sum, figures_of, no_f
 use Rattle.audit_figures.specs.Audited.{LieWithin, charged_ticks}
 use Rattle.audit_figures.proofs.AddUp.{BlockedCharged, sums_add_up}
 
--- The bounds of a valid certificate are from 1 to the deadlines.
+-- The bounds of a valid certificate are from 1 to the latest bounds.
 pub valid_bounds : (f : SourceDef) (c : CertificateDef) → IsAccepted f.set → IsValid f c → AreBounds f.set (slice_index c.bounds)
 valid_bounds f c accepted valid = record {
   from = λ x l.
       let numbers : TaskNumbers f.set x = numbers_of_accepted f.set x accepted l in
       let enough = (valid.proved x l).enough in
       omega (arith, numbers.cost_from, enough);
-  deadline = λ x l. (valid.proved x l).within;
+  latest = λ x l. (valid.proved x l).within;
 }
 
 -- The items of a table are of listed jobs, in the code's list too.

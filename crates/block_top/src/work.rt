@@ -45,7 +45,7 @@ fn certificate_reply(
     })
 }
 
-/// The reply where a task's value passes its deadline.
+/// The reply where a task's value passes its latest bound.
 fn not_shown_reply(
     alloc: Global,
     protocol: Protocol,
@@ -58,7 +58,7 @@ fn not_shown_reply(
 {
     Ok(Reply {
         status: 1,
-        text: not_shown_line(alloc, set.task_name(task), bound, set.deadline(task))?,
+        text: not_shown_line(alloc, set.task_name(task), bound, set.latest_bound(task))?,
     })
 }
 

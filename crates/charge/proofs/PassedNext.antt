@@ -7,7 +7,7 @@ use Rattle.std.proofs.lemmas.Bool.{not-true, not-false, not_from_false, leb-true
 use Rattle.bounded_sums.specs.Tests.{found_below}
 use Rattle.sporadic_model.specs.Accepted.{TaskNumbers}
 use Rattle.schedule_model.specs.JobDef.{job_of}
-use Rattle.schedule_model.specs.LawfulJobs.{AreLawfulJobs}
+use Rattle.schedule_model.specs.LawfulJobs.{IsLawfulJob, AreLawfulJobs}
 use Rattle.schedule_model.specs.RowDef.{RowDef, Trace, jobs_of}
 use Rattle.schedule_model.specs.Phase.{is_finished, phase_of}
 use Rattle.schedule_model.specs.Phase.Phase.{Finished}
@@ -76,7 +76,17 @@ ends_before : (w : Trace) (bound : ℕ → ℕ) (e j : ℕ) → HaveNumbers w �
 ends_before w bound e j numbers lawful bounds l listed same =
     let task : task_of w e < length w.set.tasks = (lawful.each e (omega (arith, l, listed))).task in
     let number : TaskNumbers w.set (task_of w e) = numbers (task_of w e) task in
-    omega (arith, bounds.deadline (task_of w e) task, number.deadline_to, lawful.apart e j l listed same)
+    let first : IsLawfulJob w.set (job_of w.jobs e) = lawful.each e (omega (arith, l, listed)) in
+    let second : IsLawfulJob w.set (job_of w.jobs j) = lawful.each j listed in
+    omega (
+      arith,
+      bounds.latest (task_of w e) task,
+      number.jitter_to,
+      number.deadline_to,
+      lawful.apart e j l listed same,
+      first.in_time,
+      second.arrived,
+    )
 
 -- The first job that has passed its bound at the tick at which it ends is active then.
 first_active : (w : Trace) (bound : ℕ → ℕ) (n j : ℕ) → HaveNumbers w → AreLawfulJobs (jobs_of w) → AreBounds w.set bound

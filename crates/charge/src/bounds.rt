@@ -3,7 +3,7 @@ ghost use Rattle.charge_model.specs.Windows.{AreBounds};
 
 use sporadic_model::{TaskId, TaskSet};
 
-/// Is there a bound for each task, from 1 to its deadline?
+/// Is there a bound for each task, from 1 to its latest bound?
 pub fn are_bounds(set: &TaskSet, bounds: &[u64]) -> bool
     ensures { IsTrue result ↔ ((length bounds.now ≡ length set.now.tasks) × AreBounds set.now (slice_index bounds.now)) }
 {
@@ -12,7 +12,7 @@ pub fn are_bounds(set: &TaskSet, bounds: &[u64]) -> bool
     }
     for i in 0..set.tasks() {
         let bound = bounds[i as usize];
-        if bound == 0 || bound > set.deadline(TaskId(i)) {
+        if bound == 0 || bound > set.latest_bound(TaskId(i)) {
             return false;
         }
     }

@@ -24,7 +24,7 @@ use std::alloc::Global;
 use std::collections::BTreeMap;
 
 /// The charges of each job at each blocked tick within its bound, where these are the bounds, in ticks, one for each task and at most
-/// its deadline. The schedule is judged first: see [`ChargeStop`] for what stops it.
+/// its latest bound. The schedule is judged first: see [`ChargeStop`] for what stops it.
 pub fn charge_with<P: ChargedProtocol>(
     alloc: Global,
     protocol: &P,

@@ -6,7 +6,7 @@ ghost use Rattle.charge_model.specs.Charges.{shared_charge, dpcp_charge};
 ghost use Rattle.charge_laws.proofs.SharedCharging.{shared_charge_blocked};
 ghost use Rattle.charge_laws.proofs.DpcpCharging.{dpcp_charge_blocked};
 ghost use Rattle.row_laws.proofs.ChargedTicks.{mpcp_is_charged, fmlp_is_charged, dpcp_is_charged};
-ghost use Rattle.row_laws.proofs.Joined.{mpcp_point, fmlp_point, dpcp_point};
+ghost use Rattle.row_laws.proofs.EmptyWindows.{mpcp_point_within, fmlp_point_within, dpcp_point_within};
 ghost use Rattle.row_laws.proofs.InterferingCosts.{interfering_least, interfering_most};
 ghost use Rattle.row_laws.proofs.InterferingCosts.{mpcp_interferes_within, fmlp_interferes_within, dpcp_interferes_within};
 
@@ -64,7 +64,7 @@ impl ChargedProtocol for Mpcp {
     ghost charges_only = { λ p. shared_charge_blocked };
 
     ghost meets_rows = { λ p w bounds n j suits accepted lawful keeps listed ended.
-        mpcp_point w bounds n j (record { accepted = accepted; lawful = lawful; listed = listed; ended = ended }) keeps };
+        mpcp_point_within w bounds n j (record { accepted = accepted; lawful = lawful; listed = listed; ended = ended }) keeps };
 }
 
 impl ChargedProtocol for FmlpPlus {
@@ -107,7 +107,7 @@ impl ChargedProtocol for FmlpPlus {
     ghost charges_only = { λ p. shared_charge_blocked };
 
     ghost meets_rows = { λ p w bounds n j suits accepted lawful keeps listed ended.
-        fmlp_point w bounds n j (record { accepted = accepted; lawful = lawful; listed = listed; ended = ended }) keeps };
+        fmlp_point_within w bounds n j (record { accepted = accepted; lawful = lawful; listed = listed; ended = ended }) keeps };
 }
 
 impl ChargedProtocol for Dpcp {
@@ -150,5 +150,5 @@ impl ChargedProtocol for Dpcp {
     ghost charges_only = { λ p. dpcp_charge_blocked };
 
     ghost meets_rows = { λ p w bounds n j suits accepted lawful keeps listed ended.
-        dpcp_point w bounds n j (record { accepted = accepted; lawful = lawful; listed = listed; ended = ended }) keeps };
+        dpcp_point_within w bounds n j (record { accepted = accepted; lawful = lawful; listed = listed; ended = ended }) keeps };
 }

@@ -39,7 +39,7 @@ pub fn sound_bounds_are_never_passed<P: BlockingProtocol>()
         → first_passed w (slice_index bounds) n ≡ None }
 {}
 
-/// The bounds of a valid certificate are from 1 to the deadlines.
+/// The bounds of a valid certificate are from 1 to the latest bounds.
 pub fn valid_certificates_bound_each_task()
     ensures { (f : SourceDef) (c : CertificateDef) → IsAccepted f.set → IsValid f c → AreBounds f.set (slice_index c.bounds) }
 {}

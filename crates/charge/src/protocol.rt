@@ -22,7 +22,7 @@ ghost use Rattle.program_laws.specs.Programs.{cost_of};
 ghost use Rattle.charge_model.specs.Charges.{Charge};
 ghost use Rattle.charge_model.specs.ChargedTicks.{IsCharged};
 ghost use Rattle.charge_model.specs.Interferers.{interferes_with_some};
-ghost use Rattle.charge_model.specs.Windows.{EndedBy};
+ghost use Rattle.charge_model.specs.Windows.{bound_end, EndedWithin};
 ghost use Rattle.charge_model.specs.Fractions.{product_of_lengths, fractions_of};
 ghost use Rattle.charge.specs.Seen.{charge_seen};
 
@@ -110,11 +110,12 @@ pub trait ChargedProtocol: Judge {
     ghost charges_only: { (p : Self) (w : Trace) (t j : ℕ) (charge : Charge) → charges p w t j ≡ Some charge
         → is_blocked (Self.interferes p) w t j ≡ true };
 
-    /// Charges meet the rows: in a lawful schedule of an accepted set, where each job whose release plus bound is at most a job's
-    /// release was finished by its own release plus its bound, the fractions of that job's window meet every row of its program.
+    /// Charges meet the rows: in a lawful schedule of an accepted set take a job, and let each job whose release plus bound is less
+    /// than that job's, and at most the number of rows, be finished by its own release plus its bound. Then the fractions of the
+    /// job's window meet every row of its program.
     ghost meets_rows: { (p : Self) (w : Trace) (bounds : List ℕ) (n j : ℕ) → Self.suits p w.set → IsAccepted w.set
         → AreLawfulJobs (jobs_of w) → KeepsBefore (Self.keeps p) w n → j < length w.jobs
-        → EndedBy w (slice_index bounds) (job_of w.jobs j).release
+        → EndedWithin w (slice_index bounds) (bound_end w (slice_index bounds) j) n
         → IsScaledPoint (program_of p w.set (task_of w j) bounds) (product_of_lengths w.set (columns_of p w.set (task_of w j)))
         (fractions_of (charges p) w (slice_index bounds) n j (columns_of p w.set (task_of w j))) };
 }

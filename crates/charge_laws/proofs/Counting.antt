@@ -1,6 +1,6 @@
 -- How many ticks of a job's window are interference by jobs of one task. A job that was released before the window and
--- runs z ticks in it was released no earlier than z less its bound before it; so where one job too many runs, the first and
--- the last together run no longer than one.
+-- runs z ticks in it arrived no earlier than z less its bound and its jitter before it; so where one job too many runs, the
+-- first and the last together run no longer than one.
 use Rattle.std.proofs.Common.{◌≡◌, ◌⊎◌, ℕ, zero, suc, ◌+◌, ◌-◌, ◌*◌, ◌<◌, ◌≤◌, ◌==◌, Bool, true, false, length, refl}
 use Rattle.std.proofs.Common.{sym, ap, ◌∙◌, arith, inl, inr, suc-mul, Option, Some, None}
 use Rattle.std.specs.Int.{div_ceil}
@@ -14,7 +14,7 @@ use Rattle.bounded_sums.proofs.SumLaws.{sum_below-agree, sum_below-monotone, sum
 use Rattle.bounded_sums.proofs.CountLaws.{flag-of_true, flag-of_false}
 use Rattle.sporadic_model.specs.SetDef.{task_at, jobs_within}
 use Rattle.schedule_model.specs.JobDef.{JobsDef, job_of}
-use Rattle.schedule_model.specs.LawfulJobs.{AreLawfulJobs}
+use Rattle.schedule_model.specs.LawfulJobs.{IsLawfulJob, AreLawfulJobs}
 use Rattle.schedule_model.specs.RowDef.{Trace, jobs_of, running_on}
 use Rattle.schedule_model.specs.Activity.{task_of, processor_of, is_active}
 use Rattle.schedule_model.specs.BlockedTicks.{is_interferer}
@@ -27,12 +27,12 @@ use Rattle.schedule_laws.proofs.Interferers.{Interferer, interferer_is, interfer
 use Rattle.charge_laws.proofs.Interference.{interference_active}
 
 -- What is known of the ticks f y that job y of task h runs in a window of bi ticks from r on, where a job of h may run
--- for g ticks and its bound is bh.
+-- for g ticks and ends within bh ticks after it arrived.
 pub record InWindow (jobs : JobsDef) (h r bi bh g : ℕ) (f : ℕ → ℕ) (y : ℕ) : Type 0 where
   pub task : (job_of jobs.jobs y).task ≡ h
   pub cost : f y ≤ g
-  pub after : f y + r ≤ (job_of jobs.jobs y).release + bh
-  pub before : f y + (job_of jobs.jobs y).release ≤ r + bi
+  pub after : f y + r ≤ (job_of jobs.jobs y).arrival + bh
+  pub before : f y + (job_of jobs.jobs y).arrival ≤ r + bi
   pub within : f y ≤ bi
 
 -- Of the jobs before job n that run in the window there are c and one more, from the first to the last.
@@ -41,10 +41,10 @@ record Carried (jobs : JobsDef) (h r bi bh g : ℕ) (f : ℕ → ℕ) (n c : ℕ
   last : ℕ
   below : last < n
   task : (job_of jobs.jobs last).task ≡ h
-  apart : (job_of jobs.jobs first).release + c * (task_at jobs.set h).period ≤ (job_of jobs.jobs last).release
+  apart : (job_of jobs.jobs first).arrival + c * (task_at jobs.set h).period ≤ (job_of jobs.jobs last).arrival
   total : sum_below n f ≤ suc c * g
-  early : sum_below n f + r ≤ (job_of jobs.jobs first).release + bh + c * g
-  late : sum_below n f + (job_of jobs.jobs last).release + g ≤ (job_of jobs.jobs first).release + bh + bi + c * g
+  early : sum_below n f + r ≤ (job_of jobs.jobs first).arrival + bh + c * g
+  late : sum_below n f + (job_of jobs.jobs last).arrival + g ≤ (job_of jobs.jobs first).arrival + bh + bi + c * g
 
 carried_first : (jobs : JobsDef) (h r bi bh g : ℕ) (f : ℕ → ℕ) (n : ℕ) → g ≤ bh → InWindow jobs h r bi bh g f n → sum_below n f ≡ 0
     → Carried jobs h r bi bh g f (suc n) 0
@@ -63,9 +63,9 @@ carried_next : (jobs : JobsDef) (h r bi bh g : ℕ) (f : ℕ → ℕ) (n c : ℕ
     → InWindow jobs h r bi bh g f n → Carried jobs h r bi bh g f n c
     → Carried jobs h r bi bh g f (suc n) (suc c)
 carried_next jobs h r bi bh g f n c lawful l here s =
-    let gap : (job_of jobs.jobs s.last).release + (task_at jobs.set (job_of jobs.jobs s.last).task).period
-    ≤ (job_of jobs.jobs n).release = lawful.apart s.last n s.below l (s.task ∙ sym here.task) in
-    let step : (job_of jobs.jobs s.last).release + (task_at jobs.set h).period ≤ (job_of jobs.jobs n).release = rw s.task at gap in
+    let gap : (job_of jobs.jobs s.last).arrival + (task_at jobs.set (job_of jobs.jobs s.last).task).period
+    ≤ (job_of jobs.jobs n).arrival = lawful.apart s.last n s.below l (s.task ∙ sym here.task) in
+    let step : (job_of jobs.jobs s.last).arrival + (task_at jobs.set h).period ≤ (job_of jobs.jobs n).arrival = rw s.task at gap in
     let periods : suc c * (task_at jobs.set h).period ≡ c * (task_at jobs.set h).period + (task_at jobs.set h).period =
     suc-mul c (task_at jobs.set h).period in
     let costs : suc c * g ≡ c * g + g = suc-mul c g in
@@ -248,11 +248,11 @@ tick_place interferes w bound g n t j y laws ended l h =
 
 -- What is known of the ticks of one job of h.
 in_window : (interferes : Trace → ℕ → ℕ → Bool) (w : Trace) (bound g : ℕ → ℕ) (n j h y : ℕ) → Interfering interferes w n g j
-    → EndedBefore w bound (bound_end w bound j) → y < length w.jobs
+    → AreLawfulJobs (jobs_of w) → EndedBefore w bound (bound_end w bound j) → y < length w.jobs
     → 0 < ticks_by interferes w (window_end w bound n j) j h y
-    → InWindow (jobs_of w) h (job_of w.jobs j).release (bound (task_of w j)) (bound h) (g h)
+    → InWindow (jobs_of w) h (job_of w.jobs j).release (bound (task_of w j)) (bound h + (task_at w.set h).jitter) (g h)
     (λ z. ticks_by interferes w (window_end w bound n j) j h z) y
-in_window interferes w bound g n j h y laws ended l some = elim (cases_Bool (task_of w y == h)) [
+in_window interferes w bound g n j h y laws lawful ended l some = elim (cases_Bool (task_of w y == h)) [
   | inr other ↦ let none : ticks_by interferes w (window_end w bound n j) j h y ≡ 0 = rw other refl in absurd (omega arith)
   | inl same ↦ facts same (eqb-true (task_of w y) h same)
 ] where
@@ -266,9 +266,11 @@ in_window interferes w bound g n j h y laws ended l some = elim (cases_Bool (tas
   place t b x = tick_place interferes w bound g n t j y laws ended b x
 
   facts : (task_of w y == h) ≡ true → task_of w y ≡ h
-      → InWindow (jobs_of w) h (job_of w.jobs j).release (bound (task_of w j)) (bound h) (g h)
+      → InWindow (jobs_of w) h (job_of w.jobs j).release (bound (task_of w j)) (bound h + (task_at w.set h).jitter) (g h)
       (λ z. ticks_by interferes w (window_end w bound n j) j h z) y
   facts same task =
+      let job : IsLawfulJob w.set (job_of w.jobs y) = lawful.each y l in
+      let late : (job_of w.jobs y).release ≤ (job_of w.jobs y).arrival + (task_at w.set h).jitter = rw task at job.in_time in
       let is : ticks_by interferes w e j h y ≡ c = rw same refl in
       let cost : c ≤ g (task_of w y) = laws.cost e y (omega arith) l in
       let costs : g (task_of w y) ≡ g h = ap g task in
@@ -282,21 +284,27 @@ in_window interferes w bound g n j h y laws ended l some = elim (cases_Bool (tas
       let within : c + (job_of w.jobs j).release ≤ bound_end w bound j =
       count_below-between e (job_of w.jobs j).release (bound_end w bound j) (λ t. is_interferer interferes w t j y)
       (λ t b x. let p : TickPlace w bound t j y = place t b x in (p.released, p.before)) (omega arith) in
-      record { task = task; cost = omega arith; after = omega arith; before = omega arith; within = omega arith }
+      record {
+        task = task;
+        cost = omega arith;
+        after = omega (arith, after, late, bounds);
+        before = omega (arith, before, job.arrived);
+        within = omega arith;
+      }
 
 -- The ticks of a job's window that are interference by jobs of h are as few as the analysis counts.
 pub interference_counted : (interferes : Trace → ℕ → ℕ → Bool) (w : Trace) (bound g : ℕ → ℕ) (n j h : ℕ) → Interfering interferes w n g j
     → AreLawfulJobs (jobs_of w)
     → EndedBefore w bound (bound_end w bound j) → 0 < (task_at w.set h).period → g h ≤ (task_at w.set h).period → g h ≤ bound h
     → count_below (window_end w bound n j) (λ t. is_interference_of interferes w t j h)
-    ≤ jobs_within (bound (task_of w j)) (bound h - g h) (task_at w.set h).period * g h
+    ≤ jobs_within (bound (task_of w j)) (bound h + (task_at w.set h).jitter - g h) (task_at w.set h).period * g h
 interference_counted interferes w bound g n j h laws lawful ended some short less =
     let jobs : count_below (window_end w bound n j) (λ t. is_interference_of interferes w t j h)
     ≤ sum_below (length w.jobs) (λ y. ticks_by interferes w (window_end w bound n j) j h y) =
     by_jobs interferes w (window_end w bound n j) j h (λ t l. laws.sound t (omega arith)) in
     let most : sum_below (length w.jobs) (λ y. ticks_by interferes w (window_end w bound n j) j h y)
-    ≤ jobs_within (bound (task_of w j)) (bound h - g h) (task_at w.set h).period * g h =
-    counted (jobs_of w) h (job_of w.jobs j).release (bound (task_of w j)) (bound h) (g h)
-    (λ y. ticks_by interferes w (window_end w bound n j) j h y) lawful some short less
-    (λ y l pos. in_window interferes w bound g n j h y laws ended l pos) in
+    ≤ jobs_within (bound (task_of w j)) (bound h + (task_at w.set h).jitter - g h) (task_at w.set h).period * g h =
+    counted (jobs_of w) h (job_of w.jobs j).release (bound (task_of w j)) (bound h + (task_at w.set h).jitter) (g h)
+    (λ y. ticks_by interferes w (window_end w bound n j) j h y) lawful some short (omega arith)
+    (λ y l pos. in_window interferes w bound g n j h y laws lawful ended l pos) in
     omega (arith, jobs, most)

@@ -7,7 +7,7 @@ use Rattle.sporadic_model.specs.SetDef.{SetDef, task_at}
 use Rattle.sporadic_model.specs.Accepted.{IsAccepted, TaskNumbers}
 use Rattle.sporadic_model.proofs.Laws.{numbers_of_accepted}
 use Rattle.schedule_model.specs.JobDef.{job_of}
-use Rattle.schedule_model.specs.LawfulJobs.{AreLawfulJobs}
+use Rattle.schedule_model.specs.LawfulJobs.{IsLawfulJob, AreLawfulJobs}
 use Rattle.schedule_model.specs.RowDef.{Trace, jobs_of}
 use Rattle.schedule_model.specs.Phase.{is_finished, phase_of}
 use Rattle.schedule_model.specs.Phase.Phase.{Finished}
@@ -61,19 +61,21 @@ active_within w bound e t j ended active l = elim (cases_lt t (bound_end w bound
   | inr passed ↦ active_before_end w (bound_end w bound j) t j active (ended j (active_listed w t j active) (omega arith))
 ]
 
--- A job that is released at least a period after an earlier one of its task is released past the earlier one's bound.
+-- A job that arrives at least a period after an earlier one of its task is released past the earlier one's bound.
 pub earlier_ended : (w : Trace) (bound : ℕ → ℕ) (e j : ℕ) → AreLawfulJobs (jobs_of w)
-    → bound (task_of w e) ≤ (task_at w.set (task_of w e)).period → j < length w.jobs
+    → bound (task_of w e) + (task_at w.set (task_of w e)).jitter ≤ (task_at w.set (task_of w e)).period → j < length w.jobs
     → EndedBy w bound (job_of w.jobs j).release → e < j → task_of w e ≡ task_of w j → phase_of w (job_of w.jobs j).release e ≡ Finished
 earlier_ended w bound e j lawful short l ended before same =
-    let apart : (job_of w.jobs e).release + (task_at w.set (task_of w e)).period ≤ (job_of w.jobs j).release =
+    let apart : (job_of w.jobs e).arrival + (task_at w.set (task_of w e)).period ≤ (job_of w.jobs j).arrival =
     lawful.apart e j before l same in
-    let passed : bound_end w bound e ≤ (job_of w.jobs j).release = omega arith in
+    let first : IsLawfulJob w.set (job_of w.jobs e) = lawful.each e (omega arith) in
+    let second : IsLawfulJob w.set (job_of w.jobs j) = lawful.each j l in
+    let passed : bound_end w bound e ≤ (job_of w.jobs j).release = omega (arith, apart, first.in_time, second.arrived, short) in
     finished_stays w (bound_end w bound e) (job_of w.jobs j).release e passed (ended e (omega arith) passed)
 
 -- So a job is active from its release until it ends.
 pub active_from_release : (w : Trace) (bound : ℕ → ℕ) (t j : ℕ) → AreLawfulJobs (jobs_of w)
-    → ((x : ℕ) → x < length w.set.tasks → bound x ≤ (task_at w.set x).period) → j < length w.jobs
+    → ((x : ℕ) → x < length w.set.tasks → bound x + (task_at w.set x).jitter ≤ (task_at w.set x).period) → j < length w.jobs
     → EndedBy w bound (job_of w.jobs j).release → (job_of w.jobs j).release ≤ t → is_finished (phase_of w t j) ≡ false
     → is_active w t j ≡ true
 active_from_release w bound t j lawful short l ended released unfinished =
@@ -81,8 +83,8 @@ active_from_release w bound t j lawful short l ended released unfinished =
     (λ e before same. earlier_ended w bound e j lawful
     (short (task_of w e) (lawful.each e (omega arith)).task) l ended before same) released released unfinished
 
--- The bounds of an accepted set are at most the periods.
+-- The bounds of an accepted set, each with its task's jitter, are at most the periods.
 pub bounds_below_periods : (set : SetDef) (bound : ℕ → ℕ) (x : ℕ) → IsAccepted set → AreBounds set bound → x < length set.tasks
-    → bound x ≤ (task_at set x).period
+    → bound x + (task_at set x).jitter ≤ (task_at set x).period
 bounds_below_periods set bound x accepted bounds l = let numbers : TaskNumbers set x = numbers_of_accepted set x accepted l in
-    omega (arith, bounds.deadline x l, numbers.deadline_to)
+    omega (arith, bounds.latest x l, numbers.jitter_to, numbers.deadline_to)

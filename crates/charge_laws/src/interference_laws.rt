@@ -1,4 +1,4 @@
-ghost use Rattle.std.specs.Prelude.{◌≡◌, ℕ, ◌-◌, ◌*◌, ◌<◌, ◌≤◌, Bool, true, false, length};
+ghost use Rattle.std.specs.Prelude.{◌≡◌, ℕ, ◌+◌, ◌-◌, ◌*◌, ◌<◌, ◌≤◌, Bool, true, false, length};
 ghost use Rattle.bounded_sums.specs.Tests.{count_below};
 ghost use Rattle.sporadic_model.specs.SetDef.{task_at, jobs_within};
 ghost use Rattle.sporadic_model.specs.Accepted.{IsAccepted};
@@ -43,5 +43,5 @@ pub fn interference_is_counted<P: BlockingProtocol>()
         → ((m y : ℕ) → m ≤ n → y < length w.jobs → count_below m (λ t. interferes_with_some (P.interferes p) w t y) ≤ g (task_of w y))
         → j < length w.jobs → EndedBefore w bound (bound_end w bound j)
         → count_below (window_end w bound n j) (λ t. is_interference_of (P.interferes p) w t j h)
-        ≤ jobs_within (bound (task_of w j)) (bound h - g h) (task_at w.set h).period * g h }
+        ≤ jobs_within (bound (task_of w j)) (bound h + (task_at w.set h).jitter - g h) (task_at w.set h).period * g h }
 {}

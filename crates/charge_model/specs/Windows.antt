@@ -1,6 +1,6 @@
 -- In which window the ticks of a job are counted, and which jobs have ended within theirs.
 use Rattle.std.specs.Prelude.{◌≡◌, ℕ, ◌+◌, ◌<◌, ◌≤◌, length, min}
-use Rattle.sporadic_model.specs.SetDef.{SetDef, task_at}
+use Rattle.sporadic_model.specs.SetDef.{SetDef, task_at, latest_bound}
 use Rattle.schedule_model.specs.JobDef.{job_of}
 use Rattle.schedule_model.specs.RowDef.{Trace}
 use Rattle.schedule_model.specs.Phase.{phase_of}
@@ -20,11 +20,16 @@ window_end w bound n j = min (bound_end w bound j) n
 abbrev pub EndedBy : Trace → (ℕ → ℕ) → ℕ → Type 0
 EndedBy w bound r = (l : ℕ) → l < length w.jobs → bound_end w bound l ≤ r → phase_of w (bound_end w bound l) l ≡ Finished
 
--- And each whose release plus bound is less than e?
+-- And each whose release plus bound is less than e and lies within n rows?
+abbrev pub EndedWithin : Trace → (ℕ → ℕ) → ℕ → ℕ → Type 0
+EndedWithin w bound e n =
+    (l : ℕ) → l < length w.jobs → bound_end w bound l < e → bound_end w bound l ≤ n → phase_of w (bound_end w bound l) l ≡ Finished
+
+-- And each whose release plus bound is less than e, within whatever rows?
 abbrev pub EndedBefore : Trace → (ℕ → ℕ) → ℕ → Type 0
 EndedBefore w bound e = (l : ℕ) → l < length w.jobs → bound_end w bound l < e → phase_of w (bound_end w bound l) l ≡ Finished
 
--- Are these bounds ones that an analysis gives: for each task of the set from 1 to its deadline?
+-- Are these bounds ones that an analysis gives: for each task of the set from 1 to its latest bound?
 pub record AreBounds (set : SetDef) (bound : ℕ → ℕ) : Type 0 where
   pub from : (x : ℕ) → x < length set.tasks → 1 ≤ bound x
-  pub deadline : (x : ℕ) → x < length set.tasks → bound x ≤ (task_at set x).deadline
+  pub latest : (x : ℕ) → x < length set.tasks → bound x ≤ latest_bound (task_at set x)

@@ -4,7 +4,7 @@ use Rattle.bounded_sums.specs.Sums.{sum_below}
 use Rattle.program_form.specs.Certificate.{DualDef, CertificateDef}
 use Rattle.program_form.specs.Program.{ProgramDef, columns, height, cost, entry}
 use Rattle.program_sources.specs.Recurrence.{SourceDef, response_with}
-use Rattle.program_sources.specs.Fitting.{tasks_of, deadline_of}
+use Rattle.program_sources.specs.Fitting.{tasks_of, latest_of}
 use Rattle.program_sources.specs.Valid.{dual_at, value_at}
 
 -- Has it a bound and a dual for each task?
@@ -12,9 +12,9 @@ pub record HasSizes (f : SourceDef) (c : CertificateDef) : Type 0 where
   pub bound_each : length c.bounds ≡ tasks_of f
   pub dual_each : length c.duals ≡ tasks_of f
 
--- Is the bound of task i at most its deadline?
+-- Is the bound of task i at most its latest one, which is its deadline less its jitter?
 abbrev pub IsBoundWithin : SourceDef → CertificateDef → ℕ → Type 0
-IsBoundWithin f c i = slice_index c.bounds i ≤ deadline_of f i
+IsBoundWithin f c i = slice_index c.bounds i ≤ latest_of f i
 
 -- Has a dual a numerator for each row of a program?
 abbrev pub HasNumerators : ProgramDef → DualDef → Type 0

@@ -15,7 +15,7 @@ pub struct Valid {
 pub enum Invalid {
     /// It has not one bound and one dual for each task.
     Size,
-    /// This task's bound passes its deadline.
+    /// This task's bound and its jitter together pass its deadline.
     Bound(TaskId),
     /// This task's dual has not one numerator for each row of its program.
     DualSize(TaskId),

@@ -3,7 +3,7 @@ ghost use Rattle.program_form.specs.Certificate.{certificate_seen};
 ghost use Rattle.sporadic_model.specs.Homes.{HasHomesFor};
 ghost use Rattle.program_sources.specs.Bounds.{AreWithinDeadlines, AreFromCostsAbove};
 ghost use Rattle.program_sources.specs.Recurrence.{response_with};
-ghost use Rattle.sporadic_model.specs.SetDef.{task_at};
+ghost use Rattle.sporadic_model.specs.SetDef.{task_at, latest_bound};
 ghost use Rattle.program_sources.specs.Valid.{IsValid};
 ghost use Rattle.soundness_laws.specs.Analyses.{source_of};
 ghost use Rattle.soundness_laws.specs.Sound.{Sound};
@@ -34,14 +34,15 @@ pub fn has_denominators(certificate: &Certificate) -> bool
     true
 }
 
-/// The first task whose bound passes its deadline.
+/// The first task whose bound passes its latest one.
 fn first_late(set: &TaskSet, bounds: &[u64]) -> Option<TaskId>
     requires { length bounds.now ≡ length set.now.tasks }
-    ensures { Finds (option_map (λ x. x.0) result) (length set.now.tasks) (λ i. slice_index bounds.now i ≤ (task_at set.now i).deadline) }
+    ensures { Finds (option_map (λ x. x.0) result) (length set.now.tasks)
+        (λ i. slice_index bounds.now i ≤ latest_bound (task_at set.now i)) }
 {
     (0..set.tasks())
         .map(TaskId)
-        .find(|i| bounds[i.0 as usize] > set.deadline(*i))
+        .find(|i| bounds[i.0 as usize] > set.latest_bound(*i))
 }
 
 /// The value of a dual that holds all columns.

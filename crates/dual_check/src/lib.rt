@@ -1,8 +1,8 @@
 //! Judging certificates: whether bounds and duals prove that a task set meets every deadline, without trust in what made them.
 //!
-//! A certificate is valid where each bound is within its deadline and each dual holds every column of its program, and the
-//! response time with the dual's value as blocking is within the bound. `specs/Tests.antt` has these tests, `specs/Failures.antt`
-//! their order.
+//! A certificate is valid where each bound and its task's jitter together are within the deadline, each dual holds every column of
+//! its program, and the response time with the dual's value as blocking is within the bound. `specs/Tests.antt` has these tests,
+//! `specs/Failures.antt` their order.
 #![tactic(auto)]
 
 mod answer;

@@ -4,7 +4,8 @@ ghost use Rattle.fragments.specs.Windows.{jobs_in as jobs_in_window, requests_in
 
 use sporadic_model::{ResourceId, TaskId, TaskSet, jobs_in};
 
-/// How many jobs of task `x` can run within the bound of a job of task `i`: the bounds of both over `x`'s period, rounded up.
+/// How many jobs of task `x` can run within the bound of a job of task `i`: the bounds of both and `x`'s jitter together over `x`'s
+/// period, rounded up.
 pub fn jobs(set: &TaskSet, i: TaskId, x: TaskId, bounds: &[u64]) -> u64
     requires task { i.0 < length set.now.tasks }
     requires other { x.0 < length set.now.tasks }
@@ -12,10 +13,10 @@ pub fn jobs(set: &TaskSet, i: TaskId, x: TaskId, bounds: &[u64]) -> u64
     ensures value { result ≡ jobs_in_window set.now (slice_index bounds.now) i.0 x.0 }
     ensures most { result ≤ 2000000000 }
 {
-    // no bound passes the deadline of its task, which is within the limits of every set, so the sum of two fits
+    // no bound and jitter together pass the deadline of their task, which is within the limits of every set
     let _tasks = set.tasks();
     let window = bounds[i.0 as usize];
-    let bound = bounds[x.0 as usize];
+    let bound = bounds[x.0 as usize] + set.jitter(x);
     jobs_in(window, bound, set.period(x))
 }
 

@@ -14,6 +14,7 @@ const TWO: SetRow = SetRow {
             period: 20,
             cost: 6,
             local: 5,
+            jitter: 3,
             entries: &[EntryRow {
                 resource: 1,
                 count: 7,
@@ -23,16 +24,23 @@ const TWO: SetRow = SetRow {
     ],
 };
 
-/// What a set says of a task: its name, its processor, its period, deadline, cost and local limit, and for each resource the
-/// count and the length of its requests.
-type Answers<'a> = (&'a str, u32, [u64; 4], [(u64, u64); 2]);
+/// What a set says of a task: its name, its processor, its period, deadline, cost, local limit, jitter and latest bound, and for
+/// each resource the count and the length of its requests.
+type Answers<'a> = (&'a str, u32, [u64; 6], [(u64, u64); 2]);
 
 fn answers(set: &TaskSet, x: u32) -> Option<Answers<'_>> {
     if x >= set.tasks() || set.resources() != 2 {
         return None;
     }
     let (x, q, r) = (TaskId(x), ResourceId(0), ResourceId(1));
-    let times = [set.period(x), set.deadline(x), set.cost(x), set.local(x)];
+    let times = [
+        set.period(x),
+        set.deadline(x),
+        set.cost(x),
+        set.local(x),
+        set.jitter(x),
+        set.latest_bound(x),
+    ];
     let requests = [
         (set.count(x, q), set.length(x, q)),
         (set.count(x, r), set.length(x, r)),
@@ -51,8 +59,8 @@ fn a_set_has_the_numbers_of_its_rows(rt: HostRuntime) -> Result<(), Fail> {
     let set = set_of(rt.alloc(), TWO)?;
     assert_eq!(rt; (set.processors(), set.tasks(), set.resources()), (3, 2, 2));
     assert!(rt; has_resource(&set, 0, "r0", Some(2)) && has_resource(&set, 1, "r1", None));
-    let first = ("t0", 1, [10, 10, 4, 4], [(1, 1), (1, 2)]);
-    let second = ("t1", 3, [20, 20, 6, 5], [(0, 0), (7, 4)]);
+    let first = ("t0", 1, [10, 10, 4, 4, 0, 10], [(1, 1), (1, 2)]);
+    let second = ("t1", 3, [20, 20, 6, 5, 3, 17], [(0, 0), (7, 4)]);
     assert!(rt; answers(&set, 0) == Some(first));
     assert!(rt; answers(&set, 1) == Some(second));
     assert!(rt; suits(&set, Protocol::Mpcp) && !suits(&set, Protocol::Dpcp));

@@ -108,6 +108,7 @@ pub(crate) const LOCAL: SetRow = SetRow {
             period: 10,
             cost: 4,
             local: 2,
+            jitter: 0,
             entries: &[EntryRow {
                 resource: 0,
                 count: 1,

@@ -18,7 +18,7 @@ fn are_within(set: &TaskSet, bounds: &[u64]) -> bool
         return false;
     }
     for i in 0..set.tasks() {
-        if bounds[i as usize] > set.deadline(TaskId(i)) {
+        if bounds[i as usize] > set.latest_bound(TaskId(i)) {
             return false;
         }
     }

@@ -48,6 +48,7 @@ fn task_of(alloc: Global, task: &Task) -> Result<TaskPart, AllocError> {
         deadline,
         cost,
         local,
+        jitter: 0,
         requests,
     })
 }
@@ -257,6 +258,19 @@ fn names_the_first_refusal(rt: HostRuntime) -> Result<(), Fail> {
     for (processors, resources, tasks, refusal) in CASES {
         let parts = parts_of(rt.alloc(), *processors, resources, tasks)?;
         assert_eq!(rt; refusal_of(rt.alloc(), parts), *refusal);
+    }
+    Ok(())
+}
+
+#[test]
+fn takes_a_jitter_up_to_the_deadline_less_the_cost(rt: HostRuntime) -> Result<(), Fail> {
+    let alloc = rt.alloc();
+    for (jitter, refusal) in [(8, None), (9, Some(ModelRefusal::Jitter(TaskId(0))))] {
+        let mut task = task_of(alloc, &("t1", 1, [10, 10, 2, 2], &[]))?;
+        task.jitter = jitter;
+        let mut parts = parts_of(alloc, 1, &[], &[])?;
+        parts.tasks.push(task)?;
+        assert_eq!(rt; refusal_of(alloc, parts), refusal);
     }
     Ok(())
 }

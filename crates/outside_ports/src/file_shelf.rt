@@ -1,4 +1,4 @@
-ghost use Rattle.std.specs.Prelude.{◌≡◌, ℕ, ◌+◌, ◌^◌, ◌-◌, ◌<◌, ◌≤◌, min, length, IfOk, IfErr, OnErr, MatchResult, None};
+ghost use Rattle.std.specs.Prelude.{◌≡◌, ℕ, ◌+◌, ◌^◌, ◌-◌, ◌<◌, ◌≤◌, min, length, IfOk, IfErr, OnOk, OnErr, MatchResult, None};
 ghost use Rattle.std.specs.Io.{ReadsAtMost};
 ghost use Rattle.std.specs.IoError.{error_kind};
 ghost use Rattle.outside_ports.specs.Counts.{Rose};
@@ -69,6 +69,7 @@ impl<R: Files + Drop> Shelf for FileShelf<R> {
         ensures given { MatchResult result (λ n. self.new.given ≡ min (self.old.given + n) (2 ^ 64 - 1))
             (λ _. self.new.given ≡ self.old.given) }
         ensures later { self.old.faults ≤ self.new.faults }
+        ensures calm { OnOk result (self.new.faults ≡ self.old.faults) }
         ensures failed { OnErr result (Rose self.old.faults self.new.faults) }
         ensures only { IfErr result (λ e. e ≡ ShelfFault.Failed) }
     {

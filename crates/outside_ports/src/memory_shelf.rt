@@ -96,6 +96,8 @@ impl Shelf for MemShelf {
         ensures closes { OnErr result (IsAtEnd (Some self.new.rest)) }
         ensures given { self.new.given ≡ 0 }
         ensures later { self.old.faults ≤ self.new.faults }
+        ensures calm { OnOk result (self.new.faults ≡ self.old.faults) }
+        ensures want { IsErrOf result ShelfFault.Memory → self.new.faults ≡ self.old.faults }
         ensures absent { IsErrOf result ShelfFault.Absent → IsAbsent (Some self.old.inputs) name.now self.old.faults self.new.faults }
         ensures failed { IsErrOf result ShelfFault.Failed → Rose self.old.faults self.new.faults }
         ensures gives { Unit {0} }
@@ -134,6 +136,7 @@ impl Shelf for MemShelf {
         ensures given { MatchResult result (λ n. self.new.given ≡ min (self.old.given + n) (2 ^ 64 - 1))
             (λ _. self.new.given ≡ self.old.given) }
         ensures later { self.old.faults ≤ self.new.faults }
+        ensures calm { OnOk result (self.new.faults ≡ self.old.faults) }
         ensures failed { OnErr result (Rose self.old.faults self.new.faults) }
         ensures only { IfErr result (λ e. e ≡ ShelfFault.Failed) }
         ensures one_call { self.new.calls ≤ self.old.calls + 1 }

@@ -50,7 +50,8 @@ pub trait Shelf {
     /// Makes the bytes of the named input the rest. After an error no input is started.
     ///
     /// `Absent` comes where the told names lack this one, or where names are not told and the count of faults rose;
-    /// `Failed` only where the count rose; `Memory` is want of memory alone.
+    /// `Failed` only where the count rose; `Memory` is want of memory alone, which leaves the count as it was, and so
+    /// does a start that succeeds.
     fn start(&mut self, name: &str) -> Result<(), ShelfFault>
         ensures same { names self.new ≡ names self.old }
         ensures tells { is_some (rest self.new) ≡ is_some (rest self.old) }
@@ -58,6 +59,8 @@ pub trait Shelf {
         ensures closes { OnErr result (IsAtEnd (rest self.new)) }
         ensures given { given self.new ≡ 0 }
         ensures later { faults self.old ≤ faults self.new }
+        ensures calm { OnOk result (faults self.new ≡ faults self.old) }
+        ensures want { IsErrOf result ShelfFault.Memory → faults self.new ≡ faults self.old }
         ensures absent { IsErrOf result ShelfFault.Absent → IsAbsent (names self.old) name.now (faults self.old) (faults self.new) }
         ensures failed { IsErrOf result ShelfFault.Failed → Rose (faults self.old) (faults self.new) }
         ensures gives { start_gives self.old name.now result self.new }
@@ -67,7 +70,8 @@ pub trait Shelf {
     /// Moves bytes from the front of the rest to the front of the buffer, and says how many. It says 0 where the
     /// rest is empty or nothing is started.
     ///
-    /// The one error is `Failed`. It comes only where the count of faults rose, and no byte was moved.
+    /// The one error is `Failed`. It comes only where the count of faults rose, and no byte was moved. A read that
+    /// succeeds leaves the count as it was.
     fn read(&mut self, buffer: &mut [u8]) -> Result<usize, ShelfFault>
         requires { 0 < length buffer.old }
         ensures same { names self.new ≡ names self.old }
@@ -77,6 +81,7 @@ pub trait Shelf {
         ensures given { MatchResult result (λ n. given self.new ≡ min (given self.old + n) (2 ^ 64 - 1))
             (λ _. given self.new ≡ given self.old) }
         ensures later { faults self.old ≤ faults self.new }
+        ensures calm { OnOk result (faults self.new ≡ faults self.old) }
         ensures failed { OnErr result (Rose (faults self.old) (faults self.new)) }
         ensures only { IfErr result (λ e. e ≡ ShelfFault.Failed) }
         ensures one_call { calls self.new ≤ calls self.old + 1 }

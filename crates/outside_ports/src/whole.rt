@@ -45,7 +45,8 @@ impl From<AllocError> for LoadFault {
 /// All bytes of the named input, read to its end.
 ///
 /// `Absent` comes exactly where the shelf's `start` answered so, `Read` only where the shelf's count of faults rose
-/// in this call, and `TooLong` exactly where more than [`GREATEST_INPUT_BYTES`] bytes were given. After an error the
+/// in this call, and `TooLong` exactly where more than [`GREATEST_INPUT_BYTES`] bytes were given. Want of memory, as
+/// success, leaves the count as it was: a fault that was counted is answered as one. After an error the
 /// shelf stands where its last call left it. A shelf that counts its calls shows that there are at most two more of
 /// them than an input may have bytes.
 pub fn load<S: Shelf>(alloc: Global, shelf: &mut S, name: &str) -> Result<Vec<u8>, LoadFault>
@@ -61,6 +62,8 @@ pub fn load<S: Shelf>(alloc: Global, shelf: &mut S, name: &str) -> Result<Vec<u8
     ensures same { S.names shelf.new ≡ S.names shelf.old }
     ensures tells { is_some (S.rest shelf.new) ≡ is_some (S.rest shelf.old) }
     ensures later { S.faults shelf.old ≤ S.faults shelf.new }
+    ensures calm { OnOk result (S.faults shelf.new ≡ S.faults shelf.old) }
+    ensures want { IsErrOf result LoadFault.Memory → S.faults shelf.new ≡ S.faults shelf.old }
     ensures few_calls { S.calls shelf.new ≤ S.calls shelf.old + (GREATEST_INPUT_BYTES + 2) }
     ensures steady { S.steady shelf.old
         → S.steady shelf.new × (S.faults shelf.new ≡ S.faults shelf.old) × (IsErrOf result LoadFault.Read → ⊥) }
@@ -86,6 +89,8 @@ fn read_all<S: Shelf>(alloc: Global, shelf: &mut S) -> Result<Vec<u8>, LoadFault
     ensures same { S.names shelf.new ≡ S.names shelf.old }
     ensures tells { is_some (S.rest shelf.new) ≡ is_some (S.rest shelf.old) }
     ensures later { S.faults shelf.old ≤ S.faults shelf.new }
+    ensures calm { OnOk result (S.faults shelf.new ≡ S.faults shelf.old) }
+    ensures want { IsErrOf result LoadFault.Memory → S.faults shelf.new ≡ S.faults shelf.old }
     ensures few_calls { S.calls shelf.new ≤ S.calls shelf.old + (GREATEST_INPUT_BYTES + 1) }
     ensures steady { S.steady shelf.old
         → S.steady shelf.new × (S.faults shelf.new ≡ S.faults shelf.old) × (IsErrOf result LoadFault.Read → ⊥) }

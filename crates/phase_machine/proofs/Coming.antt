@@ -1,10 +1,10 @@
 -- A task's next job to be released.
-use Rattle.std.proofs.Common.{◌≡◌, ℕ, ◌+◌, ◌<◌, ◌≤◌, List, length, sym, ap, ◌∙◌, arith, inl, inr}
+use Rattle.std.proofs.Common.{◌≡◌, ℕ, ◌+◌, ◌<◌, ◌≤◌, List, length, sym, subst, ◌∙◌, arith, inl, inr}
 use Rattle.std.proofs.lemmas.Bool.{cases_order}
-use Rattle.sporadic_model.specs.SetDef.{task_at}
 use Rattle.sporadic_model.specs.Accepted.{TaskNumbers}
 use Rattle.schedule_model.specs.JobDef.{JobDef, JobsDef, job_of}
 use Rattle.schedule_model.specs.LawfulJobs.{AreLawfulJobs}
+use Rattle.schedule_laws.proofs.Spacing.{releases_rise}
 use Rattle.phase_machine.specs.MachineDef.{IsNext, IsComing, IsDue, task_in}
 
 -- One tick later the next job to be released is due.
@@ -42,11 +42,10 @@ coming_next list t x j n lawful numbers due l released next = record {
 } where
   later : n < length list.jobs → t < (job_of list.jobs n).release
   later b =
-      let apart : (job_of list.jobs j).release + (task_at list.set (job_of list.jobs j).task).period ≤ (job_of list.jobs n).release =
-      lawful.apart j n (omega (arith, next.from_on)) b (due.own l ∙ sym (next.own b)) in
-      let period : (task_at list.set (job_of list.jobs j).task).period ≡ (task_at list.set x).period =
-      ap (λ y. (task_at list.set y).period) (due.own l) in
-      omega (arith, due.later l, numbers.local_from, numbers.local_to, numbers.cost_to, numbers.deadline_to)
+      let rises : (job_of list.jobs j).release < (job_of list.jobs n).release =
+      releases_rise list j n lawful (subst (TaskNumbers list.set) (sym (due.own l)) numbers) (omega (arith, next.from_on)) b
+      (due.own l ∙ sym (next.own b)) in
+      omega (arith, due.later l, rises)
 
   earlier : (e : ℕ) → e < n → task_in list.jobs e ≡ x → (job_of list.jobs e).release ≤ t
   earlier e b same = elim (cases_order e j) [

@@ -2,17 +2,16 @@
 use Rattle.std.proofs.Common.{◌≡◌, ℕ, zero, suc, ◌<◌, true, inl, inr, List, [], ◌∷◌, length, get_or, map, ap, ◌∙◌, sym}
 use Rattle.std.proofs.Common.{refl, arith, Option, Some, None}
 use Rattle.std.specs.Prelude.{IfSome}
-use Rattle.std.specs.List.{list_all}
-use Rattle.std.proofs.lemmas.Bool.{cases_order, and_parts, ltb-true}
-use Rattle.std.proofs.lemmas.List.{get_or-map, get_or_default, length-map}
+use Rattle.std.proofs.lemmas.Bool.{cases_order, cases_lt}
+use Rattle.std.proofs.lemmas.List.{get_or-map, get_or_default, get_or_past, length-map}
 use Rattle.schedule_model.specs.declared.job.JobId.{JobId}
 use Rattle.schedule_model.specs.declared.row.Row.{Row}
 use Rattle.schedule_model.specs.RowDef.{running_on}
-use Rattle.schedule_model.specs.Fitting.{is_below}
+use Rattle.schedule_model.specs.JobDef.{JobsDef}
 use Rattle.schedule_model.specs.Seen.{place_seen, row_seen}
 use Rattle.phase_machine.specs.MachineDef.{MachineDef}
 use Rattle.phase_machine.specs.Now.{active_now}
-use Rattle.phase_machine.specs.Taking.{CanTake}
+use Rattle.phase_machine.specs.Taking.{CanTake, IsRowFor, AreAlone}
 
 -- What a place names, as the contracts see it.
 pub seen_at : (places : List (Option JobId)) (i : ℕ) (o : Option JobId) → i < length places → get_or places i None ≡ o
@@ -46,48 +45,22 @@ names_at (Some job ∷ places) zero j e = record { within = omega arith; job = j
 names_at (o ∷ places) (suc c) j e = let n : Names places c j = names_at places c j e in
     record { within = omega (arith, n.within); job = n.job; named = n.named; number = n.number }
 
--- Where each of these places names a job below n, or none, so do they all as contracts see them.
-pub all_below_seen : (n : ℕ) (places : List (Option JobId)) (c j : ℕ)
-    → list_all (λ o. is_below n (place_seen o)) places ≡ true → get_or (map place_seen places) c None ≡ Some j → j < n
-all_below_seen n [] c j h e = absurd (cc)
-all_below_seen n (None ∷ places) zero j h e = absurd (cc)
-all_below_seen n (Some job ∷ places) zero j h e =
-    let parts : (is_below n (Some job.0) ≡ true) × (list_all (λ o. is_below n (place_seen o)) places ≡ true) = and_parts _ _ h in
-    let same : job.0 ≡ j = cc in
-    omega (arith, ltb-true job.0 n parts.0)
-all_below_seen n (o ∷ places) (suc c) j h e =
-    let parts : (is_below n (place_seen o) ≡ true) × (list_all (λ o. is_below n (place_seen o)) places ≡ true) = and_parts _ _ h in
-    all_below_seen n places c j parts.1 e
+-- In a row for these jobs a column names a listed one.
+pub named_listed : (list : JobsDef) (row : Row) → IsRowFor list (row_seen row) → (c : ℕ) (j : JobId)
+    → get_or row.running.items c None ≡ Some j → j.0 < length list.jobs
+named_listed list row fits c j e = elim (cases_lt c (length row.running.items)) [
+  | inl l ↦ fits.running (suc c) j.0 (seen_at row.running.items c (Some j) l e)
+  | inr past ↦ let none : get_or row.running.items c None ≡ None = get_or_past row.running.items c None past in absurd (cc)
+]
 
--- Rows whose sizes and jobs were looked at, and whose columns run active jobs, each once, can be taken.
-pub can_take_seen : (m : MachineDef) (row : Row) → length row.running.items ≡ m.list.set.processors
-    → length row.holders.items ≡ length m.list.set.resources
-    → list_all (λ o. is_below (length m.list.jobs) (place_seen o)) row.running.items ≡ true
-    → list_all (λ o. is_below (length m.list.jobs) (place_seen o)) row.holders.items ≡ true
-    → ((c : ℕ) (j : JobId) → c < length row.running.items → get_or row.running.items c None ≡ Some j → active_now m j.0 ≡ true)
-    → ((b c : ℕ) (j : JobId) → b < c → c < length row.running.items → get_or row.running.items c None ≡ Some j
-    → get_or row.running.items b None ≡ Some j → ⊥)
+-- A row for the machine's jobs whose columns run active jobs, each once, can be taken.
+pub can_take_from : (m : MachineDef) (row : Row) → IsRowFor m.list (row_seen row) → AreAlone m row.running.items
     → CanTake m (row_seen row)
-can_take_seen m row processors resources running holders active once = record {
-  fits = record {
-    sized = record {
-      processors = length-map row.running.items place_seen ∙ processors;
-      resources = length-map row.holders.items place_seen ∙ resources;
-    };
-    running = on;
-    holders = λ q j e. all_below_seen (length m.list.jobs) row.holders.items q j holders e;
-  };
-  active = act;
-  one_column = one;
-} where
-  on : (k j : ℕ) → running_on (row_seen row) k ≡ Some j → j < length m.list.jobs
-  on zero j e = absurd (cc)
-  on (suc c) j e = all_below_seen (length m.list.jobs) row.running.items c j running e
-
+can_take_from m row fits alone = record { fits = fits; active = act; one_column = one } where
   act : (k j : ℕ) → running_on (row_seen row) k ≡ Some j → active_now m j ≡ true
   act zero j e = absurd (cc)
   act (suc c) j e = let n : Names row.running.items c j = names_at row.running.items c j e in
-      rw (← n.number) (active c n.job n.within n.named)
+      rw (← n.number) ((alone c n.within).active n.job n.named)
 
   same_job : (i j : JobId) (n : ℕ) → i.0 ≡ n → j.0 ≡ n → i ≡ j
   same_job i j n e f = ap (λ k. record { 0 = k }) (e ∙ sym f)
@@ -102,7 +75,19 @@ can_take_seen m row processors resources running holders active once = record {
       elim (cases_order c d) [
         | inl equal ↦ ap suc equal
         | inr other ↦ elim other [
-          | inl before ↦ absurd (once c d o.job before o.within o.named (n.named ∙ ap (λ k. Some k) (sym same)))
-          | inr behind ↦ absurd (once d c n.job behind n.within n.named (o.named ∙ ap (λ k. Some k) same))
+          | inl before ↦ absurd ((alone d o.within).once c o.job before o.named (n.named ∙ ap (λ k. Some k) (sym same)))
+          | inr behind ↦ absurd ((alone c n.within).once d n.job behind n.named (o.named ∙ ap (λ k. Some k) same))
         ]
       ]
+
+-- And the columns of a row that can be taken do.
+pub alone_from : (m : MachineDef) (row : Row) → CanTake m (row_seen row) → AreAlone m row.running.items
+alone_from m row takes c l = record { active = act; once = one } where
+  act : (j : JobId) → get_or row.running.items c None ≡ Some j → active_now m j.0 ≡ true
+  act j e = takes.active (suc c) j.0 (seen_at row.running.items c (Some j) l e)
+
+  one : (b : ℕ) (j : JobId) → b < c → get_or row.running.items c None ≡ Some j → get_or row.running.items b None ≡ Some j → ⊥
+  one b j h e f =
+      let same : suc c ≡ suc b = takes.one_column (suc c) (suc b) j.0 (seen_at row.running.items c (Some j) l e)
+      (seen_at row.running.items b (Some j) (omega arith) f) in
+      absurd (omega (arith, same, h))

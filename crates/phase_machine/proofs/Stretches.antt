@@ -4,10 +4,12 @@ use Rattle.std.proofs.Common.{subst, arith, inl, inr, Option, Some, None}
 use Rattle.std.proofs.lemmas.Bool.{cases_lt}
 use Rattle.std.proofs.lemmas.List.{get_or_past}
 use Rattle.sporadic_model.specs.declared.limits.TheConstants.{MOST_TICKS}
+use Rattle.sporadic_model.specs.Accepted.{TaskNumbers}
 use Rattle.schedule_model.specs.JobDef.{job_of}
 use Rattle.schedule_model.specs.RowDef.{RowDef, running_on, runs_in}
 use Rattle.schedule_model.specs.Phase.{phase_of}
 use Rattle.schedule_laws.proofs.Rows.{runs_where, runs_from}
+use Rattle.schedule_laws.proofs.Spacing.{releases_rise}
 use Rattle.stretch_laws.specs.Steady.{IsSteady, Changes}
 use Rattle.phase_machine.specs.MachineDef.{MachineDef, IsMachine, IsComing, IsDue, place_of, coming_of, task_in, under}
 use Rattle.phase_machine.specs.Shows.{Shows}
@@ -77,7 +79,12 @@ ahead_of m least i j machine is some l e =
 
       before : (job_of m.list.jobs (coming_of m (task_in m.list.jobs j))).release ≤ (job_of m.list.jobs j).release
       before = elim (cases_lt (coming_of m (task_in m.list.jobs j)) j) [
-        | inl less ↦ omega (arith, machine.lawful.apart (coming_of m (task_in m.list.jobs j)) j less l (coming.own listed))
+        | inl less ↦ omega (
+          arith,
+          releases_rise m.list (coming_of m (task_in m.list.jobs j)) j machine.lawful
+              (subst (TaskNumbers m.list.set) (sym (coming.own listed)) (machine.numbers (task_in m.list.jobs j) task))
+              less l (coming.own listed),
+        )
         | inr same ↦ let equal : coming_of m (task_in m.list.jobs j) ≡ j = omega (arith, no_later, same) in
             omega (arith, ap (λ k. (job_of m.list.jobs k).release) equal)
       ]

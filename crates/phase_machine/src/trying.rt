@@ -1,11 +1,11 @@
 //! Whether a machine can take a row: for callers that don't know it otherwise.
 
-ghost use Rattle.std.specs.Prelude.{◌≡◌, ℕ, ◌<◌, true, false, Some, None, length, slice_index_or};
+ghost use Rattle.std.specs.Prelude.{◌≡◌, ◌↔◌, ℕ, ◌<◌, true, false, Some, None, length, map, slice_index_or};
 ghost use Rattle.std.specs.List.{list_all};
-ghost use Rattle.schedule_model.specs.Fitting.{is_below};
+ghost use Rattle.schedule_model.specs.Fitting.{is_below, names_below, fits_row};
 ghost use Rattle.schedule_model.specs.Seen.{place_seen, row_seen};
 ghost use Rattle.phase_machine.specs.Now.{active_now};
-ghost use Rattle.phase_machine.specs.Taking.{IsRowFor, CanTake};
+ghost use Rattle.phase_machine.specs.Taking.{IsRowFor, CanTake, RunsAlone, AreAlone};
 
 use crate::machine::Machine;
 use schedule_model::{JobId, Row};
@@ -19,10 +19,18 @@ fn are_below(places: &[Option<JobId>], jobs: u32) -> bool
     })
 }
 
+/// Do the places name jobs below this number alone?
+fn name_below(places: &[Option<JobId>], jobs: u32) -> bool
+    ensures { result ≡ names_below jobs (map place_seen places.now) }
+{
+    are_below(places, jobs)
+}
+
 /// Does one of the first columns run the job?
 fn runs_before(running: &[Option<JobId>], c: usize, j: JobId) -> bool
     requires { c < length running.now }
-    ensures { result ≡ false → (b : ℕ) → b < c → slice_index_or running.now b None ≡ Some j → ⊥ }
+    ensures none { result ≡ false → (b : ℕ) → b < c → slice_index_or running.now b None ≡ Some j → ⊥ }
+    ensures some { result ≡ true → (b : ℕ) × (b < c) × (slice_index_or running.now b None ≡ Some j) }
 {
     for b in 0..c {
         if running[b] == Some(j) {
@@ -32,13 +40,24 @@ fn runs_before(running: &[Option<JobId>], c: usize, j: JobId) -> bool
     false
 }
 
+/// Is the job in this column, if there is one, active, and in no column before?
+fn runs_alone(machine: &Machine, running: &[Option<JobId>], c: usize) -> bool
+    requires column { c < length running.now }
+    requires listed { (c : ℕ) (j : JobId) → slice_index_or running.now c None ≡ Some j → j.0 < length machine.now.list.jobs }
+    ensures alone { result ≡ true → RunsAlone machine.now running.now c }
+    ensures not_alone { result ≡ false → RunsAlone machine.now running.now c → ⊥ }
+{
+    match running[c] {
+        Some(j) => machine.active(j) && !runs_before(running, c, j),
+        None => true,
+    }
+}
+
 /// Is each of these running jobs active, and in one column only?
 fn run_well(machine: &Machine, running: &[Option<JobId>]) -> bool
     requires { (c : ℕ) (j : JobId) → slice_index_or running.now c None ≡ Some j → j.0 < length machine.now.list.jobs }
-    ensures active { result ≡ true → (c : ℕ) (j : JobId) → c < length running.now → slice_index_or running.now c None ≡ Some j
-        → active_now machine.now j.0 ≡ true }
-    ensures once { result ≡ true → (b c : ℕ) (j : JobId) → b < c → c < length running.now → slice_index_or running.now c None ≡ Some j
-        → slice_index_or running.now b None ≡ Some j → ⊥ }
+    ensures alone { result ≡ true → AreAlone machine.now running.now }
+    ensures not_alone { result ≡ false → AreAlone machine.now running.now → ⊥ }
 {
     for c in 0..running.len() {
         if !runs_alone(machine, running, c) {
@@ -48,55 +67,28 @@ fn run_well(machine: &Machine, running: &[Option<JobId>]) -> bool
     true
 }
 
-/// Is the job in this column, if there is one, active, and in no column before?
-fn runs_alone(machine: &Machine, running: &[Option<JobId>], c: usize) -> bool
-    requires column { c < length running.now }
-    requires listed { (c : ℕ) (j : JobId) → slice_index_or running.now c None ≡ Some j → j.0 < length machine.now.list.jobs }
-    ensures active { result ≡ true → (j : JobId) → slice_index_or running.now c None ≡ Some j → active_now machine.now j.0 ≡ true }
-    ensures once { result ≡ true → (b : ℕ) (j : JobId) → b < c → slice_index_or running.now c None ≡ Some j
-        → slice_index_or running.now b None ≡ Some j → ⊥ }
-{
-    match running[c] {
-        Some(j) => machine.active(j) && !runs_before(running, c, j),
-        None => true,
-    }
-}
-
-/// Can the machine take the row?
-pub fn can_take(machine: &Machine, row: &Row) -> bool
-    ensures { result ≡ true → CanTake machine.now (row_seen row.now) }
+/// Has the row the sizes of the machine's set, and does it name listed jobs alone?
+fn is_fitting(machine: &Machine, row: &Row) -> bool
+    ensures { result ≡ fits_row machine.now.list.set.processors (length machine.now.list.set.resources)
+        (length machine.now.list.jobs) (row_seen row.now) }
 {
     let jobs = machine.jobs();
     let set = jobs.set();
-    if row.running.len() != set.processors() as usize {
-        return false;
-    }
-    if row.holders.len() != set.resources() as usize {
-        return false;
-    }
-    if !are_below(&row.running, jobs.len()) {
-        return false;
-    }
-    if !are_below(&row.holders, jobs.len()) {
-        return false;
-    }
-    run_well(machine, &row.running)
+    let is_sized = row.running.len() == set.processors() as usize
+        && row.holders.len() == set.resources() as usize;
+    is_sized && (name_below(&row.running, jobs.len()) && name_below(&row.holders, jobs.len()))
 }
 
 /// Is the row one for the machine's jobs: has it the set's sizes, and does it name listed jobs alone?
 pub fn is_row_for(machine: &Machine, row: &Row) -> bool
-    ensures { result ≡ true → IsRowFor machine.now.list (row_seen row.now) }
+    ensures { (result ≡ true) ↔ IsRowFor machine.now.list (row_seen row.now) }
 {
-    let jobs = machine.jobs();
-    let set = jobs.set();
-    if row.running.len() != set.processors() as usize {
-        return false;
-    }
-    if row.holders.len() != set.resources() as usize {
-        return false;
-    }
-    if !are_below(&row.running, jobs.len()) {
-        return false;
-    }
-    are_below(&row.holders, jobs.len())
+    is_fitting(machine, row)
+}
+
+/// Can the machine take the row?
+pub fn can_take(machine: &Machine, row: &Row) -> bool
+    ensures { (result ≡ true) ↔ CanTake machine.now (row_seen row.now) }
+{
+    is_row_for(machine, row) && run_well(machine, &row.running)
 }

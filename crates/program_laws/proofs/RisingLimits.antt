@@ -20,8 +20,8 @@ Rises r s row = row.limit (slice_index r) ≤ row.limit (slice_index s)
 
 jobs_rise : (set : SetDef) (r s : List ℕ) (i x : ℕ) → slice_index r i ≤ slice_index s i → slice_index r x ≤ slice_index s x
     → jobs_in set (slice_index r) i x ≤ jobs_in set (slice_index s) i x
-jobs_rise set r s i x own other = div_ceil_rises (slice_index r i + slice_index r x) (slice_index s i + slice_index s x)
-    (task_at set x).period (omega arith)
+jobs_rise set r s i x own other = div_ceil_rises (slice_index r i + (slice_index r x + (task_at set x).jitter))
+    (slice_index s i + (slice_index s x + (task_at set x).jitter)) (task_at set x).period (omega arith)
 
 requests_rise : (set : SetDef) (r s : List ℕ) (i x q : ℕ) → slice_index r i ≤ slice_index s i → slice_index r x ≤ slice_index s x
     → requests_in set (slice_index r) i x q ≤ requests_in set (slice_index s) i x q

@@ -57,15 +57,22 @@ bound_small : (set : SetDef) (r : List ℕ) (x : ℕ) → IsAccepted set → Are
     → slice_index r x ≤ 1000000000
 bound_small set r x accepted within here =
     let numbers = numbers_of_accepted set x accepted here in
-    omega (arith, within.to_deadline x here, numbers.deadline_to, numbers.period_to)
+    omega (arith, within.to_latest x here, numbers.deadline_to, numbers.period_to)
+
+-- And so are a bound and the task's jitter together.
+late_bound_small : (set : SetDef) (r : List ℕ) (x : ℕ) → IsAccepted set → AreWithinDeadlines set r → x < length set.tasks
+    → slice_index r x + (task_at set x).jitter ≤ 1000000000
+late_bound_small set r x accepted within here =
+    let numbers = numbers_of_accepted set x accepted here in
+    omega (arith, within.to_latest x here, numbers.jitter_to, numbers.deadline_to, numbers.period_to)
 
 jobs_small : (set : SetDef) (r : List ℕ) (i x : ℕ) → IsAccepted set → AreWithinDeadlines set r → i < length set.tasks → x < length set.tasks
     → jobs_in set (slice_index r) i x ≤ 2000000000
 jobs_small set r i x accepted within here there =
     let numbers = numbers_of_accepted set x accepted there in
-    let jobs = div_ceil_at_most (slice_index r i + slice_index r x) (task_at set x).period
+    let jobs = div_ceil_at_most (slice_index r i + (slice_index r x + (task_at set x).jitter)) (task_at set x).period
     (omega (arith, numbers.cost_from, numbers.cost_to, numbers.deadline_to)) in
-    omega (arith, jobs, bound_small set r i accepted within here, bound_small set r x accepted within there)
+    omega (arith, jobs, bound_small set r i accepted within here, late_bound_small set r x accepted within there)
 
 times_at_most : (a b m n : ℕ) → a ≤ m → b ≤ n → a * b ≤ m * n
 times_at_most a b m n h k =

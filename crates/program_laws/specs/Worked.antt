@@ -20,6 +20,7 @@ task_on k cost requests = record {
   deadline = 100;
   cost = cost;
   local = cost;
+  jitter = 0;
   requests = requests;
 }
 

@@ -37,8 +37,8 @@ only_if_rises false m n h = omega arith
 interference_by_rises : (g : ℕ → ℕ) (set : SetDef) (r s : List ℕ) (i h : ℕ) → slice_index r i ≤ slice_index s i
     → slice_index r h ≤ slice_index s h → interference_by g set r i h ≤ interference_by g set s i h
 interference_by_rises g set r s i h own other =
-    let jobs : jobs_within (slice_index r i) (slice_index r h - g h) (task_at set h).period
-    ≤ jobs_within (slice_index s i) (slice_index s h - g h) (task_at set h).period =
+    let jobs : jobs_within (slice_index r i) (slice_index r h + (task_at set h).jitter - g h) (task_at set h).period
+    ≤ jobs_within (slice_index s i) (slice_index s h + (task_at set h).jitter - g h) (task_at set h).period =
     div_ceil_rises _ _ _ (omega arith) in
     mul-le-mul_right (g h) jobs
 

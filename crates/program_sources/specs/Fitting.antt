@@ -1,9 +1,10 @@
--- Which bounds satisfy the recurrence of a source of programs within the deadlines, and which of them are the least.
+-- Which bounds satisfy the recurrence of a source of programs within the deadlines, and which of them are the least. A bound
+-- counts from a job's release and a deadline from its arrival, so a bound is held against the task's latest one.
 --
 -- These definitions compare all vectors and know of no way to find one. They do not rest on a greatest blocking: every
 -- response time that comes up is to be within the bound.
 use Rattle.std.specs.Prelude.{◌≡◌, ℕ, ◌<◌, ◌≤◌, List, length, slice_index}
-use Rattle.sporadic_model.specs.SetDef.{task_at}
+use Rattle.sporadic_model.specs.SetDef.{task_at, latest_bound}
 use Rattle.program_sources.specs.Bounds.{AtMost}
 use Rattle.program_sources.specs.Recurrence.{SourceDef, ComesUp, IsResponse}
 
@@ -11,14 +12,15 @@ use Rattle.program_sources.specs.Recurrence.{SourceDef, ComesUp, IsResponse}
 abbrev pub tasks_of : SourceDef → ℕ
 tasks_of f = length f.set.tasks
 
-abbrev pub deadline_of : SourceDef → ℕ → ℕ
-deadline_of f i = (task_at f.set i).deadline
+-- The latest bound of task i: its deadline less its jitter.
+abbrev pub latest_of : SourceDef → ℕ → ℕ
+latest_of f i = latest_bound (task_at f.set i)
 
--- Do the bounds fit: is each response time that comes up at them at most its bound, and each bound at most the deadline?
+-- Do the bounds fit: is each response time that comes up at them at most its bound, and each bound at most the latest one?
 pub record AreFitting (f : SourceDef) (s : List ℕ) : Type 0 where
   pub one_each : length s ≡ tasks_of f
   pub kept : (i v : ℕ) → i < tasks_of f → ComesUp f s i v → v ≤ slice_index s i
-  pub within : (i : ℕ) → i < tasks_of f → slice_index s i ≤ deadline_of f i
+  pub within : (i : ℕ) → i < tasks_of f → slice_index s i ≤ latest_of f i
 
 -- Are the bounds r at most every fitting vector, in each place?
 abbrev pub AreBelowAllFitting : SourceDef → List ℕ → Type 0

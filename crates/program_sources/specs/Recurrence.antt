@@ -14,9 +14,11 @@ pub record SourceDef : Type 0 where
   pub interfering : ℕ → ℕ
 
 -- What does the recurrence count, in ticks, for jobs of task h within the bound of a job of task i, where r are the bounds
--- and g are the interfering costs? A job of h may start as late as its bound less its interfering cost.
+-- and g are the interfering costs? After its arrival a job of h may start as late as its jitter and its bound together less its
+-- interfering cost.
 abbrev pub interference_by : (ℕ → ℕ) → SetDef → List ℕ → ℕ → ℕ → ℕ
-interference_by g set r i h = jobs_within (slice_index r i) (slice_index r h - g h) (task_at set h).period * g h
+interference_by g set r i h =
+    jobs_within (slice_index r i) (slice_index r h + (task_at set h).jitter - g h) (task_at set h).period * g h
 
 -- And for jobs of all higher tasks on i's processor together?
 abbrev pub interference_of : (ℕ → ℕ) → SetDef → List ℕ → ℕ → ℕ
@@ -39,13 +41,24 @@ pub record IsResponse (f : SourceDef) (r : List ℕ) (i v : ℕ) : Type 0 where
   pub greatest : IsGreatestReached (f.program i r) blocking
   pub response : v ≡ response_with f r i blocking
 
-abbrev with_numbers : ℕ → ℕ → TaskDef
-with_numbers period cost = record { name = []; processor = 1; period = period; deadline = period; cost = cost; local = cost; requests = [] }
+abbrev with_numbers : ℕ → ℕ → ℕ → TaskDef
+with_numbers period cost jitter =
+    record { name = []; processor = 1; period = period; deadline = period; cost = cost; local = cost; jitter = jitter; requests = [] }
 
--- A higher task of cost 2 and a lower task of cost 4, both of processor 1, with periods 10 and 20.
-abbrev two_tasks : SetDef
-two_tasks = record { processors = 1; resources = []; tasks = with_numbers 10 2 ∷ with_numbers 20 4 ∷ [] }
+-- A higher task of cost 2 with this jitter and a lower task of cost 4, both of processor 1, with periods 10 and 20.
+abbrev two_tasks : ℕ → SetDef
+two_tasks jitter = record { processors = 1; resources = []; tasks = with_numbers 10 2 jitter ∷ with_numbers 20 4 0 ∷ [] }
+
+abbrev cost_in : SetDef → ℕ → ℕ
+cost_in set h = (task_at set h).cost
 
 -- At the bounds 4 and 9 two jobs of the higher one count: the quotient of 9 + (4 - 2) and 10, rounded up, is 2.
-pub two_jobs_count : interference_of (λ h. (task_at two_tasks h).cost) two_tasks (4 ∷ 9 ∷ []) 1 ≡ 4
+pub two_jobs_count : interference_of (cost_in (two_tasks 0)) (two_tasks 0) (4 ∷ 9 ∷ []) 1 ≡ 4
 two_jobs_count = refl
+
+-- At the bounds 2 and 7 one job of it counts without jitter, and two with a jitter of 4: the quotient of 7 + (2 + 4 - 2) and 10.
+pub one_job_in_time : interference_of (cost_in (two_tasks 0)) (two_tasks 0) (2 ∷ 7 ∷ []) 1 ≡ 2
+one_job_in_time = refl
+
+pub two_jobs_late : interference_of (cost_in (two_tasks 4)) (two_tasks 4) (2 ∷ 7 ∷ []) 1 ≡ 4
+two_jobs_late = refl

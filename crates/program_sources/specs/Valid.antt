@@ -3,7 +3,7 @@ use Rattle.std.specs.Prelude.{◌≡◌, ℕ, ◌<◌, ◌≤◌, List, [], leng
 use Rattle.program_form.specs.Certificate.{DualDef, CertificateDef}
 use Rattle.program_form.specs.Duals.{IsFeasibleDual, IsOptimalDual, dual_value}
 use Rattle.program_sources.specs.Recurrence.{SourceDef, response_with}
-use Rattle.program_sources.specs.Fitting.{tasks_of, deadline_of}
+use Rattle.program_sources.specs.Fitting.{tasks_of, latest_of}
 
 -- What a look-up past the last dual gives: no dual, since its denominator is 0.
 abbrev pub no_dual : DualDef
@@ -17,10 +17,10 @@ dual_at duals i = slice_index_or duals i no_dual
 abbrev pub value_at : SourceDef → CertificateDef → ℕ → ℕ
 value_at f c i = dual_value (f.program i c.bounds) (dual_at c.duals i).den (λ r. slice_index (dual_at c.duals i).num r)
 
--- Does the certificate prove task i's bound? It is at most the deadline, the dual is feasible for the task's program at the
+-- Does the certificate prove task i's bound? It is at most the latest one, the dual is feasible for the task's program at the
 -- certificate's bounds, and the response time with the dual's value as blocking is at most the bound.
 pub record IsProvedBound (f : SourceDef) (c : CertificateDef) (i : ℕ) : Type 0 where
-  pub within : slice_index c.bounds i ≤ deadline_of f i
+  pub within : slice_index c.bounds i ≤ latest_of f i
   pub feasible : IsFeasibleDual (f.program i c.bounds) (dual_at c.duals i)
   pub enough : response_with f c.bounds i (value_at f c i) ≤ slice_index c.bounds i
 

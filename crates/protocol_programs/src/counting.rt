@@ -40,7 +40,7 @@ fn interference_of_task(
     let ticks = interfering(set, protocol, h);
     let period = set.period(h);
     let window = bounds[i.0 as usize];
-    let bound = bounds[h.0 as usize];
+    let bound = bounds[h.0 as usize] + set.jitter(h);
     jobs_in(window, bound - ticks, period) * ticks
 }
 

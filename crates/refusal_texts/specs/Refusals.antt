@@ -45,6 +45,7 @@ model_word (model.TwiceRequest at) = codes "twicerequest "
 model_word (model.Count at) = codes "count "
 model_word (model.Length at) = codes "length "
 model_word (model.Home q) = codes "home "
+model_word (model.Jitter x) = codes "jitter "
 model_word model.Memory = []
 
 abbrev pub model_place : ModelRefusal → List ℕ
@@ -62,6 +63,7 @@ model_place (model.TwiceRequest at) = place_text at
 model_place (model.Count at) = place_text at
 model_place (model.Length at) = place_text at
 model_place (model.Home q) = place_text (place.Resource q.0)
+model_place (model.Jitter x) = place_text (place.Task x.0)
 model_place model.Memory = []
 
 -- The reason why a task set's input is refused.
@@ -98,6 +100,7 @@ jobs_reason_text (jobs.Script line) = line_text (codes "script") line
 jobs_reason_text (jobs.OverBudget line) = line_text (codes "overbudget") line
 jobs_reason_text (jobs.TooClose line) = line_text (codes "tooclose") line
 jobs_reason_text (jobs.TooMany line) = line_text (codes "toomany") line
+jobs_reason_text (jobs.Late line) = line_text (codes "late") line
 jobs_reason_text jobs.Memory = []
 
 -- The reason why an input of rows is refused.

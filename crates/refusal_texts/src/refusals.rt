@@ -62,6 +62,7 @@ fn word_of(refusal: ModelRefusal) -> &'static str
         ModelRefusal::Count(_) => "count ",
         ModelRefusal::Length(_) => "length ",
         ModelRefusal::Home(_) => "home ",
+        ModelRefusal::Jitter(_) => "jitter ",
         ModelRefusal::Memory => "",
     }
 }
@@ -77,7 +78,8 @@ fn place_of(alloc: Global, refusal: ModelRefusal) -> Result<String, AllocError>
         | ModelRefusal::Period(x)
         | ModelRefusal::Deadline(x)
         | ModelRefusal::Cost(x)
-        | ModelRefusal::Local(x) => place_words(alloc, Place::Task(x.0)),
+        | ModelRefusal::Local(x)
+        | ModelRefusal::Jitter(x) => place_words(alloc, Place::Task(x.0)),
         ModelRefusal::Name(place)
         | ModelRefusal::TwiceName(place)
         | ModelRefusal::Resource(place)
@@ -166,6 +168,7 @@ pub fn jobs_reason(alloc: Global, refusal: JobsRefusal) -> Result<String, AllocE
         JobsRefusal::OverBudget(line) => at_line(alloc, "overbudget", line),
         JobsRefusal::TooClose(line) => at_line(alloc, "tooclose", line),
         JobsRefusal::TooMany(line) => at_line(alloc, "toomany", line),
+        JobsRefusal::Late(line) => at_line(alloc, "late", line),
         JobsRefusal::Memory => Ok(String::new(alloc)),
     }
 }

@@ -7,10 +7,10 @@ use Rattle.report.specs.Table.{header, task_line, load_lines, table_text}
 use Rattle.report.specs.FullTable.{full_line}
 
 abbrev first : TaskDef
-first = record { name = codes "t1"; processor = 1; period = 10; deadline = 10; cost = 3; local = 3; requests = [] }
+first = record { name = codes "t1"; processor = 1; period = 10; deadline = 10; cost = 3; local = 3; jitter = 0; requests = [] }
 
 abbrev second : TaskDef
-second = record { name = codes "t2"; processor = 2; period = 1000000000; deadline = 12; cost = 4; local = 2; requests = [] }
+second = record { name = codes "t2"; processor = 2; period = 1000000000; deadline = 12; cost = 4; local = 2; jitter = 0; requests = [] }
 
 abbrev two : SetDef
 two = record { processors = 2; resources = []; tasks = first ∷ second ∷ [] }

@@ -1,5 +1,5 @@
 ghost use Rattle.std.specs.Prelude.{◌≡◌, ℕ, ◌<◌, ◌≤◌, ◌++◌, length, vec_len, slice_index, IfOk, OnOk};
-ghost use Rattle.sporadic_model.specs.SetDef.{task_at};
+ghost use Rattle.sporadic_model.specs.SetDef.{task_at, latest_bound};
 ghost use Rattle.report.specs.FullTable.{full_header, proved_columns, full_line, full_lines, full_text};
 
 use crate::table::{TICKS_WIDTH, push_loads, push_task_columns, push_task_words};
@@ -18,7 +18,7 @@ fn push_full_header(text: &mut Vec<u8>) -> Result<(), AllocError>
     text.extend_from_slice(b"\n")
 }
 
-/// Adds a task's bound, its dual's value, and how far the bound is below the deadline.
+/// Adds a task's bound, its dual's value, and how far the bound is below the latest one.
 fn push_proved(
     text: &mut Vec<u8>,
     set: &TaskSet,
@@ -27,12 +27,12 @@ fn push_proved(
     value: u64,
 ) -> Result<(), AllocError>
     requires task { x.0 < length set.now.tasks }
-    requires within { bound ≤ (task_at set.now x.0).deadline }
+    requires within { bound ≤ latest_bound (task_at set.now x.0) }
     ensures { OnOk result (text.new.items ≡ text.old.items ++ proved_columns (task_at set.now x.0) bound value) }
 {
     push_right_number(text, TICKS_WIDTH, bound)?;
     push_right_number(text, TICKS_WIDTH, value)?;
-    push_right_number(text, TICKS_WIDTH, set.deadline(x) - bound)
+    push_right_number(text, TICKS_WIDTH, set.latest_bound(x) - bound)
 }
 
 /// Adds the line of a task.
@@ -44,7 +44,7 @@ fn push_full_task(
     value: u64,
 ) -> Result<(), AllocError>
     requires task { x.0 < length set.now.tasks }
-    requires within { bound ≤ (task_at set.now x.0).deadline }
+    requires within { bound ≤ latest_bound (task_at set.now x.0) }
     ensures { OnOk result (text.new.items ≡ text.old.items ++ full_line (task_at set.now x.0) bound value) }
 {
     push_task_columns(text, set, x)?;
@@ -61,7 +61,7 @@ fn push_full_tasks(
 ) -> Result<(), AllocError>
     requires bound_each { length bounds.now ≡ length set.now.tasks }
     requires value_each { length values.now ≡ length set.now.tasks }
-    requires within { (x : ℕ) → x < length set.now.tasks → slice_index bounds.now x ≤ (task_at set.now x).deadline }
+    requires within { (x : ℕ) → x < length set.now.tasks → slice_index bounds.now x ≤ latest_bound (task_at set.now x) }
     ensures { OnOk result (text.new.items ≡ text.old.items ++ full_lines set.now bounds.now (slice_index values.now)) }
 {
     for x in 0..set.tasks() {
@@ -72,8 +72,8 @@ fn push_full_tasks(
 }
 
 /// The table of a set with what a certificate proves of each task: its bound, the value of its dual, and how far the bound is
-/// below the deadline, all in ticks. Header and loads are as in [`crate::set_table`]. There is a bound and a value for each
-/// task, and no bound passes its deadline. An error is want of memory.
+/// below the latest one, which is the deadline less the jitter, all in ticks. Header and loads are as in [`crate::set_table`]. There is a bound and a value for each
+/// task, and no bound and its task's jitter together pass the deadline. An error is want of memory.
 pub fn full_table(
     alloc: Global,
     set: &TaskSet,
@@ -82,7 +82,7 @@ pub fn full_table(
 ) -> Result<Vec<u8>, AllocError>
     requires bound_each { vec_len certificate.now.bounds ≡ length set.now.tasks }
     requires value_each { length values.now ≡ length set.now.tasks }
-    requires within { (x : ℕ) → x < length set.now.tasks → slice_index certificate.now.bounds.items x ≤ (task_at set.now x).deadline }
+    requires within { (x : ℕ) → x < length set.now.tasks → slice_index certificate.now.bounds.items x ≤ latest_bound (task_at set.now x) }
     ensures { IfOk result (λ text. text.items ≡ full_text set.now certificate.now.bounds.items (slice_index values.now)) }
 {
     let mut text = Vec::new(alloc);

@@ -5,7 +5,7 @@ use Rattle.std.specs.Prelude.{Result, IsErrOf, slice_index}
 use Rattle.program_form.specs.Certificate.{DualDef, dual_seen}
 use Rattle.program_sources.specs.Bounds.{AreWithinDeadlines, AreFromCostsAbove, IsInRange}
 use Rattle.program_sources.specs.Recurrence.{SourceDef}
-use Rattle.program_sources.specs.Fitting.{AreFitting, NeverFalls, ComesUpAbove, tasks_of, deadline_of}
+use Rattle.program_sources.specs.Fitting.{AreFitting, NeverFalls, ComesUpAbove, tasks_of, latest_of}
 use Rattle.sporadic_model.specs.SetDef.{SetDef}
 use Rattle.simplex.specs.declared.SolveStop.{SolveStop}
 use Rattle.simplex.specs.declared.SolveStop.TheVariants as solve_stop
@@ -69,16 +69,16 @@ never_short_of f allowance (Err (stop.Wide task)) monotone fit ends none enough 
 never_short_of f allowance (Err stop.Allowance) monotone fit ends none enough is = never_short f allowance none monotone fit enough ends
 never_short_of f allowance (Err stop.Memory) monotone fit ends none enough is = cc
 
--- The vector of a round is within the deadlines, and from the costs.
+-- The vector of a round is within the latest bounds, and from the costs.
 pub within_of : (set : SetDef) (r : List ℕ) → IsInRange set r → AreWithinDeadlines set r
-within_of set r h = record { one_each = h.one_each; to_deadline = h.to_deadline }
+within_of set r h = record { one_each = h.one_each; to_latest = h.to_latest }
 
 pub from_costs_of : (set : SetDef) (r : List ℕ) (i : ℕ) → IsInRange set r → i < length set.tasks → AreFromCostsAbove set r i
 from_costs_of set r i h here = λ k above. h.from_cost k (omega (arith, here, above))
 
 -- One more task passes.
 pub passes_more : (f : SourceDef) (r : List ℕ) (left i : ℕ) (before : Found) (run : TaskRun) → Passes (rounds_of f) r left i before
-    → TaskRuns f r i (left - before.used) (Valued run.solution.used run.value (dual_seen run.solution.dual)) → run.value ≤ deadline_of f i
+    → TaskRuns f r i (left - before.used) (Valued run.solution.used run.value (dual_seen run.solution.dual)) → run.value ≤ latest_of f i
     → Passes (rounds_of f) r left (i + 1) (with_task before run.solution.used run.value (dual_seen run.solution.dual))
 passes_more f r left i before run passed runs within =
     let after : Found = with_task before run.solution.used run.value (dual_seen run.solution.dual) in
@@ -100,13 +100,13 @@ run_halts f r left i found solve_stop.Wide here passed run = record { found = fo
 run_halts f r left i found solve_stop.Units here passed run = (i, record { found = found; below = here; passed = passed; run = run })
 run_halts f r left i found solve_stop.Memory here passed run = tt
 
--- It ends at a value that passes the deadline.
-pub value_halts : (f : SourceDef) (r : List ℕ) (left i deadline : ℕ) (before now : Round) (run : TaskRun)
-    (e : RoundStop) → i < tasks_of f → deadline ≡ deadline_of f i
+-- It ends at a value that passes the latest.
+pub value_halts : (f : SourceDef) (r : List ℕ) (left i latest : ℕ) (before now : Round) (run : TaskRun)
+    (e : RoundStop) → i < tasks_of f → latest ≡ latest_of f i
     → Passes (rounds_of f) r left i (found_of before)
     → TaskRuns f r i (left - before.used) (Valued run.solution.used run.value (dual_seen run.solution.dual))
-    → TakesRun (Err e) before now run i deadline → GivesRound (Err e) f r left
-value_halts f r left i deadline before now run (round_stop.NotShown task bound) here is passed runs (same, value, past) =
+    → TakesRun (Err e) before now run i latest → GivesRound (Err e) f r left
+value_halts f r left i latest before now run (round_stop.NotShown task bound) here is passed runs (same, value, past) =
     let halts : Halts f r left i (Valued run.solution.used bound (dual_seen run.solution.dual)) = record {
       found = found_of before;
       below = here;
@@ -115,13 +115,13 @@ value_halts f r left i deadline before now run (round_stop.NotShown task bound) 
           (λ (v : ℕ). TaskRuns f r i (left - before.used) (Valued run.solution.used v (dual_seen run.solution.dual)))
           (sym value) runs;
     } in
-    let late : deadline_of f i < bound = omega (arith, is, value, past) in
+    let late : latest_of f i < bound = omega (arith, is, value, past) in
     subst
-    (λ (k : ℕ). (deadline_of f k < bound) × (used : ℕ) × (dual : DualDef) × Halts f r left k (Valued used bound dual))
+    (λ (k : ℕ). (latest_of f k < bound) × (used : ℕ) × (dual : DualDef) × Halts f r left k (Valued used bound dual))
     (sym same) (late, run.solution.used, dual_seen run.solution.dual, halts)
-value_halts f r left i deadline before now run (round_stop.Wide task) here is passed runs given = absurd given
-value_halts f r left i deadline before now run round_stop.Allowance here is passed runs given = absurd given
-value_halts f r left i deadline before now run round_stop.Memory here is passed runs given = tt
+value_halts f r left i latest before now run (round_stop.Wide task) here is passed runs given = absurd given
+value_halts f r left i latest before now run round_stop.Allowance here is passed runs given = absurd given
+value_halts f r left i latest before now run round_stop.Memory here is passed runs given = tt
 
 comes_there : (f : SourceDef) (allowance k spent : ℕ) (r : List ℕ) (i : ℕ) (e : RunEnd) → Reaches (rounds_of f) allowance k spent r
     → (h : Halts f r (allowance - spent) i e) → ComesTo (rounds_of f) allowance r i (allowance - spent - h.found.used) h.found
@@ -176,7 +176,7 @@ pub next_in_range : (f : SourceDef) (r : List ℕ) (left : ℕ) (found : Found)
 next_in_range f r left found passed = record {
   one_each = values_length (rounds_of f) r left (tasks_of f) found passed;
   from_cost = λ i here. cost_below f r i (slice_index found.values i) (round_value f r left found passed i here).0;
-  to_deadline = λ i here. (round_value f r left found passed i here).1;
+  to_latest = λ i here. (round_value f r left found passed i here).1;
 }
 
 -- A round that gives another vector goes by.

@@ -8,7 +8,7 @@ use Rattle.program_form.proofs.Duality.{optimum_reached}
 use Rattle.exchange_runs.proofs.Finals.{ends_with_dual}
 use Rattle.sporadic_model.specs.SetDef.{TaskDef}
 use Rattle.program_sources.specs.Recurrence.{SourceDef, IsResponse, response_with}
-use Rattle.program_sources.specs.Fitting.{AreFitting, AreBelowAllFitting, AreLeastFitting, ComesUpAbove, tasks_of, deadline_of}
+use Rattle.program_sources.specs.Fitting.{AreFitting, AreBelowAllFitting, AreLeastFitting, ComesUpAbove, tasks_of, latest_of}
 use Rattle.program_sources.specs.Valid.{IsValid, AreOptimalDuals, dual_at, value_at}
 use Rattle.program_sources.proofs.RecurrenceLaws.{response_comes_up}
 use Rattle.response_fixpoint.specs.Rounds.{Schedulable, NotShown, Reaches, EndsIn}
@@ -45,7 +45,7 @@ schedulable_least f allowance bounds duals above (left, found, comes, same, rest
     let value = round_value f bounds (allowance - comes.spent) found comes.passed in
     least_fits f bounds low.one_each low.below
     (λ i here. subst (λ (v : List ℕ). IsResponse f bounds i (slice_index v i)) same (value i here).0)
-    (λ i here. subst (λ (v : List ℕ). slice_index v i ≤ deadline_of f i) same (value i here).1)
+    (λ i here. subst (λ (v : List ℕ). slice_index v i ≤ latest_of f i) same (value i here).1)
 
 -- Their duals are optimal.
 pub schedulable_optimal : (f : SourceDef) (allowance : ℕ) (bounds : List ℕ) (duals : List DualDef)

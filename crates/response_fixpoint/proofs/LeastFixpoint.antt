@@ -4,7 +4,7 @@ use Rattle.std.proofs.lemmas.Bool.{cases_lt}
 use Rattle.std.specs.Prelude.{slice_index}
 use Rattle.program_sources.specs.Bounds.{AtMost}
 use Rattle.program_sources.specs.Recurrence.{SourceDef, ComesUp, IsResponse}
-use Rattle.program_sources.specs.Fitting.{AreFitting, AreBelowAllFitting, AreLeastFitting, NeverFalls, ComesUpAbove, tasks_of, deadline_of}
+use Rattle.program_sources.specs.Fitting.{AreFitting, AreBelowAllFitting, AreLeastFitting, NeverFalls, ComesUpAbove, tasks_of, latest_of}
 use Rattle.program_sources.proofs.RecurrenceLaws.{response_comes_up, response_is_greatest}
 use Rattle.response_fixpoint.proofs.VectorLaws.{total, total_rises, same_total}
 
@@ -17,19 +17,19 @@ below_next f r next above below step = λ s fits i here.
     let least : slice_index next i ≤ up.0 = up.2 in
     omega (arith, kept, least)
 
--- Where what comes up at a vector below all fitting ones passes the deadline, nothing fits.
+-- Where what comes up at a vector below all fitting ones passes the latest bound, nothing fits.
 pub none_fits : (f : SourceDef) (r : List ℕ) (i v : ℕ) → ComesUpAbove f → AreBelowAllFitting f r
-    → i < tasks_of f → ComesUp f r i v → deadline_of f i < v → (s : List ℕ) → AreFitting f s → ⊥
+    → i < tasks_of f → ComesUp f r i v → latest_of f i < v → (s : List ℕ) → AreFitting f s → ⊥
 none_fits f r i v above below here comes passes s fits =
     let up = above r s i v here (below s fits) comes in
     let kept : up.0 ≤ slice_index s i = fits.kept i up.0 here up.1 in
     let least : v ≤ up.0 = up.2 in
-    let within : slice_index s i ≤ deadline_of f i = fits.within i here in
+    let within : slice_index s i ≤ latest_of f i = fits.within i here in
     absurd (omega (arith, kept, least, within, passes))
 
--- A vector below all fitting ones that is its own next vector, within the deadlines, is the least that fits.
+-- A vector below all fitting ones that is its own next vector, within the latest bounds, is the least that fits.
 pub least_fits : (f : SourceDef) (r : List ℕ) → length r ≡ tasks_of f → AreBelowAllFitting f r
-    → ((i : ℕ) → i < tasks_of f → IsResponse f r i (slice_index r i)) → ((i : ℕ) → i < tasks_of f → slice_index r i ≤ deadline_of f i)
+    → ((i : ℕ) → i < tasks_of f → IsResponse f r i (slice_index r i)) → ((i : ℕ) → i < tasks_of f → slice_index r i ≤ latest_of f i)
     → AreLeastFitting f r
 least_fits f r one_each below step within = record {
   fitting = record {
@@ -59,9 +59,9 @@ least_from f next above monotone steps s fits fuel r one_each below rises enough
       let at : (i : ℕ) → i < tasks_of f → slice_index r i ≡ slice_index (next r) i = same_total (tasks_of f) r (next r) rises same in
       let holds : (i : ℕ) → i < tasks_of f → IsResponse f r i (slice_index r i) =
       λ i here. subst (λ v. IsResponse f r i v) (sym (at i here)) (step.1 i here) in
-      let within : (i : ℕ) → i < tasks_of f → slice_index r i ≤ deadline_of f i = λ i here.
+      let within : (i : ℕ) → i < tasks_of f → slice_index r i ≤ latest_of f i = λ i here.
       let low : slice_index r i ≤ slice_index s i = below s fits i here in
-      let high : slice_index s i ≤ deadline_of f i = fits.within i here in
+      let high : slice_index s i ≤ latest_of f i = fits.within i here in
       omega (arith, low, high) in
       (r, least_fits f r one_each below holds within)
 

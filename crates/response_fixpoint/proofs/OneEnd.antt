@@ -57,16 +57,16 @@ passed_round o a (suc j) u r (b, q, f, reached, passed, is, differs, sum) k belo
 
 -- The end that a run's end makes of the rounds, where it makes one.
 abbrev Stops : ℕ → ℕ → RunEnd → Ending → Type 0
-Stops i deadline (Valued used value dual) e = (deadline < value) × (e ≡ NotShown i value)
-Stops i deadline TooWide e = e ≡ Wide i
-Stops i deadline OutOfUnits e = e ≡ Allowance
+Stops i latest (Valued used value dual) e = (latest < value) × (e ≡ NotShown i value)
+Stops i latest TooWide e = e ≡ Wide i
+Stops i latest OutOfUnits e = e ≡ Allowance
 
 -- A place where the rounds end in e: at a task, or behind the last task of a round.
 record AtTask (o : RoundsOf) (r : List ℕ) (i left : ℕ) (e : Ending) : Type 0 where
   below : i < o.tasks
   run : RunEnd
   runs : o.runs r i left run
-  stops : Stops i (o.deadline i) run e
+  stops : Stops i (o.latest i) run e
 
 record AtEnd (o : RoundsOf) (r : List ℕ) (i : ℕ) (found : Found) (e : Ending) : Type 0 where
   last : i ≡ o.tasks
@@ -84,7 +84,7 @@ record Place (o : RoundsOf) (a : ℕ) (e : Ending) : Type 0 where
   ends : AtTask o vector task (a - spent - found.used) e ⊎ AtEnd o vector task found e
 
 place_of : (o : RoundsOf) (a : ℕ) (r : List ℕ) (i left : ℕ) (found : Found) (e : Ending) (run : RunEnd) → i < o.tasks
-    → ComesTo o a r i left found → o.runs r i left run → Stops i (o.deadline i) run e → Place o a e
+    → ComesTo o a r i left found → o.runs r i left run → Stops i (o.latest i) run e → Place o a e
 place_of o a r i left found e run below comes runs stops =
     let moved : o.runs r i (a - comes.spent - found.used) run = subst (λ (x : ℕ). o.runs r i x run) comes.units runs in
     let here : AtTask o r i (a - comes.spent - found.used) e = record { below = below; run = run; runs = moved; stops = stops } in
@@ -119,11 +119,11 @@ place o a (Wide i) (r, left, found, below, comes, run) = place_of o a r i left f
 place o a Allowance (r, i, left, found, below, comes, run) = place_of o a r i left found Allowance OutOfUnits below comes run refl
 
 -- No end stands at a task that passes.
-stops_pass : (i deadline used value : ℕ) (dual : DualDef) (e : Ending) (run : RunEnd) → run ≡ Valued used value dual
-    → value ≤ deadline → Stops i deadline run e → ⊥
-stops_pass i deadline used value dual e (Valued u v d) same within stops = let vs : v ≡ value = cc in absurd (omega (arith, stops.0))
-stops_pass i deadline used value dual e TooWide same within stops = cc
-stops_pass i deadline used value dual e OutOfUnits same within stops = cc
+stops_pass : (i latest used value : ℕ) (dual : DualDef) (e : Ending) (run : RunEnd) → run ≡ Valued used value dual
+    → value ≤ latest → Stops i latest run e → ⊥
+stops_pass i latest used value dual e (Valued u v d) same within stops = let vs : v ≡ value = cc in absurd (omega (arith, stops.0))
+stops_pass i latest used value dual e TooWide same within stops = cc
+stops_pass i latest used value dual e OutOfUnits same within stops = cc
 
 task_passes : (o : RoundsOf) → HaveOneEnd o → (r : List ℕ) (left i j : ℕ) (f g : Found) (e : Ending)
     → Passes o r left i f → Passes o r left j g → i < j → AtTask o r i (left - f.used) e → ⊥
@@ -133,7 +133,7 @@ task_passes o one r left i j f g e p q below ends =
     let moved : o.runs r i (left - f.used) (Valued t.used t.value t.dual) =
     subst (λ (x : Found). o.runs r i (left - x.used) (Valued t.used t.value t.dual)) same t.run in
     let is : ends.run ≡ Valued t.used t.value t.dual = one r i (left - f.used) ends.run (Valued t.used t.value t.dual) ends.runs moved in
-    stops_pass i (o.deadline i) t.used t.value t.dual e ends.run is t.within ends.stops
+    stops_pass i (o.latest i) t.used t.value t.dual e ends.run is t.within ends.stops
 
 -- No end stands in a round that went by.
 round_passes : (o : RoundsOf) → HaveOneEnd o → (a : ℕ) (e : Ending) (p : Place o a e) → PassedRound o a p.rounds → ⊥
@@ -151,22 +151,22 @@ round_passes o one a e p w =
           w.differs (both.1 ∙ sym ends.same ∙ ap (λ x. x.values) (sym founds))
     ]
 
-stops_once : (i deadline : ℕ) (x y : RunEnd) (e f : Ending) → x ≡ y → Stops i deadline x e → Stops i deadline y f → e ≡ f
-stops_once i deadline (Valued u v d) (Valued u' v' d') e f same s t = let vs : v ≡ v' = cc in s.1 ∙ ap (λ x. NotShown i x) vs ∙ sym t.1
-stops_once i deadline (Valued u v d) TooWide e f same s t = cc
-stops_once i deadline (Valued u v d) OutOfUnits e f same s t = cc
-stops_once i deadline TooWide (Valued u' v' d') e f same s t = cc
-stops_once i deadline TooWide TooWide e f same s t = s ∙ sym t
-stops_once i deadline TooWide OutOfUnits e f same s t = cc
-stops_once i deadline OutOfUnits (Valued u' v' d') e f same s t = cc
-stops_once i deadline OutOfUnits TooWide e f same s t = cc
-stops_once i deadline OutOfUnits OutOfUnits e f same s t = s ∙ sym t
+stops_once : (i latest : ℕ) (x y : RunEnd) (e f : Ending) → x ≡ y → Stops i latest x e → Stops i latest y f → e ≡ f
+stops_once i latest (Valued u v d) (Valued u' v' d') e f same s t = let vs : v ≡ v' = cc in s.1 ∙ ap (λ x. NotShown i x) vs ∙ sym t.1
+stops_once i latest (Valued u v d) TooWide e f same s t = cc
+stops_once i latest (Valued u v d) OutOfUnits e f same s t = cc
+stops_once i latest TooWide (Valued u' v' d') e f same s t = cc
+stops_once i latest TooWide TooWide e f same s t = s ∙ sym t
+stops_once i latest TooWide OutOfUnits e f same s t = cc
+stops_once i latest OutOfUnits (Valued u' v' d') e f same s t = cc
+stops_once i latest OutOfUnits TooWide e f same s t = cc
+stops_once i latest OutOfUnits OutOfUnits e f same s t = s ∙ sym t
 
 -- Two ends at one place are one.
 ends_once : (o : RoundsOf) → HaveOneEnd o → (r : List ℕ) (i left : ℕ) (found : Found) (e f : Ending)
     → (AtTask o r i left e ⊎ AtEnd o r i found e) → (AtTask o r i left f ⊎ AtEnd o r i found f) → e ≡ f
 ends_once o one r i left found e f (inl x) (inl y) =
-    stops_once i (o.deadline i) x.run y.run e f (one r i left x.run y.run x.runs y.runs) x.stops y.stops
+    stops_once i (o.latest i) x.run y.run e f (one r i left x.run y.run x.runs y.runs) x.stops y.stops
 ends_once o one r i left found e f (inl x) (inr y) = let a = x.below in let b = y.last in absurd (omega arith)
 ends_once o one r i left found e f (inr x) (inl y) = let a = y.below in let b = x.last in absurd (omega arith)
 ends_once o one r i left found e f (inr x) (inr y) = x.is ∙ sym y.is

@@ -15,7 +15,7 @@ pub record PassedTask (o : RoundsOf) (r : List ℕ) (left : ℕ) (j : ℕ) (foun
   pub dual : DualDef
   pub passed : Passes o r left j before
   pub run : o.runs r j (left - before.used) (Valued used value dual)
-  pub within : value ≤ o.deadline j
+  pub within : value ≤ o.latest j
   pub here : slice_index found.values j ≡ value
   pub dual_here : dual_at found.duals j ≡ dual
 

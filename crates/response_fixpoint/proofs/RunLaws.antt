@@ -10,7 +10,7 @@ use Rattle.exchange_runs.proofs.Finals.{one_answer, ends_not_wide, ends_not_more
 use Rattle.sporadic_model.specs.SetDef.{TaskDef, task_at}
 use Rattle.program_sources.specs.Bounds.{AtMost}
 use Rattle.program_sources.specs.Recurrence.{SourceDef, IsResponse}
-use Rattle.program_sources.specs.Fitting.{NeverFalls, tasks_of, deadline_of}
+use Rattle.program_sources.specs.Fitting.{NeverFalls, tasks_of, latest_of}
 use Rattle.program_sources.proofs.RecurrenceLaws.{one_response}
 use Rattle.response_fixpoint.specs.Rounds.{RunEnd, Valued, TooWide, OutOfUnits, Ending, Allowance, Wide, Found, Passes, Reaches, EndsIn}
 use Rattle.response_fixpoint.specs.Runs.{RunEnds, rounds_of, HasNoColumns, slack_of}
@@ -47,12 +47,12 @@ have_one_end f r i left e g p q = runs_once f r i left e g p.is_program p.ends q
 pub one_ending : (f : SourceDef) (a : ℕ) (e g : Ending) → EndsIn (rounds_of f) a e → EndsIn (rounds_of f) a g → e ≡ g
 one_ending f = one_end (rounds_of f) (have_one_end f)
 
--- What the tasks of a whole round have found is the recurrence, within the deadlines.
+-- What the tasks of a whole round have found is the recurrence, within the latest bounds.
 pub round_value : (f : SourceDef) (r : List ℕ) (left : ℕ) (found : Found) → Passes (rounds_of f) r left (tasks_of f) found
-    → (i : ℕ) → i < tasks_of f → IsResponse f r i (slice_index found.values i) × (slice_index found.values i ≤ deadline_of f i)
+    → (i : ℕ) → i < tasks_of f → IsResponse f r i (slice_index found.values i) × (slice_index found.values i ≤ latest_of f i)
 round_value f r left found p i here =
     let t = passed_task (rounds_of f) r left (tasks_of f) found p i here in
-    let most : t.value ≤ deadline_of f i = t.within in
+    let most : t.value ≤ latest_of f i = t.within in
     (subst (λ (v : ℕ). IsResponse f r i v) (sym t.here) t.run.ends.response, rw t.here most)
 
 -- Each program without columns takes one unit.
@@ -72,12 +72,12 @@ record IsOnTheWay (f : SourceDef) (k spent : ℕ) (r : List ℕ) : Type 0 where
   units : spent ≡ k * tasks_of f
   one_each : length r ≡ tasks_of f
   rises : (i v : ℕ) → i < tasks_of f → IsResponse f r i v → slice_index r i ≤ v
-  within : (i : ℕ) → i < tasks_of f → slice_index r i ≤ deadline_of f i
+  within : (i : ℕ) → i < tasks_of f → slice_index r i ≤ latest_of f i
   grown : k + total (tasks_of f) (costs_of f) ≤ total (tasks_of f) r
 
--- Is each cost at most its deadline?
+-- Is each cost at most its latest bound?
 abbrev pub CostsFit : SourceDef → Type 0
-CostsFit f = (i : ℕ) → i < tasks_of f → (task_at f.set i).cost ≤ deadline_of f i
+CostsFit f = (i : ℕ) → i < tasks_of f → (task_at f.set i).cost ≤ latest_of f i
 
 on_the_way : (f : SourceDef) (a k spent : ℕ) (r : List ℕ) → HasNoColumns f → NeverFalls f → CostsFit f
     → Reaches (rounds_of f) a k spent r → IsOnTheWay f k spent r
@@ -121,11 +121,11 @@ never_short f a none monotone fit enough (r, i, left, found, here, comes, run) =
     let way = on_the_way f a comes.rounds comes.spent r none monotone fit comes.reached in
     let at_costs : total n (costs_of f) ≡ sum_below n (λ k. (task_at f.set k).cost) =
     sum_below-agree n _ _ (λ k below. cost_at f k below) in
-    let most : total n r ≤ sum_below n (deadline_of f) = sum_below-monotone n _ _ way.within in
-    let parts : sum_below n (λ k. (deadline_of f k - (task_at f.set k).cost) + (task_at f.set k).cost)
+    let most : total n r ≤ sum_below n (latest_of f) = sum_below-monotone n _ _ way.within in
+    let parts : sum_below n (λ k. (latest_of f k - (task_at f.set k).cost) + (task_at f.set k).cost)
     ≡ slack_of f + sum_below n (λ k. (task_at f.set k).cost)
-    = sum_below-plus n (λ k. deadline_of f k - (task_at f.set k).cost) (λ k. (task_at f.set k).cost) in
-    let whole : sum_below n (λ k. (deadline_of f k - (task_at f.set k).cost) + (task_at f.set k).cost) ≡ sum_below n (deadline_of f)
+    = sum_below-plus n (λ k. latest_of f k - (task_at f.set k).cost) (λ k. (task_at f.set k).cost) in
+    let whole : sum_below n (λ k. (latest_of f k - (task_at f.set k).cost) + (task_at f.set k).cost) ≡ sum_below n (latest_of f)
     = sum_below-agree n _ _ (λ k below. omega (arith, fit k below)) in
     let rounds : comes.rounds ≤ slack_of f = omega (arith, way.grown, at_costs, most, parts, whole) in
     let used : found.used ≡ i = one_unit_each f r (a - comes.spent) i found none (omega (arith, here)) comes.passed in

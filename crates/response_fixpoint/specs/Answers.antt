@@ -3,7 +3,7 @@ use Rattle.std.specs.Prelude.{◌≡◌, ℕ, ◌<◌, ◌≤◌, ◌-◌, ◌^�
 use Rattle.std.specs.List.{All}
 use Rattle.program_form.specs.Certificate.{DualDef, CertificateDef, dual_seen, certificate_seen}
 use Rattle.program_sources.specs.Recurrence.{SourceDef}
-use Rattle.program_sources.specs.Fitting.{AreFitting, AreLeastFitting, tasks_of, deadline_of}
+use Rattle.program_sources.specs.Fitting.{AreFitting, AreLeastFitting, tasks_of, latest_of}
 use Rattle.program_sources.specs.Valid.{AreOptimalDuals, IsValid, dual_at}
 use Rattle.response_fixpoint.specs.Rounds.{RunEnd, Valued, TooWide, OutOfUnits, Ending, Schedulable, NotShown, Wide}
 use Rattle.response_fixpoint.specs.Rounds.{Allowance, Found, with_task, Passes, EndsIn}
@@ -71,15 +71,15 @@ GivesRun (Err solve_stop.Memory) f r i left = Unit {0}
 abbrev pub found_of : Round → Found
 found_of round = record { used = round.used; values = round.values.items; duals = map (λ s. dual_seen s.dual) round.solutions.items }
 
--- What comes of a solved task in a round: it passes where its value is at most its deadline.
+-- What comes of a solved task in a round: it passes where its value is at most its latest bound.
 abbrev pub TakesRun : Result (Unit {0}) RoundStop → Round → Round → TaskRun → ℕ → ℕ → Type 0
-TakesRun (Ok done) before now run i deadline = (run.value ≤ deadline)
+TakesRun (Ok done) before now run i latest = (run.value ≤ latest)
     × (found_of now ≡ with_task (found_of before) run.solution.used run.value (dual_seen run.solution.dual))
     × (now.solutions.items ≡ before.solutions.items ++ run.solution ∷ [])
-TakesRun (Err (round_stop.NotShown task bound)) before now run i deadline = (task.0 ≡ i) × (bound ≡ run.value) × (deadline < run.value)
-TakesRun (Err (round_stop.Wide task)) before now run i deadline = ⊥
-TakesRun (Err round_stop.Allowance) before now run i deadline = ⊥
-TakesRun (Err round_stop.Memory) before now run i deadline = Unit {0}
+TakesRun (Err (round_stop.NotShown task bound)) before now run i latest = (task.0 ≡ i) × (bound ≡ run.value) × (latest < run.value)
+TakesRun (Err (round_stop.Wide task)) before now run i latest = ⊥
+TakesRun (Err round_stop.Allowance) before now run i latest = ⊥
+TakesRun (Err round_stop.Memory) before now run i latest = Unit {0}
 
 -- Where a round at r that begins with `left` units comes to a task at which the rounds end.
 pub record Halts (f : SourceDef) (r : List ℕ) (left i : ℕ) (e : RunEnd) : Type 0 where
@@ -94,7 +94,7 @@ GivesRound (Ok round) f r left =
     (Passes (rounds_of f) r left (tasks_of f) (found_of round)) × (round.used ≤ left) × (tasks_of f ≤ round.used)
     × AreEarlier f round.solutions.items
 GivesRound (Err (round_stop.NotShown task bound)) f r left =
-    (deadline_of f task.0 < bound) × (used : ℕ) × (dual : DualDef) × Halts f r left task.0 (Valued used bound dual)
+    (latest_of f task.0 < bound) × (used : ℕ) × (dual : DualDef) × Halts f r left task.0 (Valued used bound dual)
 GivesRound (Err (round_stop.Wide task)) f r left = Halts f r left task.0 TooWide
 GivesRound (Err round_stop.Allowance) f r left = (i : ℕ) × Halts f r left i OutOfUnits
 GivesRound (Err round_stop.Memory) f r left = Unit {0}

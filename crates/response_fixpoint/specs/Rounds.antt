@@ -11,7 +11,7 @@ pub data RunEnd : Type 0 where
   OutOfUnits : RunEnd
 
 -- How do the rounds end? With bounds and duals that are the answer; at a task whose value passes its
--- deadline; at a task whose program is too wide; or with the allowance of units.
+-- latest bound; at a task whose program is too wide; or with the allowance of units.
 pub data Ending : Type 0 where
   Schedulable : List ℕ → List DualDef → Ending
   NotShown : ℕ → ℕ → Ending
@@ -31,20 +31,20 @@ nothing_found = record { used = 0; values = []; duals = [] }
 abbrev pub with_task : Found → ℕ → ℕ → DualDef → Found
 with_task found used value dual = record { used = found.used + used; values = found.values ++ value ∷ []; duals = found.duals ++ dual ∷ [] }
 
--- What the rounds are about: the number of tasks, the first vector, each task's deadline, and
+-- What the rounds are about: the number of tasks, the first vector, each task's latest bound, and
 -- `runs r i left e`: the run of task i's program at the vector r ends in e where `left` units are left.
 pub record RoundsOf : Type 1 where
   pub tasks : ℕ
   pub first : List ℕ
-  pub deadline : ℕ → ℕ
+  pub latest : ℕ → ℕ
   pub runs : List ℕ → ℕ → ℕ → RunEnd → Type 0
 
 -- In a round at r that begins with `left` units, do the first i tasks pass, and what is found then?
--- A task passes where its program's run ends in a value that is at most the deadline.
+-- A task passes where its program's run ends in a value that is at most the latest bound.
 abbrev pub Passes : RoundsOf → List ℕ → ℕ → ℕ → Found → Type 0
 Passes o r left zero found = found ≡ nothing_found
 Passes o r left (suc i) found = (before : Found) × (used : ℕ) × (value : ℕ) × (dual : DualDef)
-    × (Passes o r left i before) × (o.runs r i (left - before.used) (Valued used value dual)) × (value ≤ o.deadline i)
+    × (Passes o r left i before) × (o.runs r i (left - before.used) (Valued used value dual)) × (value ≤ o.latest i)
     × (found ≡ with_task before used value dual)
 
 -- With this allowance of units, do k rounds go by of which each gives another vector than it began with, and
@@ -64,12 +64,12 @@ pub record ComesTo (o : RoundsOf) (allowance : ℕ) (r : List ℕ) (i : ℕ) (le
   pub units : left ≡ allowance - spent - found.used
 
 -- Do the rounds end so? They end at the first of these: the run of a task's program wants more units than are
--- left; it is too wide; its value passes the deadline; a round gives the vector that it began with.
+-- left; it is too wide; its value passes the latest bound; a round gives the vector that it began with.
 abbrev pub EndsIn : RoundsOf → ℕ → Ending → Type 0
 EndsIn o allowance (Schedulable bounds duals) = (left : ℕ) × (found : Found)
     × (ComesTo o allowance bounds o.tasks left found) × (found.values ≡ bounds) × (found.duals ≡ duals)
 EndsIn o allowance (NotShown i value) = (r : List ℕ) × (left : ℕ) × (found : Found) × (used : ℕ) × (dual : DualDef)
-    × (i < o.tasks) × (ComesTo o allowance r i left found) × (o.runs r i left (Valued used value dual)) × (o.deadline i < value)
+    × (i < o.tasks) × (ComesTo o allowance r i left found) × (o.runs r i left (Valued used value dual)) × (o.latest i < value)
 EndsIn o allowance (Wide i) = (r : List ℕ) × (left : ℕ) × (found : Found) × (i < o.tasks)
     × (ComesTo o allowance r i left found) × (o.runs r i left TooWide)
 EndsIn o allowance Allowance = (r : List ℕ) × (i : ℕ) × (left : ℕ) × (found : Found) × (i < o.tasks)

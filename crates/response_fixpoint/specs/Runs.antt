@@ -7,7 +7,7 @@ use Rattle.program_form.specs.Program.{IsProgram, columns}
 use Rattle.exchange_runs.specs.Outcomes.{EndsWithin, IsWideWithin, NeedsMoreThan}
 use Rattle.sporadic_model.specs.SetDef.{task_at}
 use Rattle.program_sources.specs.Recurrence.{SourceDef, IsResponse}
-use Rattle.program_sources.specs.Fitting.{tasks_of, deadline_of}
+use Rattle.program_sources.specs.Fitting.{tasks_of, latest_of}
 use Rattle.response_fixpoint.specs.Rounds.{RunEnd, Valued, TooWide, OutOfUnits, RoundsOf}
 
 -- Does the exchange run of task i's program at the bounds r end within the units that are left, with this dual, having taken so
@@ -33,12 +33,12 @@ pub record TaskRuns (f : SourceDef) (r : List ℕ) (i left : ℕ) (e : RunEnd) :
 
 -- The rounds of a source: they begin at the costs.
 abbrev pub rounds_of : SourceDef → RoundsOf
-rounds_of f = record { tasks = tasks_of f; first = map (λ t. t.cost) f.set.tasks; deadline = deadline_of f; runs = TaskRuns f }
+rounds_of f = record { tasks = tasks_of f; first = map (λ t. t.cost) f.set.tasks; latest = latest_of f; runs = TaskRuns f }
 
 -- Has no program of the source a column, as where no task requests anything?
 abbrev pub HasNoColumns : SourceDef → Type 0
 HasNoColumns f = (i : ℕ) (r : List ℕ) → i < tasks_of f → columns (f.program i r) ≡ 0
 
--- How far the deadlines are above the costs, in all.
+-- How far the latest bounds are above the costs, in all.
 abbrev pub slack_of : SourceDef → ℕ
-slack_of f = sum_below (tasks_of f) (λ i. deadline_of f i - (task_at f.set i).cost)
+slack_of f = sum_below (tasks_of f) (λ i. latest_of f i - (task_at f.set i).cost)

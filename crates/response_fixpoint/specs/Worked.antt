@@ -15,6 +15,7 @@ task_alone name period cost = record {
   deadline = period;
   cost = cost;
   local = cost;
+  jitter = 0;
   requests = [];
 }
 

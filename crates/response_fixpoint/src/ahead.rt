@@ -112,7 +112,7 @@ fn goes_on<P: ProgramSource>(
 {
     match outcome {
         Ok(solution) => {
-            response(set, protocol, task, bounds, solution.blocking) <= set.deadline(task)
+            response(set, protocol, task, bounds, solution.blocking) <= set.latest_bound(task)
         }
         Err(_) => false,
     }

@@ -167,7 +167,7 @@ pub fn analyse_with<R: Threads + Sync, P: ProgramSource + Sync>(
         })) ≤ allowance
         → IsErrOf result Stop.Allowance → ⊥ }
 {
-    // the costs of a set are within its deadlines
+    // the costs of a set are within its latest bounds
     let _tasks = set.tasks();
     recurrence_is_monotone::<P>();
     take_rounds(rt, alloc, set, protocol, allowance)

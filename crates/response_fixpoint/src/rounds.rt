@@ -22,7 +22,7 @@ pub struct Round {
 /// Why a round gives no next vector.
 #[derive(Debug, Drop)]
 pub enum RoundStop {
-    /// The value of this task passes its deadline.
+    /// The value of this task passes its latest bound.
     NotShown { task: TaskId, bound: u64 },
     /// The run of this task's program is wide.
     Wide(TaskId),
@@ -62,13 +62,13 @@ fn stopped(stop: SolveStop, task: TaskId) -> RoundStop
     }
 }
 
-/// Takes the run of a task into the round, where its value is within the deadline.
-fn take_run(round: &mut Round, run: TaskRun, task: TaskId, deadline: u64) -> Result<(), RoundStop>
+/// Takes the run of a task into the round, where its value is at most the latest bound.
+fn take_run(round: &mut Round, run: TaskRun, task: TaskId, latest: u64) -> Result<(), RoundStop>
     requires { round.old.used + run.solution.used < 2 ^ 64 }
-    ensures { TakesRun result round.old round.new run task.0 deadline }
+    ensures { TakesRun result round.old round.new run task.0 latest }
 {
     let TaskRun { solution, value } = run;
-    if value > deadline {
+    if value > latest {
         return Err(RoundStop::NotShown { task, bound: value });
     }
     let used = solution.used;
@@ -121,7 +121,7 @@ pub fn take_round<R: Threads + Sync, P: ProgramSource + Sync>(
             Ok(run) => run,
             Err(stop) => return Err(stopped(stop, task)),
         };
-        match take_run(&mut round, run, task, set.deadline(task)) {
+        match take_run(&mut round, run, task, set.latest_bound(task)) {
             Ok(()) => {}
             Err(stop) => return Err(stop),
         }

@@ -9,7 +9,8 @@ use std::alloc::AllocError;
 pub enum Verdict {
     /// The set is schedulable: here are the least fitting bounds, in ticks, and a dual for each task.
     Schedulable(Certificate),
-    /// No bounds fit. The rounds end at this task with this value in ticks, which passes its deadline.
+    /// No bounds fit. The rounds end at this task with this value in ticks, which passes its latest bound: its deadline less
+    /// its jitter.
     NotShown { task: TaskId, bound: u64 },
 }
 

@@ -1,5 +1,5 @@
 -- Rows per task: the jobs of a task that run in a window are few, and each makes few requests and takes little time.
-use Rattle.std.proofs.Common.{◌≡◌, ℕ, ◌*◌, ◌<◌, ◌≤◌, ◌==◌, ◌&&◌, Bool, true, length, refl, sym, ap, ◌∙◌, arith, inl, inr, nat_lt}
+use Rattle.std.proofs.Common.{◌≡◌, ℕ, ◌+◌, ◌*◌, ◌<◌, ◌≤◌, ◌==◌, ◌&&◌, Bool, true, length, refl, sym, ap, ◌∙◌, arith, inl, inr, nat_lt}
 use Rattle.std.proofs.Math.Nat.{mul_assoc, mul_comm, mul-le-mul_right, mul-le-mul}
 use Rattle.std.proofs.lemmas.Bool.{cases_lt, cases_Bool, and_parts, and_from, eq-eqb, eqb-true, lt-ltb, ltb-true}
 use Rattle.bounded_sums.specs.Sums.{sum_below, flag, only_if}
@@ -18,7 +18,7 @@ use Rattle.schedule_laws.proofs.ActiveJobs.{Active, active_is, active_listed}
 use Rattle.schedule_laws.proofs.Ticks.{asking_is}
 use Rattle.schedule_laws.proofs.Rows.{runs_where}
 use Rattle.schedule_laws.proofs.Counts.{asking_at_most, executed_within}
-use Rattle.schedule_laws.proofs.Spacing.{released_within}
+use Rattle.schedule_laws.proofs.Spacing.{arrived_within}
 use Rattle.fragments.specs.ColumnDef.{ColumnDef}
 use Rattle.fragments.specs.Windows.{jobs_in}
 use Rattle.direct_constraints.specs.Rows.{request_row, time_row}
@@ -28,23 +28,30 @@ use Rattle.charge_laws.proofs.Windows.{active_after}
 use Rattle.row_laws.proofs.Brings.{Charges, Window, brings, Hit, hit, column_with, blocker, blocker_is, TicksMeet}
 use Rattle.row_laws.proofs.Brings.{flag_times-at_most, flag_times-passes, only_if-parts, sum_below-passing}
 
--- Is y a job of x that is released less than its bound before job j's window, or in it?
+-- Is y a listed job of x that is released less than its bound before job j's window, or in it?
 abbrev pub is_near : Trace → (ℕ → ℕ) → ℕ → ℕ → ℕ → Bool
 is_near w bound j x y =
-    (task_of w y == x) &&
+    (nat_lt y (length w.jobs) && (task_of w y == x)) &&
     (nat_lt (job_of w.jobs j).release (bound_end w bound y) && nat_lt (job_of w.jobs y).release (bound_end w bound j))
 
 pub record Near (w : Trace) (bound : ℕ → ℕ) (j x y : ℕ) : Type 0 where
+  pub listed : y < length w.jobs
   pub task : task_of w y ≡ x
   pub after : (job_of w.jobs j).release < bound_end w bound y
   pub before : (job_of w.jobs y).release < bound_end w bound j
 
 pub near_is : (w : Trace) (bound : ℕ → ℕ) (j x y : ℕ) → is_near w bound j x y ≡ true → Near w bound j x y
 near_is w bound j x y h =
-    let parts : ((task_of w y == x) ≡ true) × _ = and_parts _ _ h in
+    let parts : ((nat_lt y (length w.jobs) && (task_of w y == x)) ≡ true) × _ = and_parts _ _ h in
+    let own : (nat_lt y (length w.jobs) ≡ true) × ((task_of w y == x) ≡ true) = and_parts _ _ parts.0 in
     let rest : (nat_lt (job_of w.jobs j).release (bound_end w bound y) ≡ true)
     × (nat_lt (job_of w.jobs y).release (bound_end w bound j) ≡ true) = and_parts _ _ parts.1 in
-    record { task = eqb-true _ _ parts.0; after = ltb-true _ _ rest.0; before = ltb-true _ _ rest.1 }
+    record {
+      listed = ltb-true _ _ own.0;
+      task = eqb-true _ _ own.1;
+      after = ltb-true _ _ rest.0;
+      before = ltb-true _ _ rest.1;
+    }
 
 -- A job of x that is active at a tick of the window is near.
 pub active_near : (charges : Charges) (w : Trace) (bound : ℕ → ℕ) (n j x y t : ℕ) → Window charges w bound n j → is_active w t y ≡ true
@@ -52,7 +59,7 @@ pub active_near : (charges : Charges) (w : Trace) (bound : ℕ → ℕ) (n j x y
     → t < window_end w bound n j → is_near w bound j x y ≡ true
 active_near charges w bound n j x y t window active task from before =
     let a : Active w t y = active_is w t y active in
-    and_from _ _ (eq-eqb _ _ task)
+    and_from _ _ (and_from _ _ (lt-ltb _ _ (active_listed w t y active)) (eq-eqb _ _ task))
     (and_from _ _ (lt-ltb _ _ (active_after w bound (job_of w.jobs j).release t y window.ended active from))
     (lt-ltb _ _ (omega (arith, a.released))))
 
@@ -60,12 +67,19 @@ active_near charges w bound n j x y t window active task from before =
 pub near_jobs : (charges : Charges) (w : Trace) (bound : ℕ → ℕ) (n j x : ℕ) → Window charges w bound n j → x < length w.set.tasks
     → count_below (length w.jobs) (is_near w bound j x) ≤ jobs_in w.set bound (task_of w j) x
 near_jobs charges w bound n j x window l =
-    released_within (jobs_of w) x (length w.jobs) (job_of w.jobs j).release (bound (task_of w j)) (bound x)
+    arrived_within (jobs_of w) x (length w.jobs) (job_of w.jobs j).release (bound (task_of w j)) (bound x + (task_at w.set x).jitter)
     (is_near w bound j x) window.lawful (window.periods x l) (omega arith)
     (λ y h. let a : Near w bound j x y = near_is w bound j x y h in a.task)
-    (λ y h. let a : Near w bound j x y = near_is w bound j x y h in let same : bound (task_of w y) ≡ bound x = ap bound a.task in
-    omega (arith, a.after))
-    (λ y h. let a : Near w bound j x y = near_is w bound j x y h in a.before)
+    (λ y h.
+    let a : Near w bound j x y = near_is w bound j x y h in
+    let job : IsLawfulJob w.set (job_of w.jobs y) = window.lawful.each y a.listed in
+    let late : (job_of w.jobs y).release ≤ (job_of w.jobs y).arrival + (task_at w.set x).jitter = rw a.task at job.in_time in
+    let same : bound (task_of w y) ≡ bound x = ap bound a.task in
+    omega (arith, a.after, late))
+    (λ y h.
+    let a : Near w bound j x y = near_is w bound j x y h in
+    let job : IsLawfulJob w.set (job_of w.jobs y) = window.lawful.each y a.listed in
+    omega (arith, a.before, job.arrived))
 
 -- The job of a tick that brings something to a row is active, listed, and active in the window.
 pub record HitJob (charges : Charges) (w : Trace) (bound : ℕ → ℕ) (j t y : ℕ) : Type 0 where

@@ -17,5 +17,6 @@ pub mod ColumnSums
 pub mod Fractions
 pub mod EachRow
 pub mod Joined
+pub mod EmptyWindows
 pub mod ChargedTicks
 pub mod InterferingCosts

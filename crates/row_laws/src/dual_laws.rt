@@ -3,7 +3,6 @@ ghost use Rattle.bounded_sums.specs.Tests.{count_below};
 ghost use Rattle.program_form.specs.Duals.{Covers, dual_value};
 ghost use Rattle.sporadic_model.specs.Accepted.{IsAccepted};
 ghost use Rattle.sporadic_model.specs.declared.ids.Protocol.TheVariants as protocol;
-ghost use Rattle.schedule_model.specs.JobDef.{job_of};
 ghost use Rattle.schedule_model.specs.LawfulJobs.{AreLawfulJobs};
 ghost use Rattle.schedule_model.specs.RowDef.{Trace, jobs_of};
 ghost use Rattle.schedule_model.specs.Activity.{task_of};
@@ -12,23 +11,26 @@ ghost use Rattle.schedule_model.specs.Protocols.{shared_rule, dpcp_rule};
 ghost use Rattle.schedule_model.specs.Keeping.{KeepsBefore};
 ghost use Rattle.schedule_model.specs.BlockedTicks.{is_shared_interference, is_dpcp_interference, is_blocked};
 ghost use Rattle.program_laws.specs.Programs.{program_of};
-ghost use Rattle.charge_model.specs.Windows.{window_end, EndedBy};
+ghost use Rattle.charge_model.specs.Windows.{bound_end, window_end, EndedWithin};
 
 /// Under the same premises the blocked ticks of the job's window are at most the value of each dual that covers its
 /// program's columns.
 pub fn duals_bound_blocked_ticks()
     ensures mpcp { (w : Trace) (bounds : List ℕ) (n j den : ℕ) (num : ℕ → ℕ) → IsAccepted w.set → AreLawfulJobs (jobs_of w)
-        → KeepsBefore (shared_rule mpcp) w n → j < length w.jobs → EndedBy w (slice_index bounds) (job_of w.jobs j).release
+        → KeepsBefore (shared_rule mpcp) w n → j < length w.jobs
+        → EndedWithin w (slice_index bounds) (bound_end w (slice_index bounds) j) n
         → Covers (program_of protocol.Mpcp w.set (task_of w j) bounds) den num
         → count_below (window_end w (slice_index bounds) n j) (λ t. is_blocked is_shared_interference w t j)
         ≤ dual_value (program_of protocol.Mpcp w.set (task_of w j) bounds) den num }
     ensures fmlp_plus { (w : Trace) (bounds : List ℕ) (n j den : ℕ) (num : ℕ → ℕ) → IsAccepted w.set → AreLawfulJobs (jobs_of w)
-        → KeepsBefore (shared_rule fmlp_plus) w n → j < length w.jobs → EndedBy w (slice_index bounds) (job_of w.jobs j).release
+        → KeepsBefore (shared_rule fmlp_plus) w n → j < length w.jobs
+        → EndedWithin w (slice_index bounds) (bound_end w (slice_index bounds) j) n
         → Covers (program_of protocol.FmlpPlus w.set (task_of w j) bounds) den num
         → count_below (window_end w (slice_index bounds) n j) (λ t. is_blocked is_shared_interference w t j)
         ≤ dual_value (program_of protocol.FmlpPlus w.set (task_of w j) bounds) den num }
     ensures dpcp { (w : Trace) (bounds : List ℕ) (n j den : ℕ) (num : ℕ → ℕ) → IsAccepted w.set → AreLawfulJobs (jobs_of w)
-        → KeepsBefore dpcp_rule w n → j < length w.jobs → EndedBy w (slice_index bounds) (job_of w.jobs j).release
+        → KeepsBefore dpcp_rule w n → j < length w.jobs
+        → EndedWithin w (slice_index bounds) (bound_end w (slice_index bounds) j) n
         → Covers (program_of protocol.Dpcp w.set (task_of w j) bounds) den num
         → count_below (window_end w (slice_index bounds) n j) (λ t. is_blocked is_dpcp_interference w t j)
         ≤ dual_value (program_of protocol.Dpcp w.set (task_of w j) bounds) den num }

@@ -2,7 +2,6 @@ ghost use Rattle.std.specs.Prelude.{◌≡◌, ℕ, ◌<◌, List, length, slice
 ghost use Rattle.program_form.specs.Points.{IsScaledPoint};
 ghost use Rattle.sporadic_model.specs.Accepted.{IsAccepted};
 ghost use Rattle.sporadic_model.specs.declared.ids.Protocol.TheVariants as protocol;
-ghost use Rattle.schedule_model.specs.JobDef.{job_of};
 ghost use Rattle.schedule_model.specs.LawfulJobs.{AreLawfulJobs};
 ghost use Rattle.schedule_model.specs.RowDef.{Trace, jobs_of};
 ghost use Rattle.schedule_model.specs.Activity.{task_of};
@@ -12,24 +11,28 @@ ghost use Rattle.schedule_model.specs.Keeping.{KeepsBefore};
 ghost use Rattle.fragments.specs.Columns.{columns_of};
 ghost use Rattle.program_laws.specs.Programs.{program_of};
 ghost use Rattle.charge_model.specs.Charges.{shared_charge, dpcp_charge};
-ghost use Rattle.charge_model.specs.Windows.{EndedBy};
+ghost use Rattle.charge_model.specs.Windows.{bound_end, EndedWithin};
 ghost use Rattle.charge_model.specs.Fractions.{product_of_lengths, fractions_of};
 
-/// In a lawful schedule of an accepted set, where each job whose bound has passed by a job's release was finished by then,
-/// the fractions of that job's window meet every row of its task's program at these bounds.
+/// In a lawful schedule of an accepted set take a job, and let each job whose release plus bound is less than that job's, and lies
+/// within the rows, be finished by its own release plus its bound. Then the fractions of the job's window meet every row of its
+/// task's program at these bounds.
 pub fn fractions_meet_every_row()
     ensures mpcp { (w : Trace) (bounds : List ℕ) (n j : ℕ) → IsAccepted w.set → AreLawfulJobs (jobs_of w)
-        → KeepsBefore (shared_rule mpcp) w n → j < length w.jobs → EndedBy w (slice_index bounds) (job_of w.jobs j).release
+        → KeepsBefore (shared_rule mpcp) w n → j < length w.jobs
+        → EndedWithin w (slice_index bounds) (bound_end w (slice_index bounds) j) n
         → IsScaledPoint (program_of protocol.Mpcp w.set (task_of w j) bounds)
         (product_of_lengths w.set (columns_of protocol.Mpcp w.set (task_of w j)))
         (fractions_of shared_charge w (slice_index bounds) n j (columns_of protocol.Mpcp w.set (task_of w j))) }
     ensures fmlp_plus { (w : Trace) (bounds : List ℕ) (n j : ℕ) → IsAccepted w.set → AreLawfulJobs (jobs_of w)
-        → KeepsBefore (shared_rule fmlp_plus) w n → j < length w.jobs → EndedBy w (slice_index bounds) (job_of w.jobs j).release
+        → KeepsBefore (shared_rule fmlp_plus) w n → j < length w.jobs
+        → EndedWithin w (slice_index bounds) (bound_end w (slice_index bounds) j) n
         → IsScaledPoint (program_of protocol.FmlpPlus w.set (task_of w j) bounds)
         (product_of_lengths w.set (columns_of protocol.FmlpPlus w.set (task_of w j)))
         (fractions_of shared_charge w (slice_index bounds) n j (columns_of protocol.FmlpPlus w.set (task_of w j))) }
     ensures dpcp { (w : Trace) (bounds : List ℕ) (n j : ℕ) → IsAccepted w.set → AreLawfulJobs (jobs_of w)
-        → KeepsBefore dpcp_rule w n → j < length w.jobs → EndedBy w (slice_index bounds) (job_of w.jobs j).release
+        → KeepsBefore dpcp_rule w n → j < length w.jobs
+        → EndedWithin w (slice_index bounds) (bound_end w (slice_index bounds) j) n
         → IsScaledPoint (program_of protocol.Dpcp w.set (task_of w j) bounds)
         (product_of_lengths w.set (columns_of protocol.Dpcp w.set (task_of w j)))
         (fractions_of dpcp_charge w (slice_index bounds) n j (columns_of protocol.Dpcp w.set (task_of w j))) }

@@ -41,7 +41,7 @@ t1                                2         10         10          4          4 
 load 1 300000
 load 2 400000
 ";
-    if set.tasks() != 2 || set.deadline(TaskId(0)) < 5 || set.deadline(TaskId(1)) < 5 {
+    if set.tasks() != 2 || set.latest_bound(TaskId(0)) < 5 || set.latest_bound(TaskId(1)) < 5 {
         assert!(rt; false, "both deadlines are 10");
         return Ok(());
     }

@@ -7,7 +7,7 @@ use Rattle.outside_ports.specs.Names.{Inputs, bytes_of}
 use Rattle.outside_ports.specs.declared.whole.TheConstants.{GREATEST_INPUT_BYTES}
 use Rattle.program_form.specs.Certificate.{DualDef, CertificateDef}
 use Rattle.program_sources.specs.Valid.{dual_at, no_dual}
-use Rattle.sporadic_model.specs.SetDef.{SetDef, task_at}
+use Rattle.sporadic_model.specs.SetDef.{SetDef, latest_bound, task_at}
 use Rattle.sporadic_model.specs.Accepted.{IsAccepted, TaskNumbers}
 use Rattle.sporadic_model.specs.declared.ids.Protocol.{Protocol}
 use Rattle.response_fixpoint.specs.Rounds.{Ending, Schedulable, NotShown, Wide, Allowance, EndsIn}
@@ -73,7 +73,7 @@ wrote_best inputs protocol name allowance a (inr (bytes, set, read, last, (e, en
       text = ap (λ x. x.text) is ∙ ap (λ (x : Ending). (ending_answer protocol set x).text) end.is;
     }
 
--- The deadlines of a set that is read have 64 bits.
+-- The numbers of a set that is read have 64 bits.
 numbers_of : (set : SetDef) → IsAccepted set → (i : ℕ) → i < length set.tasks → TaskNumbers set i
 unfolding IsAccepted
 numbers_of set accepted i here = accepted.numbers i here
@@ -84,7 +84,7 @@ writable protocol set c accepted best = record {
   bounds = λ k d here. (
       let task : k < length set.tasks = omega (arith, here, best.valid.bound_each) in
       let numbers = numbers_of set accepted k task in
-      let within : slice_index c.bounds k ≤ (task_at set k).deadline = (best.valid.proved k task).within in
+      let within : slice_index c.bounds k ≤ latest_bound (task_at set k) = (best.valid.proved k task).within in
       let same : slice_index_or c.bounds k d ≡ slice_index c.bounds k = get_or_default c.bounds k d 0 here in
       omega (arith, same, within, numbers.deadline_to, numbers.period_to));
   duals = λ k d here. (

@@ -7,7 +7,7 @@ use Rattle.schedule_model.specs.JobDef.{JobsDef}
 use Rattle.trace_csv.specs.Records.{Fields, records_in}
 use Rattle.trace_csv.specs.JobLines as jobs_lines
 use Rattle.trace_csv.specs.JobsFile as jobs_file
-use Rattle.trace_csv.specs.JobsFile.{HasJobsHeader, AreJobsRecords}
+use Rattle.trace_csv.specs.JobsFile.{HasJobsHeader, AreJobsRecords, job_lines}
 use Rattle.trace_csv.specs.RowLines as rows_lines
 use Rattle.trace_csv.specs.RowsFile as rows_file
 use Rattle.trace_csv.specs.RowsFile.{HasRowsHeader, AreRowsRecords}
@@ -38,7 +38,7 @@ first_once due i j r s before here before' here' = elim (cases_lt i j) [
 -- What a refusal of jobs says of their records.
 abbrev pub AreJobsRefused : SetDef → List Fields → JobsRefusal → Type 0
 AreJobsRefused set records r = ((r ≡ jobs.Fields 0) × (HasJobsHeader records → ⊥))
-    ⊎ (HasJobsHeader records × ((i : ℕ) × jobs_file.IsFirstRefused set (drop 1 records) i r))
+    ⊎ (HasJobsHeader records × ((i : ℕ) × jobs_file.IsFirstRefused set (job_lines records) i r))
 
 jobs_refused : (set : SetDef) (bytes : List ℕ) (r : JobsRefusal) → ReadsJobs set bytes (Err r) → AreJobsRefused set (records_in bytes) r
 jobs_refused set bytes (jobs.Fields line) reads = reads
@@ -48,6 +48,7 @@ jobs_refused set bytes (jobs.Script line) reads = reads
 jobs_refused set bytes (jobs.OverBudget line) reads = reads
 jobs_refused set bytes (jobs.TooClose line) reads = reads
 jobs_refused set bytes (jobs.TooMany line) reads = reads
+jobs_refused set bytes (jobs.Late line) reads = reads
 jobs_refused set bytes jobs.Memory reads = absurd reads
 
 jobs_refused_once : (set : SetDef) (records : List Fields) (r s : JobsRefusal) → AreJobsRefused set records r
@@ -56,12 +57,12 @@ jobs_refused_once set records r s (inl (is, without)) (inl (is', without')) = is
 jobs_refused_once set records r s (inl (is, without)) (inr (header, first)) = absurd (without header)
 jobs_refused_once set records r s (inr (header, first)) (inl (is, without)) = absurd (without header)
 jobs_refused_once set records r s (inr (header, (i, p))) (inr (header', (j, q))) =
-    first_once (jobs_lines.refusal_at set (drop 1 records)) i j r s p.earlier p.here q.earlier q.here
+    first_once (jobs_lines.refusal_at set (job_lines records)) i j r s p.earlier p.here q.earlier q.here
 
 jobs_accepted : (set : SetDef) (records : List Fields) (r : JobsRefusal) → AreJobsRecords set records → AreJobsRefused set records r → ⊥
 jobs_accepted set records r are (inl (is, without)) = without are.header
 jobs_accepted set records r are (inr (header, (i, p))) =
-    none_refused (jobs_lines.refusal_at set (drop 1 records) i) r p.here (are.lines i p.within)
+    none_refused (jobs_lines.refusal_at set (job_lines records) i) r p.here (are.lines i p.within)
 
 pub jobs_read_once : (set : SetDef) → ReadsOnce (jobs_input set)
 jobs_read_once set bytes (Ok list) (Ok other) p q = ap (λ x. Ok x) (p.1 ∙ sym q.1)

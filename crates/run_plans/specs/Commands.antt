@@ -2,7 +2,7 @@
 use Rattle.std.specs.Prelude.{◌≡◌, ℕ, ◌⊎◌, Bool, List, slice_index}
 use Rattle.program_form.specs.Certificate.{CertificateDef}
 use Rattle.program_sources.specs.Valid.{IsValid, value_at}
-use Rattle.sporadic_model.specs.SetDef.{SetDef, task_at}
+use Rattle.sporadic_model.specs.SetDef.{SetDef, latest_bound, task_at}
 use Rattle.sporadic_model.specs.declared.ids.Protocol.{Protocol}
 use Rattle.response_fixpoint.specs.Rounds.{Ending, Schedulable, NotShown, Wide, Allowance, EndsIn}
 use Rattle.response_fixpoint.specs.Runs.{rounds_of}
@@ -37,7 +37,7 @@ abbrev pub ending_answer : Protocol → SetDef → Ending → Answer
 ending_answer protocol set (Schedulable bounds duals) =
     record { status = 0; text = certificate_text protocol (record { bounds = bounds; duals = duals }) }
 ending_answer protocol set (NotShown i value) =
-    record { status = 1; text = not_shown_text (task_at set i).name value (task_at set i).deadline }
+    record { status = 1; text = not_shown_text (task_at set i).name value (latest_bound (task_at set i)) }
 ending_answer protocol set (Wide i) = record { status = 5; text = wide_text (task_at set i).name }
 ending_answer protocol set Allowance = record { status = 6; text = allowance_text }
 

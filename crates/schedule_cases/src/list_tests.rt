@@ -1,7 +1,7 @@
 ghost use Rattle.std.specs.Prelude.{◌<◌, length};
 ghost use Rattle.schedule_model.specs.Fitting.{IsMadeFor};
 
-use crate::scripts::{Part, job_of, request_below, segment};
+use crate::scripts::{Part, held_job, job_of, request_below, segment};
 use schedule_model::{Job, JobId, JobList, JobRefusal, Row, RowList, RowRefusal, RowRun};
 use sporadic_model::{ResourceId, TaskId, TaskSet};
 use std::alloc::{AllocError, Global};
@@ -117,6 +117,61 @@ fn takes_jobs_or_names_the_first_refusal(rt: HostRuntime) -> Result<(), Fail> {
     Ok(())
 }
 
+/// A task whose jobs are released up to 4 ticks after they arrive.
+const JITTERY: SetRow = SetRow {
+    processors: 1,
+    homes: &[],
+    tasks: &[TaskRow {
+        jitter: 4,
+        ..task_row!(1, 10, 2, &[])
+    }],
+};
+
+/// The arrival, the release and the local ticks of a job, and the refusal that is wanted.
+type Held = (u64, u64, u64, Option<JobRefusal>);
+
+const HELD: [Held; 19] = [
+    (0, 5, 2, Some(JobRefusal::Late)),
+    (1, 0, 2, Some(JobRefusal::Late)),
+    (18_446_744_073_709_551_615, 0, 2, Some(JobRefusal::Late)),
+    (0, 5, 3, Some(JobRefusal::OverBudget)),
+    (0, 1_000_000_001, 2, Some(JobRefusal::TooClose)),
+    (0, 4, 2, None),
+    (9, 9, 2, Some(JobRefusal::TooClose)),
+    (9, 8, 2, Some(JobRefusal::TooClose)),
+    (9, 20, 2, Some(JobRefusal::TooClose)),
+    (10, 9, 2, Some(JobRefusal::Late)),
+    (10, 15, 2, Some(JobRefusal::Late)),
+    (10, 10, 2, None),
+    (19, 23, 2, Some(JobRefusal::TooClose)),
+    (20, 24, 2, None),
+    (31, 31, 1, None),
+    (999_999_997, 1_000_000_001, 2, Some(JobRefusal::TooClose)),
+    (999_999_990, 1_000_000_001, 2, Some(JobRefusal::TooClose)),
+    (999_999_995, 1_000_000_000, 2, Some(JobRefusal::Late)),
+    (999_999_996, 1_000_000_000, 2, None),
+];
+
+#[test]
+fn spaces_jobs_by_arrivals_and_holds_them_by_the_jitter(rt: HostRuntime) -> Result<(), Fail> {
+    let set = set_of(rt.alloc(), JITTERY)?;
+    let mut jobs = JobList::new(rt.alloc(), &set);
+    for (arrival, release, local, refusal) in HELD {
+        let job = held_job(rt.alloc(), 0, (arrival, release), &[(local, None)])?;
+        let wanted = match refusal {
+            Some(refusal) => Err(refusal),
+            None => Ok(()),
+        };
+        let answer = pushed(&mut jobs, job);
+        assert!(rt; answer == Some(wanted), "at {arrival}, {release}");
+    }
+    assert!(rt; jobs.len() == 5);
+    let (first, second) = (jobs.job(JobId(0)), jobs.job(JobId(1)));
+    assert_eq!(rt; (first.arrival, first.release), (0, 4));
+    assert_eq!(rt; (second.arrival, second.release), (10, 10));
+    Ok(())
+}
+
 #[test]
 fn keeps_the_limits_on_jobs_and_segments(rt: HostRuntime) -> Result<(), Fail> {
     let set = set_of(rt.alloc(), BUSY)?;
@@ -125,7 +180,7 @@ fn keeps_the_limits_on_jobs_and_segments(rt: HostRuntime) -> Result<(), Fail> {
         let job = job_of(rt.alloc(), 0, 1000 * j, &[(1, None)])?;
         assert!(rt; pushed(&mut jobs, job) == Some(Ok(())));
     }
-    let job = job_of(rt.alloc(), 0, 100_000_000, &[(1, None)])?;
+    let job = held_job(rt.alloc(), 0, (100_000_000, 100_000_001), &[(1, None)])?;
     assert!(rt; pushed(&mut jobs, job) == Some(Err(JobRefusal::TooMany)));
 
     let mut jobs = JobList::new(rt.alloc(), &set);

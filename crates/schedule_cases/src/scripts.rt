@@ -20,10 +20,21 @@ pub(crate) fn segment((local, length): Part) -> Segment {
     Segment { local, request }
 }
 
+/// A job that is released as it arrives.
 pub(crate) fn job_of(
     alloc: Global,
     task: u32,
     release: u64,
+    script: &[Part],
+) -> Result<Job, AllocError> {
+    held_job(alloc, task, (release, release), script)
+}
+
+/// A job that arrives at the first tick and is released at the second.
+pub(crate) fn held_job(
+    alloc: Global,
+    task: u32,
+    (arrival, release): (u64, u64),
     script: &[Part],
 ) -> Result<Job, AllocError> {
     let mut segments = Vec::new(alloc);
@@ -32,6 +43,7 @@ pub(crate) fn job_of(
     }
     Ok(Job {
         task: TaskId(task),
+        arrival,
         release,
         script: segments,
     })

@@ -1,4 +1,5 @@
--- Jobs of one task are at least a period apart, so only so many of them are released within a window.
+-- Jobs of one task arrive at least a period apart, so only so many of them arrive within a window, and their releases
+-- rise.
 use Rattle.std.proofs.Common.{◌≡◌, ℕ, zero, suc, ◌+◌, ◌*◌, ◌<◌, ◌≤◌, Bool, true, length, refl, sym, ◌∙◌, arith, inl, inr, suc-mul}
 use Rattle.std.specs.Int.{div_ceil}
 use Rattle.std.proofs.lemmas.Grind.{div_ceil_times}
@@ -7,8 +8,9 @@ use Rattle.bounded_sums.specs.Sums.{flag}
 use Rattle.bounded_sums.specs.Tests.{count_below}
 use Rattle.bounded_sums.proofs.CountLaws.{flag-of_true, flag-of_false}
 use Rattle.sporadic_model.specs.SetDef.{task_at, jobs_within}
+use Rattle.sporadic_model.specs.Accepted.{TaskNumbers}
 use Rattle.schedule_model.specs.JobDef.{JobsDef, job_of}
-use Rattle.schedule_model.specs.LawfulJobs.{AreLawfulJobs}
+use Rattle.schedule_model.specs.LawfulJobs.{IsLawfulJob, AreLawfulJobs}
 
 -- The jobs before job n that pass: the first of them and the last, c further jobs on.
 pub record Spaced (jobs : JobsDef) (x n c : ℕ) (p : ℕ → Bool) : Type 0 where
@@ -17,16 +19,16 @@ pub record Spaced (jobs : JobsDef) (x n c : ℕ) (p : ℕ → Bool) : Type 0 whe
   pub below : last < n
   pub first_passes : p first ≡ true
   pub last_passes : p last ≡ true
-  pub apart : (job_of jobs.jobs first).release + c * (task_at jobs.set x).period ≤ (job_of jobs.jobs last).release
+  pub apart : (job_of jobs.jobs first).arrival + c * (task_at jobs.set x).period ≤ (job_of jobs.jobs last).arrival
 
 spaced_step : (jobs : JobsDef) (x n c : ℕ) (p : ℕ → Bool) → AreLawfulJobs jobs
     → ((j : ℕ) → p j ≡ true → (job_of jobs.jobs j).task ≡ x) → n < length jobs.jobs → p n ≡ true
     → Spaced jobs x n c p → Spaced jobs x (suc n) (suc c) p
 spaced_step jobs x n c p lawful of l h s =
     let same : (job_of jobs.jobs s.last).task ≡ x = of s.last s.last_passes in
-    let gap : (job_of jobs.jobs s.last).release + (task_at jobs.set (job_of jobs.jobs s.last).task).period
-    ≤ (job_of jobs.jobs n).release = lawful.apart s.last n s.below l (same ∙ sym (of n h)) in
-    let step : (job_of jobs.jobs s.last).release + (task_at jobs.set x).period ≤ (job_of jobs.jobs n).release = rw same at gap in
+    let gap : (job_of jobs.jobs s.last).arrival + (task_at jobs.set (job_of jobs.jobs s.last).task).period
+    ≤ (job_of jobs.jobs n).arrival = lawful.apart s.last n s.below l (same ∙ sym (of n h)) in
+    let step : (job_of jobs.jobs s.last).arrival + (task_at jobs.set x).period ≤ (job_of jobs.jobs n).arrival = rw same at gap in
     let more : suc c * (task_at jobs.set x).period ≡ c * (task_at jobs.set x).period + (task_at jobs.set x).period =
     suc-mul c (task_at jobs.set x).period in
     record {
@@ -53,7 +55,7 @@ spaced_here jobs x n (suc d) p lawful of l passes e back =
     let one : flag (p n) ≡ 1 = flag-of_true (p n) passes in
     spaced_step jobs x n d p lawful of l passes (back d (omega arith))
 
--- Of suc c jobs of one task the last is released at least c periods after the first.
+-- Of suc c jobs of one task the last arrives at least c periods after the first.
 pub spaced : (jobs : JobsDef) (x n c : ℕ) (p : ℕ → Bool) → AreLawfulJobs jobs
     → ((j : ℕ) → p j ≡ true → (job_of jobs.jobs j).task ≡ x) → n ≤ length jobs.jobs → count_below n p ≡ suc c
     → Spaced jobs x n c p
@@ -83,12 +85,12 @@ few c n period window some less most = elim (cases_lt c n) [
   product zero (suc n) period l = absurd (omega arith)
   product (suc c) (suc n) period l = omega (arith, suc-mul c period, suc-mul n period, product c n period (omega arith))
 
--- Of one task at most so many jobs pass that are released before r + window, and less than bound before r at most.
-pub released_within : (jobs : JobsDef) (x n r window bound : ℕ) (p : ℕ → Bool) → AreLawfulJobs jobs
+-- Of one task at most so many jobs pass that arrive before r + window, and less than bound before r at most.
+pub arrived_within : (jobs : JobsDef) (x n r window bound : ℕ) (p : ℕ → Bool) → AreLawfulJobs jobs
     → 0 < (task_at jobs.set x).period → n ≤ length jobs.jobs → ((j : ℕ) → p j ≡ true → (job_of jobs.jobs j).task ≡ x)
-    → ((j : ℕ) → p j ≡ true → r < (job_of jobs.jobs j).release + bound) → ((j : ℕ) → p j ≡ true → (job_of jobs.jobs j).release < r + window)
+    → ((j : ℕ) → p j ≡ true → r < (job_of jobs.jobs j).arrival + bound) → ((j : ℕ) → p j ≡ true → (job_of jobs.jobs j).arrival < r + window)
     → count_below n p ≤ jobs_within window bound (task_at jobs.set x).period
-released_within jobs x n r window bound p lawful some l of after before = go (count_below n p) refl where
+arrived_within jobs x n r window bound p lawful some l of after before = go (count_below n p) refl where
   go : (c : ℕ) → count_below n p ≡ c → count_below n p ≤ jobs_within window bound (task_at jobs.set x).period
   go zero e = omega arith
   go (suc c) e =
@@ -101,3 +103,14 @@ released_within jobs x n r window bound p lawful some l of after before = go (co
       few c (div_ceil (window + bound) (task_at jobs.set x).period) (task_at jobs.set x).period (window + bound) some
       less times.0 in
       omega arith
+
+-- Of two jobs of one task the one that is listed first is released first, since the jitter is below the period.
+pub releases_rise : (jobs : JobsDef) (a b : ℕ) → AreLawfulJobs jobs → TaskNumbers jobs.set (job_of jobs.jobs a).task
+    → a < b → b < length jobs.jobs → (job_of jobs.jobs a).task ≡ (job_of jobs.jobs b).task
+    → (job_of jobs.jobs a).release < (job_of jobs.jobs b).release
+releases_rise jobs a b lawful numbers before l same =
+    let first : IsLawfulJob jobs.set (job_of jobs.jobs a) = lawful.each a (omega arith) in
+    let second : IsLawfulJob jobs.set (job_of jobs.jobs b) = lawful.each b l in
+    let apart : (job_of jobs.jobs a).arrival + (task_at jobs.set (job_of jobs.jobs a).task).period ≤ (job_of jobs.jobs b).arrival =
+    lawful.apart a b before l same in
+    omega (arith, first.in_time, second.arrived, numbers.cost_from, numbers.jitter_to, numbers.deadline_to)

@@ -19,7 +19,7 @@ pub use count_laws::{
     executed_ticks_are_counted_along_the_script, requests_are_within_the_budget,
     requests_begun_are_counted,
 };
-pub use measure_laws::{measures_are_kept, releases_are_spaced};
+pub use measure_laws::{arrivals_are_spaced, measures_are_kept, releases_rise};
 pub use protocol_laws::{
     chosen_rows_are_unique, dpcp_keeps_its_laws, interference_comes_from_higher_tasks,
     interference_has_one_cause, jobs_end_in_time, lawful_rows_can_be_taken,

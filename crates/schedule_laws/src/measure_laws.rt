@@ -2,6 +2,7 @@ ghost use Rattle.std.specs.Prelude.{◌≡◌, ℕ, ◌+◌, ◌<◌, ◌≤◌,
 ghost use Rattle.bounded_sums.specs.Sums.{flag};
 ghost use Rattle.bounded_sums.specs.Tests.{count_below};
 ghost use Rattle.sporadic_model.specs.SetDef.{task_at, jobs_within};
+ghost use Rattle.sporadic_model.specs.Accepted.{TaskNumbers};
 ghost use Rattle.schedule_model.specs.JobDef.{JobsDef, job_of};
 ghost use Rattle.schedule_model.specs.LawfulJobs.{AreLawfulJobs};
 ghost use Rattle.schedule_model.specs.RowDef.{Trace};
@@ -22,13 +23,21 @@ pub fn measures_are_kept()
         → blocking_of interferes w (n + 1) j ≡ blocking_of interferes w n j + flag (is_blocked interferes w n j) }
 {}
 
-/// Of one task, at most as many jobs are released less than `bound` ticks before a window or in it as a sporadic task
-/// with that bound and its period can run in it.
-pub fn releases_are_spaced()
+/// Of one task, at most as many jobs arrive less than `bound` ticks before a window or in it as a sporadic task with
+/// that bound and its period can run in it.
+pub fn arrivals_are_spaced()
     ensures { (jobs : JobsDef) (x n r window bound : ℕ) (p : ℕ → Bool) → AreLawfulJobs jobs
         → 0 < (task_at jobs.set x).period → n ≤ length jobs.jobs
         → ((j : ℕ) → p j ≡ true → (job_of jobs.jobs j).task ≡ x)
-        → ((j : ℕ) → p j ≡ true → r < (job_of jobs.jobs j).release + bound)
-        → ((j : ℕ) → p j ≡ true → (job_of jobs.jobs j).release < r + window)
+        → ((j : ℕ) → p j ≡ true → r < (job_of jobs.jobs j).arrival + bound)
+        → ((j : ℕ) → p j ≡ true → (job_of jobs.jobs j).arrival < r + window)
         → count_below n p ≤ jobs_within window bound (task_at jobs.set x).period }
+{}
+
+/// Jobs of one task are released in the order in which they are listed, since a jitter is below its period. Their
+/// releases may be less than a period apart.
+pub fn releases_rise()
+    ensures { (jobs : JobsDef) (a b : ℕ) → AreLawfulJobs jobs → TaskNumbers jobs.set (job_of jobs.jobs a).task
+        → a < b → b < length jobs.jobs → (job_of jobs.jobs a).task ≡ (job_of jobs.jobs b).task
+        → (job_of jobs.jobs a).release < (job_of jobs.jobs b).release }
 {}

@@ -22,6 +22,8 @@ far_jobs = record { set = far_set; jobs = job 0 0 (local_only 1 ∷ []) ∷ job 
 far_job : (r : ℕ) → IsLawfulJob far_set (job 0 r (local_only 1 ∷ []))
 far_job r = record {
   task = omega arith;
+  arrived = omega arith;
+  in_time = omega arith;
   script = refl;
   resources = refl;
   cost = omega arith;
@@ -39,7 +41,7 @@ far_lawful = record { each = each; apart = apart } where
   each (suc (suc j)) l = absurd (omega arith)
 
   apart : (a b : ℕ) → a < b → b < 2 → (job_of far_jobs.jobs a).task ≡ (job_of far_jobs.jobs b).task
-      → (job_of far_jobs.jobs a).release + (task_at far_set (job_of far_jobs.jobs a).task).period ≤ (job_of far_jobs.jobs b).release
+      → (job_of far_jobs.jobs a).arrival + (task_at far_set (job_of far_jobs.jobs a).task).period ≤ (job_of far_jobs.jobs b).arrival
   apart zero (suc zero) l m e = omega arith
   apart zero zero l m e = absurd (omega arith)
   apart zero (suc (suc b)) l m e = absurd (omega arith)

@@ -14,13 +14,13 @@ use Rattle.sporadic_model.specs.SetDef.{SetDef, task_at}
 use Rattle.sporadic_model.specs.Users.{count_of}
 use Rattle.schedule_model.specs.JobDef.{JobDef, JobsDef, job_of, total_ticks, local_ticks, number_of_requests}
 use Rattle.schedule_model.specs.LawfulJobs.{is_length_kept, are_resources_in, IsLawfulJob, AreLawfulJobs}
-use Rattle.schedule_model.specs.JobLists.{is_listed_script, is_within_budget, last_release, is_too_close, is_too_many}
+use Rattle.schedule_model.specs.JobLists.{is_listed_script, is_within_budget, last_arrival, is_too_close, is_too_many, is_late}
 use Rattle.schedule_model.specs.JobLists.{segment_count, first_refusal, with_job, IsJobList}
 use Rattle.schedule_model.specs.declared.limits.TheConstants.{MOST_JOBS, MOST_SEGMENTS}
 use Rattle.sporadic_model.specs.declared.limits.TheConstants.{MOST_TICKS}
 use Rattle.schedule_model.specs.declared.refusal.JobRefusal.TheVariants as refusal
 use Rattle.schedule_model.proofs.Scripts.{number_of_requests-past, script_from}
-use Rattle.schedule_model.proofs.Releases.{IsLastAt, last_release-at, last_release-none}
+use Rattle.schedule_model.proofs.Arrivals.{IsLastAt, last_arrival-at, last_arrival-none}
 
 -- A job for which no refusal is due.
 pub record IsFree (jobs : JobsDef) (job : JobDef) : Type 0 where
@@ -28,23 +28,27 @@ pub record IsFree (jobs : JobsDef) (job : JobDef) : Type 0 where
   pub budget : is_within_budget jobs.set job ≡ true
   pub apart : is_too_close jobs job ≡ false
   pub room : is_too_many jobs.jobs job ≡ false
+  pub time : is_late jobs.set job ≡ false
 
-none_due : (a b c d : Bool) → cond (not a) (Some refusal.Script)
-    (cond (not b) (Some refusal.OverBudget) (cond c (Some refusal.TooClose) (cond d (Some refusal.TooMany) None)))
+none_due : (a b c d e : Bool) → cond (not a) (Some refusal.Script)
+    (cond (not b) (Some refusal.OverBudget) (cond c (Some refusal.TooClose)
+    (cond d (Some refusal.TooMany) (cond e (Some refusal.Late) None))))
     ≡ None
-    → (a ≡ true) × (b ≡ true) × (c ≡ false) × (d ≡ false)
-none_due false b c d h = absurd (cc)
-none_due true false c d h = absurd (cc)
-none_due true true true d h = absurd (cc)
-none_due true true false true h = absurd (cc)
-none_due true true false false h = (refl, refl, refl, refl)
+    → (a ≡ true) × (b ≡ true) × (c ≡ false) × (d ≡ false) × (e ≡ false)
+none_due false b c d e h = absurd (cc)
+none_due true false c d e h = absurd (cc)
+none_due true true true d e h = absurd (cc)
+none_due true true false true e h = absurd (cc)
+none_due true true false false true h = absurd (cc)
+none_due true true false false false h = (refl, refl, refl, refl, refl)
 
 pub accepted_from : (jobs : JobsDef) (job : JobDef) → first_refusal jobs job ≡ None → IsFree jobs job
 accepted_from jobs job h =
     let parts : (is_listed_script job.script ≡ true) × (is_within_budget jobs.set job ≡ true)
-    × (is_too_close jobs job ≡ false) × (is_too_many jobs.jobs job ≡ false) = none_due (is_listed_script job.script)
-    (is_within_budget jobs.set job) (is_too_close jobs job) (is_too_many jobs.jobs job) h in
-    record { script = parts.0; budget = parts.1; apart = parts.2; room = parts.3 }
+    × (is_too_close jobs job ≡ false) × (is_too_many jobs.jobs job ≡ false) × (is_late jobs.set job ≡ false) =
+    none_due (is_listed_script job.script) (is_within_budget jobs.set job) (is_too_close jobs job)
+    (is_too_many jobs.jobs job) (is_late jobs.set job) h in
+    record { script = parts.0; budget = parts.1; apart = parts.2; room = parts.3; time = parts.4 }
 
 -- What staying within the budget says.
 pub record IsWithin (set : SetDef) (job : JobDef) : Type 0 where
@@ -71,12 +75,29 @@ within_from set job h =
       lengths = three.1;
     }
 
+or_none : (a b : Bool) → (a || b) ≡ false → (a ≡ false) × (b ≡ false)
+or_none true b h = absurd (cc)
+or_none false b h = (refl, h)
+
+-- What it says that a job isn't late.
+pub in_time_from : (set : SetDef) (job : JobDef) → is_late set job ≡ false
+    → (job.arrival ≤ job.release) × (job.release ≤ job.arrival + (task_at set job.task).jitter)
+unfolding is_late
+in_time_from set job h =
+    let parts : (ltb job.release job.arrival ≡ false)
+    × (ltb (job.arrival + (task_at set job.task).jitter) job.release ≡ false) =
+    or_none (ltb job.release job.arrival) (ltb (job.arrival + (task_at set job.task).jitter) job.release) h in
+    (ltb-false _ _ parts.0, ltb-false _ _ parts.1)
+
 lawful_from : (jobs : JobsDef) (job : JobDef) → job.task < length jobs.set.tasks
     → are_resources_in (length jobs.set.resources) job.script ≡ true → IsFree jobs job → IsLawfulJob jobs.set job
 lawful_from jobs job task resources accepted =
     let within = within_from jobs.set job accepted.budget in
+    let time = in_time_from jobs.set job accepted.time in
     record {
       task = task;
+      arrived = time.0;
+      in_time = time.1;
       script = script_from job.script accepted.script;
       resources = resources;
       cost = within.cost;
@@ -90,60 +111,56 @@ lawful_from jobs job task resources accepted =
       lengths = within.lengths;
     }
 
--- The job is released no earlier than a period after the last one of its task, and at most at tick 10^9.
+-- The job arrives no earlier than a period after the last one of its task, and is released at most at tick 10^9.
 pub record IsApart (jobs : JobsDef) (job : JobDef) : Type 0 where
-  pub last : (r : ℕ) → last_release jobs.jobs job.task ≡ Some r → r + (task_at jobs.set job.task).period ≤ job.release
+  pub last : (r : ℕ) → last_arrival jobs.jobs job.task ≡ Some r → r + (task_at jobs.set job.task).period ≤ job.arrival
   pub release : job.release ≤ MOST_TICKS
-
-or_none : (a b : Bool) → (a || b) ≡ false → (a ≡ false) × (b ≡ false)
-or_none true b h = absurd (cc)
-or_none false b h = (refl, h)
 
 pub apart_from : (jobs : JobsDef) (job : JobDef) → is_too_close jobs job ≡ false → IsApart jobs job
 unfolding is_too_close
 apart_from jobs job h =
     let period : ℕ = (task_at jobs.set job.task).period in
-    let parts : (option_map_or (λ r. ltb job.release (r + period)) (last_release jobs.jobs job.task) false ≡ false)
+    let parts : (option_map_or (λ r. ltb job.arrival (r + period)) (last_arrival jobs.jobs job.task) false ≡ false)
     × (ltb MOST_TICKS job.release ≡ false) =
-    or_none (option_map_or (λ r. ltb job.release (r + period)) (last_release jobs.jobs job.task) false)
+    or_none (option_map_or (λ r. ltb job.arrival (r + period)) (last_arrival jobs.jobs job.task) false)
     (ltb MOST_TICKS job.release) h in
     record {
-      last = λ r e. let late : ltb job.release (r + period) ≡ false = rw e at parts.0 in ltb-false _ _ late;
+      last = λ r e. let late : ltb job.arrival (r + period) ≡ false = rw e at parts.0 in ltb-false _ _ late;
       release = ltb-false _ _ parts.1;
     }
 
--- A job that is released a period after the last one of its task is a period after each of them.
+-- A job that arrives a period after the last one of its task is a period after each of them.
 after_each : (jobs : JobsDef) (job : JobDef) (a : ℕ) → AreLawfulJobs jobs → IsApart jobs job → a < length jobs.jobs
     → (job_of jobs.jobs a).task ≡ job.task
-    → (job_of jobs.jobs a).release + (task_at jobs.set job.task).period ≤ job.release
-after_each jobs job a lawful apart l same = go (last_release jobs.jobs job.task) refl where
-  beside : (r : ℕ) → last_release jobs.jobs job.task ≡ Some r → IsLastAt jobs.jobs job.task r
-      → (job_of jobs.jobs a).release + (task_at jobs.set job.task).period ≤ job.release
+    → (job_of jobs.jobs a).arrival + (task_at jobs.set job.task).period ≤ job.arrival
+after_each jobs job a lawful apart l same = go (last_arrival jobs.jobs job.task) refl where
+  beside : (r : ℕ) → last_arrival jobs.jobs job.task ≡ Some r → IsLastAt jobs.jobs job.task r
+      → (job_of jobs.jobs a).arrival + (task_at jobs.set job.task).period ≤ job.arrival
   beside r e last = elim (cases_lt a last.place) [
     | inl before ↦
-        let pair : (job_of jobs.jobs a).release + (task_at jobs.set (job_of jobs.jobs a).task).period
-        ≤ (job_of jobs.jobs last.place).release = lawful.apart a last.place before last.within (same ∙ sym last.task) in
-        omega (arith, apart.last r e, last.release)
+        let pair : (job_of jobs.jobs a).arrival + (task_at jobs.set (job_of jobs.jobs a).task).period
+        ≤ (job_of jobs.jobs last.place).arrival = lawful.apart a last.place before last.within (same ∙ sym last.task) in
+        omega (arith, apart.last r e, last.arrival)
     | inr after ↦ elim (cases_lt last.place a) [
       | inl past ↦ absurd (last.after a past l same)
       | inr here ↦
           let e2 : a ≡ last.place = omega arith in
-          let e3 : (job_of jobs.jobs a).release ≡ r = ap (λ p. (job_of jobs.jobs p).release) e2 ∙ last.release in
+          let e3 : (job_of jobs.jobs a).arrival ≡ r = ap (λ p. (job_of jobs.jobs p).arrival) e2 ∙ last.arrival in
           omega (arith, apart.last r e)
     ]
   ]
 
-  go : (o : Option ℕ) → last_release jobs.jobs job.task ≡ o
-      → (job_of jobs.jobs a).release + (task_at jobs.set job.task).period ≤ job.release
-  go None e = absurd (last_release-none jobs.jobs job.task a e l same)
-  go (Some r) e = beside r e (last_release-at jobs.jobs job.task r e)
+  go : (o : Option ℕ) → last_arrival jobs.jobs job.task ≡ o
+      → (job_of jobs.jobs a).arrival + (task_at jobs.set job.task).period ≤ job.arrival
+  go None e = absurd (last_arrival-none jobs.jobs job.task a e l same)
+  go (Some r) e = beside r e (last_arrival-at jobs.jobs job.task r e)
 
 -- The jobs of a list with one more: the old ones, and that one.
 pub old_job : (jobs : List JobDef) (job : JobDef) (j : ℕ) → j < length jobs → job_of (jobs ++ job ∷ []) j ≡ job_of jobs j
-old_job jobs job j l = get_or-append jobs (job ∷ []) (record { task = 0; release = 0; script = [] }) j l
+old_job jobs job j l = get_or-append jobs (job ∷ []) (record { task = 0; arrival = 0; release = 0; script = [] }) j l
 
 pub new_job : (jobs : List JobDef) (job : JobDef) → job_of (jobs ++ job ∷ []) (length jobs) ≡ job
-new_job jobs job = get_or-append_seam jobs job [] (record { task = 0; release = 0; script = [] })
+new_job jobs job = get_or-append_seam jobs job [] (record { task = 0; arrival = 0; release = 0; script = [] })
 
 -- What holds of each job of a list, and of one more, holds of each job of the list with that one at its end.
 each_more : (P : JobDef → Type 0) (jobs : List JobDef) (job : JobDef) → ((j : ℕ) → j < length jobs → P (job_of jobs j))
@@ -162,8 +179,8 @@ segments_more jobs job = sum_by-append (λ (j : JobDef). length j.script) jobs (
 apart_more : (jobs : JobsDef) (job : JobDef) → AreLawfulJobs jobs → IsApart jobs job
     → (a b : ℕ) → a < b → b < length (jobs.jobs ++ job ∷ [])
     → (job_of (jobs.jobs ++ job ∷ []) a).task ≡ (job_of (jobs.jobs ++ job ∷ []) b).task
-    → (job_of (jobs.jobs ++ job ∷ []) a).release + (task_at jobs.set (job_of (jobs.jobs ++ job ∷ []) a).task).period
-    ≤ (job_of (jobs.jobs ++ job ∷ []) b).release
+    → (job_of (jobs.jobs ++ job ∷ []) a).arrival + (task_at jobs.set (job_of (jobs.jobs ++ job ∷ []) a).task).period
+    ≤ (job_of (jobs.jobs ++ job ∷ []) b).arrival
 apart_more jobs job lawful apart a b l w = elim (cases_lt b (length jobs.jobs)) [
   | inl below ↦ rw (old_job jobs.jobs job a (omega arith), old_job jobs.jobs job b below) (λ same. lawful.apart a b l below same)
   | inr past ↦

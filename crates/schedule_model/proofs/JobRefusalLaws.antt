@@ -10,11 +10,11 @@ use Rattle.sporadic_model.specs.Users.{count_of}
 use Rattle.sporadic_model.specs.declared.limits.TheConstants.{MOST_TICKS}
 use Rattle.schedule_model.specs.JobDef.{JobDef, JobsDef, job_of, total_ticks, local_ticks, number_of_requests}
 use Rattle.schedule_model.specs.LawfulJobs.{IsLawfulJob, AreLawfulJobs}
-use Rattle.schedule_model.specs.JobLists.{is_listed_script, is_within_budget, last_release, is_too_close, is_too_many}
+use Rattle.schedule_model.specs.JobLists.{is_listed_script, is_within_budget, last_arrival, is_too_close, is_too_many, is_late}
 use Rattle.schedule_model.specs.JobLists.{segment_count, first_refusal, with_job, IsJobList}
 use Rattle.schedule_model.specs.declared.limits.TheConstants.{MOST_JOBS, MOST_SEGMENTS}
 use Rattle.schedule_model.specs.declared.refusal.JobRefusal.TheVariants as refusal
-use Rattle.schedule_model.proofs.Releases.{IsLastAt, last_release-at}
+use Rattle.schedule_model.proofs.Arrivals.{IsLastAt, last_arrival-at}
 use Rattle.schedule_model.proofs.JobListLaws.{old_job, new_job, segments_more}
 
 within_budget : (jobs : JobsDef) (job : JobDef) → IsLawfulJob jobs.set job → is_within_budget jobs.set job ≡ true
@@ -35,32 +35,32 @@ of_last : (P : JobDef → Type 0) (jobs : List JobDef) (job : JobDef)
     → ((j : ℕ) → j < length (jobs ++ job ∷ []) → P (job_of (jobs ++ job ∷ []) j)) → P job
 of_last P jobs job each = subst P (new_job jobs job) (each (length jobs) (omega (arith, length-append jobs (job ∷ []))))
 
--- The job is a period after the last one of its task.
+-- The job arrives a period after the last one of its task.
 after_last : (jobs : JobsDef) (job : JobDef) (r : ℕ) → AreLawfulJobs (with_job jobs job)
-    → last_release jobs.jobs job.task ≡ Some r → r + (task_at jobs.set job.task).period ≤ job.release
+    → last_arrival jobs.jobs job.task ≡ Some r → r + (task_at jobs.set job.task).period ≤ job.arrival
 after_last jobs job r lawful e =
-    let last : IsLastAt jobs.jobs job.task r = last_release-at jobs.jobs job.task r e in
+    let last : IsLastAt jobs.jobs job.task r = last_arrival-at jobs.jobs job.task r e in
     let old : job_of (jobs.jobs ++ job ∷ []) last.place ≡ job_of jobs.jobs last.place = old_job jobs.jobs job last.place last.within in
     let new : job_of (jobs.jobs ++ job ∷ []) (length jobs.jobs) ≡ job = new_job jobs.jobs job in
     let same : (job_of (jobs.jobs ++ job ∷ []) last.place).task
     ≡ (job_of (jobs.jobs ++ job ∷ []) (length jobs.jobs)).task =
     ap (λ j. j.task) old ∙ last.task ∙ sym (ap (λ j. j.task) new) in
-    let apart : (job_of (jobs.jobs ++ job ∷ []) last.place).release
+    let apart : (job_of (jobs.jobs ++ job ∷ []) last.place).arrival
     + (task_at jobs.set (job_of (jobs.jobs ++ job ∷ []) last.place).task).period
-    ≤ (job_of (jobs.jobs ++ job ∷ []) (length jobs.jobs)).release =
+    ≤ (job_of (jobs.jobs ++ job ∷ []) (length jobs.jobs)).arrival =
     lawful.apart last.place (length jobs.jobs) last.within (omega (arith, length-append jobs.jobs (job ∷ []))) same in
     let period : (task_at jobs.set (job_of (jobs.jobs ++ job ∷ []) last.place).task).period
     ≡ (task_at jobs.set job.task).period =
     ap (λ j. (task_at jobs.set j.task).period) old ∙ ap (λ x. (task_at jobs.set x).period) last.task in
-    omega (arith, apart, period, ap (λ j. j.release) old, ap (λ j. j.release) new, last.release)
+    omega (arith, apart, period, ap (λ j. j.arrival) old, ap (λ j. j.arrival) new, last.arrival)
 
 far_enough : (jobs : JobsDef) (job : JobDef) → AreLawfulJobs (with_job jobs job) → job.release ≤ MOST_TICKS → is_too_close jobs job ≡ false
 unfolding is_too_close
 far_enough jobs job lawful release = none_of _ _
-    (go (last_release jobs.jobs job.task) (λ r e. after_last jobs job r lawful e)) (le-ltb _ _ release)
+    (go (last_arrival jobs.jobs job.task) (λ r e. after_last jobs job r lawful e)) (le-ltb _ _ release)
   where
-    go : (o : Option ℕ) → ((r : ℕ) → o ≡ Some r → r + (task_at jobs.set job.task).period ≤ job.release)
-        → option_map_or (λ r. ltb job.release (r + (task_at jobs.set job.task).period)) o false ≡ false
+    go : (o : Option ℕ) → ((r : ℕ) → o ≡ Some r → r + (task_at jobs.set job.task).period ≤ job.arrival)
+        → option_map_or (λ r. ltb job.arrival (r + (task_at jobs.set job.task).period)) o false ≡ false
     go None h = refl
     go (Some r) h = le-ltb _ _ (h r refl)
 
@@ -72,17 +72,24 @@ has_room jobs job listed =
     omega (arith, listed.segments, segments_more jobs.jobs job) in
     none_of _ _ (lt-leb _ _ fewer) (le-ltb _ _ shorter)
 
-four : (a b c d : Bool) → a ≡ true → b ≡ true → c ≡ false → d ≡ false
+is_early : (jobs : JobsDef) (job : JobDef) → IsLawfulJob jobs.set job → is_late jobs.set job ≡ false
+unfolding is_late
+is_early jobs job lawful = none_of _ _ (le-ltb _ _ lawful.arrived) (le-ltb _ _ lawful.in_time)
+
+five : (a b c d e : Bool) → a ≡ true → b ≡ true → c ≡ false → d ≡ false → e ≡ false
     → cond (not a) (Some refusal.Script)
-    (cond (not b) (Some refusal.OverBudget) (cond c (Some refusal.TooClose) (cond d (Some refusal.TooMany) None)))
+    (cond (not b) (Some refusal.OverBudget) (cond c (Some refusal.TooClose)
+    (cond d (Some refusal.TooMany) (cond e (Some refusal.Late) None))))
     ≡ None
-four a b c d e f g h = rw (e, f, g, h) refl
+five a b c d e f g h i j = rw (f, g, h, i, j) refl
 
 pub free_from_more : (jobs : JobsDef) (job : JobDef) → AreLawfulJobs (with_job jobs job) → IsJobList (with_job jobs job)
     → first_refusal jobs job ≡ None
 free_from_more jobs job lawful listed =
-    four (is_listed_script job.script) (is_within_budget jobs.set job) (is_too_close jobs job) (is_too_many jobs.jobs job)
+    five (is_listed_script job.script) (is_within_budget jobs.set job) (is_too_close jobs job) (is_too_many jobs.jobs job)
+    (is_late jobs.set job)
     (of_last (λ j. is_listed_script j.script ≡ true) jobs.jobs job listed.scripts)
     (within_budget jobs job (of_last (IsLawfulJob jobs.set) jobs.jobs job lawful.each))
     (far_enough jobs job lawful (of_last (λ j. j.release ≤ MOST_TICKS) jobs.jobs job listed.release))
     (has_room jobs job listed)
+    (is_early jobs job (of_last (IsLawfulJob jobs.set) jobs.jobs job lawful.each))

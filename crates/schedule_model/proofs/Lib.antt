@@ -1,5 +1,5 @@
 pub mod Scripts
-pub mod Releases
+pub mod Arrivals
 pub mod JobListLaws
 pub mod JobRefusalLaws
 pub mod RowListLaws
@@ -10,4 +10,5 @@ pub mod ChoiceTests
 pub mod WorkedFiles
 pub mod JobExamples
 pub mod SharedExamples
+pub mod JitterExamples
 pub mod DpcpExamples

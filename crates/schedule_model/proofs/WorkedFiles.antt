@@ -4,7 +4,8 @@ use Rattle.sporadic_model.specs.SetDef.{SetDef, TaskDef, RequestDef, ResourceDef
 use Rattle.schedule_model.specs.JobDef.{SegmentDef, JobDef, JobsDef}
 use Rattle.schedule_model.specs.RowDef.{RunDef, Trace, trace_in}
 
--- A task of this name (one byte), processor, period and cost, with one request entry for each resource and length.
+-- A task of this name (one byte), processor, period and cost, without jitter, with one request entry for each resource
+-- and length.
 abbrev pub task : ℕ → ℕ → ℕ → ℕ → List RequestDef → TaskDef
 task name processor period cost requests = record {
   name = name ∷ [];
@@ -13,7 +14,21 @@ task name processor period cost requests = record {
   deadline = period;
   cost = cost;
   local = cost;
+  jitter = 0;
   requests = requests;
+}
+
+-- The same without request entries, and with a jitter.
+abbrev pub jittery : ℕ → ℕ → ℕ → ℕ → ℕ → TaskDef
+jittery name processor period cost jitter = record {
+  name = name ∷ [];
+  processor = processor;
+  period = period;
+  deadline = period;
+  cost = cost;
+  local = cost;
+  jitter = jitter;
+  requests = [];
 }
 
 -- One request of the resource of this name, for so many ticks.
@@ -30,8 +45,12 @@ then_request local q length = record { local = local; request = Some (q, length)
 abbrev pub local_only : ℕ → SegmentDef
 local_only local = record { local = local; request = None }
 
+-- A job that is released as it arrives, and one that isn't.
 abbrev pub job : ℕ → ℕ → List SegmentDef → JobDef
-job task release script = record { task = task; release = release; script = script }
+job task release script = record { task = task; arrival = release; release = release; script = script }
+
+abbrev pub held_job : ℕ → ℕ → ℕ → List SegmentDef → JobDef
+held_job task arrival release script = record { task = task; arrival = arrival; release = release; script = script }
 
 abbrev pub run : ℕ → List (Option ℕ) → List (Option ℕ) → RunDef
 run ticks running holders = record { ticks = ticks; row = record { running = running; holders = holders } }
@@ -200,3 +219,26 @@ trace_barred = trace_in jobs_home (
     ∷ run 1 (None ∷ Some 1 ∷ Some 0 ∷ []) (None ∷ Some 0 ∷ [])
     ∷ run 1 (Some 0 ∷ None ∷ None ∷ []) (None ∷ None ∷ [])
     ∷ [])
+
+-- Two tasks on one processor. The higher one's jobs may be released up to 4 ticks after they arrive.
+abbrev pub set_jit : SetDef
+set_jit = record { processors = 1; resources = []; tasks = jittery 49 1 10 2 4 ∷ task 50 1 20 5 [] ∷ [] }
+
+-- The higher task's first job is released as late as it may be, and its second one 6 ticks later.
+abbrev pub jobs_jit : JobsDef
+jobs_jit = record {
+  set = set_jit;
+  jobs = held_job 0 0 4 (local_only 2 ∷ []) ∷ job 0 10 (local_only 2 ∷ []) ∷ job 1 4 (local_only 5 ∷ []) ∷ [];
+}
+
+abbrev pub rows_jit : List RunDef
+rows_jit =
+    run 4 (None ∷ []) []
+    ∷ run 2 (Some 0 ∷ []) []
+    ∷ run 4 (Some 2 ∷ []) []
+    ∷ run 2 (Some 1 ∷ []) []
+    ∷ run 1 (Some 2 ∷ []) []
+    ∷ []
+
+abbrev pub trace_jit : Trace
+trace_jit = trace_in jobs_jit rows_jit

@@ -9,9 +9,11 @@ pub record SegmentDef : Type 0 where
   pub local : ℕ
   pub request : Option (ℕ × ℕ)
 
--- A job: its task, the tick of its release, and what it does, segment after segment.
+-- A job: its task, the ticks of its arrival and of its release, and what it does, segment after segment. A job's
+-- deadline counts from its arrival; it may run, and its response counts, from its release.
 pub record JobDef : Type 0 where
   pub task : ℕ
+  pub arrival : ℕ
   pub release : ℕ
   pub script : List SegmentDef
 
@@ -22,7 +24,7 @@ pub record JobsDef : Type 0 where
 
 -- What a look-up past the end gives: a job without a segment.
 abbrev pub no_job : JobDef
-no_job = record { task = 0; release = 0; script = [] }
+no_job = record { task = 0; arrival = 0; release = 0; script = [] }
 
 -- Job number j of the list.
 abbrev pub job_of : List JobDef → ℕ → JobDef

@@ -45,20 +45,24 @@ is_within_budget set job =
     && (all_below (length set.resources) (λ q. nat_le (number_of_requests job.script q) (count_of set job.task q))
     && list_all (is_length_kept set job.task) job.script))
 
--- When was the last listed job of task x released, if it has one?
-abbrev pub last_release : List JobDef → ℕ → Option ℕ
-last_release [] x = None
-last_release (job ∷ jobs) x = option_or (last_release jobs x) (if job.task == x then Some job.release else None)
+-- When did the last listed job of task x arrive, if it has one?
+abbrev pub last_arrival : List JobDef → ℕ → Option ℕ
+last_arrival [] x = None
+last_arrival (job ∷ jobs) x = option_or (last_arrival jobs x) (if job.task == x then Some job.arrival else None)
 
--- Is the job released less than a period after the last listed job of its task, or after tick 10^9?
+-- Does the job arrive less than a period after the last listed job of its task, or is it released after tick 10^9?
 unfoldable pub is_too_close : JobsDef → JobDef → Bool
 is_too_close jobs job =
-    option_map_or (λ last. nat_lt job.release (last + (task_at jobs.set job.task).period)) (last_release jobs.jobs job.task) false
+    option_map_or (λ last. nat_lt job.arrival (last + (task_at jobs.set job.task).period)) (last_arrival jobs.jobs job.task) false
     || nat_lt MOST_TICKS job.release
 
 -- Is the list full: has it 100,000 jobs, or no room for the job's segments among 1,000,000?
 unfoldable pub is_too_many : List JobDef → JobDef → Bool
 is_too_many jobs job = nat_le MOST_JOBS (length jobs) || nat_lt MOST_SEGMENTS (segment_count jobs + length job.script)
+
+-- Is the job released before it arrives, or later than its task's jitter lets it be?
+unfoldable pub is_late : SetDef → JobDef → Bool
+is_late set job = nat_lt job.release job.arrival || nat_lt (job.arrival + (task_at set job.task).jitter) job.release
 
 -- Is the refusal due for the job, after these jobs?
 abbrev pub is_due : JobsDef → JobDef → JobRefusal → Bool
@@ -66,11 +70,12 @@ is_due jobs job refusal.Script = not (is_listed_script job.script)
 is_due jobs job refusal.OverBudget = not (is_within_budget jobs.set job)
 is_due jobs job refusal.TooClose = is_too_close jobs job
 is_due jobs job refusal.TooMany = is_too_many jobs.jobs job
+is_due jobs job refusal.Late = is_late jobs.set job
 is_due jobs job refusal.Memory = false
 
 -- The refusals in the order in which they are tried, and the first that is due.
 abbrev pub refusals_in_order : List JobRefusal
-refusals_in_order = refusal.Script ∷ refusal.OverBudget ∷ refusal.TooClose ∷ refusal.TooMany ∷ []
+refusals_in_order = refusal.Script ∷ refusal.OverBudget ∷ refusal.TooClose ∷ refusal.TooMany ∷ refusal.Late ∷ []
 
 abbrev pub first_refusal : JobsDef → JobDef → Option JobRefusal
 first_refusal jobs job = find (is_due jobs job) refusals_in_order

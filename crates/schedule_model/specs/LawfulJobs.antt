@@ -26,10 +26,12 @@ are_resources_in n script = list_all (is_resource_in n) script
 abbrev pub is_length_kept : SetDef → ℕ → SegmentDef → Bool
 is_length_kept set x s = option_map_or (λ r. nat_le r.1 (length_of set x r.0)) s.request true
 
--- A lawful job: it is of a task of the set and requests resources of the set, its script is one, and it stays
--- within its task's budget.
+-- A lawful job: it is of a task of the set and requests resources of the set, it is released no earlier than it
+-- arrives and by its task's jitter later at most, its script is one, and it stays within its task's budget.
 pub record IsLawfulJob (set : SetDef) (job : JobDef) : Type 0 where
   pub task : job.task < length set.tasks
+  pub arrived : job.arrival ≤ job.release
+  pub in_time : job.release ≤ job.arrival + (task_at set job.task).jitter
   pub script : is_script job.script ≡ true
   pub resources : are_resources_in (length set.resources) job.script ≡ true
   pub cost : total_ticks job.script ≤ (task_at set job.task).cost
@@ -37,8 +39,8 @@ pub record IsLawfulJob (set : SetDef) (job : JobDef) : Type 0 where
   pub count : (q : ℕ) → number_of_requests job.script q ≤ count_of set job.task q
   pub lengths : list_all (is_length_kept set job.task) job.script ≡ true
 
--- Lawful jobs: each is lawful, and those of one task are at least a period apart, all pairs of them.
+-- Lawful jobs: each is lawful, and those of one task arrive at least a period apart, all pairs of them.
 pub record AreLawfulJobs (jobs : JobsDef) : Type 0 where
   pub each : (j : ℕ) → j < length jobs.jobs → IsLawfulJob jobs.set (job_of jobs.jobs j)
   pub apart : (a b : ℕ) → a < b → b < length jobs.jobs → (job_of jobs.jobs a).task ≡ (job_of jobs.jobs b).task
-      → (job_of jobs.jobs a).release + (task_at jobs.set (job_of jobs.jobs a).task).period ≤ (job_of jobs.jobs b).release
+      → (job_of jobs.jobs a).arrival + (task_at jobs.set (job_of jobs.jobs a).task).period ≤ (job_of jobs.jobs b).arrival

@@ -12,7 +12,7 @@ abbrev pub segment_seen : Segment → SegmentDef
 segment_seen s = record { local = s.local; request = option_map (λ r. (r.0.0, r.1)) s.request }
 
 abbrev pub job_seen : Job → JobDef
-job_seen j = record { task = j.task.0; release = j.release; script = map segment_seen j.script.items }
+job_seen j = record { task = j.task.0; arrival = j.arrival; release = j.release; script = map segment_seen j.script.items }
 
 abbrev pub place_seen : Option JobId → Option ℕ
 place_seen o = option_map (λ j. j.0) o

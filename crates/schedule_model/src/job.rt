@@ -14,12 +14,14 @@ pub struct Segment {
     pub request: Option<(ResourceId, u64)>,
 }
 
-/// A job: what one release of a task executes.
+/// A job: what one release of a task executes. It may arrive before its release, by its task's jitter at most.
 #[derive(Debug, Drop)]
 pub struct Job {
     /// The job's task.
     pub task: TaskId,
-    /// The tick at which the job is released, at most 10^9.
+    /// The tick at which the job arrives: from here its deadline counts.
+    pub arrival: u64,
+    /// The tick at which the job is released, at most 10^9: from here it may run, and its response counts.
     pub release: u64,
     /// What the job does, segment after segment.
     pub script: Vec<Segment>,

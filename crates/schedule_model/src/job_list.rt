@@ -12,7 +12,7 @@ use sporadic_model::TaskSet;
 use std::alloc::Global;
 use std::marker::Model;
 
-/// Lawful jobs of a task set, in the order in which they were pushed. Those of one task are at least a
+/// Lawful jobs of a task set, in the order in which they were pushed. Those of one task arrive at least a
 /// period apart.
 #[derive(Drop)]
 pub struct JobList<'a> {

@@ -1,7 +1,7 @@
 ghost use Rattle.std.specs.Prelude.{◌≡◌, ◌<◌, ◌≤◌, ◌+◌, false, IsTrue, nat_lt, map, length};
 ghost use Rattle.std.specs.Option.{option_map_or};
 ghost use Rattle.schedule_model.specs.LawfulJobs.{are_resources_in};
-ghost use Rattle.schedule_model.specs.JobLists.{last_release, segment_count, is_too_close, is_too_many, first_refusal};
+ghost use Rattle.schedule_model.specs.JobLists.{last_arrival, segment_count, is_too_close, is_too_many, is_late, first_refusal};
 ghost use Rattle.schedule_model.specs.Seen.{job_seen};
 
 use crate::job::Job;
@@ -10,38 +10,38 @@ use crate::refusal::JobRefusal;
 use crate::script::{is_listed_script, stays_within_budget};
 use sporadic_model::{MOST_TICKS, TaskId, TaskSet};
 
-/// When was the task's last listed job released, if it has one?
-fn last_release_of(jobs: &[Job], x: TaskId) -> Option<u64>
-    ensures { result ≡ last_release (map job_seen jobs.now) x.0 }
+/// When did the task's last listed job arrive, if it has one?
+fn last_arrival_of(jobs: &[Job], x: TaskId) -> Option<u64>
+    ensures { result ≡ last_arrival (map job_seen jobs.now) x.0 }
 {
     let mut left = jobs.len();
     while left > 0 {
         left -= 1;
         let job = &jobs[left];
         if job.task == x {
-            return Some(job.release);
+            return Some(job.arrival);
         }
     }
     None
 }
 
-/// Is the job released less than a period after the last listed job of its task, or after tick 10^9?
+/// Does the job arrive less than a period after the last listed job of its task, or is it released after tick 10^9?
 #[tactic(auto, unfolding(crate::specs::JobLists::is_too_close))]
 fn follows_too_closely(set: &TaskSet, jobs: &[Job], job: &Job) -> bool
     requires { job.now.task.0 < length set.now.tasks }
     ensures { result ≡ is_too_close (record { set = set.now; jobs = map job_seen jobs.now }) (job_seen job.now) }
 {
     if is_within(
-        last_release_of(jobs, job.task),
+        last_arrival_of(jobs, job.task),
         set.period(job.task),
-        job.release,
+        job.arrival,
     ) {
         return true;
     }
     job.release > MOST_TICKS
 }
 
-/// Is the tick before the end of a period that begins at the last release, if there was one?
+/// Is the tick before the end of a period that begins at the last arrival, if there was one?
 fn is_within(last: Option<u64>, period: u64, tick: u64) -> bool
     ensures { result ≡ option_map_or (λ last. nat_lt tick (last + period)) last false }
 {
@@ -62,6 +62,18 @@ fn passes_limits(jobs: &[Job], segments: u64, job: &Job) -> bool
         return true;
     }
     job.script.len() as u64 > MOST_SEGMENTS - segments
+}
+
+/// Is the job released before it arrives, or later than its task's jitter lets it be?
+#[tactic(auto, unfolding(crate::specs::JobLists::is_late))]
+fn leaves_its_jitter(set: &TaskSet, job: &Job) -> bool
+    requires { job.now.task.0 < length set.now.tasks }
+    ensures { result ≡ is_late set.now (job_seen job.now) }
+{
+    if job.release < job.arrival {
+        return true;
+    }
+    job.release - job.arrival > set.jitter(job.task)
 }
 
 /// The first refusal that is due for the job after the listed ones, which have so many segments.
@@ -88,6 +100,9 @@ pub(crate) fn refusal_of(
     }
     if passes_limits(jobs, segments, job) {
         return Some(JobRefusal::TooMany);
+    }
+    if leaves_its_jitter(set, job) {
+        return Some(JobRefusal::Late);
     }
     None
 }

@@ -14,12 +14,15 @@ pub enum JobRefusal {
     /// or longer requests of a resource than its entry for the resource has.
     #[error("a job exceeds what its task may execute or request")]
     OverBudget,
-    /// The job is released less than a period after the last job of its task, or after tick 10^9.
-    #[error("a job is released less than a period after its task's last one, or after tick 1000000000")]
+    /// The job arrives less than a period after the last job of its task, or is released after tick 10^9.
+    #[error("a job arrives less than a period after its task's last one, or is released after tick 1000000000")]
     TooClose,
     /// There are 100,000 jobs already, or more than 1,000,000 segments with this job's.
     #[error("there are more than 100000 jobs or 1000000 script segments")]
     TooMany,
+    /// The job is released before its arrival, or later than its arrival plus its task's jitter.
+    #[error("a job is released before its arrival, or later than its task's jitter allows")]
+    Late,
     /// Memory was refused.
     #[error("out of memory")]
     Memory,

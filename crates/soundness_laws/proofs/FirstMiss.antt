@@ -8,7 +8,7 @@ use Rattle.bounded_sums.specs.Sums.{sum_below, only_if}
 use Rattle.bounded_sums.specs.Tests.{count_below}
 use Rattle.bounded_sums.proofs.SumLaws.{sum_below-monotone, only_if-true}
 use Rattle.bounded_sums.proofs.CountLaws.{count_below-none}
-use Rattle.sporadic_model.specs.SetDef.{SetDef, task_at, is_higher_local, jobs_within}
+use Rattle.sporadic_model.specs.SetDef.{SetDef, task_at, is_higher_local, jobs_within, latest_bound}
 use Rattle.sporadic_model.specs.Accepted.{IsAccepted, TaskNumbers}
 use Rattle.sporadic_model.proofs.Laws.{numbers_of_accepted}
 use Rattle.schedule_model.specs.JobDef.{job_of}
@@ -24,16 +24,16 @@ use Rattle.schedule_laws.proofs.Ticks.{finished_true}
 use Rattle.schedule_laws.proofs.Responses.{finished_in_time}
 use Rattle.program_sources.specs.Recurrence.{interference_by, interference_of}
 use Rattle.charge_model.specs.Interferers.{interferes_with_some, is_interference_of}
-use Rattle.charge_model.specs.Windows.{bound_end, window_end, EndedBy, EndedBefore, AreBounds}
+use Rattle.charge_model.specs.Windows.{bound_end, window_end, EndedBy, EndedBefore, EndedWithin, AreBounds}
 use Rattle.charge_laws.proofs.Windows.{earlier_ended, bounds_below_periods}
 use Rattle.charge_laws.proofs.Interference.{interferer_some}
 use Rattle.charge_laws.proofs.Counting.{Interfering, interference_counted}
 use Rattle.soundness_laws.proofs.HigherTasks.{not_by_others, ticks_by_task}
 
--- Bounds that are enough: within the deadlines, and each at least its task's cost, its value and what is counted as interference,
+-- Bounds that are enough: at most the latest ones, and each at least its task's cost, its value and what is counted as interference,
 -- together.
 pub record AreEnough (set : SetDef) (cost : ℕ → ℕ) (bounds : List ℕ) (value : ℕ → ℕ) : Type 0 where
-  pub within : (i : ℕ) → i < length set.tasks → slice_index bounds i ≤ (task_at set i).deadline
+  pub within : (i : ℕ) → i < length set.tasks → slice_index bounds i ≤ latest_bound (task_at set i)
   pub enough : (i : ℕ) → i < length set.tasks
       → (task_at set i).cost + value i + interference_of cost set bounds i ≤ slice_index bounds i
 
@@ -47,7 +47,7 @@ pub record Given (interferes : Trace → ℕ → ℕ → Bool) (w : Trace) (n : 
   pub most : (h : ℕ) → h < length w.set.tasks → cost h ≤ (task_at w.set h).cost
   pub interfering : (m y : ℕ) → m ≤ n → y < length w.jobs
       → count_below m (λ t. interferes_with_some interferes w t y) ≤ cost (task_of w y)
-  pub blocked : (j : ℕ) → j < length w.jobs → EndedBy w (slice_index bounds) (job_of w.jobs j).release
+  pub blocked : (j : ℕ) → j < length w.jobs → EndedWithin w (slice_index bounds) (bound_end w (slice_index bounds) j) n
       → count_below (window_end w (slice_index bounds) n j) (λ t. is_blocked interferes w t j) ≤ value (task_of w j)
 
 -- A bound that is enough is at least the cost, so at least 1.
@@ -60,7 +60,7 @@ bounds_are : (set : SetDef) (cost : ℕ → ℕ) (bounds : List ℕ) (value : �
 bounds_are set cost bounds value accepted enough = record {
   from = λ x l. let numbers : TaskNumbers set x = numbers_of_accepted set x accepted l in
       omega (arith, numbers.cost_from, cost_below set cost bounds value x enough l);
-  deadline = enough.within;
+  latest = enough.within;
 }
 
 -- Where a window lies within the rows, its ticks of interference by task h are as few as are counted for it.
@@ -80,7 +80,8 @@ by_task interferes w n cost bounds value j h given l ends ended task = elim (cas
       let less : (task_at w.set h).cost ≤ slice_index bounds h = cost_below w.set cost bounds value h given.enough task in
       let most : cost h ≤ (task_at w.set h).cost = given.most h task in
       let counted : count_below (window_end w (slice_index bounds) n j) (λ t. is_interference_of interferes w t j h)
-      ≤ jobs_within (slice_index bounds (task_of w j)) (slice_index bounds h - cost h) (task_at w.set h).period * cost h =
+      ≤ jobs_within (slice_index bounds (task_of w j)) (slice_index bounds h + (task_at w.set h).jitter - cost h) (task_at w.set h).period
+      * cost h =
       interference_counted interferes w (slice_index bounds) cost n j h laws given.lawful ended
       (omega (arith, numbers.cost_from, numbers.cost_to, numbers.deadline_to))
       (omega (arith, most, numbers.cost_to, numbers.deadline_to)) (omega (arith, most, less)) in
@@ -155,14 +156,16 @@ ends_in_time interferes w n cost bounds value j given l ends ended =
       passed : EndedBy w (slice_index bounds) r
       passed = ended_by w (slice_index bounds) (bound_end w (slice_index bounds) j) r (omega (arith, bounds_from.from i job.task)) ended
 
-      short : (k : ℕ) → k < j → slice_index bounds (task_of w k) ≤ (task_at w.set (task_of w k)).period
+      short : (k : ℕ) → k < j
+          → slice_index bounds (task_of w k) + (task_at w.set (task_of w k)).jitter ≤ (task_at w.set (task_of w k)).period
       short k before = let earlier : IsLawfulJob w.set (job_of w.jobs k) = given.lawful.each k (omega arith) in
           bounds_below_periods w.set (slice_index bounds) (task_of w k) given.accepted bounds_from earlier.task
 
       blocked : count_below (r + slice_index bounds i) (λ t. is_blocked interferes w t j) ≤ value i
       blocked =
           let whole : window_end w (slice_index bounds) n j ≡ r + slice_index bounds i = omega arith in
-          subst (λ k. count_below k (λ t. is_blocked interferes w t j) ≤ value i) whole (given.blocked j l passed)
+          subst (λ k. count_below k (λ t. is_blocked interferes w t j) ≤ value i) whole
+          (given.blocked j l (λ k listed before within. ended k listed before))
 
 -- So each job whose bound passes within the rows ends in time: by induction on the tick at which it passes.
 pub all_end_in_time : (interferes : Trace → ℕ → ℕ → Bool) (w : Trace) (n : ℕ) (cost : ℕ → ℕ) (bounds : List ℕ) (value : ℕ → ℕ) (e : ℕ)

@@ -8,7 +8,6 @@ use Rattle.sporadic_model.specs.Accepted.{IsAccepted, TaskNumbers}
 use Rattle.sporadic_model.specs.declared.ids.Protocol.{Protocol}
 use Rattle.sporadic_model.specs.declared.ids.Protocol.TheVariants as protocol
 use Rattle.sporadic_model.proofs.Laws.{numbers_of_accepted}
-use Rattle.schedule_model.specs.JobDef.{job_of}
 use Rattle.schedule_model.specs.RowDef.{Trace}
 use Rattle.schedule_model.specs.Activity.{task_of}
 use Rattle.schedule_model.specs.BlockedTicks.{is_shared_interference, is_dpcp_interference, is_blocked}
@@ -20,10 +19,11 @@ use Rattle.schedule_laws.proofs.SharedLaws.{shared_runs_active}
 use Rattle.program_laws.specs.Programs.{program_of}
 use Rattle.charge_model.specs.Charges.{shared_charge, dpcp_charge}
 use Rattle.charge_model.specs.Interferers.{interferes_with_some}
-use Rattle.charge_model.specs.Windows.{window_end, EndedBy}
+use Rattle.charge_model.specs.Windows.{bound_end, window_end, EndedWithin}
 use Rattle.charge_laws.proofs.Interference.{interferes_within_cost, interferes_within_local}
 use Rattle.row_laws.proofs.SharedPlacement.{mpcp_shares, fmlp_shares}
-use Rattle.row_laws.proofs.Joined.{Premises, mpcp_point, fmlp_point, dpcp_point, shared_in_column, dpcp_in_column, blocked_bounded}
+use Rattle.row_laws.proofs.Joined.{shared_in_column, dpcp_in_column, blocked_bounded}
+use Rattle.row_laws.proofs.EmptyWindows.{WithinRows, mpcp_point_within, fmlp_point_within, dpcp_point_within}
 use Rattle.soundness_laws.specs.Sound.{IsLawfulSchedule}
 use Rattle.soundness_laws.specs.Analyses.{source_of, Analyses}
 
@@ -35,7 +35,8 @@ DualBounds p interferes w bounds n j den num set =
     ≤ dual_value (program_of p set (task_of w j) bounds) den num
 
 premises_of : (keeps : Rule → Trace → ℕ → Type 0) (set : SetDef) (w : Trace) (bounds : List ℕ) (n j : ℕ) → IsAccepted set
-    → IsLawfulSchedule keeps set w n → j < length w.jobs → EndedBy w (slice_index bounds) (job_of w.jobs j).release → Premises w bounds j
+    → IsLawfulSchedule keeps set w n → j < length w.jobs → EndedWithin w (slice_index bounds) (bound_end w (slice_index bounds) j) n
+    → WithinRows w bounds n j
 premises_of keeps set w bounds n j accepted s l ended =
     record { accepted = subst IsAccepted (sym s.set_is) accepted; lawful = s.jobs; listed = l; ended = ended }
 
@@ -51,10 +52,10 @@ mpcp_analyses set accepted = record {
   most = λ h l. omega arith;
   interfering = shared_interfering mpcp set;
   blocked = λ w bounds n j den num s l ended.
-      let premises : Premises w bounds j = premises_of (shared_rule mpcp) set w bounds n j accepted s l ended in
+      let premises : WithinRows w bounds n j = premises_of (shared_rule mpcp) set w bounds n j accepted s l ended in
       let here : DualBounds protocol.Mpcp is_shared_interference w bounds n j den num w.set =
       blocked_bounded shared_charge protocol.Mpcp is_shared_interference w bounds n j den num premises.accepted
-      (mpcp_point w bounds n j premises s.rows)
+      (mpcp_point_within w bounds n j premises s.rows)
       (λ t b blocked. shared_in_column protocol.Mpcp mpcp w n t j mpcp_shares s.jobs s.rows b blocked) in
       subst (DualBounds protocol.Mpcp is_shared_interference w bounds n j den num) s.set_is here;
 }
@@ -65,10 +66,10 @@ fmlp_analyses set accepted = record {
   most = λ h l. omega arith;
   interfering = shared_interfering fmlp_plus set;
   blocked = λ w bounds n j den num s l ended.
-      let premises : Premises w bounds j = premises_of (shared_rule fmlp_plus) set w bounds n j accepted s l ended in
+      let premises : WithinRows w bounds n j = premises_of (shared_rule fmlp_plus) set w bounds n j accepted s l ended in
       let here : DualBounds protocol.FmlpPlus is_shared_interference w bounds n j den num w.set =
       blocked_bounded shared_charge protocol.FmlpPlus is_shared_interference w bounds n j den num premises.accepted
-      (fmlp_point w bounds n j premises s.rows)
+      (fmlp_point_within w bounds n j premises s.rows)
       (λ t b blocked. shared_in_column protocol.FmlpPlus fmlp_plus w n t j fmlp_shares s.jobs s.rows b blocked) in
       subst (DualBounds protocol.FmlpPlus is_shared_interference w bounds n j den num) s.set_is here;
 }
@@ -80,10 +81,10 @@ dpcp_analyses set accepted = record {
       subst (λ of. count_below n (λ t. interferes_with_some is_dpcp_interference w t y) ≤ (task_at of (task_of w y)).local) s.set_is
       (interferes_within_local w n y (s.jobs.each y l));
   blocked = λ w bounds n j den num s l ended.
-      let premises : Premises w bounds j = premises_of dpcp_rule set w bounds n j accepted s l ended in
+      let premises : WithinRows w bounds n j = premises_of dpcp_rule set w bounds n j accepted s l ended in
       let here : DualBounds protocol.Dpcp is_dpcp_interference w bounds n j den num w.set =
       blocked_bounded dpcp_charge protocol.Dpcp is_dpcp_interference w bounds n j den num premises.accepted
-      (dpcp_point w bounds n j premises s.rows)
+      (dpcp_point_within w bounds n j premises s.rows)
       (λ t b blocked. dpcp_in_column w n t j s.jobs s.rows b blocked) in
       subst (DualBounds protocol.Dpcp is_dpcp_interference w bounds n j den num) s.set_is here;
 }

@@ -5,3 +5,4 @@ pub mod Instances
 pub mod ProtocolSoundness
 pub mod MeasuresKept
 pub mod WorkedSet
+pub mod LateSet

@@ -1,10 +1,10 @@
 -- From what a protocol and its analysis give to soundness.
-use Rattle.std.proofs.Common.{◌≡◌, ℕ, zero, suc, ◌<◌, ◌≤◌, ◌&&◌, Bool, true, false, List, length, sym, subst, arith}
+use Rattle.std.proofs.Common.{◌≡◌, ℕ, zero, suc, ◌<◌, ◌≤◌, ◌&&◌, Bool, true, List, length, sym, subst, arith}
 use Rattle.std.proofs.Common.{inl, inr, min, leb, ltb}
 use Rattle.std.specs.Prelude.{slice_index, nat_le, nat_lt}
-use Rattle.std.proofs.lemmas.Bool.{cases_lt, cases_Bool, and_parts, leb-true, ltb-true}
+use Rattle.std.proofs.lemmas.Bool.{cases_Bool, and_parts, leb-true, ltb-true}
 use Rattle.bounded_sums.specs.Tests.{count_below}
-use Rattle.bounded_sums.proofs.CountLaws.{flag-of_true, flag-of_false, count_below-none, count_below-longer}
+use Rattle.bounded_sums.proofs.CountLaws.{flag-of_true, flag-of_false, count_below-longer}
 use Rattle.program_form.specs.Certificate.{CertificateDef}
 use Rattle.sporadic_model.specs.SetDef.{task_at}
 use Rattle.sporadic_model.specs.Accepted.{IsAccepted}
@@ -19,7 +19,7 @@ use Rattle.schedule_model.specs.declared.rule.Rule.{Rule}
 use Rattle.program_sources.specs.Recurrence.{SourceDef}
 use Rattle.program_sources.specs.Fitting.{tasks_of}
 use Rattle.program_sources.specs.Valid.{IsValid, IsProvedBound, dual_at, value_at}
-use Rattle.charge_model.specs.Windows.{bound_end, window_end, EndedBy}
+use Rattle.charge_model.specs.Windows.{bound_end, window_end, EndedWithin}
 use Rattle.soundness_laws.specs.Sound.{IsLawfulSchedule, is_in_window, blocked_in_window, Sound}
 use Rattle.soundness_laws.specs.Analyses.{AreValues, Analyses}
 use Rattle.soundness_laws.proofs.FirstMiss.{AreEnough, Given, all_end_in_time}
@@ -54,36 +54,20 @@ in_window r e t b h =
     let ends : (leb r t ≡ true) × (ltb t e ≡ true) = and_parts _ _ parts.0 in
     (leb-true _ _ ends.0, ltb-true _ _ ends.1, parts.1)
 
--- Before its release no tick is in a job's window.
-none_in_window : (interferes : Trace → ℕ → ℕ → Bool) (w : Trace) (n : ℕ) (bounds : List ℕ) (j : ℕ) → n < (job_of w.jobs j).release
-    → blocked_in_window interferes w n bounds j ≡ 0
-none_in_window interferes w n bounds j late =
-    count_below-none n (λ t. is_in_window w bounds t j && is_blocked interferes w t j) (λ t l. off t l) where
-      off : (t : ℕ) → t < n → (is_in_window w bounds t j && is_blocked interferes w t j) ≡ false
-      off t l = elim (cases_Bool (is_in_window w bounds t j && is_blocked interferes w t j)) [
-        | inr is_off ↦ is_off
-        | inl on ↦
-            let inside : ((job_of w.jobs j).release ≤ t) × (t < bound_end w (slice_index bounds) j) × (is_blocked interferes w t j ≡ true) =
-            in_window _ _ t _ on in
-            absurd (omega (arith, inside.0))
-      ]
-
 -- No job is blocked in its window for more than its value.
 blocked_at_most : (interferes : Trace → ℕ → ℕ → Bool) (w : Trace) (n : ℕ) (cost : ℕ → ℕ) (bounds : List ℕ) (value : ℕ → ℕ) (j : ℕ)
     → Given interferes w n cost bounds value → j < length w.jobs → blocked_in_window interferes w n bounds j ≤ value (task_of w j)
-blocked_at_most interferes w n cost bounds value j given l = elim (cases_lt n (job_of w.jobs j).release) [
-  | inl late ↦ omega (arith, none_in_window interferes w n bounds j late)
-  | inr released ↦
-      let ended : EndedBy w (slice_index bounds) (job_of w.jobs j).release =
-      λ k listed passed. all_end_in_time interferes w n cost bounds value (suc n) given (omega arith) k listed (omega arith) in
-      let cut : blocked_in_window interferes w n bounds j
-      ≤ count_below (window_end w (slice_index bounds) n j) (λ t. is_blocked interferes w t j) =
-      count_below-cut n (bound_end w (slice_index bounds) j) (λ t. is_in_window w bounds t j && is_blocked interferes w t j)
-      (λ t. is_blocked interferes w t j)
-      (λ t h. let inside : ((job_of w.jobs j).release ≤ t) × (t < bound_end w (slice_index bounds) j)
-      × (is_blocked interferes w t j ≡ true) = in_window _ _ t _ h in (inside.1, inside.2)) in
-      omega (arith, cut, given.blocked j l ended)
-]
+blocked_at_most interferes w n cost bounds value j given l =
+    let ended : EndedWithin w (slice_index bounds) (bound_end w (slice_index bounds) j) n =
+    λ k listed before within.
+    all_end_in_time interferes w n cost bounds value (suc n) given (omega arith) k listed (omega (arith, within)) in
+    let cut : blocked_in_window interferes w n bounds j
+    ≤ count_below (window_end w (slice_index bounds) n j) (λ t. is_blocked interferes w t j) =
+    count_below-cut n (bound_end w (slice_index bounds) j) (λ t. is_in_window w bounds t j && is_blocked interferes w t j)
+    (λ t. is_blocked interferes w t j)
+    (λ t h. let inside : ((job_of w.jobs j).release ≤ t) × (t < bound_end w (slice_index bounds) j)
+    × (is_blocked interferes w t j ≡ true) = in_window _ _ t _ h in (inside.1, inside.2)) in
+    omega (arith, cut, given.blocked j l ended)
 
 -- The bounds of a valid certificate are enough.
 enough_of_valid : (f : SourceDef) (c : CertificateDef) → IsValid f c → AreEnough f.set f.interfering c.bounds (value_at f c)

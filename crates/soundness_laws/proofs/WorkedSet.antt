@@ -37,7 +37,7 @@ unfolding is_due size_refusals
 two_accepted = accepted_from_free two_tasks refl
 
 -- A dual whose rows hold the cost of each column covers the program: a test of the columns.
-covers_from : (p : ProgramDef) (den : ℕ) (num : ℕ → ℕ) → 0 < den
+pub covers_from : (p : ProgramDef) (den : ℕ) (num : ℕ → ℕ) → 0 < den
     → all_below (columns p) (λ c. nat_le (den * cost p c) (sum_below (height p) (λ r. num r * entry p r c))) ≡ true → Covers p den num
 covers_from p den num some h = record {
   positive = some;
@@ -125,6 +125,8 @@ no_other local length more q = rw (eqb-zero-suc q) refl
 lawful_job : (j : ℕ) → j < 2 → IsLawfulJob two_tasks (job_of jobs_a.jobs j)
 lawful_job zero l = record {
   task = leb-true _ _ refl;
+  arrived = leb-true _ _ refl;
+  in_time = leb-true _ _ refl;
   script = refl;
   resources = refl;
   cost = leb-true _ _ refl;
@@ -137,6 +139,8 @@ lawful_job zero l = record {
   count (suc q) = omega (arith, no_other 1 1 1 q)
 lawful_job (suc zero) l = record {
   task = leb-true _ _ refl;
+  arrived = leb-true _ _ refl;
+  in_time = leb-true _ _ refl;
   script = refl;
   resources = refl;
   cost = leb-true _ _ refl;
@@ -152,7 +156,7 @@ lawful_job (suc (suc j)) l = absurd (omega arith)
 lawful_jobs : AreLawfulJobs jobs_a
 lawful_jobs = record { each = lawful_job; apart = apart } where
   apart : (a b : ℕ) → a < b → b < 2 → (job_of jobs_a.jobs a).task ≡ (job_of jobs_a.jobs b).task
-      → (job_of jobs_a.jobs a).release + (task_at two_tasks (job_of jobs_a.jobs a).task).period ≤ (job_of jobs_a.jobs b).release
+      → (job_of jobs_a.jobs a).arrival + (task_at two_tasks (job_of jobs_a.jobs a).task).period ≤ (job_of jobs_a.jobs b).arrival
   apart zero zero l m e = absurd (omega arith)
   apart zero (suc zero) l m e = absurd (cc)
   apart zero (suc (suc b)) l m e = absurd (omega arith)

@@ -5,7 +5,6 @@ use Rattle.program_form.specs.Certificate.{CertificateDef}
 use Rattle.program_form.specs.Duals.{Covers, dual_value}
 use Rattle.sporadic_model.specs.SetDef.{SetDef, task_at}
 use Rattle.sporadic_model.specs.declared.ids.Protocol.{Protocol}
-use Rattle.schedule_model.specs.JobDef.{job_of}
 use Rattle.schedule_model.specs.RowDef.{Trace}
 use Rattle.schedule_model.specs.Activity.{task_of}
 use Rattle.schedule_model.specs.BlockedTicks.{is_blocked}
@@ -15,7 +14,7 @@ use Rattle.program_sources.specs.Fitting.{tasks_of}
 use Rattle.program_sources.specs.Valid.{value_at}
 use Rattle.program_laws.specs.Programs.{program_of, interfering_cost}
 use Rattle.charge_model.specs.Interferers.{interferes_with_some}
-use Rattle.charge_model.specs.Windows.{window_end, EndedBy}
+use Rattle.charge_model.specs.Windows.{bound_end, window_end, EndedWithin}
 use Rattle.soundness_laws.specs.Sound.{IsLawfulSchedule}
 
 -- The source of a protocol's programs for a set.
@@ -28,14 +27,14 @@ pub record AreValues (f : SourceDef) (c : CertificateDef) (values : List ℕ) : 
   pub each : (i : ℕ) → i < tasks_of f → slice_index values i ≡ value_at f c i
 
 -- Does the source analyse the protocol with these rules and this interference, on its own set? No job interferes with others
--- at more ticks than its task's interfering cost, which is at most the cost. And in a lawful schedule, where each job whose
--- bound has passed by a job's release was finished by then, that job is blocked in its window at no more ticks than the value
--- of any dual that covers its program at these bounds.
+-- at more ticks than its task's interfering cost, which is at most the cost. And in a lawful schedule of n rows, where each job
+-- whose release plus bound is less than a job's, and lies within the rows, was finished by its own release plus its bound, that job
+-- is blocked in its window at no more ticks than the value of any dual that covers its program at these bounds.
 pub record Analyses (keeps : Rule → Trace → ℕ → Type 0) (interferes : Trace → ℕ → ℕ → Bool) (f : SourceDef) : Type 0 where
   pub most : (h : ℕ) → h < tasks_of f → f.interfering h ≤ (task_at f.set h).cost
   pub interfering : (w : Trace) (n y : ℕ) → IsLawfulSchedule keeps f.set w n → y < length w.jobs
       → count_below n (λ t. interferes_with_some interferes w t y) ≤ f.interfering (task_of w y)
   pub blocked : (w : Trace) (bounds : List ℕ) (n j den : ℕ) (num : ℕ → ℕ) → IsLawfulSchedule keeps f.set w n → j < length w.jobs
-      → EndedBy w (slice_index bounds) (job_of w.jobs j).release → Covers (f.program (task_of w j) bounds) den num
+      → EndedWithin w (slice_index bounds) (bound_end w (slice_index bounds) j) n → Covers (f.program (task_of w j) bounds) den num
       → count_below (window_end w (slice_index bounds) n j) (λ t. is_blocked interferes w t j)
       ≤ dual_value (f.program (task_of w j) bounds) den num

@@ -1,4 +1,4 @@
--- A worked set with a valid certificate: two tasks on processors of their own, and one resource that both request.
+-- Worked sets with valid certificates. First two tasks on processors of their own, and one resource that both request.
 use Rattle.std.specs.Prelude.{ℕ, ◌+◌, List, [], ◌∷◌, Some}
 use Rattle.sporadic_model.specs.SetDef.{SetDef, TaskDef}
 use Rattle.program_form.specs.Certificate.{DualDef, CertificateDef}
@@ -12,6 +12,7 @@ task_on k cost length = record {
   deadline = 10;
   cost = cost;
   local = cost;
+  jitter = 0;
   requests = record { resource = 113 ∷ []; count = 1; length = length } ∷ [];
 }
 
@@ -46,3 +47,24 @@ greater_bounds = certificate_of (6 ∷ 5 ∷ []) (0 ∷ 0 ∷ 2 ∷ 0 ∷ []) (0
 -- passes 6.
 abbrev pub too_small_bound : CertificateDef
 too_small_bound = certificate_of (6 ∷ 5 ∷ []) (2 ∷ 0 ∷ 0 ∷ 0 ∷ []) (0 ∷ 0 ∷ 1 ∷ 0 ∷ [])
+
+-- Then two tasks on one processor that request nothing. Their names are digits, and the deadline is the period.
+abbrev pub late_task : ℕ → ℕ → ℕ → ℕ → TaskDef
+late_task digit period cost jitter = record {
+  name = digit ∷ [];
+  processor = 1;
+  period = period;
+  deadline = period;
+  cost = cost;
+  local = cost;
+  jitter = jitter;
+  requests = [];
+}
+
+-- Jobs of the first may be released 4 ticks after they arrive, so 6 ticks after the one before.
+abbrev pub late_tasks : SetDef
+late_tasks = record { processors = 1; resources = []; tasks = late_task 49 10 2 4 ∷ late_task 50 20 5 0 ∷ [] }
+
+-- Bounds alone: their programs have no column, so no row.
+abbrev pub bounds_alone : List ℕ → CertificateDef
+bounds_alone bounds = certificate_of bounds [] []

@@ -23,6 +23,7 @@ ghost use Rattle.program_sources.specs.Valid.{IsValid};
 ghost use Rattle.soundness_laws.specs.Sound.{is_in_window, KeepsBounds, Sound};
 ghost use Rattle.soundness_laws.specs.Analyses.{source_of, AreValues, Analyses};
 ghost use Rattle.soundness_laws.specs.Worked.{two_tasks, two_bounds, two_bounds_of_fewer_rows, greater_bounds, too_small_bound};
+ghost use Rattle.soundness_laws.specs.Worked.{late_tasks, bounds_alone};
 
 use schedule_model::BlockingProtocol;
 
@@ -106,4 +107,16 @@ pub fn worked_certificates_are_valid()
     ensures dpcp { IsValid (source_of protocol.Dpcp two_tasks) two_bounds_of_fewer_rows }
     ensures greater { IsValid (source_of protocol.FmlpPlus two_tasks) greater_bounds }
     ensures too_small { IsValid (source_of protocol.FmlpPlus two_tasks) too_small_bound → ⊥ }
+{}
+
+/// A worked set of two tasks, the first with a jitter of 4 ticks, is accepted, and the certificate with the bounds 2 and 9 is
+/// valid for it under FMLP+, so its bounds are sound. A second bound that is less by one is not: two jobs of the first task run
+/// within these ticks, since their releases are less than a period apart. A first bound of 7 is not valid, since with the jitter
+/// it passes the deadline of 10.
+pub fn a_worked_certificate_with_jitter_is_sound()
+    ensures accepted { IsAccepted late_tasks }
+    ensures valid { IsValid (source_of protocol.FmlpPlus late_tasks) (bounds_alone (2 ∷ 9 ∷ [])) }
+    ensures sound { Sound (shared_rule fmlp_plus) is_shared_interference late_tasks (2 ∷ 9 ∷ []) (0 ∷ 0 ∷ []) }
+    ensures less_bound { Sound (shared_rule fmlp_plus) is_shared_interference late_tasks (2 ∷ 8 ∷ []) (0 ∷ 0 ∷ []) → ⊥ }
+    ensures too_late { IsValid (source_of protocol.FmlpPlus late_tasks) (bounds_alone (7 ∷ 9 ∷ [])) → ⊥ }
 {}

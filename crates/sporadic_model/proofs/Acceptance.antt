@@ -1,5 +1,5 @@
 -- Of an accepted set no refusal is due.
-use Rattle.std.proofs.Common.{◌≡◌, ◌≢◌, ℕ, ◌<◌, ◌≤◌, Bool, true, false, cond, not, List, map, length, take, refl, arith}
+use Rattle.std.proofs.Common.{◌≡◌, ◌≢◌, ℕ, ◌+◌, ◌-◌, ◌<◌, ◌≤◌, Bool, true, false, cond, not, List, map, length, take, refl, arith}
 use Rattle.std.proofs.Common.{Option, Some, None, nat_lt, ◌&&◌, ◌==◌, IsTrue, inl, inr}
 use Rattle.std.specs.List.{find, slice_index_or, list_any}
 use Rattle.std.specs.Int.{is_in_range}
@@ -162,6 +162,15 @@ homes_free set h =
     resources_free set (λ q. refusal.Home (record { 0 = q }))
     (λ q l. home_inside set (resource_at set q).home (λ k e. (h.homes.homes_from q k l e, h.homes.homes_to q k l e)))
 
+jitter_within : (deadline cost jitter : ℕ) → cost + jitter ≤ deadline → nat_lt (deadline - cost) jitter ≡ false
+jitter_within deadline cost jitter h = grind (arith, nat_tests)
+
+jitters_free : (set : SetDef) → KeepsRanges set → find (is_due set) (at_tasks set (λ x. refusal.Jitter (record { 0 = x }))) ≡ None
+unfolding is_due
+jitters_free set h =
+    tasks_free set (λ x. refusal.Jitter (record { 0 = x }))
+    (λ x l. jitter_within (task_at set x).deadline (task_at set x).cost (task_at set x).jitter (h.numbers x l).jitter_to)
+
 -- Of an accepted set no refusal is due.
 pub free_from_accepted : (set : SetDef) → IsAccepted set → first_refusal set ≡ None
 unfolding IsAccepted
@@ -169,4 +178,5 @@ free_from_accepted set h =
     none_joined (is_due set) size_refusals _ (sizes_free set h.sizes)
     (none_joined (is_due set) (name_refusals set) _ (names_free set h)
     (none_joined (is_due set) (number_refusals set) _ (numbers_free set h)
-    (none_joined (is_due set) (request_refusals set) _ (entries_free set h) (homes_free set h))))
+    (none_joined (is_due set) (request_refusals set) _ (entries_free set h)
+    (none_joined (is_due set) (at_resources set (λ q. refusal.Home (record { 0 = q }))) _ (homes_free set h) (jitters_free set h)))))

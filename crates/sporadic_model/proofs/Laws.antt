@@ -1,5 +1,5 @@
 -- What follows from a set's being accepted, in the words of the field.
-use Rattle.std.proofs.Common.{◌≡◌, ◌≢◌, ℕ, ◌<◌, ◌≤◌, Bool, true, false, cond, not, List, [], ◌∷◌, length, arith, Option}
+use Rattle.std.proofs.Common.{◌≡◌, ◌≢◌, ℕ, ◌+◌, ◌-◌, ◌<◌, ◌≤◌, ◌↔◌, Bool, true, false, cond, not, List, [], ◌∷◌, length, arith, Option}
 use Rattle.std.proofs.Common.{Some, None, suc, subst, nat_lt, ◌&&◌, ◌==◌, ◌⊎◌, inl, inr, sym, IfSome}
 use Rattle.std.specs.List.{find, slice_index_or}
 use Rattle.std.specs.Option.{option_map}
@@ -8,7 +8,7 @@ use Rattle.std.proofs.lemmas.Bool.{ltb-true}
 use Rattle.std.proofs.lemmas.Bool.Decides.{nat_tests}
 use Rattle.std.proofs.lemmas.List.Quantifiers.{position-Some}
 use Rattle.std.proofs.lemmas.Slice.Eq.{bytes_eq-Decides}
-use Rattle.sporadic_model.specs.SetDef.{SetDef, RequestDef, task_at, resource_at, no_task, no_resource, no_request}
+use Rattle.sporadic_model.specs.SetDef.{SetDef, RequestDef, latest_bound, task_at, resource_at, no_task, no_resource, no_request}
 use Rattle.sporadic_model.specs.Users.{numbers, count_of, is_user, is_remote_user, ceiling_of, task_with_name, resource_with_name}
 use Rattle.sporadic_model.specs.Accepted.{IsAccepted, SetSizes, TaskNumbers, RequestNumbers, EntryNumbers, AreNamed}
 use Rattle.sporadic_model.specs.Accepted.{AreEntries, AreHomes, IsHighestUser, HasNoUser, IsHighestRemoteUser}
@@ -57,6 +57,13 @@ entries_of_accepted set x h = h.entries x
 pub homes_of_accepted : (set : SetDef) → IsAccepted set → AreHomes set
 unfolding IsAccepted
 homes_of_accepted set h = h.homes
+
+-- A bound is at most the latest one exactly where bound and jitter together are at most the deadline.
+pub latest_meets : (set : SetDef) (x bound : ℕ) → IsAccepted set → x < length set.tasks
+    → (bound ≤ latest_bound (task_at set x)) ↔ (bound + (task_at set x).jitter ≤ (task_at set x).deadline)
+latest_meets set x bound h i =
+    let n : TaskNumbers set x = numbers_of_accepted set x h i in
+    (λ below. omega (arith, n.jitter_to), λ within. omega (arith))
 
 -- The numbers of each entry that is found among a task's are in their ranges.
 pub entry_of_accepted : (set : SetDef) (x : ℕ) (p : RequestDef → Bool) (e : RequestDef) → IsAccepted set

@@ -1,5 +1,5 @@
 -- Where no refusal of a task set is due, all stands in its range; and where all does, none is due.
-use Rattle.std.proofs.Common.{◌≡◌, ◌≢◌, ℕ, ◌<◌, ◌≤◌, Bool, true, false, not, List, [], ◌∷◌, map, length, take, refl}
+use Rattle.std.proofs.Common.{◌≡◌, ◌≢◌, ℕ, ◌+◌, ◌-◌, ◌<◌, ◌≤◌, Bool, true, false, not, List, [], ◌∷◌, map, length, take, refl}
 use Rattle.std.proofs.Common.{arith, Some, None, suc, nat_lt, ◌&&◌, ◌||◌, ◌==◌, lit<, IsTrue, ◌⊎◌, inl, inr}
 use Rattle.std.specs.List.{find, slice_index_or, list_any}
 use Rattle.std.specs.Int.{is_in_range}
@@ -21,13 +21,14 @@ use Rattle.sporadic_model.specs.declared.refusal.ModelRefusal.{ModelRefusal}
 use Rattle.sporadic_model.specs.declared.refusal.ModelRefusal.TheVariants as refusal
 use Rattle.sporadic_model.proofs.Finding.{none_at, none_in_at, none_of_both, each_fails}
 
--- No refusal of any of the five groups is due.
+-- No refusal of any of the six groups is due.
 pub record NoneDue (set : SetDef) : Type 0 where
   pub sizes : find (is_due set) size_refusals ≡ None
   pub names : find (is_due set) (name_refusals set) ≡ None
   pub numbers : find (is_due set) (number_refusals set) ≡ None
   pub requests : find (is_due set) (request_refusals set) ≡ None
   pub homes : find (is_due set) (at_resources set (λ q. refusal.Home (record { 0 = q }))) ≡ None
+  pub jitters : find (is_due set) (at_tasks set (λ x. refusal.Jitter (record { 0 = x }))) ≡ None
 
 none_due : (set : SetDef) → first_refusal set ≡ None → NoneDue set
 none_due set h =
@@ -35,7 +36,8 @@ none_due set h =
     let b = none_of_both (is_due set) (name_refusals set) _ a.back in
     let c = none_of_both (is_due set) (number_refusals set) _ b.back in
     let d = none_of_both (is_due set) (request_refusals set) _ c.back in
-    record { sizes = a.front; names = b.front; numbers = c.front; requests = d.front; homes = d.back }
+    let e = none_of_both (is_due set) (at_resources set (λ q. refusal.Home (record { 0 = q }))) _ d.back in
+    record { sizes = a.front; names = b.front; numbers = c.front; requests = d.front; homes = e.front; jitters = e.back }
 
 pub not_at_task : (set : SetDef) (f : ℕ → ModelRefusal) (x : ℕ) → x < length set.tasks
     → find (is_due set) (at_tasks set f) ≡ None → is_due set (f x) ≡ false
@@ -62,6 +64,10 @@ between least most n h = record { from = grind (arith, nat_tests); to = grind (a
 pub length_between : (n most : ℕ) → not (nat_lt 0 n && nat_lt n most) ≡ false → (1 ≤ n) × (n < most)
 length_between n most h = (grind (arith, nat_tests), grind (arith, nat_tests))
 
+-- Where the cost is within the deadline, a jitter that isn't above what is left fits beside it.
+pub jitter_fits : (deadline cost jitter : ℕ) → cost ≤ deadline → nat_lt (deadline - cost) jitter ≡ false → cost + jitter ≤ deadline
+jitter_fits deadline cost jitter h none = grind (arith, nat_tests)
+
 -- The numbers of each task are in their ranges.
 pub numbers_of_free : (set : SetDef) (x : ℕ) → first_refusal set ≡ None → x < length set.tasks → TaskNumbers set x
 unfolding is_due
@@ -79,6 +85,7 @@ numbers_of_free set x h i =
     let cost = between 1 (task_at set x).deadline (task_at set x).cost
     (not_at_task set (λ y. refusal.Cost (record { 0 = y })) x i d.front) in
     let local = between 1 (task_at set x).cost (task_at set x).local (not_at_task set (λ y. refusal.Local (record { 0 = y })) x i d.back) in
+    let late = not_at_task set (λ y. refusal.Jitter (record { 0 = y })) x i (none_due set h).jitters in
     record {
       processor_from = processor.from;
       processor_to = processor.to;
@@ -86,6 +93,7 @@ numbers_of_free set x h i =
       local_to = local.to;
       cost_from = cost.from;
       cost_to = cost.to;
+      jitter_to = jitter_fits (task_at set x).deadline (task_at set x).cost (task_at set x).jitter cost.to late;
       deadline_to = deadline.to;
       period_to = period.to;
     }

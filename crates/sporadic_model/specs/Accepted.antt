@@ -1,6 +1,6 @@
 -- Which task sets are accepted: each name, number, entry and home stands in its range. And what follows of the users of
 -- their resources.
-use Rattle.std.specs.Prelude.{◌≡◌, ◌≢◌, ℕ, ◌<◌, ◌≤◌, ◌^◌, length, Some, IsTrue, ◌⊎◌}
+use Rattle.std.specs.Prelude.{◌≡◌, ◌≢◌, ℕ, ◌+◌, ◌<◌, ◌≤◌, ◌^◌, length, Some, IsTrue, ◌⊎◌}
 use Rattle.sporadic_model.specs.SetDef.{SetDef, RequestDef, task_at, resource_at, request_at, request_count}
 use Rattle.sporadic_model.specs.Names.{is_name}
 use Rattle.sporadic_model.specs.Users.{count_of}
@@ -17,7 +17,8 @@ pub record SetSizes (set : SetDef) : Type 0 where
   pub requests_to : request_count set ≤ MOST_REQUESTS
 
 -- The numbers of task x are in their ranges: it runs on a processor of the set, and its local limit,
--- cost, deadline and period stand in this order, from 1 tick to 10^9.
+-- cost, deadline and period stand in this order, from 1 tick to 10^9. A job that is released as late as
+-- the jitter lets it be has time for its cost before its deadline.
 pub record TaskNumbers (set : SetDef) (x : ℕ) : Type 0 where
   pub processor_from : 1 ≤ (task_at set x).processor
   pub processor_to : (task_at set x).processor ≤ set.processors
@@ -25,6 +26,7 @@ pub record TaskNumbers (set : SetDef) (x : ℕ) : Type 0 where
   pub local_to : (task_at set x).local ≤ (task_at set x).cost
   pub cost_from : 1 ≤ (task_at set x).cost
   pub cost_to : (task_at set x).cost ≤ (task_at set x).deadline
+  pub jitter_to : (task_at set x).cost + (task_at set x).jitter ≤ (task_at set x).deadline
   pub deadline_to : (task_at set x).deadline ≤ (task_at set x).period
   pub period_to : (task_at set x).period ≤ MOST_TICKS
 

@@ -23,6 +23,7 @@ task_refusal at_task.Period x = refusal.Period (record { 0 = x })
 task_refusal at_task.Deadline x = refusal.Deadline (record { 0 = x })
 task_refusal at_task.Cost x = refusal.Cost (record { 0 = x })
 task_refusal at_task.Local x = refusal.Local (record { 0 = x })
+task_refusal at_task.Jitter x = refusal.Jitter (record { 0 = x })
 
 abbrev pub request_refusal : RequestFault → ℕ → ℕ → ModelRefusal
 request_refusal at_request.Resource x j = refusal.Resource (place.Request x j)

@@ -1,5 +1,5 @@
 -- When is each refusal due, and in which order are they tried?
-use Rattle.std.specs.Prelude.{◌≡◌, ℕ, ◌==◌, ◌&&◌, not, Bool, false, nat_lt, List, [], ◌∷◌, ◌++◌, length, map, take}
+use Rattle.std.specs.Prelude.{◌≡◌, ℕ, ◌-◌, ◌==◌, ◌&&◌, not, Bool, false, nat_lt, List, [], ◌∷◌, ◌++◌, length, map, take}
 use Rattle.std.specs.Prelude.{Option, Some, Result, Ok, Err, find}
 use Rattle.std.specs.List.{flat_map, list_any}
 use Rattle.std.specs.Option.{option_map_or}
@@ -51,6 +51,7 @@ is_due set (refusal.Count (place.Request x j)) = not (is_in_range 1 MOST_COUNT (
 is_due set (refusal.Length (place.Request x j)) =
     not (nat_lt 0 (request_at set x j).length && nat_lt (request_at set x j).length (task_at set x).cost)
 is_due set (refusal.Home q) = option_map_or (λ k. not (is_in_range 1 set.processors k)) (resource_at set q.0).home false
+is_due set (refusal.Jitter x) = nat_lt ((task_at set x.0).deadline - (task_at set x.0).cost) (task_at set x.0).jitter
 is_due set _ = false
 
 -- One refusal at each resource, at each task, and at each request entry, task by task.
@@ -96,7 +97,8 @@ refusals_in_order set =
     ++ (name_refusals set
     ++ (number_refusals set
     ++ (request_refusals set
-    ++ at_resources set (λ q. refusal.Home (record { 0 = q })))))
+    ++ (at_resources set (λ q. refusal.Home (record { 0 = q }))
+    ++ at_tasks set (λ x. refusal.Jitter (record { 0 = x }))))))
 
 -- The first refusal that is due.
 abbrev pub first_refusal : SetDef → Option ModelRefusal

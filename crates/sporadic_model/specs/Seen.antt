@@ -20,6 +20,7 @@ task_seen t = record {
   deadline = t.deadline;
   cost = t.cost;
   local = t.local;
+  jitter = t.jitter;
   requests = map request_seen t.requests.items;
 }
 

@@ -1,6 +1,6 @@
 -- A sporadic task set as mathematics sees it: plain numbers and lists, and a name as the list of its bytes.
 -- Tasks stand from the highest base priority to the lowest; positions count from 0, processors from 1.
-use Rattle.std.specs.Prelude.{ℕ, ◌+◌, ◌==◌, ◌&&◌, Bool, nat_lt, List, [], Option, None, length, slice_index_or, sum_by}
+use Rattle.std.specs.Prelude.{ℕ, ◌+◌, ◌-◌, ◌==◌, ◌&&◌, Bool, nat_lt, List, [], Option, None, length, slice_index_or, sum_by}
 use Rattle.std.specs.Int.{div_ceil}
 
 -- An entry of a task: which resource it requests, how often a job may, and for how many ticks at most.
@@ -9,7 +9,7 @@ pub record RequestDef : Type 0 where
   pub count : ℕ
   pub length : ℕ
 
--- A task: its processor, its period, deadline, cost and local limit in ticks, and its request entries.
+-- A task: its processor, its period, deadline, cost, local limit and jitter in ticks, and its request entries.
 pub record TaskDef : Type 0 where
   pub name : List ℕ
   pub processor : ℕ
@@ -17,6 +17,7 @@ pub record TaskDef : Type 0 where
   pub deadline : ℕ
   pub cost : ℕ
   pub local : ℕ
+  pub jitter : ℕ
   pub requests : List RequestDef
 
 -- A resource: its name, and the processor at which its requests run where the protocol asks for one.
@@ -33,7 +34,7 @@ pub record SetDef : Type 0 where
 -- What a look-up past the end gives: a task of zeros, a resource without a name, an entry without a resource and
 -- without requests.
 abbrev pub no_task : TaskDef
-no_task = record { name = []; processor = 0; period = 0; deadline = 0; cost = 0; local = 0; requests = [] }
+no_task = record { name = []; processor = 0; period = 0; deadline = 0; cost = 0; local = 0; jitter = 0; requests = [] }
 
 abbrev pub no_resource : ResourceDef
 no_resource = record { name = []; home = None }
@@ -56,6 +57,11 @@ request_at set x j = slice_index_or (task_at set x).requests j no_request
 -- How many request entries do the tasks have in all?
 abbrev pub request_count : SetDef → ℕ
 request_count set = sum_by (λ t. length t.requests) set.tasks
+
+-- The greatest response time with which each job of the task meets its deadline. The deadline counts from a job's
+-- arrival and the response time from its release, which comes at most the jitter later.
+abbrev pub latest_bound : TaskDef → ℕ
+latest_bound t = t.deadline - t.jitter
 
 -- Is task h of higher base priority than task i, and on i's processor?
 abbrev pub is_higher_local : SetDef → ℕ → ℕ → Bool

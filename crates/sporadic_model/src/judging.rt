@@ -37,6 +37,7 @@ pub(crate) enum TaskFault {
     Deadline,
     Cost,
     Local,
+    Jitter,
 }
 
 /// A fault of a request entry.
@@ -71,6 +72,7 @@ fn refusal_of_task(fault: TaskFault, x: u32) -> ModelRefusal
         TaskFault::Deadline => ModelRefusal::Deadline(TaskId(x)),
         TaskFault::Cost => ModelRefusal::Cost(TaskId(x)),
         TaskFault::Local => ModelRefusal::Local(TaskId(x)),
+        TaskFault::Jitter => ModelRefusal::Jitter(TaskId(x)),
     }
 }
 
@@ -127,6 +129,7 @@ fn is_due_at_task(parts: &Parts, fault: TaskFault, x: usize) -> bool
         TaskFault::Deadline => !is_within(1, task.period, task.deadline),
         TaskFault::Cost => !is_within(1, task.deadline, task.cost),
         TaskFault::Local => !is_within(1, task.cost, task.local),
+        TaskFault::Jitter => task.jitter > task.deadline.saturating_sub(task.cost),
     }
 }
 
@@ -288,4 +291,5 @@ pub(crate) fn first_refusal(parts: &Parts) -> Option<ModelRefusal>
         .or_else(|| first_of_numbers(parts))
         .or_else(|| first_of_requests(parts))
         .or_else(|| first_at_resources(parts, ResourceFault::Home))
+        .or_else(|| first_at_tasks(parts, TaskFault::Jitter))
 }

@@ -21,5 +21,5 @@ pub use limits::{
 };
 pub use parts::{Parts, RequestPart, ResourcePart, TaskPart};
 pub use refusal::{ModelRefusal, Place, SizeOf};
-pub use set_laws::{limits_are_fixed, refusals_are_exact};
+pub use set_laws::{latest_bounds_meet_deadlines, limits_are_fixed, refusals_are_exact};
 pub use task_set::TaskSet;

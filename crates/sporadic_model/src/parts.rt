@@ -22,14 +22,17 @@ pub struct TaskPart {
     pub name: String,
     /// The processor that its jobs run on, counted from 1.
     pub processor: u64,
-    /// The least time between the releases of two jobs.
+    /// The least time between the arrivals of two jobs.
     pub period: u64,
-    /// The greatest time from the release of a job to its end, at most the period.
+    /// The greatest time from the arrival of a job to its end, at most the period.
     pub deadline: u64,
     /// The greatest number of ticks that one job executes, at most the deadline.
     pub cost: u64,
     /// The greatest number of ticks that one job executes outside its requests, at most the cost.
     pub local: u64,
+    /// The greatest time from the arrival of a job to its release, at most the deadline less the cost:
+    /// the release jitter of Audsley et al. (1993). 0 where each job is released as it arrives.
+    pub jitter: u64,
     pub requests: Vec<RequestPart>,
 }
 

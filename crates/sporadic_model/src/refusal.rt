@@ -74,6 +74,9 @@ pub enum ModelRefusal {
     /// The home is given, and is 0 or above the number of processors.
     #[error("a home is not of the set")]
     Home(ResourceId),
+    /// The jitter is above the deadline less the cost.
+    #[error("a jitter is not at most the deadline less the cost")]
+    Jitter(TaskId),
     /// Memory was refused.
     #[error("out of memory")]
     Memory,

@@ -1,7 +1,7 @@
 //! Laws of task sets. Each function here does nothing: what it ensures holds for all sets.
 
-ghost use Rattle.std.specs.Prelude.{◌≡◌, ◌↔◌, None};
-ghost use Rattle.sporadic_model.specs.SetDef.{SetDef};
+ghost use Rattle.std.specs.Prelude.{◌≡◌, ◌↔◌, ℕ, ◌+◌, ◌<◌, ◌≤◌, length, None};
+ghost use Rattle.sporadic_model.specs.SetDef.{SetDef, task_at, latest_bound};
 ghost use Rattle.sporadic_model.specs.Refusals.{first_refusal};
 ghost use Rattle.sporadic_model.specs.Accepted.{IsAccepted};
 
@@ -12,6 +12,13 @@ use crate::limits::{
 /// No refusal of a task set is due exactly where all of it stands in its range.
 pub fn refusals_are_exact()
     ensures { (set : SetDef) → (first_refusal set ≡ None) ↔ IsAccepted set }
+{}
+
+/// A response-time bound of an accepted set's task is at most the latest one exactly where bound and
+/// jitter together are at most the deadline.
+pub fn latest_bounds_meet_deadlines()
+    ensures { (set : SetDef) (x bound : ℕ) → IsAccepted set → x < length set.tasks
+        → (bound ≤ latest_bound (task_at set x)) ↔ (bound + (task_at set x).jitter ≤ (task_at set x).deadline) }
 {}
 
 /// The limits that accepted sets keep, as numbers.

@@ -1,5 +1,5 @@
-ghost use Rattle.std.specs.Prelude.{◌≡◌, ℕ, ◌<◌, ◌≤◌, length, IfOk, IfErr, IfSome, IfNone, IsTrue, option_map, find};
-ghost use Rattle.sporadic_model.specs.SetDef.{task_at, resource_at, is_higher_local};
+ghost use Rattle.std.specs.Prelude.{◌≡◌, ℕ, ◌+◌, ◌<◌, ◌≤◌, length, IfOk, IfErr, IfSome, IfNone, IsTrue, option_map, find};
+ghost use Rattle.sporadic_model.specs.SetDef.{task_at, resource_at, is_higher_local, latest_bound};
 ghost use Rattle.sporadic_model.specs.Users.{numbers, entry_of, count_of, length_of, is_remote_user, ceiling_of};
 ghost use Rattle.sporadic_model.specs.Users.{remote_ceiling_of, task_with_name, resource_with_name};
 ghost use Rattle.sporadic_model.specs.Seen.{parts_seen, task_seen, resource_seen, request_seen};
@@ -149,7 +149,7 @@ impl TaskSet {
         self.task(x).processor as u32
     }
 
-    /// The least number of ticks between the releases of two of the task's jobs.
+    /// The least number of ticks between the arrivals of two of the task's jobs.
     pub fn period(&self, x: TaskId) -> u64
         requires { x.0 < length self.now.tasks }
         ensures value { result ≡ (task_at self.now x.0).period }
@@ -159,7 +159,7 @@ impl TaskSet {
         self.task(x).period
     }
 
-    /// The greatest number of ticks from a job's release to its end, at most the period.
+    /// The greatest number of ticks from a job's arrival to its end, at most the period.
     pub fn deadline(&self, x: TaskId) -> u64
         requires { x.0 < length self.now.tasks }
         ensures value { result ≡ (task_at self.now x.0).deadline }
@@ -190,6 +190,30 @@ impl TaskSet {
         ensures ticks { result ≤ MOST_TICKS }
     {
         self.task(x).local
+    }
+
+    /// The greatest number of ticks from a job's arrival to its release, at most the deadline less the
+    /// cost.
+    pub fn jitter(&self, x: TaskId) -> u64
+        requires { x.0 < length self.now.tasks }
+        ensures value { result ≡ (task_at self.now x.0).jitter }
+        ensures most { (task_at self.now x.0).cost + result ≤ (task_at self.now x.0).deadline }
+        ensures ticks { result ≤ MOST_TICKS }
+    {
+        self.task(x).jitter
+    }
+
+    /// The greatest number of ticks from a job's release to its end with which each job meets its
+    /// deadline: the deadline less the jitter, at least the cost. A response-time bound counts from the
+    /// release, so this is what it is held against.
+    pub fn latest_bound(&self, x: TaskId) -> u64
+        requires { x.0 < length self.now.tasks }
+        ensures value { result ≡ latest_bound (task_at self.now x.0) }
+        ensures least { (task_at self.now x.0).cost ≤ result }
+        ensures most { result + (task_at self.now x.0).jitter ≤ MOST_TICKS }
+        ensures ticks { result ≤ MOST_TICKS }
+    {
+        self.task(x).deadline - self.task(x).jitter
     }
 
     /// What the task may ask of the resource.

@@ -191,6 +191,7 @@ record IsTask (t : TaskDef) : Type 0 where
   processor_to : t.processor ≤ 4
   local_is : t.local ≡ t.cost
   deadline_is : t.deadline ≡ t.period
+  jitter_is : t.jitter ≡ 0
   cost_from : 250 ≤ t.cost
   cost_to : t.cost ≤ t.period
   period_to : t.period ≤ 1000000
@@ -237,6 +238,7 @@ task_is step j s from to here =
       processor_to = omega (arith, place);
       local_is = refl;
       deadline_is = refl;
+      jitter_is = refl;
       cost_from = cost.0;
       cost_to = cost.1;
       period_to = p.to;
@@ -380,6 +382,7 @@ keeps step s from to =
             local_to = omega (arith, t.local_is);
             cost_from = omega (arith, t.cost_from);
             cost_to = omega (arith, t.cost_to, t.deadline_is);
+            jitter_to = omega (arith, t.cost_to, t.deadline_is, t.jitter_is);
             deadline_to = omega (arith, t.deadline_is);
             period_to = omega (arith, t.period_to, known_limits.4);
           };

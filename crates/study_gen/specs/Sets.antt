@@ -51,6 +51,7 @@ task_drawn step j s = record {
   deadline = period_at s;
   cost = cost_at step s;
   local = cost_at step s;
+  jitter = 0;
   requests = entries_at (next_state (next_state s));
 }
 

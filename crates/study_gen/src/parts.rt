@@ -107,6 +107,7 @@ fn draw_task(
         deadline: period,
         cost,
         local: cost,
+        jitter: 0,
         requests: draw_entries(alloc, generator)?,
     })
 }

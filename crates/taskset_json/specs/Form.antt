@@ -43,6 +43,7 @@ task_form =
     ∷ must (codes "cost") kind.Whole
     ∷ may (codes "deadline") kind.Whole
     ∷ may (codes "local") kind.Whole
+    ∷ may (codes "jitter") kind.Whole
     ∷ may (codes "requests") kind.List
     ∷ []
 

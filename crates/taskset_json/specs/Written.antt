@@ -1,6 +1,6 @@
 -- The task set that a value of the form writes. An absent deadline is the period, an absent local limit
--- the cost; absent requests and resources are none. A number that the form asks for is there, so the 0
--- that would stand for it is not used.
+-- the cost, an absent jitter 0; absent requests and resources are none. A number that the form asks for is
+-- there, so the 0 that would stand for it is not used.
 use Rattle.std.specs.Prelude.{ℕ, map, codes}
 use Rattle.serde_json.specs.Data.{Data}
 use Rattle.sporadic_model.specs.SetDef.{RequestDef, TaskDef, ResourceDef, SetDef}
@@ -27,6 +27,7 @@ task_written d =
       deadline = whole_or period (codes "deadline") d;
       cost = cost;
       local = whole_or cost (codes "local") d;
+      jitter = whole_or 0 (codes "jitter") d;
       requests = map request_written (list_at (codes "requests") d);
     }
 

@@ -150,6 +150,7 @@ pub(crate) fn is_task(value: &Value) -> bool
         must("cost", Kind::Whole),
         may("deadline", Kind::Whole),
         may("local", Kind::Whole),
+        may("jitter", Kind::Whole),
         may("requests", Kind::List),
     ];
     is_object_of(value, &form)

@@ -47,7 +47,7 @@ fn resources_of(alloc: Global, values: &[Value]) -> Result<Vec<ResourcePart>, Al
     Ok(resources)
 }
 
-/// An absent deadline is the period, and an absent local limit the cost.
+/// An absent deadline is the period, an absent local limit the cost, and an absent jitter 0.
 fn task_of(alloc: Global, value: &Value) -> Result<TaskPart, AllocError>
     ensures { IfOk result (λ t. task_seen t ≡ task_written (view value.now)) }
 {
@@ -60,6 +60,7 @@ fn task_of(alloc: Global, value: &Value) -> Result<TaskPart, AllocError>
         deadline: whole_or(value, "deadline", period),
         cost,
         local: whole_or(value, "local", cost),
+        jitter: whole_or(value, "jitter", 0),
         requests: requests_of(alloc, list_at(value, "requests"))?,
     })
 }

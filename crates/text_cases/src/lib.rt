@@ -2,6 +2,8 @@
 #![tactic(auto)]
 
 #[cfg(test)]
+mod arrival_tests;
+#[cfg(test)]
 mod certificate_tests;
 #[cfg(test)]
 mod schedule_tests;

@@ -20,7 +20,7 @@ fn reads_jobs_and_rows_and_writes_the_same_rows(rt: HostRuntime) -> Result<(), F
     let jobs = read_jobs(rt.alloc(), &set, PAIR_JOBS.as_bytes())?;
     assert!(rt; jobs.len() == 2);
     let job = jobs.job(JobId(1));
-    assert_eq!(rt; (job.task, job.release), (TaskId(1), 0));
+    assert_eq!(rt; (job.task, job.arrival, job.release), (TaskId(1), 0, 0));
     let first = Segment {
         local: 1,
         request: Some((ResourceId(0), 2)),

@@ -31,10 +31,10 @@ fn described_task(text: &mut String, set: &TaskSet, x: TaskId) -> Result<(), All
 {
     let name = set.task_name(x);
     let (processor, period, deadline) = (set.processor(x), set.period(x), set.deadline(x));
-    let (cost, local) = (set.cost(x), set.local(x));
+    let (cost, local, jitter) = (set.cost(x), set.local(x), set.jitter(x));
     writeln!(
         text,
-        "{name} on {processor}: {period} {deadline} {cost} {local}"
+        "{name} on {processor}: {period} {deadline} {cost} {local} {jitter}"
     )?;
     for q in 0..set.resources() {
         let q = ResourceId(q);
@@ -50,7 +50,7 @@ fn described_task(text: &mut String, set: &TaskSet, x: TaskId) -> Result<(), All
 fn reads_each_member(rt: HostRuntime) -> Result<(), Fail> {
     let text = r#"
         {"resources": [{"name": "q", "home": 2}, {"name": "r"}], "processors": 2, "tasks": [
-            {"name": "t1", "processor": 1, "period": 10, "deadline": 9, "cost": 5, "local": 3,
+            {"name": "t1", "processor": 1, "period": 10, "deadline": 9, "cost": 5, "local": 3, "jitter": 2,
              "requests": [{"resource": "r", "count": 2, "length": 1}, {"resource": "q", "count": 1, "length": 4}]},
             {"cost": 4, "period": 20, "processor": 2, "name": "t2"}]}
     "#;
@@ -59,7 +59,7 @@ fn reads_each_member(rt: HostRuntime) -> Result<(), Fail> {
         Ok(set) => {
             let described = described(rt.alloc(), &set)?;
             let lines =
-                "2 processors\nq at 2\nr\nt1 on 1: 10 9 5 3\n  q 1 4\n  r 2 1\nt2 on 2: 20 20 4 4\n";
+                "2 processors\nq at 2\nr\nt1 on 1: 10 9 5 3 2\n  q 1 4\n  r 2 1\nt2 on 2: 20 20 4 4 0\n";
             assert_eq!(rt; described.as_str(), lines);
         }
         Err(refusal) => assert_eq!(rt; Some(refusal), None),
@@ -74,7 +74,7 @@ fn reads_the_least_set(rt: HostRuntime) -> Result<(), Fail> {
     match read(rt.alloc(), text.as_bytes()) {
         Ok(set) => {
             let described = described(rt.alloc(), &set)?;
-            assert_eq!(rt; described.as_str(), "1 processors\nt on 1: 8 8 3 3\n");
+            assert_eq!(rt; described.as_str(), "1 processors\nt on 1: 8 8 3 3 0\n");
         }
         Err(refusal) => assert_eq!(rt; Some(refusal), None),
     }
@@ -166,7 +166,7 @@ fn reads_127_open_levels(rt: HostRuntime) -> Result<(), Fail> {
 }
 
 // A text, and the first object in it that does not have its form.
-const MISSHAPEN: [(&str, Place); 21] = [
+const MISSHAPEN: [(&str, Place); 23] = [
     ("[]", Place::Root),
     ("{}", Place::Root),
     (r#"{"processors":1,"tasks":[],"prio":1}"#, Place::Root),
@@ -215,6 +215,14 @@ const MISSHAPEN: [(&str, Place); 21] = [
         Place::Task(0),
     ),
     (
+        r#"{"processors":1,"tasks":[{"name":"a","processor":1,"period":9,"cost":1,"jitter":null}]}"#,
+        Place::Task(0),
+    ),
+    (
+        r#"{"processors":1,"tasks":[{"name":"a","processor":1,"period":9,"cost":1,"jitter":-1}]}"#,
+        Place::Task(0),
+    ),
+    (
         r#"{"processors":1,"tasks":[{"name":"a","processor":1,"period":9,"cost":1,"requests":[{"resource":"q","count":1,"length":1,"home":1}]},{}]}"#,
         Place::Request(0, 0),
     ),
@@ -253,6 +261,22 @@ fn judges_the_parts_of_the_form(rt: HostRuntime) -> Result<(), Fail> {
             refusal,
             Some(SetRefusal::Model(ModelRefusal::NoTask)),
             "at {text}"
+        );
+    }
+    Ok(())
+}
+
+#[test]
+fn takes_a_jitter_up_to_the_deadline_less_the_cost(rt: HostRuntime) -> Result<(), Fail> {
+    let above = SetRefusal::Model(ModelRefusal::Jitter(TaskId(0)));
+    for (jitter, refusal) in [(0, None), (7, None), (8, Some(above))] {
+        let text = format!(in rt.alloc();
+            r#"{{"processors":1,"tasks":[{{"name":"t","processor":1,"period":12,"deadline":10,"cost":3,"jitter":{jitter}}}]}}"#
+        )?;
+        assert_eq!(rt;
+            refusal_of(rt.alloc(), text.as_bytes()),
+            refusal,
+            "at {jitter}"
         );
     }
     Ok(())

@@ -1,11 +1,13 @@
 -- Worked examples of the definitions.
-use Rattle.std.proofs.Common.{◌≡◌, true, [], ◌∷◌, None, Some, refl}
+use Rattle.std.proofs.Common.{◌≡◌, true, false, [], ◌∷◌, None, Some, refl}
 use Rattle.std.specs.Prelude.{codes}
 use Rattle.csv.specs.Machine.{next_record}
 use Rattle.csv.specs.Reading.{records_from, strip_bom}
 use Rattle.text_pieces.specs.Numbers.{number_in, number_between}
 use Rattle.trace_csv.specs.Records.{records_in}
 use Rattle.trace_csv.specs.Scripts.{script_in}
+use Rattle.trace_csv.specs.JobLines.{completed}
+use Rattle.trace_csv.specs.JobsFile.{jobs_header, arrivals_header, job_lines}
 use Rattle.trace_csv.specs.RowLines.{is_cell, job_in}
 
 -- Numbers have no sign and no leading zero, and none is the empty text.
@@ -42,6 +44,18 @@ two_spaces = refl
 
 no_token : script_in [] ≡ None
 no_token = refl
+
+-- Under the header without arrivals a job arrives as it is released, and no line has four fields.
+released_as_it_arrives : job_lines (jobs_header ∷ (codes "t1" ∷ codes "4" ∷ codes "2" ∷ []) ∷ [])
+    ≡ (codes "t1" ∷ codes "4" ∷ codes "4" ∷ codes "2" ∷ []) ∷ []
+released_as_it_arrives = refl
+
+released_late : job_lines (arrivals_header ∷ (codes "t1" ∷ codes "0" ∷ codes "4" ∷ codes "2" ∷ []) ∷ [])
+    ≡ (codes "t1" ∷ codes "0" ∷ codes "4" ∷ codes "2" ∷ []) ∷ []
+released_late = refl
+
+one_field_too_many : completed false (codes "t1" ∷ codes "0" ∷ codes "4" ∷ codes "2" ∷ []) ≡ []
+one_field_too_many = refl
 
 -- Jobs are numbered from 1. A number past the last job is a cell all the same.
 last_job : job_in 2 (codes "2") ≡ Some 1

@@ -1,11 +1,15 @@
 -- One more line of a file of jobs.
-use Rattle.std.proofs.Common.{◌≡◌, ◌<◌, ◌+◌, ℕ, List, [], ◌∷◌, length, take, sym, ap, ◌∙◌}
+use Rattle.std.proofs.Common.{◌≡◌, ◌<◌, ◌+◌, ℕ, List, [], ◌∷◌, length, take, None, Some, Err, sym, ap, ◌∙◌}
 use Rattle.std.proofs.lemmas.List.{map-append, take_more}
 use Rattle.sporadic_model.specs.SetDef.{SetDef}
 use Rattle.schedule_model.specs.JobDef.{JobsDef}
 use Rattle.schedule_model.specs.JobLists.{with_job}
 use Rattle.trace_csv.specs.Records.{Fields, line_at}
+use Rattle.trace_csv.specs.declared.refusal.JobsRefusal.{JobsRefusal}
+use Rattle.trace_csv.specs.declared.refusal.JobsRefusal.TheVariants as refusal
 use Rattle.trace_csv.specs.JobLines.{job_written, jobs_written, line_refusal, refusal_at}
+use Rattle.trace_csv.specs.JobAnswers.{LineTaken}
+use Rattle.trace_csv.specs.JobsFile.{IsFirstRefused, LinesRead}
 
 -- Why a line is refused, where the jobs before it are those in the list.
 pub refused_here : (set : SetDef) (lines : List Fields) (i : ℕ) (line : Fields) (before : JobsDef)
@@ -22,3 +26,33 @@ pub taken_here : (set : SetDef) (lines : List Fields) (i : ℕ) (line : Fields) 
 taken_here set lines i line before after h at list added =
     rw (take_more lines i [] h, at, map-append (job_written set) (take i lines) (line ∷ []))
     (added ∙ ap (λ (b : JobsDef). with_job b (job_written b.set line)) list)
+
+-- A line that is refused after those before it, none of which is, is the first that is refused.
+first_refused : (set : SetDef) (lines : List Fields) (i : ℕ) (line : Fields) (before : JobsDef) (r : JobsRefusal)
+    → i < length lines → line_at lines i ≡ line → before ≡ jobs_written set (take i lines)
+    → ((j : ℕ) → j < i → refusal_at set lines j ≡ None) → line_refusal before line (i + 1) ≡ Some r
+    → (k : ℕ) × IsFirstRefused set lines k r
+first_refused set lines i line before r within at list earlier refused =
+    (i, record { within = within; earlier = earlier; here = refused_here set lines i line before at list ∙ refused })
+
+pub lines_refused : (set : SetDef) (lines : List Fields) (i : ℕ) (line : Fields) (before after : JobsDef) (r : JobsRefusal)
+    → i < length lines → line_at lines i ≡ line → before ≡ jobs_written set (take i lines)
+    → ((j : ℕ) → j < i → refusal_at set lines j ≡ None) → LineTaken {T = Unit {0}} (Err r) before after line (i + 1)
+    → LinesRead (Err r) set lines
+lines_refused set lines i line before after (refusal.Fields k) within at list earlier taken =
+    first_refused set lines i line before (refusal.Fields k) within at list earlier taken
+lines_refused set lines i line before after (refusal.Number k) within at list earlier taken =
+    first_refused set lines i line before (refusal.Number k) within at list earlier taken
+lines_refused set lines i line before after (refusal.UnknownName k) within at list earlier taken =
+    first_refused set lines i line before (refusal.UnknownName k) within at list earlier taken
+lines_refused set lines i line before after (refusal.Script k) within at list earlier taken =
+    first_refused set lines i line before (refusal.Script k) within at list earlier taken
+lines_refused set lines i line before after (refusal.OverBudget k) within at list earlier taken =
+    first_refused set lines i line before (refusal.OverBudget k) within at list earlier taken
+lines_refused set lines i line before after (refusal.TooClose k) within at list earlier taken =
+    first_refused set lines i line before (refusal.TooClose k) within at list earlier taken
+lines_refused set lines i line before after (refusal.TooMany k) within at list earlier taken =
+    first_refused set lines i line before (refusal.TooMany k) within at list earlier taken
+lines_refused set lines i line before after (refusal.Late k) within at list earlier taken =
+    first_refused set lines i line before (refusal.Late k) within at list earlier taken
+lines_refused set lines i line before after refusal.Memory within at list earlier taken = tt

@@ -12,3 +12,10 @@ module _ {A : Type 0} where
   made_at f [] i x d h e = absurd (omega arith)
   made_at f (y ∷ xs) zero x d h e = ap f (sym e)
   made_at f (y ∷ xs) (suc i) x d h e = made_at f xs i x d (omega arith) e
+
+  -- And what is made of that.
+  pub made_twice : {B C : Type 0} (g : B → C) (f : A → B) (xs : List A) (i : ℕ) (x : A) (d : C) → i < length xs → x ≡ get_or xs i x
+      → get_or (map g (map f xs)) i d ≡ g (f x)
+  made_twice g f [] i x d h e = absurd (omega arith)
+  made_twice g f (y ∷ xs) zero x d h e = ap (λ z. g (f z)) (sym e)
+  made_twice g f (y ∷ xs) (suc i) x d h e = made_twice g f xs i x d (omega arith) e

@@ -47,12 +47,12 @@ pub record IsOfSet (set : SetDef) (job : JobDef) : Type 0 where
   pub resources : are_resources_in (length set.resources) job.script ≡ true
 
 -- The job that the line writes, or why it is refused for its form and names.
-abbrev pub FieldsRead : Result Job JobsRefusal → SetDef → List ℕ → List ℕ → List ℕ → ℕ → Type 0
-FieldsRead (Ok job) set name release script k =
-    (fields_refusal set name release script k ≡ None) × (job_seen job ≡ job_of_fields set name release script)
+abbrev pub FieldsRead : Result Job JobsRefusal → SetDef → List ℕ → List ℕ → List ℕ → List ℕ → ℕ → Type 0
+FieldsRead (Ok job) set name arrival release script k =
+    (fields_refusal set name arrival release script k ≡ None) × (job_seen job ≡ job_of_fields set name arrival release script)
     × IsOfSet set (job_seen job)
-FieldsRead (Err refusal.Memory) set name release script k = Unit {0}
-FieldsRead (Err r) set name release script k = fields_refusal set name release script k ≡ Some r
+FieldsRead (Err refusal.Memory) set name arrival release script k = Unit {0}
+FieldsRead (Err r) set name arrival release script k = fields_refusal set name arrival release script k ≡ Some r
 
 abbrev pub LineRead : Result Job JobsRefusal → SetDef → Fields → ℕ → Type 0
 LineRead (Ok job) set line k = (form_refusal set line k ≡ None) × (job_seen job ≡ job_written set line) × IsOfSet set (job_seen job)

@@ -1,5 +1,5 @@
 -- Lines of a file of jobs: the job that a line writes, and when the line is refused.
-use Rattle.std.specs.Prelude.{ℕ, ◌+◌, not, Bool, true, List, [], ◌∷◌, map, take, Option, None, Some, option_map}
+use Rattle.std.specs.Prelude.{ℕ, ◌+◌, not, Bool, true, false, List, [], ◌∷◌, map, take, Option, None, Some, option_map}
 use Rattle.std.specs.Prelude.{is_some, is_none, unwrap_or, if◌then◌else◌}
 use Rattle.std.specs.Option.{option_or, option_map_or}
 use Rattle.std.specs.List.{list_all}
@@ -16,9 +16,17 @@ use Rattle.text_pieces.specs.Numbers.{number_between}
 use Rattle.trace_csv.specs.Records.{Fields, line_at}
 use Rattle.trace_csv.specs.Scripts.{NamedRequest, PartDef, script_in}
 
--- The release that a field writes: a number from 0 to 10^9.
-abbrev pub release_in : List ℕ → Option ℕ
-release_in field = number_between 0 MOST_TICKS field
+-- A line of the form that lines have under the header with arrivals: the name of a task, an arrival, a release and a
+-- script. Under the header without them a line has three fields, and the arrival is the release; a line of another
+-- number of fields there has no field here, so that it has not four.
+abbrev pub completed : Bool → Fields → Fields
+completed true line = line
+completed false (name ∷ release ∷ script ∷ []) = name ∷ release ∷ release ∷ script ∷ []
+completed false _ = []
+
+-- The tick that a field writes, as an arrival or a release: a number from 0 to 10^9.
+abbrev pub tick_in : List ℕ → Option ℕ
+tick_in field = number_between 0 MOST_TICKS field
 
 -- The segment that a part of a script writes, where its resource is one of the set's.
 abbrev pub resource_written : SetDef → NamedRequest → ℕ
@@ -31,29 +39,31 @@ segment_written set part = record { local = part.local; request = option_map (λ
 abbrev pub has_known_resource : SetDef → PartDef → Bool
 has_known_resource set part = option_map_or (λ r. is_some (resource_with_name set r.resource)) part.request true
 
--- The job that a line writes: the name of its task, its release and its script.
-abbrev pub job_of_fields : SetDef → List ℕ → List ℕ → List ℕ → JobDef
-job_of_fields set name release script = record {
+-- The job that a line writes: the name of its task, its arrival, its release and its script.
+abbrev pub job_of_fields : SetDef → List ℕ → List ℕ → List ℕ → List ℕ → JobDef
+job_of_fields set name arrival release script = record {
   task = unwrap_or (task_with_name set name) 0;
-  release = unwrap_or (release_in release) 0;
+  arrival = unwrap_or (tick_in arrival) 0;
+  release = unwrap_or (tick_in release) 0;
   script = map (segment_written set) (unwrap_or (script_in script) []);
 }
 
 abbrev pub job_written : SetDef → Fields → JobDef
-job_written set (name ∷ release ∷ script ∷ []) = job_of_fields set name release script
+job_written set (name ∷ arrival ∷ release ∷ script ∷ []) = job_of_fields set name arrival release script
 job_written set _ = no_job
 
 -- Why line number k is refused for its form and its names, if it is. The reasons are tried in this order.
-abbrev pub fields_refusal : SetDef → List ℕ → List ℕ → List ℕ → ℕ → Option JobsRefusal
-fields_refusal set name release script k =
-    if is_none (release_in release) then Some (refusal.Number k)
+abbrev pub fields_refusal : SetDef → List ℕ → List ℕ → List ℕ → List ℕ → ℕ → Option JobsRefusal
+fields_refusal set name arrival release script k =
+    if is_none (tick_in arrival) then Some (refusal.Number k)
+    else if is_none (tick_in release) then Some (refusal.Number k)
     else if is_none (task_with_name set name) then Some (refusal.UnknownName k)
     else if is_none (script_in script) then Some (refusal.Script k)
     else if not (list_all (has_known_resource set) (unwrap_or (script_in script) [])) then Some (refusal.UnknownName k)
     else None
 
 abbrev pub form_refusal : SetDef → Fields → ℕ → Option JobsRefusal
-form_refusal set (name ∷ release ∷ script ∷ []) k = fields_refusal set name release script k
+form_refusal set (name ∷ arrival ∷ release ∷ script ∷ []) k = fields_refusal set name arrival release script k
 form_refusal set _ k = Some (refusal.Fields k)
 
 -- What a refusal by the list of jobs is for the line of this number.
@@ -62,6 +72,7 @@ at_line k push.Script = refusal.Script k
 at_line k push.OverBudget = refusal.OverBudget k
 at_line k push.TooClose = refusal.TooClose k
 at_line k push.TooMany = refusal.TooMany k
+at_line k push.Late = refusal.Late k
 at_line k push.Memory = refusal.Memory
 
 -- Why a line is refused after the jobs that are listed, if it is: for its form and names, or else as the list

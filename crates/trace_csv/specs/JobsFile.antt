@@ -1,24 +1,35 @@
 -- Files of jobs in CSV, and what the answer of reading one says.
-use Rattle.std.specs.Prelude.{◌≡◌, ℕ, ◌<◌, ◌⊎◌, codes, List, [], ◌∷◌, length, drop, slice_get, None, Some, Result, Ok, Err}
+use Rattle.std.specs.Prelude.{◌≡◌, ℕ, ◌<◌, ◌==◌, ◌⊎◌, Bool, codes, List, [], ◌∷◌, length, map, drop, slice_get, None, Some, Result, Ok, Err}
 use Rattle.sporadic_model.specs.SetDef.{SetDef}
 use Rattle.schedule_model.specs.JobDef.{JobsDef}
 use Rattle.trace_csv.specs.declared.refusal.JobsRefusal.{JobsRefusal}
 use Rattle.trace_csv.specs.declared.refusal.JobsRefusal.TheVariants as refusal
-use Rattle.trace_csv.specs.Records.{Fields, records_in}
-use Rattle.trace_csv.specs.JobLines.{jobs_written, refusal_at}
+use Rattle.trace_csv.specs.Records.{Fields, line_at, records_in}
+use Rattle.trace_csv.specs.JobLines.{completed, jobs_written, refusal_at}
 
--- The header of a file of jobs.
+-- The header of a file of jobs that are released as they arrive, and the one of a file that names arrivals too.
 abbrev pub jobs_header : Fields
 jobs_header = codes "task" ∷ codes "release" ∷ codes "script" ∷ []
 
--- Do the records begin with the header?
-abbrev pub HasJobsHeader : List Fields → Type 0
-HasJobsHeader records = slice_get records 0 ≡ Some jobs_header
+abbrev pub arrivals_header : Fields
+arrivals_header = codes "task" ∷ codes "arrival" ∷ codes "release" ∷ codes "script" ∷ []
 
--- The records of a file of jobs: the header, and lines of which none is refused after those before it.
+-- Do the records begin with one of the two?
+abbrev pub HasJobsHeader : List Fields → Type 0
+HasJobsHeader records = (slice_get records 0 ≡ Some jobs_header) ⊎ (slice_get records 0 ≡ Some arrivals_header)
+
+-- Does the header, which is one of the two, name arrivals? It has four fields then, and else three.
+abbrev pub has_arrivals : List Fields → Bool
+has_arrivals records = length (line_at records 0) == 4
+
+-- The lines after the header, each with its four fields where it is well formed.
+abbrev pub job_lines : List Fields → List Fields
+job_lines records = map (completed (has_arrivals records)) (drop 1 records)
+
+-- The records of a file of jobs: a header, and lines of which none is refused after those before it.
 pub record AreJobsRecords (set : SetDef) (records : List Fields) : Type 0 where
   pub header : HasJobsHeader records
-  pub lines : (i : ℕ) → i < length (drop 1 records) → refusal_at set (drop 1 records) i ≡ None
+  pub lines : (i : ℕ) → i < length (job_lines records) → refusal_at set (job_lines records) i ≡ None
 
 -- Is the text a file of jobs?
 abbrev pub IsJobsFile : SetDef → List ℕ → Type 0
@@ -40,11 +51,11 @@ LinesRead (Err r) set lines = (i : ℕ) × IsFirstRefused set lines i r
 -- What the answer of reading says of the records: they are those of a file of jobs, and these are the jobs
 -- that they write; or the header is missing; or what is said of the lines.
 abbrev pub RecordsRead : Result JobsDef JobsRefusal → SetDef → List Fields → Type 0
-RecordsRead (Ok list) set records = AreJobsRecords set records × (list ≡ jobs_written set (drop 1 records))
+RecordsRead (Ok list) set records = AreJobsRecords set records × (list ≡ jobs_written set (job_lines records))
 RecordsRead (Err refusal.Memory) set records = Unit {0}
 RecordsRead (Err r) set records =
     ((r ≡ refusal.Fields 0) × (HasJobsHeader records → ⊥))
-    ⊎ (HasJobsHeader records × ((i : ℕ) × IsFirstRefused set (drop 1 records) i r))
+    ⊎ (HasJobsHeader records × ((i : ℕ) × IsFirstRefused set (job_lines records) i r))
 
 -- What it says of the text: the same of its records.
 abbrev pub JobsRead : Result JobsDef JobsRefusal → SetDef → List ℕ → Type 0

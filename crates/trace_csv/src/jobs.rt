@@ -1,8 +1,8 @@
-ghost use Rattle.std.specs.Prelude.{◌≡◌, ◌↔◌, map, IfOk, IsTrue};
+ghost use Rattle.std.specs.Prelude.{◌≡◌, ◌↔◌, false, map, IfOk, IsTrue};
 ghost use Rattle.csv.specs.Records.{fields_of};
 ghost use Rattle.trace_csv.specs.PartsSeen.{part_seen};
-ghost use Rattle.trace_csv.specs.JobLines.{at_line};
-ghost use Rattle.trace_csv.specs.JobsFile.{jobs_header, IsJobsFile, LinesRead, RecordsRead, JobsRead, IsUnrefused};
+ghost use Rattle.trace_csv.specs.JobLines.{at_line, completed};
+ghost use Rattle.trace_csv.specs.JobsFile.{jobs_header, arrivals_header, IsJobsFile, LinesRead, RecordsRead, JobsRead, IsUnrefused};
 ghost use Rattle.trace_csv.specs.JobAnswers.{SegmentOf, SegmentsRead, ScriptRead, FieldsRead, LineRead, LineTaken};
 
 use crate::header::are_same;
@@ -79,17 +79,21 @@ fn script_of(alloc: Global, set: &TaskSet, text: &[u8]) -> Result<Vec<Segment>, 
     }
 }
 
-/// The job that three fields write, or why their line, which has this number, is refused.
+/// The job that four fields write, or why their line, which has this number, is refused.
 fn job_of_fields(
     alloc: Global,
     set: &TaskSet,
     name: &[u8],
+    arrival: &[u8],
     release: &[u8],
     script: &[u8],
     line: u64,
 ) -> Result<Job, JobsRefusal>
-    ensures { FieldsRead result set.now name.now release.now script.now line }
+    ensures { FieldsRead result set.now name.now arrival.now release.now script.now line }
 {
+    let Some(arrival) = number_between(arrival, 0, MOST_TICKS) else {
+        return Err(JobsRefusal::Number(line));
+    };
     let Some(release) = number_between(release, 0, MOST_TICKS) else {
         return Err(JobsRefusal::Number(line));
     };
@@ -99,6 +103,7 @@ fn job_of_fields(
     match script_of(alloc, set, script) {
         Ok(script) => Ok(Job {
             task,
+            arrival,
             release,
             script,
         }),
@@ -108,14 +113,55 @@ fn job_of_fields(
     }
 }
 
-/// The job that a line writes, or why the line, which has this number, is refused for its form and names.
-fn job_of(alloc: Global, set: &TaskSet, row: &ByteRecord, line: u64) -> Result<Job, JobsRefusal>
-    ensures { LineRead result set.now (fields_of row.now) line }
+/// The job that the fields of a line with an arrival write, or why the line, which has this number, is
+/// refused for its form and names.
+fn job_with_arrival(
+    alloc: Global,
+    set: &TaskSet,
+    fields: &[&[u8]],
+    line: u64,
+) -> Result<Job, JobsRefusal>
+    ensures { LineRead result set.now (map (λ f. f.now) fields.now) line }
+{
+    match fields {
+        [name, arrival, release, script] => {
+            job_of_fields(alloc, set, name, arrival, release, script, line)
+        }
+        _ => Err(JobsRefusal::Fields(line)),
+    }
+}
+
+/// The same of a line without an arrival, whose job is released as it arrives.
+fn job_without_arrival(
+    alloc: Global,
+    set: &TaskSet,
+    fields: &[&[u8]],
+    line: u64,
+) -> Result<Job, JobsRefusal>
+    ensures { LineRead result set.now (completed false (map (λ f. f.now) fields.now)) line }
+{
+    match fields {
+        [name, release, script] => job_of_fields(alloc, set, name, release, release, script, line),
+        _ => Err(JobsRefusal::Fields(line)),
+    }
+}
+
+/// The job that a line, with an arrival or without one, writes, or why the line, which has this number, is
+/// refused for its form and names.
+fn job_of(
+    alloc: Global,
+    set: &TaskSet,
+    has_arrivals: bool,
+    row: &ByteRecord,
+    line: u64,
+) -> Result<Job, JobsRefusal>
+    ensures { LineRead result set.now (completed has_arrivals (fields_of row.now)) line }
 {
     let fields = fields_in(alloc, row)?;
-    match fields.as_slice() {
-        [name, release, script] => job_of_fields(alloc, set, name, release, script, line),
-        _ => Err(JobsRefusal::Fields(line)),
+    if has_arrivals {
+        job_with_arrival(alloc, set, &fields, line)
+    } else {
+        job_without_arrival(alloc, set, &fields, line)
     }
 }
 
@@ -128,6 +174,7 @@ fn refused_at(line: u64, refusal: JobRefusal) -> JobsRefusal
         JobRefusal::OverBudget => JobsRefusal::OverBudget(line),
         JobRefusal::TooClose => JobsRefusal::TooClose(line),
         JobRefusal::TooMany => JobsRefusal::TooMany(line),
+        JobRefusal::Late => JobsRefusal::Late(line),
         JobRefusal::Memory => JobsRefusal::Memory,
     }
 }
@@ -136,12 +183,13 @@ fn refused_at(line: u64, refusal: JobRefusal) -> JobsRefusal
 fn take_line(
     jobs: &mut JobList,
     alloc: Global,
+    has_arrivals: bool,
     row: &ByteRecord,
     line: u64,
 ) -> Result<(), JobsRefusal>
-    ensures { LineTaken result jobs.old jobs.new (fields_of row.now) line }
+    ensures { LineTaken result jobs.old jobs.new (completed has_arrivals (fields_of row.now)) line }
 {
-    let job = job_of(alloc, jobs.set(), row, line)?;
+    let job = job_of(alloc, jobs.set(), has_arrivals, row, line)?;
     match jobs.push(job) {
         Ok(()) => Ok(()),
         Err(refusal) => Err(refused_at(line, refusal)),
@@ -152,23 +200,36 @@ fn take_line(
 fn jobs_of<'a>(
     alloc: Global,
     set: &'a TaskSet,
+    has_arrivals: bool,
     lines: &[ByteRecord],
 ) -> Result<JobList<'a>, JobsRefusal>
-    ensures { LinesRead result set.now (map fields_of lines.now) }
+    ensures { LinesRead result set.now (map (completed has_arrivals) (map fields_of lines.now)) }
 {
     let mut jobs = JobList::new(alloc, set);
     for (i, row) in lines.iter().enumerate() {
-        take_line(&mut jobs, alloc, row, i as u64 + 1)?;
+        match take_line(&mut jobs, alloc, has_arrivals, row, i as u64 + 1) {
+            Ok(()) => {}
+            Err(refusal) => return Err(refusal),
+        }
     }
     Ok(jobs)
 }
 
-/// Is the record the header of a file of jobs?
+/// Is the record the header of a file of jobs without arrivals?
 fn is_jobs_header(alloc: Global, row: &ByteRecord) -> Result<bool, AllocError>
     ensures { IfOk result (λ same. IsTrue same ↔ (fields_of row.now ≡ jobs_header)) }
 {
     let fields = fields_in(alloc, row)?;
     let header: [&[u8]; 3] = [b"task", b"release", b"script"];
+    Ok(are_same(&fields, &header))
+}
+
+/// Is the record the header of a file of jobs with arrivals?
+fn is_arrivals_header(alloc: Global, row: &ByteRecord) -> Result<bool, AllocError>
+    ensures { IfOk result (λ same. IsTrue same ↔ (fields_of row.now ≡ arrivals_header)) }
+{
+    let fields = fields_in(alloc, row)?;
+    let header: [&[u8]; 4] = [b"task", b"arrival", b"release", b"script"];
     Ok(are_same(&fields, &header))
 }
 
@@ -183,17 +244,19 @@ fn jobs_under_header<'a>(
     let [header, lines @ ..] = rows else {
         return Err(JobsRefusal::Fields(0));
     };
-    if !is_jobs_header(alloc, header)? {
+    let has_arrivals = is_arrivals_header(alloc, header)?;
+    if !has_arrivals && !is_jobs_header(alloc, header)? {
         return Err(JobsRefusal::Fields(0));
     }
-    jobs_of(alloc, set, lines)
+    jobs_of(alloc, set, has_arrivals, lines)
 }
 
-/// Reads jobs of a task set from CSV: the header `task,release,script`, and then a line for each job, with
-/// the name of its task, its release and its script. A line is a record as `csv` gives it, so that blank
-/// lines are none. The answer is the list of the jobs exactly where the text is such a file whose jobs are
-/// taken, each after those before it, by [`JobList::push`]; else it names the first line that is refused
-/// and the first reason on it, in the order of [`JobsRefusal`].
+/// Reads jobs of a task set from CSV: the header `task,arrival,release,script`, and then a line for each job,
+/// with the name of its task, its arrival, its release and its script; or the header `task,release,script`
+/// and lines without the arrival, which is then the release. Both are in ticks, from 0 to 10^9. A line is a
+/// record as `csv` gives it, so that blank lines are none. The answer is the list of the jobs exactly where
+/// the text is a file of either form whose jobs are taken, each after those before it, by [`JobList::push`];
+/// else it names the first line that is refused and the first reason on it, in the order of [`JobsRefusal`].
 pub fn read_jobs<'a>(
     alloc: Global,
     set: &'a TaskSet,

@@ -8,27 +8,31 @@ use thiserror::Error;
 /// stand here, but that an unknown resource is named only after [`JobsRefusal::Script`].
 #[derive(Clone, Copy, Debug, PartialEq, Eq, Error)]
 pub enum JobsRefusal {
-    /// The line has not exactly three fields; or the header is missing, or is not `task,release,script`.
-    #[error("a line of jobs has not the fields task, release and script")]
+    /// The line has not exactly as many fields as the header, three or four; or the header is missing, or is
+    /// neither `task,release,script` nor `task,arrival,release,script`.
+    #[error("a line of jobs has not the fields task, release and script, or task, arrival, release and script")]
     Fields(u64),
-    /// The release is not a number from 0 to 10^9.
-    #[error("a release is not a number from 0 to 1000000000")]
+    /// The arrival or the release is not a number from 0 to 10^9.
+    #[error("an arrival or a release is not a number from 0 to 1000000000")]
     Number(u64),
     /// The first field is no task's name, or the script requests what is no resource's name.
     #[error("a line of jobs names a task or a resource that the set has not")]
     UnknownName(u64),
-    /// The third field is not a script: local numbers and requests in turn, one space between them.
+    /// The last field is not a script: local numbers and requests in turn, one space between them.
     #[error("a script is not local numbers and requests in turn")]
     Script(u64),
     /// The job exceeds its task's budget, as the list of jobs finds it.
     #[error("a job exceeds what its task may execute or request")]
     OverBudget(u64),
-    /// The job is released too close after the last one of its task.
-    #[error("a job is released less than a period after its task's last one")]
+    /// The job arrives less than a period after the last one of its task.
+    #[error("a job arrives less than a period after its task's last one")]
     TooClose(u64),
     /// There are too many jobs, or too many segments in all scripts.
     #[error("there are more than 100000 jobs or 1000000 script segments")]
     TooMany(u64),
+    /// The job is released before its arrival, or later than its arrival plus its task's jitter.
+    #[error("a job is released before its arrival, or later than its task's jitter allows")]
+    Late(u64),
     /// Memory was refused.
     #[error("out of memory")]
     Memory,

@@ -25,6 +25,7 @@ task_in x row = record {
   deadline = row.period;
   cost = row.cost;
   local = row.local;
+  jitter = row.jitter;
   requests = map entry_in row.entries.now;
 }
 

@@ -33,6 +33,7 @@ fn tasks_of(alloc: Global, rows: &[TaskRow<'_>]) -> Result<Vec<TaskPart>, AllocE
             deadline: row.period,
             cost: row.cost,
             local: row.local,
+            jitter: row.jitter,
             requests: requests_of(alloc, row.entries)?,
         })?;
     }

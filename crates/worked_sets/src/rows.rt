@@ -16,6 +16,7 @@ pub struct TaskRow<'a> {
     pub period: u64,
     pub cost: u64,
     pub local: u64,
+    pub jitter: u64,
     pub entries: &'a [EntryRow],
 }
 
@@ -35,7 +36,7 @@ macro_rules! entry_rows {
     };
 }
 
-/// The row of a task by its processor, its period, its cost, which is its local limit, and its entries, or in brackets the number
+/// The row of a task without jitter by its processor, its period, its cost, which is its local limit, and its entries, or in brackets the number
 /// of each entry's resource and the length of a job's one request.
 #[macro_export]
 macro_rules! task_row {
@@ -48,6 +49,7 @@ macro_rules! task_row {
             period: $period,
             cost: $cost,
             local: $cost,
+            jitter: 0,
             entries: $entries,
         }
     };

@@ -18,6 +18,11 @@ def many(tasks=1, resources=0, processors=1, requests=0):
     return task_set(processors, [resource(f"r{k}") for k in range(resources)], *listed)
 
 
+def late(jitter, second=None):
+    """A task whose jobs are released up to so many ticks after they arrive, and a lower one."""
+    return task_set(1, [], task("t1", 1, 10, 2, jitter=jitter), {**task("t2", 1, 20, 5), **(second or {})})
+
+
 LONG = task_set(1, [], task("t1", 1, 1000, 999), task("t2", 1, 10**9, 1500))
 
 VERDICTS = [
@@ -27,6 +32,12 @@ VERDICTS = [
     analysed("a value above its deadline", "analyse mpcp set", "not shown t1 5 4\n", pair(first={"deadline": 4}), 1),
     analysed("a dual over the denominator 3", "analyse mpcp set", SIX_CERTIFICATE, SIX),
     analysed("waiting that lets a higher task come twice", "analyse fmlp+ set", certificate("fmlp+", [4, 11, 7], [[2, 0, 0], [3, 0, 0, 0], [2, 0, 0, 0]]), FIVE),
+    analysed("a higher task that comes late, so that two of its jobs come close", "analyse fmlp+ set", certificate("fmlp+", [2, 9], [[], []]), late(4)),
+    analysed("the units of the three rounds that it takes", "analyse fmlp+ set 6", certificate("fmlp+", [2, 9], [[], []]), late(4)),
+    analysed("one unit fewer", "analyse fmlp+ set 5", "allowance\n", late(4), 6),
+    analysed("the same without jitter", "analyse fmlp+ set", certificate("fmlp+", [2, 7], [[], []]), late(0)),
+    analysed("the greatest jitter that leaves room for the cost", "analyse fmlp+ set", certificate("fmlp+", [2, 9], [[], []]), late(8)),
+    analysed("a value above the deadline less the jitter", "analyse fmlp+ set", "not shown t2 9 8\n", late(4, {"jitter": 12}), 1),
     analysed("a program too wide", "analyse mpcp set", "wide t1\n", WIDE, 5),
     analysed("the units that two rounds take", "analyse fmlp+ set 8", PAIR_CERTIFICATE, PAIR),
     analysed("one unit too few", "analyse fmlp+ set 7", "allowance\n", PAIR, 6),
@@ -58,6 +69,9 @@ SETS = [
     refused("a count of 1001", "count request 1 1", pair(first={"requests": [{"resource": "q", "count": 1001, "length": 1}]})),
     refused("a length equal to the cost", "length request 1 1", pair(first={"requests": [{"resource": "q", "count": 1, "length": 3}]})),
     refused("a home that isn't there", "home resource 1", pair([resource("q", 3)])),
+    refused("a jitter above the deadline less the cost", "jitter task 1", late(9)),
+    refused("a home before a jitter", "home resource 1", pair([resource("q", 3)], {"jitter": 8})),
+    refused("a jitter that is no whole number", "shape task 1", late("4")),
     refused("no home under DPCP", "nohome resource 1", pair([resource("q")]), "dpcp"),
 ]
 

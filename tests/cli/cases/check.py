@@ -1,6 +1,6 @@
 """The commands `check` and `report` with a certificate."""
 from setting import Case
-from sets import FIVE, PAIR, PAIR_CERTIFICATE, PAIR_FULL_TABLE, SIX, SIX_CERTIFICATE, certificate, pair, resource
+from sets import FIVE, HEADER, LATE, LATE_CERTIFICATE, PAIR, PAIR_CERTIFICATE, PAIR_FULL_TABLE, SIX, SIX_CERTIFICATE, certificate, pair, resource
 
 
 def checked(shows, says, cert, set=PAIR, protocol="fmlp+", command="check"):
@@ -11,6 +11,13 @@ def checked(shows, says, cert, set=PAIR, protocol="fmlp+", command="check"):
 def changed(old, new):
     return PAIR_CERTIFICATE.replace(old, new, 1)
 
+
+LATE_TABLE = (
+    HEADER[:-1] + "      bound   blocking      slack\n"
+    + "t1                                1         10         10          2          2          2          0          4\n"
+    + "t2                                1         20         20          5          5          9          0         11\n"
+    + "load 1 450000\n"
+)
 
 CASES = [
     checked("the certificate of the analysis", "valid", PAIR_CERTIFICATE),
@@ -26,6 +33,10 @@ CASES = [
     checked("a column that isn't covered", "invalid cover t1 1", certificate("fmlp+", [5, 5], [[1, 0, 0, 0], [1, 0, 0, 0]])),
     checked("a numerator too few", "invalid dualsize t1", certificate("fmlp+", [5, 5], [[2, 0, 0], [1, 0, 0, 0]])),
     checked("a bound above its deadline", "invalid bound t1", certificate("fmlp+", [11, 5], [[2, 0, 0, 0], [1, 0, 0, 0]])),
+    checked("bound and jitter together at the deadline", "valid", certificate("fmlp+", [6, 11], [[], []]), LATE),
+    checked("bound and jitter together above the deadline", "invalid bound t1", certificate("fmlp+", [7, 11], [[], []]), LATE),
+    checked("the greatest bound with a jitter", "invalid bound t1", certificate("fmlp+", [2**64 - 1, 9], [[], []]), LATE),
+    checked("a bound that counts the higher task's jobs without its jitter", "invalid small t2", certificate("fmlp+", [2, 7], [[], []]), LATE),
     checked("one bound", "invalid size", certificate("fmlp+", [5], [[2, 0, 0, 0], [1, 0, 0, 0]])),
     checked("the last task's bound before the first task's dual", "invalid bound t2", certificate("fmlp+", [5, 11], [[2, 0, 0], [1, 0, 0, 0]])),
     checked("a later task's column before an earlier task's bound", "invalid cover t2 1", certificate("fmlp+", [4, 5], [[2, 0, 0, 0], [0, 0, 0, 0]])),
@@ -47,6 +58,7 @@ CASES = [
     checked("a numerator of 2^63", "refused cert shape dual 1", changed("[2,0", "[9223372036854775808,0")),
     checked("the set is read first", "refused set nohome resource 1", "{", pair([resource("q")]), "dpcp"),
     checked("the table with bounds, blocking and slack", PAIR_FULL_TABLE, PAIR_CERTIFICATE, command="report"),
+    checked("a slack that the jitter takes from", LATE_TABLE, LATE_CERTIFICATE, LATE, command="report"),
     checked("no table of a certificate that isn't valid", "invalid small t2", certificate("fmlp+", [5, 4], [[2, 0, 0, 0], [1, 0, 0, 0]]), command="report"),
     checked("nor of one that is refused", "refused cert otherprotocol", PAIR_CERTIFICATE, protocol="mpcp", command="report"),
 ]

@@ -1,6 +1,6 @@
 """The command `conform`: lawful and broken schedules, and files of jobs and rows that are refused."""
 from setting import Case
-from sets import FIVE, PAIR, PAIR_JOBS, PAIR_MEASURED, PAIR_ROWS, task, task_set
+from sets import FIVE, LATE, LATE_JOBS, LATE_MEASURED, LATE_ROWS, PAIR, PAIR_JOBS, PAIR_MEASURED, PAIR_ROWS, task, task_set
 
 JOBS = "task,release,script\n"
 ROWS = "ticks,P1,P2,q\n"
@@ -20,6 +20,10 @@ def judged(shows, says, status=0, text=PAIR, jobs=PAIR_JOBS, rows=PAIR_ROWS, pro
 
 def refused_jobs(shows, reason, lines):
     return judged(shows, f"refused jobs {reason}\n", 3, jobs=JOBS + lines)
+
+
+def late_jobs(shows, reason, lines, header="task,arrival,release,script\n"):
+    return judged(shows, f"refused jobs {reason}\n", 3, LATE, header + lines, LATE_ROWS)
 
 
 def refused_rows(shows, reason, lines):
@@ -51,6 +55,21 @@ JOB_FILES = [
     judged("a job too many", "refused jobs toomany 100001\n", 3, EACH_TICK, each_tick(100_001), "ticks,P1\n"),
 ]
 
+LATE_FILES = [
+    judged("jobs that are released later than they arrive", LATE_MEASURED, 0, LATE, LATE_JOBS, LATE_ROWS),
+    late_jobs("a release one tick above the jitter", "late 1", "t1,0,5,2\n"),
+    late_jobs("a release before the arrival", "late 1", "t2,4,3,5\n"),
+    late_jobs("a release after the arrival of a task without jitter", "late 1", "t2,4,5,5\n"),
+    late_jobs("arrivals less than a period apart, though the releases aren't", "tooclose 2", "t1,0,0,2\nt1,9,10,2\n"),
+    late_jobs("too close before too late", "tooclose 2", "t1,0,0,2\nt1,9,19,2\n"),
+    late_jobs("too much before too close", "overbudget 2", "t1,0,0,2\nt1,9,19,3\n"),
+    late_jobs("an arrival with a sign", "number 1", "t1,-1,0,2\n"),
+    late_jobs("a line of the first header under the second one", "fields 1", "t1,0,2\n"),
+    late_jobs("a line of the second header under the first one", "fields 1", "t1,0,0,2\n", JOBS),
+    late_jobs("under the first header a job is released as it arrives", "tooclose 2", "t1,4,2\nt1,10,2\n", JOBS),
+    late_jobs("the second header with two names exchanged", "fields 0", "t1,0,0,2\n", "task,release,arrival,script\n"),
+]
+
 ROW_FILES = [
     refused_rows("a line of three fields", "fields 1", "1,1,2\n"),
     refused_rows("rows that last 0 ticks", "number 2", "1,1,2,\n0,,2,2\n"),
@@ -67,4 +86,4 @@ ORDER = [
     Case("one file for all three", "conform fmlp+ set set set", "refused jobs fields 0\n", 3, {"set": PAIR}),
 ]
 
-CASES = SCHEDULES + JOB_FILES + ROW_FILES + ORDER
+CASES = SCHEDULES + JOB_FILES + LATE_FILES + ROW_FILES + ORDER

@@ -1,17 +1,16 @@
-use Rattle.std.proofs.Common.{◌∙◌, ℕ, refl, sym, subst, arith, List}
+use Rattle.std.proofs.Common.{◌∙◌, ℕ, refl, sym, subst, List}
 use Rattle.std.specs.Prelude.{slice_index}
 use Rattle.sporadic_model.specs.Accepted.{IsAccepted}
-use Rattle.schedule_model.specs.JobDef.{JobDef, job_of}
-use Rattle.schedule_model.specs.LawfulJobs.{IsLawfulJob}
 use Rattle.schedule_model.specs.RowDef.{Trace, row_in, trace_in, ticks_of}
 use Rattle.schedule_model.specs.Activity.{task_of}
 use Rattle.schedule_laws.proofs.KindsOfTicks.{Blocked, blocked_is}
 use Rattle.charge_model.specs.ChargedTicks.{IsCharged}
+use Rattle.charge_model.specs.Windows.{bound_end}
 use Rattle.charge.specs.Table.{ItemDef, IsChargeTable}
 use Rattle.charge.proofs.TallyLaws.{OfActive}
 use Rattle.charge.proofs.Reaching.{Walked, reached_first, walked_all, none_noted}
 use Rattle.charge.proofs.TableLaws.{table_is}
-use Rattle.charge.proofs.RowsMet.{alone, alone_lawful, alone_ended, rows_met}
+use Rattle.charge.proofs.RowsMet.{ended_within}
 use Rattle.charge.proofs.charging.charge_with.Goals as goal
 
 pub walk_all-requires-clause-reached : goal.walk_all-requires-clause-reached
@@ -62,19 +61,8 @@ returns-clause-rows g c = λ j l.
     c.args.bounds.now c.walk_all.new.machine c.walk_all.new.ledger c.args.jobs.now n
     (c.walk_all.ensures.list ∙ c.in_ok-machine.ensures.list)
     c.in_ok-walk_all.ensures.walked.0 c.in_ok-walk_all.ensures.walked.1 in
-    let only : (t : ℕ) → OfActive (g.P.ChargedProtocol.charges c.args.protocol.now) w t =
-    λ t k charge e. let b : Blocked (g.P.BlockingProtocol.interferes c.args.protocol.now) w t k =
-    blocked_is (g.P.BlockingProtocol.interferes c.args.protocol.now) w t k
-    (g.met.P.ChargedProtocol.charges_only c.args.protocol.now w t k charge e) in b.active in
     let accepted : IsAccepted w.set = subst IsAccepted c.set.ensures c.keeps_the_model.ensures.accepted in
-    let job : JobDef = job_of c.args.jobs.now.jobs j in
-    let lawful : IsLawfulJob w.set job = a.lawful.each j l in
-    let first = g.met.P.ChargedProtocol.meets_rows c.args.protocol.now (alone w.set job) c.args.bounds.now 0 0 c.requires.suits
-    accepted (alone_lawful w.set job lawful) (λ t b. absurd (omega (arith, b))) (omega arith)
-    (alone_ended w.set job (slice_index c.args.bounds.now) (c.requires.bounds.from job.task lawful.task)) in
-    rows_met (g.P.ChargedProtocol.charges c.args.protocol.now) w (slice_index c.args.bounds.now) n j
-    (g.P.ChargedProtocol.program_of c.args.protocol.now w.set (task_of w j) c.args.bounds.now)
-    (g.P.ChargedProtocol.columns_of c.args.protocol.now w.set (task_of w j)) first.positive only
-    (sym a.passed ∙ none_noted c.walk_all.new.ledger.passed c.in_default.not-Some)
-    (g.met.P.ChargedProtocol.meets_rows c.args.protocol.now w c.args.bounds.now n j c.requires.suits accepted a.lawful
-    a.keeps_all l)
+    g.met.P.ChargedProtocol.meets_rows c.args.protocol.now w c.args.bounds.now n j c.requires.suits accepted a.lawful
+    a.keeps_all l
+    (ended_within w (slice_index c.args.bounds.now) (bound_end w (slice_index c.args.bounds.now) j) n
+    (sym a.passed ∙ none_noted c.walk_all.new.ledger.passed c.in_default.not-Some))

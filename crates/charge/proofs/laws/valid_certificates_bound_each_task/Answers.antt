@@ -8,5 +8,5 @@ pub returns : goal.returns
 returns c = λ f certificate accepted valid. record {
   from = λ x l. let numbers : TaskNumbers f.set x = numbers_of_accepted f.set x accepted l in
       omega (arith, numbers.cost_from, cost_below_fitting f certificate.bounds x (valid_fits f certificate valid) l);
-  deadline = λ x l. (valid.proved x l).within;
+  latest = λ x l. (valid.proved x l).within;
 }

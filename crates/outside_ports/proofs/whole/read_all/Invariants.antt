@@ -10,7 +10,7 @@ invariant-loop-count g l = record {
   tells : is_some (g.S.Shelf.rest l.shelf) ≡ is_some (g.S.Shelf.rest l.initial.shelf);
   most : vec_len l.bytes ≤ 67108864;
   given : g.S.Shelf.given l.shelf ≡ vec_len l.bytes;
-  later : g.S.Shelf.faults l.initial.shelf ≤ g.S.Shelf.faults l.shelf;
+  calm : g.S.Shelf.faults l.shelf ≡ g.S.Shelf.faults l.initial.shelf;
   calls : g.S.Shelf.calls l.shelf ≤ g.S.Shelf.calls l.initial.shelf + vec_len l.bytes;
   steady : g.S.Shelf.steady l.initial.shelf → g.S.Shelf.steady l.shelf × (g.S.Shelf.faults l.shelf ≡ g.S.Shelf.faults l.initial.shelf);
   taken : Consumes (g.S.Shelf.rest l.initial.shelf) (g.S.Shelf.rest l.shelf) l.bytes.items;

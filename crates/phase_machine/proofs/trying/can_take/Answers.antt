@@ -1,36 +1,25 @@
-use Rattle.std.proofs.Common.{◌≡◌, true, length, ap, sym, ◌∙◌, arith}
-use Rattle.std.specs.List.{list_all}
-use Rattle.schedule_model.specs.Fitting.{is_below}
-use Rattle.schedule_model.specs.Seen.{place_seen}
-use Rattle.phase_machine.proofs.Named.{can_take_seen}
+use Rattle.std.proofs.Common.{◌≡◌, true, inl, inr}
+use Rattle.std.proofs.lemmas.Bool.{cases_Bool}
+use Rattle.schedule_model.specs.Seen.{row_seen}
+use Rattle.phase_machine.specs.Taking.{CanTake, AreAlone}
+use Rattle.phase_machine.proofs.Named.{named_listed, can_take_from, alone_from}
 use Rattle.phase_machine.proofs.trying.can_take.Goals as goal
 
-pub returns : goal.returns
-returns c = λ h.
-    let jobs : c.len-3.result ≡ length c.args.machine.now.list.jobs =
-    c.len-3.ensures.value ∙ ap (λ list. length list.jobs) c.jobs-jobs.ensures.value in
-    let again : c.len-4.result ≡ length c.args.machine.now.list.jobs =
-    c.len-4.ensures.value ∙ ap (λ list. length list.jobs) c.jobs-jobs.ensures.value in
-    let running : list_all (λ o. is_below (length c.args.machine.now.list.jobs) (place_seen o)) c.args.row.now.running.items ≡ true =
-    rw (← jobs, ← c.deref.ensures.value) (sym c.are_below.ensures ∙ c.if-not-are_below.false) in
-    let holders : list_all (λ o. is_below (length c.args.machine.now.list.jobs) (place_seen o)) c.args.row.now.holders.items ≡ true =
-    rw (← again, ← c.deref-2.ensures.value) (sym c.are_below-2.ensures ∙ c.if-not-are_below-2.false) in
-    can_take_seen c.args.machine.now c.args.row.now
-    (omega (
-      arith,
-      c.len.ensures,
-      c.if-len-processors.false,
-      c.processors.ensures.value,
-      ap (λ set. set.processors) c.set-set.ensures,
-      ap (λ list. list.set.processors) c.jobs-jobs.ensures.value,
-    ))
-    (omega (
-      arith,
-      c.len-2.ensures,
-      c.if-len-resources.false,
-      c.resources.ensures.value,
-      ap (λ set. length set.resources) c.set-set.ensures,
-      ap (λ list. length list.set.resources) c.jobs-jobs.ensures.value,
-    ))
-    running holders (rw c.deref-3.ensures.value at (c.run_well.ensures.active h))
-    (rw c.deref-3.ensures.value at (c.run_well.ensures.once h))
+pub run_well-requires : goal.run_well-requires
+run_well-requires c =
+    rw c.deref.ensures.value
+    (named_listed c.args.machine.now.list c.args.row.now (c.is_row_for.ensures.0 c.if-is_row_for.true))
+
+pub returns-then-is_row_for : goal.returns-then-is_row_for
+returns-then-is_row_for c = (λ passes. taken passes, λ takes. passed takes) where
+  taken : c.run_well.result ≡ true → CanTake c.args.machine.now (row_seen c.args.row.now)
+  taken passes = can_take_from c.args.machine.now c.args.row.now (c.is_row_for.ensures.0 c.if-is_row_for.true)
+      (rw c.deref.ensures.value at (c.run_well.ensures.alone passes))
+
+  passed : CanTake c.args.machine.now (row_seen c.args.row.now) → c.run_well.result ≡ true
+  passed takes = elim (cases_Bool c.run_well.result) [
+    | inl passes ↦ passes
+    | inr fails ↦
+        let alone : AreAlone c.args.machine.now c.args.row.now.running.items = alone_from c.args.machine.now c.args.row.now takes in
+        absurd (c.run_well.ensures.not_alone fails (rw c.deref.ensures.value alone))
+  ]

@@ -1,3 +1,5 @@
+use Rattle.std.proofs.Common.{arith}
+use Rattle.sporadic_model.specs.Accepted.{TaskNumbers}
 use Rattle.program_sources.specs.Recurrence.{SourceDef}
 use Rattle.response_fixpoint.proofs.AnswerLaws.{only_of, right_of, exactly_of, never_wide_of, never_short_of}
 use Rattle.response_fixpoint.proofs.analysis.analyse_with.Goals as goal
@@ -51,4 +53,5 @@ returns-clause-enough g c =
     } in
     never_short_of f c.args.allowance c.take_rounds.result
     (c.recurrence_is_monotone.ensures.value c.args.protocol.now c.args.set.now c.requires.suits)
-    (λ i here. (c.tasks-tasks.ensures.numbers i here).cost_to) c.take_rounds.ensures
+    (λ i here. let numbers : TaskNumbers c.args.set.now i = c.tasks-tasks.ensures.numbers i here in omega (arith, numbers.jitter_to))
+    c.take_rounds.ensures

@@ -2,7 +2,7 @@ use Rattle.std.proofs.Common.{◌≡◌, ◌+◌, ◌-◌, ◌≤◌, List, leng
 use Rattle.std.proofs.lemmas.List.{length-map}
 use Rattle.program_form.specs.Certificate.{dual_seen}
 use Rattle.program_sources.specs.Recurrence.{SourceDef}
-use Rattle.program_sources.specs.Fitting.{deadline_of}
+use Rattle.program_sources.specs.Fitting.{latest_of}
 use Rattle.response_fixpoint.specs.Rounds.{Found, Passes}
 use Rattle.response_fixpoint.specs.Runs.{rounds_of}
 use Rattle.response_fixpoint.specs.Solutions.{AreEarlier}
@@ -30,9 +30,9 @@ returns-in-Err-take_run g c =
       program = g.P.ProgramSource.program_of c.args.protocol.now c.args.set.now;
       interfering = g.P.ProgramSource.interfering c.args.protocol.now c.args.set.now;
     } in
-    value_halts f c.args.bounds.now c.args.left c.loop-i.i c.deadline.result c.loop-i.round c.take_run.new.round
+    value_halts f c.args.bounds.now c.args.left c.loop-i.i c.latest_bound.result c.loop-i.round c.take_run.new.round
     c.in-Ok.run' c.in-Err-take_run.stop (omega arith)
-    c.deadline.ensures.value c.loop-i.invariant.passed c.in-Ok.ensures.0 c.in-Err-take_run.ensures
+    c.latest_bound.ensures.value c.loop-i.invariant.passed c.in-Ok.ensures.0 c.in-Err-take_run.ensures
 
 pub loop-i-preserved : goal.loop-i-preserved
 loop-i-preserved g c =
@@ -45,7 +45,7 @@ loop-i-preserved g c =
     let solution = run.solution in
     let ran = c.in-Ok.ensures in
     let taken = c.in-Ok-take_run.ensures in
-    let within : run.value ≤ deadline_of f c.loop-i.i = omega (arith, taken.0, c.deadline.ensures.value) in
+    let within : run.value ≤ latest_of f c.loop-i.i = omega (arith, taken.0, c.latest_bound.ensures.value) in
     let units = run_units f c.args.bounds.now c.loop-i.i (c.args.left - c.loop-i.round.used) solution.used run.value
     (dual_seen solution.dual) ran.0 in
     let sum : c.take_run.new.round.used ≡ c.loop-i.round.used + solution.used = ap (λ (x : Found). x.used) taken.1 in

@@ -9,4 +9,5 @@ returns c =
     c.is_object_of.ensures
     ∙ ap (λ form. is_object_of form (view c.args.value.now))
     (cons_same c.must.ensures (cons_same c.must-2.ensures (cons_same c.must-3.ensures (cons_same c.must-4.ensures
-    (cons_same c.may.ensures (cons_same c.may-2.ensures (cons_same {xs = []} {ys = []} c.may-3.ensures refl)))))))
+    (cons_same c.may.ensures (cons_same c.may-2.ensures (cons_same c.may-3.ensures
+    (cons_same {xs = []} {ys = []} c.may-4.ensures refl))))))))
