@@ -3,7 +3,7 @@
 
     python3 bench/analyse.py [SEED] [SIZE..]
 
-The usual way forms the same programs in Python (bench/blocking_programs.py) and solves each by `glpsol` of the package glpk-utils, in
+The usual way forms the same programs in Python (tools/blocking_programs.py) and solves each by `glpsol` of the package glpk-utils, in
 floating point and with --exact; a word is printed where it is missing. It takes the rounds of docs/ANALYSIS.md, as `analyse` does. Of
 each call of `glpsol` the time of the same call with --check, which starts, reads the file and solves nothing, is told apart.
 Times are those of processes, the least of a few calls; of the program's own the time of a call that answers `refused words` is told
@@ -20,9 +20,12 @@ import tempfile
 import time
 from pathlib import Path
 
-from blocking_programs import PROTOCOLS, TaskSet, as_lp, generated, program_of, seeded
-
 TOP = Path(__file__).resolve().parent.parent
+sys.path.insert(0, str(TOP / "tools"))
+
+from blocking_programs import PROTOCOLS, TaskSet, as_lp, program_of  # noqa: E402
+from generated_sets import generated, seeded  # noqa: E402
+
 PROGRAM = TOP / "crates" / "block_cli" / "out" / "block_cli"
 SIZES = (8, 16, 32, 64)
 SETS = 2
@@ -86,7 +89,7 @@ class Usual:
                 if blocked is None:
                     return None
                 values.append(s.cost[i] + blocked + s.interference(protocol, bounds, i))
-                if values[i] > s.deadline[i]:
+                if values[i] > s.latest[i]:
                     return None
             if values == bounds:
                 return bounds

@@ -1,10 +1,12 @@
 #!/usr/bin/env python3
-"""Runs the drawing tools on the examples and on wrong input.
+"""Runs the tools on the examples and on wrong input.
 
-    python3 tests/tools.py
+    python3 tests/tools.py [PROGRAM]
 
 What a schedule comes to is compared in full; of the pictures it looks whether they are well formed and name what they show, which needs
-matplotlib and is left out with a word where no Python here has it.
+matplotlib and is left out with a word where no Python here has it. The tools that ask the program are tried by
+edges_and_certificates.py, sets_from_tables.py and dossiers.py, over PROGRAM, which is what `rt ci` or `./block` built where none is given.
+What needs no program, the help of ./block and the completion of its words, is tried by habits.py.
 """
 import subprocess
 import sys
@@ -14,6 +16,7 @@ from xml.etree import ElementTree
 
 TOP = Path(__file__).resolve().parent.parent
 TOOLS = TOP / "tools"
+BUILT = TOP / "crates" / "block_cli" / "out" / "block_cli"
 PAIR = [TOP / "examples" / name for name in ("pair.json", "pair-jobs.csv", "pair-rows.csv")]
 JITTER = [TOP / "examples" / name for name in ("jitter.json", "jitter-jobs.csv", "jitter-rows.csv")]
 STUDY = "step mpcp fmlp+ dpcp\n1 20 20 20\n2 20 19 20\n3 11 9 12\nstopped 3\n"
@@ -118,19 +121,30 @@ def problems(folder):
     yield drawn(python, "draw_schedule.py", [*JITTER, "out.svg"], folder, ["receive", "arrival", "release", "deadline"])
     yield drawn(python, "draw_study.py", ["study", "out.svg"], folder, ["mpcp", "fmlp+", "dpcp", "schedulable sets", "3 analyses ended without an answer"])
     yield drawn(python, "draw_study.py", ["study", "out.svg", "20"], folder, ["schedulable sets, %"])
+    for tool in ("draw_schedule.py", "draw_study.py"):
+        shown = subprocess.run([python, TOOLS / tool, "--help"], capture_output=True, text=True)
+        yield None if shown.returncode == 0 and f"tools/{tool} " in shown.stdout and not shown.stderr else f"{tool} --help shows {shown}"
     for tool, words, line in REFUSED:
         yield refused(python, tool, words, folder, line)
 
 
 def main():
     with tempfile.TemporaryDirectory(prefix="block-") as folder:
-        found = list(problems(folder))
+        found = [*habits.problems(folder), *problems(folder)]
+        for tried in (edges_and_certificates, sets_from_tables, dossiers):
+            place = Path(folder) / tried.__name__
+            place.mkdir()
+            found += tried.problems(place, Path(sys.argv[1]).resolve() if sys.argv[1:] else BUILT)
     wrong = [problem for problem in found if problem is not None]
-    print(*wrong, f"the drawing tools: {len(found) - len(wrong)} passed, {len(wrong)} failed", sep="\n")
+    print(*wrong, f"the tools: {len(found) - len(wrong)} passed, {len(wrong)} failed", sep="\n")
     sys.exit(1 if wrong else 0)
 
 
 sys.path.insert(0, str(TOOLS))
+import dossiers  # noqa: E402
+import edges_and_certificates  # noqa: E402
+import habits  # noqa: E402
 import schedule  # noqa: E402
+import sets_from_tables  # noqa: E402
 
 main()

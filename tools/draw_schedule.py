@@ -107,6 +107,7 @@ def draw_legend(axes, pyplot, picture, resources):
 
 
 def main():
+    drawing.show_help(__doc__)
     if len(sys.argv) != 5:
         stop("the words are SET JOBS ROWS OUT.svg")
     picture = schedule.picture_of(*sys.argv[1:4])

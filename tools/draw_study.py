@@ -53,6 +53,7 @@ def draw(axes, protocols, counts, sets):
 
 
 def main():
+    drawing.show_help(__doc__)
     if len(sys.argv) not in (3, 4):
         stop("the words are STUDY.txt OUT.svg, and SETS or nothing")
     protocols, counts, stopped = read_study(sys.argv[1])

@@ -4,6 +4,13 @@ import sys
 COLOURS = ["#0072b2", "#e69f00", "#009e73", "#cc79a7", "#56b4e9", "#d55e00", "#f0e442", "#8c6bb1", "#7f7f7f", "#a6761d"]
 
 
+def show_help(text):
+    """Ends the tool with what it says of itself, where it is asked for that."""
+    if sys.argv[1:] in (["--help"], ["-h"]):
+        print(text.strip())
+        sys.exit()
+
+
 def stop(why):
     """Ends the tool with one line."""
     sys.exit(f"{sys.argv[0].rsplit('/', 1)[-1]}: {why}")

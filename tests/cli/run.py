@@ -58,7 +58,7 @@ def shown_commands(document, folder):
                 continue
             words, _, saves = line.removeprefix("./block ").partition(" >")
             # the status isn't shown: it follows from the answer
-            status = 1 if answer.startswith(("not shown ", "broken ", "invalid ")) else 0
+            status = 1 if answer.startswith(("not shown ", "broken ", "invalid ")) else 5 if answer.startswith("wide ") else 0
             yield Case(f"as shown: {line}", words, None if saves else answer, status, at=folder, saves=saves.strip())
 
 

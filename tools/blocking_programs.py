@@ -1,12 +1,9 @@
-"""Blocking programs as docs/ANALYSIS.md words them, and task sets to try them on: for the benchmarks alone.
+"""Blocking programs as docs/ANALYSIS.md words them, for certify.py and for benchmarks.
 
-It shares nothing with the program that it is compared with. A program is its columns' costs and its rows, each row a list of
-(column, coefficient) and a limit.
+It shares nothing with the program that it is compared with. A blocking program is its columns' costs and its rows, each row a list of
+(column, coefficient) and a limit, in the order of that page.
 """
-import random
-
 PROTOCOLS = ("mpcp", "fmlp+", "dpcp")
-PERIODS = (10000, 20000, 25000, 40000, 50000, 100000, 200000, 1000000)
 
 
 class TaskSet:
@@ -22,7 +19,9 @@ class TaskSet:
         self.processor = [task["processor"] for task in self.tasks]
         self.period = [task["period"] for task in self.tasks]
         self.cost = [task["cost"] for task in self.tasks]
+        self.jitter = [task.get("jitter", 0) for task in self.tasks]
         self.deadline = [task.get("deadline", task["period"]) for task in self.tasks]
+        self.latest = [deadline - jitter for deadline, jitter in zip(self.deadline, self.jitter)]
         self.local = [task.get("local", task["cost"]) for task in self.tasks]
         self.count = [{} for _ in self.tasks]
         self.length = [{} for _ in self.tasks]
@@ -39,7 +38,8 @@ class TaskSet:
         return min([x for x in self.users(q) if self.processor[x] != k] or self.users(q))
 
     def jobs(self, bounds, i, x):
-        return -(-(bounds[i] + bounds[x]) // self.period[x])
+        """How many jobs of x run while one of i does, at most."""
+        return -(-(bounds[i] + bounds[x] + self.jitter[x]) // self.period[x])
 
     def interference(self, protocol, bounds, i):
         """The ticks that jobs of higher tasks on i's processor take in its window."""
@@ -47,7 +47,7 @@ class TaskSet:
         for h in range(i):
             if self.processor[h] == self.processor[i]:
                 g = self.local[h] if protocol == "dpcp" else self.cost[h]
-                ticks += -(-(bounds[i] + bounds[h] - g) // self.period[h]) * g
+                ticks += -(-(bounds[i] + bounds[h] + self.jitter[h] - g) // self.period[h]) * g
         return ticks
 
 
@@ -100,68 +100,79 @@ def holdings(s, bounds, i, x):
     return held
 
 
-def program_of(s, protocol, i, bounds):
-    """The costs of task i's program, and its rows with their limits at these bounds."""
-    columns = columns_of(s, protocol, i)
-    costs = [s.length[x][q] for x, q, _ in columns]
-    own = sum(s.count[i].values())
-    rows = []
+class Shape:
+    """What bounds leave as it is in task i's program: its columns' costs, and its rows with limits as functions of the bounds."""
 
-    def add(limit, chosen):
-        row = [(c, weight) for c, (column, weight) in enumerate(zip(columns, map(chosen, columns))) if weight]
+    def __init__(self, s, protocol, i):
+        self.s, self.i = s, i
+        self.columns = columns_of(s, protocol, i)
+        self.costs = [s.length[x][q] for x, q, _ in self.columns]
+        self.rows = []
+        self.others = [x for x in range(s.n) if x != i]
+        self.of_task = {x: [(c, column) for c, column in enumerate(self.columns) if column[0] == x] for x in self.others}
+        self.add_common_rows()
+        {"mpcp": self.add_mpcp_rows, "fmlp+": self.add_fmlp_rows, "dpcp": self.add_dpcp_rows}[protocol]()
+
+    def add(self, limit, columns, weight):
+        row = [(c, weight(column)) for c, column in columns if weight(column)]
         if row:
-            rows.append((row, limit))
+            self.rows.append((row, limit))
 
-    others = [x for x in range(s.n) if x != i]
-    for x in others:
-        for q in sorted(s.count[x]):
-            add(s.count[x][q] * s.jobs(bounds, i, x), lambda c: int(c[:2] == (x, q)))
-    for x in others:
-        add(s.cost[x] * s.jobs(bounds, i, x), lambda c: s.length[x][c[1]] if c[0] == x else 0)
-    for x in others:
-        if x > i and s.processor[x] == s.processor[i]:
-            add(1 + own, lambda c: int(c[0] == x and c[2] == "preemption"))
-    if protocol == "fmlp+":
-        for x in others:
+    def add_common_rows(self):
+        """Requests, Time and Intervals."""
+        s, i = self.s, self.i
+        for x in self.others:
             for q in sorted(s.count[x]):
-                add(s.count[i].get(q, 0), lambda c: int(c == (x, q, "direct")))
-        for x in others:
-            add(own, lambda c: int(c[0] == x and c[2] != "preemption"))
-    if protocol == "mpcp":
+                self.add(lambda r, x=x, q=q: s.count[x][q] * s.jobs(r, i, x), self.of_task[x], lambda c: int(c[1] == q))
+        for x in self.others:
+            self.add(lambda r, x=x: s.cost[x] * s.jobs(r, i, x), self.of_task[x], lambda c: s.length[x][c[1]])
+        for x in self.others:
+            if x > i and s.processor[x] == s.processor[i]:
+                self.add(lambda r: 1 + self.requests(), self.of_task[x], lambda c: int(c[2] == "preemption"))
+
+    def add_fmlp_rows(self):
+        """Turns and Queues."""
+        s, i = self.s, self.i
+        for x in self.others:
+            for q in sorted(s.count[x]):
+                self.add(lambda r, q=q: s.count[i].get(q, 0), self.of_task[x], lambda c: int(c[1:] == (q, "direct")))
+        for x in self.others:
+            self.add(lambda r: self.requests(), self.of_task[x], lambda c: int(c[2] != "preemption"))
+
+    def add_mpcp_rows(self):
+        """Lower holders and Holdings."""
+        s, i = self.s, self.i
+        every = list(enumerate(self.columns))
         for q in range(len(s.resources)):
-            add(s.count[i].get(q, 0), lambda c: int(c[0] > i and c[1:] == (q, "direct")))
-        for x in others:
-            add(holdings(s, bounds, i, x), lambda c: int(c[0] == x and c[2] == "indirect"))
-    if protocol == "dpcp":
+            self.add(lambda r, q=q: s.count[i].get(q, 0), every, lambda c: int(c[0] > i and c[1:] == (q, "direct")))
+        for x in self.others:
+            self.add(lambda r, x=x: holdings(s, r, i, x), self.of_task[x], lambda c: int(c[2] == "indirect"))
+
+    def add_dpcp_rows(self):
+        """Homes."""
+        s, i = self.s, self.i
+        every = list(enumerate(self.columns))
         for k in range(1, s.parts["processors"] + 1):
             limit = sum(n for q, n in s.count[i].items() if s.home[q] == k)
-            add(limit, lambda c: int(c[0] > i and s.home[c[1]] == k and c[2] != "preemption"))
-    return costs, rows
+            self.add(lambda r, limit=limit: limit, every, lambda c: int(c[0] > i and s.home[c[1]] == k and c[2] != "preemption"))
+
+    def requests(self):
+        """All requests of i."""
+        return sum(self.s.count[self.i].values())
+
+    def limits(self, bounds):
+        """The limits of the rows at these bounds."""
+        return [limit(bounds) for _, limit in self.rows]
+
+
+def program_of(s, protocol, i, bounds):
+    """The costs of task i's program, and its rows with their limits at these bounds."""
+    shape = Shape(s, protocol, i)
+    return shape.costs, [(row, limit) for (row, _), limit in zip(shape.rows, shape.limits(bounds))]
 
 
 def as_lp(costs, rows):
-    """The program in the format of CPLEX, which glpsol reads."""
+    """The program in the format of CPLEX, which glpsol and esolver read: columns y0, y1, .. and rows r0, r1, .."""
     lines = ["Maximize", " worth: " + (" + ".join(f"{cost} y{c}" for c, cost in enumerate(costs)) or "0 y0"), "Subject To"]
-    lines += [" " + " + ".join(f"{weight} y{c}" for c, weight in row) + f" <= {limit}" for row, limit in rows]
+    lines += [f" r{k}: " + " + ".join(f"{weight} y{c}" for c, weight in row) + f" <= {limit}" for k, (row, limit) in enumerate(rows)]
     return "\n".join(lines + ["End", ""])
-
-
-def generated(n, draw):
-    """A set of n tasks with resources, from a generator of numbers."""
-    processors = max(2, n // 4)
-    resources = [{"name": f"q{k + 1}", "home": k % processors + 1} for k in range(max(2, n // 4))]
-    tasks = []
-    for j in range(n):
-        period = draw.choice(PERIODS)
-        cost = period * draw.randint(20, 120) * processors // (1000 * n) * 4
-        chosen = draw.sample(resources, draw.randint(0, min(3, len(resources))))
-        tasks.append({
-            "name": f"t{j + 1}", "processor": j % processors + 1, "period": period, "cost": max(cost, 110),
-            "requests": [{"resource": q["name"], "count": draw.randint(1, 2), "length": draw.randint(1, 100)} for q in chosen],
-        })
-    tasks.sort(key=lambda task: task["period"])
-    return {"processors": processors, "resources": resources, "tasks": tasks}
-
-
-def seeded(seed):
-    return random.Random(seed)

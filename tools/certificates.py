@@ -1,0 +1,127 @@
+"""Looks for a certificate of a set: duals over whole numbers that cover their programs, and bounds that fit what they are worth."""
+import json
+import math
+from dataclasses import dataclass
+from fractions import Fraction
+
+from blocking_programs import Shape
+
+MOST = 2**63 - 1
+
+
+@dataclass(frozen=True)
+class Dual:
+    """A numerator for each row over one denominator."""
+
+    den: int
+    num: list
+
+    def value(self, limits):
+        """The whole ticks that it bounds the program by at these limits."""
+        return sum(n * limit for n, limit in zip(self.num, limits)) // self.den
+
+
+class NotShown(Exception):
+    """A value passes the latest bound of its task, as far as these duals say."""
+
+    def __init__(self, task, value, latest):
+        super().__init__(f"not shown {task} {value} {latest}")
+
+
+def covering(den, num, shape, limits):
+    """The numerators, raised until each column is covered, each time in the row where that is worth least."""
+    num = list(num)
+    rows_of = [[] for _ in shape.costs]
+    for r, (row, _) in enumerate(shape.rows):
+        for c, weight in row:
+            rows_of[c].append((r, weight))
+    for cost, rows in zip(shape.costs, rows_of):
+        lacking = den * cost - sum(num[r] * weight for r, weight in rows)
+        if lacking > 0:
+            r, weight = min(rows, key=lambda entry: -(-lacking // entry[1]) * limits[entry[0]])
+            num[r] += -(-lacking // weight)
+    return num
+
+
+def denominators(fractions):
+    """What the numbers are taken over: 1, their common denominator where it is short, and the greatest power of 2 that leaves room."""
+    common = math.lcm(*(fraction.denominator for fraction in fractions))
+    greatest = math.ceil(max(fractions, default=0)) + 1
+    room = max(MOST // (2 * greatest), 1).bit_length() - 1
+    return dict.fromkeys([1, *([common] if common < 2**31 else []), 2**room])
+
+
+def best_dual(numbers, shape, limits):
+    """The dual of the least value that comes of a solver's numbers, rounded up over some denominators; the least of these where equal."""
+    fractions = [max(Fraction(number), Fraction(0)) for number in numbers]
+    duals = []
+    for den in denominators(fractions):
+        # over 1 a number is taken for the whole one beside it, since floats are seldom whole
+        rounded = [round(fraction) if den == 1 else math.ceil(fraction * den) for fraction in fractions]
+        num = covering(den, rounded, shape, limits)
+        if max(num, default=0) <= MOST:
+            duals.append(Dual(den, num))
+    return min(duals, key=lambda dual: (dual.value(limits), dual.den)) if duals else None
+
+
+class Task:
+    """A task's program, with the dual that it has so far. One without columns has its dual from the start."""
+
+    def __init__(self, s, protocol, i, solvers):
+        self.shape = Shape(s, protocol, i)
+        self.solve = solvers.solver_of(self.shape) if self.shape.costs else None
+        self.dual = None if self.solve else Dual(1, [])
+        self.solved = self.unsolved = 0
+
+    def is_within(self, limits, most):
+        """Whether the dual that it has so far is worth no more."""
+        return self.dual is not None and self.dual.value(limits) <= most
+
+    def improve(self, limits):
+        """Takes a new dual where it is worth less at these limits. Where the solver fails, one that covers is made from nothing."""
+        numbers = self.solve(limits)
+        self.solved += 1
+        self.unsolved += numbers is None
+        nothing = [0] * len(limits)
+        dual = best_dual(numbers or nothing, self.shape, limits) or best_dual(nothing, self.shape, limits)
+        if self.dual is None or dual.value(limits) < self.dual.value(limits):
+            self.dual = dual
+
+
+@dataclass(frozen=True)
+class Found:
+    """The bounds and duals of a certificate that nobody has checked yet, how many programs were solved, and how many couldn't be."""
+
+    bounds: list
+    duals: list
+    solved: int
+    unsolved: int
+
+
+def found_certificate(s, protocol, solvers, told=lambda solved: None):
+    """The bounds to which the values of rounded duals rise from the costs, with these duals, or NotShown."""
+    tasks = [Task(s, protocol, i, solvers) for i in range(s.n)]
+    bounds = list(s.cost)
+    is_rising = True
+    while is_rising:
+        is_rising = False
+        for i, task in enumerate(tasks):
+            limits = task.shape.limits(bounds)
+            other = s.cost[i] + s.interference(protocol, bounds, i)
+            # a dual covers at all bounds, so a new one is looked for only where the one so far isn't good enough
+            if task.solve and not task.is_within(limits, bounds[i] - other):
+                task.improve(limits)
+                told(sum(each.solved for each in tasks))
+            value = other + task.dual.value(limits)
+            if value > s.latest[i]:
+                raise NotShown(s.tasks[i]["name"], value, s.latest[i])
+            if value > bounds[i]:
+                bounds[i], is_rising = value, True
+    return Found(bounds, [task.dual for task in tasks], sum(task.solved for task in tasks), sum(task.unsolved for task in tasks))
+
+
+def certificate_text(protocol, found):
+    """The text of a certificate, in the form of docs/FORMATS.md."""
+    duals = [{"den": dual.den, "num": dual.num} for dual in found.duals]
+    written = {"bounds": found.bounds, "duals": duals, "protocol": protocol, "verdict": "schedulable", "version": 1}
+    return json.dumps(written, separators=(",", ":")) + "\n"

@@ -1,0 +1,155 @@
+"""A stretch of a schedule as a picture inside a page: a lane for each processor. What it looks like stands in dossier.css."""
+from dataclasses import dataclass
+
+import schedule
+from drawing import COLOURS
+from pages import element, escaped
+
+WIDTH = 760
+LANE = 34
+ARROW = 24
+BAR = 5
+LEFT = 40
+RIGHT = 12
+LETTER = 6.6
+STEPS = (1, 2, 5)
+
+
+@dataclass(frozen=True)
+class Stretch:
+    """From a tick up to another."""
+
+    start: int
+    end: int
+
+    def has(self, box):
+        """Whether a box lies in it, at least in part."""
+        return box.start < self.end and self.start < box.end
+
+    def place(self, tick):
+        """Where a tick stands in the picture, from the left; what lies outside stands at the edge."""
+        inside = min(max(tick, self.start), self.end) - self.start
+        return LEFT + inside * (WIDTH - LEFT - RIGHT) / (self.end - self.start)
+
+
+def colour_of(task):
+    """The colour of a task, which the drawing tools give it too."""
+    return COLOURS[task.place % len(COLOURS)]
+
+
+def nearest(picture, bounds):
+    """The finished job that came nearest to its task's bound, or None where none finished."""
+    taken = {id(box.job): box for box in sorted(picture.executed, key=lambda box: box.end)}
+    ended = [(box.end - box.job.release, box.job) for box in taken.values() if box.job.is_finished()]
+    return max(ended, key=lambda pair: (pair[0] / bounds[pair[1].task.place], -pair[1].release), default=(0, None))[1]
+
+
+def hatches(resources):
+    """A pattern for each resource."""
+    made = []
+    for place, name in enumerate(resources):
+        lines = element("path", d="M0 0V8" if place // 4 % 2 == 0 else "M0 0V8M0 0H8", class_="hatch")
+        turn = f"rotate({45 * (place % 4) + 15 * (place // 8)})"
+        size = {"width": 5 + place // 4, "height": 8, "patternUnits": "userSpaceOnUse", "patternTransform": turn}
+        made.append(element("pattern", lines, id=f"hatch-{place}", **size))
+    return element("defs", "".join(made))
+
+
+class Lanes:
+    """Where the lane of each processor lies: its base, and its bars below, one for each task there."""
+
+    def __init__(self, picture):
+        self.bases, self.bars, top = {}, {}, 0
+        for k in range(1, picture.set["processors"] + 1):
+            here = [task for task in picture.tasks if task.processor == k]
+            self.bases[k] = top + ARROW + LANE
+            self.bars.update({task.place: self.bases[k] + 4 + BAR * number for number, task in enumerate(here)})
+            top = self.bases[k] + BAR * len(here) + 10
+        self.height = top
+
+
+def executed(box, stretch, lanes, resources):
+    """The box of a job that executes: filled by its task, and hatched by its resource."""
+    left, right = stretch.place(box.start), stretch.place(box.end)
+    top, name = lanes.bases[box.processor] - LANE + 8, box.job.task.name
+    shape = {"x": f"{left:.2f}", "y": top, "width": f"{max(right - left, 0.5):.2f}", "height": LANE - 8}
+    where = f" in a request of {box.resource}" if box.resource else ""
+    words = element("title", escaped(f"{name}{where}, ticks {box.start} to {box.end}"))
+    drawn = element("rect", words, fill=colour_of(box.job.task), class_="box", **shape)
+    if box.resource:
+        drawn += element("rect", fill=f"url(#hatch-{resources.index(box.resource)})", class_="over", **shape)
+    if right - left >= LETTER * len(name) + 6:
+        drawn += element("text", escaped(name), x=f"{(left + right) / 2:.2f}", y=top + 17, class_="within")
+    return drawn
+
+
+def blocked(box, stretch, lanes):
+    """The thin bar of a job that is blocked, below the lane of its processor."""
+    left, right = stretch.place(box.start), stretch.place(box.end)
+    shape = {"x": f"{left:.2f}", "y": lanes.bars[box.job.task.place], "width": f"{max(right - left, 0.5):.2f}", "height": BAR - 1}
+    words = element("title", escaped(f"{box.job.task.name} is blocked, ticks {box.start} to {box.end}"))
+    return element("rect", words, fill=colour_of(box.job.task), **shape)
+
+
+def arrow(x, low, kind, tick, task):
+    """An arrow at a place: a release points upwards, an arrival too with a dotted line, and a deadline downwards."""
+    high = low - LANE - ARROW + 10
+    tip, foot, turn = (low - LANE + 6, high, -6) if kind == "deadline" else (high, low, 6)
+    path = f"M{x:.2f} {foot}V{tip}M{x - 3.5:.2f} {tip + turn}L{x:.2f} {tip}L{x + 3.5:.2f} {tip + turn}"
+    words = element("title", escaped(f"{kind} of a job of {task.name}, tick {tick}"))
+    return element("path", words, d=path, stroke=colour_of(task), class_=f"arrow {kind}")
+
+
+def arrows(picture, stretch, lanes):
+    """The marks of the stretch, side by side where several come at one tick of a lane."""
+    drawn, counts = [], {}
+    for kind, tick, task in sorted(schedule.marks_of(picture), key=lambda mark: (mark[0], mark[2].place)):
+        if stretch.start <= tick <= stretch.end:
+            beside = counts[task.processor, tick] = counts.get((task.processor, tick), -1) + 1
+            drawn.append(arrow(stretch.place(tick) + 6 * beside, lanes.bases[task.processor], kind, tick, task))
+    return "".join(drawn)
+
+
+def axis(stretch, lanes):
+    """The lines of the lanes, and the ticks below them."""
+    least = (stretch.end - stretch.start) / 9
+    power = 10 ** (len(str(int(least))) - 1)
+    step = next(step * power for step in (*STEPS, 10) if step * power >= least)
+    drawn = []
+    for tick in range(-(-stretch.start // step) * step, stretch.end + 1, step):
+        x = f"{stretch.place(tick):.2f}"
+        drawn.append(element("path", d=f"M{x} 0V{lanes.height}", class_="grid"))
+        drawn.append(element("text", str(tick), x=x, y=lanes.height + 13, class_="tick"))
+    for k, base in lanes.bases.items():
+        drawn.append(element("path", d=f"M{LEFT} {base}H{WIDTH - RIGHT}", class_="base"))
+        drawn.append(element("text", f"P{k}", x=LEFT - 8, y=base - LANE / 2 + 8, class_="name"))
+    return "".join(drawn)
+
+
+def legend(picture, resources, top):
+    """The colours of tasks and the hatches of resources, in lines as long as the picture."""
+    looks = [(colour_of(task), None, task.name) for task in picture.tasks]
+    looks += [("none", f"url(#hatch-{place})", f"in {name}") for place, name in enumerate(resources)]
+    drawn, x = [], LEFT
+    for fill, over, words in looks:
+        wide = 17 + 7.4 * len(words) + 14
+        if x + wide > WIDTH:
+            x, top = LEFT, top + 18
+        shape = {"x": f"{x:.2f}", "y": top, "width": 12, "height": 12}
+        drawn.append(element("rect", fill=fill, class_="box", **shape) + (element("rect", fill=over, **shape) if over else ""))
+        drawn.append(element("text", escaped(words), x=f"{x + 17:.2f}", y=top + 10, class_="key"))
+        x += wide
+    return "".join(drawn), top + 18
+
+
+def picture_of(picture, stretch, words):
+    """The stretch of a schedule; `words` say what the picture shows to who can't see it."""
+    resources = [resource["name"] for resource in picture.set.get("resources", [])]
+    lanes = Lanes(picture)
+    drawn = [hatches(resources), axis(stretch, lanes)]
+    drawn += [executed(box, stretch, lanes, resources) for box in picture.executed if stretch.has(box)]
+    drawn += [blocked(box, stretch, lanes) for box in picture.blocked if stretch.has(box)]
+    drawn.append(arrows(picture, stretch, lanes))
+    keys, height = legend(picture, resources, lanes.height + 24)
+    box = {"viewBox": f"0 0 {WIDTH} {height}", "role": "img", "aria_label": words, "class_": "lanes"}
+    return element("svg", "".join(drawn) + keys, **box)
