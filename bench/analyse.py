@@ -8,7 +8,7 @@ floating point and with --exact; a word is printed where it is missing. It takes
 each call of `glpsol` the time of the same call with --check, which starts, reads the file and solves nothing, is told apart.
 Times are those of processes, the least of a few calls; of the program's own the time of a call that answers `refused words` is told
 apart in the same way. Sets: examples/plant.json, and two sets each of 8, 16, 32 and 64 tasks, or of as many as SIZE says, with
-resources, made from SEED (1 where none is given), each under the three protocols. Units are the least allowance with which the answer
+resources, made from SEED (1 where none is given), each under each protocol. Units are the least allowance with which the answer
 is the same; where an analysis takes more than a tenth of a second they aren't looked for. The program is the one that ./block builds.
 It is no test: no gate runs it, and it bounds nothing.
 """
@@ -23,7 +23,8 @@ from pathlib import Path
 TOP = Path(__file__).resolve().parent.parent
 sys.path.insert(0, str(TOP / "tools"))
 
-from blocking_programs import PROTOCOLS, TaskSet, as_lp, program_of  # noqa: E402
+from block_calls import PROTOCOLS  # noqa: E402
+from blocking_programs import TaskSet, as_lp, program_of  # noqa: E402
 from generated_sets import generated, seeded  # noqa: E402
 
 PROGRAM = TOP / "crates" / "block_cli" / "out" / "block_cli"

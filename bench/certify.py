@@ -4,7 +4,7 @@
     python3 bench/certify.py [--seed N] [--sets N] [--longest TICKS] [--exact] [--program FILE] [SIZE..]
 
 The sets have 8, 16 and 32 tasks, or as many as SIZE says, and lengths that are primes up to a million ticks, or up to TICKS; the costs
-don't hold all requests at once, so that the rows of time are met with equality. Each is tried under the three protocols. A line for
+don't hold all requests at once, so that the rows of time are met with equality. Each is tried under each protocol. A line for
 each size and protocol says how many of the analyses were wide, or wanted more than their allowance, and how many of these got a
 certificate that `block check` accepts; how many were schedulable, how many of these got one, and how much its bounds are above the
 least ones: how many certificates have the least bounds, and the greatest ratio of a bound to the least; and the seconds that the one
@@ -21,8 +21,8 @@ from pathlib import Path
 TOP = Path(__file__).resolve().parent.parent
 sys.path.insert(0, str(TOP / "tools"))
 
-from block_calls import ALLOWANCE, BUILT, DONE, WIDE, Block, Stop, folder_of_calls, run_tool  # noqa: E402
-from blocking_programs import PROTOCOLS, TaskSet  # noqa: E402
+from block_calls import ALLOWANCE, BUILT, DONE, PROTOCOLS, WIDE, Block, Stop, folder_of_calls, run_tool  # noqa: E402
+from blocking_programs import TaskSet  # noqa: E402
 from certificates import NotShown, certificate_text, found_certificate  # noqa: E402
 from dual_solvers import Exact, Floats  # noqa: E402
 from generated_sets import generated_long, seeded  # noqa: E402
@@ -47,7 +47,7 @@ def certificate_of(block, path, parts, solvers):
         found = found_certificate(TaskSet(parts), block.protocol, solvers)
     except NotShown:
         return None
-    answer = block.answer("check", path, block.file(certificate_text(block.protocol, found)))
+    answer = block.answer("check", path, block.file(certificate_text(block.protocol, found, path.read_bytes())))
     if answer.status != DONE:
         raise Stop(f"check answers {answer.line()} to a certificate that was found", answer.status)
     return found.bounds

@@ -25,7 +25,9 @@ from pathlib import Path
 
 TOP = Path(__file__).resolve().parent.parent
 EXAMPLES = TOP / "examples"
-PROTOCOLS = ("mpcp", "fmlp+", "dpcp")
+PROTOCOLS = ("mpcp", "fmlp+", "dpcp", "dflp", "dpcp-w", "spin")
+# those that ask for the home of each resource
+AT_HOMES = ("dpcp", "dflp", "dpcp-w")
 # of a set: its jobs, how many ticks are simulated, and its rows, where they aren't those that the program makes
 SCHEDULES = {"pair.json": ("pair-jobs.csv", 50, "pair-rows.csv"), "plant.json": ("plant-jobs.csv", 100000, None)}
 
@@ -42,15 +44,16 @@ CERT_REASON = rb"(absent|toolong|notjson|shape (root|bounds|dual [0-9]+)|version
 LINE_REASON = rb"(absent|toolong( [0-9]+)?|(fields|number|unknownname|script|overbudget|tooclose|toomany|unknownjob) [0-9]+)"
 ANSWERS = {
     0: {
-        "analyse": rb'\{"bounds":\[[0-9,]+\],"duals":\[.*\],"protocol":"(mpcp|fmlp\+|dpcp)","verdict":"schedulable","version":1\}\n',
+        "analyse": rb'\{"bounds":\[[0-9,]+\],"duals":\[.*\],"protocol":"(mpcp|fmlp\+|dpcp|dflp|dpcp-w|spin)","set":"[0-9a-f]{64}","verdict":"schedulable","version":2\}\n',
         "report": rb"task {28}cpu .*\n(.*\n)+(load [0-9]+ [0-9]+\n)+",
         "check": rb"valid\n",
+        "upgrade": rb'\{"bounds":\[[0-9,]+\],"duals":\[.*\],"protocol":"(mpcp|fmlp\+|dpcp|dflp|dpcp-w|spin)","set":"[0-9a-f]{64}","verdict":"schedulable","version":2\}\n',
         "conform": rb"lawful [0-9]+\n(%s [0-9]+ ([0-9]+|-) [0-9]+\n)+" % NAME,
         "simulate": rb"ticks(,[A-Za-z0-9_.-]+)+\n([0-9]+(,[0-9]*)+\n)+",
         "audit": rb"kept [0-9]+\n(%s ([0-9]+|-)( [0-9]+){6}\n)+" % NAME,
         "study": rb"step mpcp fmlp\+ dpcp\n([1-8]( [0-9]+){3}\n){8}stopped [0-9]+\n",
     },
-    1: rb"(not shown %s [0-9]+ [0-9]+|invalid (size|(bound|dualsize|small) %s|cover %s [0-9]+)|broken [0-9]+ (run|keep|grant|idle|priority))\n" % (NAME, NAME, NAME),
+    1: rb"(not shown %s [0-9]+ [0-9]+|invalid (otherset|size|(bound|dualsize|small) %s|cover %s [0-9]+)|broken [0-9]+ (run|keep|grant|idle|priority))\n" % (NAME, NAME, NAME),
     2: rb"refused words\n",
     3: rb"refused (set %s|cert %s|(jobs|rows) %s)\n" % (SET_REASON, CERT_REASON, LINE_REASON),
     5: rb"wide %s\n" % NAME,
@@ -88,13 +91,15 @@ def base_commands(program, folder):
     for protocol in PROTOCOLS:
         for name in ("pair.json", "plant.json", "shared.json", "three.json", "overloaded.json"):
             text = example(name)
-            if protocol == "dpcp" and b"home" not in text and b"resources" in text:
+            if protocol in AT_HOMES and b"home" not in text and b"resources" in text:
                 continue
             analyse = Command(f"analyse {protocol} set", {"set": text})
             found += [analyse, Command(f"analyse {protocol} set 1000", {"set": text}), Command(f"report {protocol} set", {"set": text})]
             status, certificate, _ = analyse.run(program, folder, analyse.files, analyse.words, 600)
             if status == 0:
                 found += [Command(f"{word} {protocol} set cert", {"set": text, "cert": certificate}) for word in ("check", "report")]
+                old = re.sub(rb'"set":"[0-9a-f]{64}",', b"", certificate).replace(b'"version":2', b'"version":1')
+                found.append(Command(f"upgrade {protocol} set old", {"set": text, "old": old}))
             if name in SCHEDULES:
                 found += over_schedules(program, folder, protocol, {"set": text, "cert": certificate}, *SCHEDULES[name])
     return found

@@ -1,10 +1,13 @@
 #!/usr/bin/env python3
-"""Prints which definitions one has to read to understand some, file by file, with their lines; blank lines and imports don't count.
+"""Prints which definitions one has to read to understand some, file by file, with their lines of code; comments, blank lines and
+imports don't count.
 
-    bench/reading.py [CRATE/PAGE:NAME[,NAME..] ..] [--without CRATE/PAGE:NAME[,NAME..] ..]
+    bench/reading.py [--table] [CRATE/PAGE:NAME[,NAME..] ..] [--without CRATE/PAGE:NAME[,NAME..] ..]
 
-A page is a file of a crate's specs/ without its ending. A definition is the block of lines that it stands in, with its comment.
-Without words it prints both halves of the headline: what `check` promises of schedules, and what `analyse` adds to it.
+A page is a file of a crate's specs/ without its ending. A definition is the block of lines that it stands in. What a definition cites
+of the code, a constant, an enum or a struct, counts too, with the lines of its declaration. Without words it prints what the clause of
+`run` rests on: first what it says of bounds alone, then what the headline adds, and then what is beyond it. With --table it prints
+these as tables of Markdown, as they stand in docs/PROOFS.md.
 """
 import os
 import re
@@ -12,12 +15,20 @@ import sys
 
 ROOT = os.path.join(os.path.dirname(os.path.abspath(__file__)), "..", "crates")
 IMPORT = re.compile(r"^use Rattle\.(\w+)\.specs\.([\w.]+?)(?:\.\{([^}]*)\})?(?: as (\w+))?[ \t]*$", re.M)
+DECLARED = re.compile(r"^use Rattle\.(\w+)\.specs\.declared\.([\w.]+?)(?:\.\{([^}]*)\})?(?: as (\w+))?[ \t]*$", re.M)
 DEFINED = re.compile(r"(?:abbrev |unfoldable |opaque )?(?:pub )?(?:record |data )?([^\s:(){}]+)\s*[:({]")
 CONSTRUCTOR = re.compile(r"  ([A-Z]\w*) :")
 NAME = re.compile(r"[A-Za-z_][\w-]*(?:\.[A-Za-z_][\w-]*)?")
+ITEM = re.compile(r"pub (?:const|enum|struct) (\w+)")
 
-CHECKED = ["soundness_laws/Sound:Sound", "dual_check/Soundness:SoundUnder", "sporadic_model/Accepted:IsAccepted"]
-ANALYSED = ["run_plans/Headline:IsHeadline,Analyses"]
+BOUNDS = ["run_plans/Bounding:IsBounding"]
+HEADLINE = ["run_plans/Headline:IsProvedAnalysis,IsProvedCheck"]
+BEYOND = ["run_plans/Headline:IsHeadline,Analyses", "run_plans/Checked:ChecksWhatWasWritten,FindsValid,ChecksForAnotherSet,FindsOtherSet"]
+LISTS = (
+    ("`bounding`, the bounds alone", BOUNDS),
+    ("`analysed` and `checked`, the headline", HEADLINE),
+    ("`headline` and the laws of two calls", BEYOND),
+)
 
 
 def place_of(crate, parts):
@@ -36,6 +47,45 @@ def file_of(page):
     return os.path.join(ROOT, crate, "specs", rest + ".antt")
 
 
+def named(names):
+    """The names of an import, each with the name that it has in the file."""
+    for name in names.split(","):
+        first, _, local = name.strip().partition(" as ")
+        yield first, local or first
+
+
+def source_of(crate, parts):
+    """The page of code that `declared` names: a crate's root, or one of its modules."""
+    for module in ("/".join(parts), "lib"):
+        if module and os.path.exists(os.path.join(ROOT, crate, "src", module + ".rt")):
+            return f"{crate}/src/{module}.rt"
+    return None
+
+
+class Code:
+    """A file of code: the lines of the declaration of each constant, enum and struct."""
+
+    pages = {}
+
+    def __init__(self, page):
+        with open(os.path.join(ROOT, page), encoding="utf-8") as file:
+            lines = file.read().split("\n")
+        self.lines_of = {}
+        for number, line in enumerate(lines):
+            found = ITEM.match(line)
+            if found:
+                end = number
+                while not lines[end].endswith((";", "}")) or (lines[number].endswith("{") and lines[end] != "}"):
+                    end += 1
+                self.lines_of[found.group(1)] = [line for line in lines[number:end + 1] if not line.lstrip().startswith("//")]
+
+    @classmethod
+    def at(cls, page):
+        if page not in cls.pages:
+            cls.pages[page] = cls(page)
+        return cls.pages[page]
+
+
 class Page:
     """A file of definitions: its blocks, the block of each name, and where each imported name stands."""
 
@@ -44,17 +94,31 @@ class Page:
     def __init__(self, page):
         with open(file_of(page), encoding="utf-8") as file:
             text = file.read()
-        self.imported, self.aliases, self.block_of = {}, {}, {}
+        self.imported, self.aliases, self.block_of, self.declared = {}, {}, {}, {}
         for crate, place, names, alias in IMPORT.findall(text):
             target = place_of(crate, place.split("."))
             if target and names:
-                self.imported.update({name.strip(): target for name in names.split(",")})
+                self.imported.update({local: (target, name) for name, local in named(names)})
             elif target and alias:
                 self.aliases[alias] = target
+        for crate, place, names, alias in DECLARED.findall(text):
+            self.declare(crate, place.split("."), names, alias)
         body = re.sub(r"^use [^\n]*\n", "", text, flags=re.M)
         self.blocks = [block.strip("\n").split("\n") for block in re.split(r"\n\s*\n", body) if block.strip()]
         for number, block in enumerate(self.blocks):
             self.take(number, block)
+
+    def declare(self, crate, parts, names, alias):
+        """What an import names of a crate's code: constants, a type by its name, or the variants of one."""
+        if not os.path.isdir(os.path.join(ROOT, crate)):
+            return
+        if parts[-1] == "TheConstants":
+            page = source_of(crate, parts[:-1])
+            self.declared.update({local: (page, name) for name, local in named(names or "")})
+        else:
+            kind = parts[-2] if parts[-1] == "TheVariants" else parts[-1]
+            page = source_of(crate, parts[:parts.index(kind)])
+            self.declared.update({local: (page, kind) for _, local in named(names or alias or "")})
 
     def take(self, number, block):
         for line in block:
@@ -68,27 +132,35 @@ class Page:
             cls.pages[page] = cls(page)
         return cls.pages[page]
 
+    def code(self, number):
+        """The lines of a block without its comments."""
+        return [line for line in self.blocks[number] if not line.lstrip().startswith("--")]
+
     def cited(self, number):
-        """The definitions that a block cites: a page and a name each."""
-        code = "\n".join(line for line in self.blocks[number] if not line.lstrip().startswith("--"))
-        for word in set(NAME.findall(code)):
+        """What a block cites: a page and a name each. A page of code is one with an ending."""
+        for word in set(NAME.findall("\n".join(self.code(number)))):
             first, _, second = word.partition(".")
             if first in self.aliases and second:
                 yield self.aliases[first], second
             elif first in self.imported:
-                yield self.imported[first], first
+                yield self.imported[first]
+            elif first in self.declared:
+                yield self.declared[first]
             elif first in self.block_of:
                 yield None, first
 
 
 def read_from(starts):
-    """All blocks that one has to read from these definitions on."""
+    """All that one has to read from these definitions on: blocks of pages, and names of pages of code."""
     seen, waiting = set(), []
     for start in starts:
         page, _, names = start.partition(":")
         waiting += [(page, name) for name in names.split(",")]
     while waiting:
         page, name = waiting.pop()
+        if page.endswith(".rt"):
+            seen |= {(page, name)} if name in Code.at(page).lines_of else set()
+            continue
         number = Page.at(page).block_of.get(name)
         if number is None or (page, number) in seen:
             continue
@@ -97,27 +169,53 @@ def read_from(starts):
     return seen
 
 
-def show(title, blocks):
-    total = 0
-    print(title)
+def listed(blocks):
+    """Each page with its number of lines and what is read there."""
     for page in sorted({page for page, _ in blocks}):
-        numbers = {number for other, number in blocks if other == page}
-        lines = sum(len(Page.at(page).blocks[number]) for number in numbers)
-        names = [name for name, number in Page.at(page).block_of.items() if number in numbers]
-        total += lines
-        crate, _, rest = page.partition("/")
-        print(f"  {lines:4} {crate}/specs/{rest}.antt: {', '.join(names)}")
-    print(f"  {total:4} lines")
+        here = {place for other, place in blocks if other == page}
+        if page.endswith(".rt"):
+            yield page, sum(len(Code.at(page).lines_of[name]) for name in here), sorted(here)
+        else:
+            crate, _, rest = page.partition("/")
+            names = [name for name, number in Page.at(page).block_of.items() if number in here]
+            yield f"{crate}/specs/{rest}.antt", sum(len(Page.at(page).code(number)) for number in here), names
+
+
+def lines_of(blocks):
+    return sum(lines for _, lines, _ in listed(blocks))
+
+
+def show(title, blocks):
+    print(title)
+    for page, lines, names in listed(blocks):
+        print(f"  {lines:4} {page}: {', '.join(names)}")
+    print(f"  {lines_of(blocks):4} lines")
+
+
+def table(title, blocks):
+    """The same as a table of Markdown, a row for each crate."""
+    print(f"{title}\n")
+    print("| Crate | Lines | Pages |\n|---|--:|---|")
+    crates = {}
+    for page, lines, _ in listed(blocks):
+        crates.setdefault(page.partition("/")[0], []).append((page.partition("/")[2], lines))
+    for crate, pages in sorted(crates.items()):
+        print(f"| `{crate}` | {sum(lines for _, lines in pages)} | {', '.join(f'`{page}` {lines}' for page, lines in pages)} |")
+    print()
 
 
 def main(words):
+    tell = table if "--table" in words else show
+    words = [word for word in words if word != "--table"]
     if not words:
-        first = read_from(CHECKED)
-        show("What `check` promises of every schedule:", first)
-        show("What `analyse` adds:", read_from(ANALYSED) - first)
+        known = set()
+        for title, starts in LISTS:
+            read = read_from(starts)
+            tell(f"{title}: {lines_of(read)} lines of code" + (f", {lines_of(read - known)} of them not listed above." if known else "."), read - known)
+            known |= read
         return
     cut = words.index("--without") if "--without" in words else len(words)
-    show("To read:", read_from(words[:cut]) - read_from(words[cut + 1:]))
+    tell("To read:", read_from(words[:cut]) - read_from(words[cut + 1:]))
 
 
 main(sys.argv[1:])

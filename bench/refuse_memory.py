@@ -24,6 +24,7 @@ from commands import run
 
 TOP = Path(__file__).resolve().parent.parent
 BUILT = TOP / "crates" / "block_cli" / "out" / "block_cli"
+PROTOCOLS = ("mpcp", "fmlp+", "dpcp", "dflp", "dpcp-w", "spin")
 EXAMPLES = TOP / "examples"
 
 REFUSER = r"""
@@ -124,9 +125,9 @@ def commands_of(program, folder):
     ran = subprocess.run([program, "analyse", "fmlp+", pair], capture_output=True)
     certificate.write_bytes(ran.stdout)
     plant = str(EXAMPLES / "plant.json")
-    every = [["analyse", protocol, plant] for protocol in ("mpcp", "fmlp+", "dpcp")]
+    every = [["analyse", protocol, plant] for protocol in PROTOCOLS]
     every += [["report", "fmlp+", plant], ["analyse", "mpcp", str(EXAMPLES / "overloaded.json")], ["analyse", "fmlp+", str(EXAMPLES / "none.json")], ["--help"]]
-    every += [["conform", protocol, pair, jobs, rows] for protocol in ("mpcp", "fmlp+", "dpcp")]
+    every += [["conform", protocol, pair, jobs, rows] for protocol in PROTOCOLS]
     every += [["check", "fmlp+", pair, str(certificate)], ["report", "fmlp+", pair, str(certificate)]]
     every += [["audit", "fmlp+", pair, str(certificate), jobs, rows], ["simulate", "fmlp+", pair, jobs, "50"], ["study", "0", "1"]]
     for words in every:

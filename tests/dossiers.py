@@ -14,6 +14,7 @@ from tool_runs import EXAMPLES, TOP, done, helped, refused, run
 TOOL = "dossier.py"
 PLANT = [EXAMPLES / "plant.json", EXAMPLES / "plant-certificate.json"]
 PAIR = [EXAMPLES / name for name in ("pair.json", "pair-jobs.csv", "pair-rows.csv")]
+SPIN = [EXAMPLES / name for name in ("spin.json", "spin-jobs.csv", "spin-rows.csv")]
 JITTER = [EXAMPLES / name for name in ("jitter.json", "jitter-jobs.csv", "jitter-rows.csv")]
 PARTS = ["Task", "Deadline", "Jitter", "Bound", "Slack", "Cost", "Blocking", "Interference", "Raised"]
 INTERFERENCE = ["Task", "Delayed by", "Jobs, at most", "Ticks of each", "Ticks"]
@@ -77,7 +78,7 @@ def page_faults(text, files):
             yield f"the digest of {file.name} is missing"
         if base64.b64decode(page.links[file.name].partition("base64,")[2]) != file.read_bytes():
             yield f"the page carries another {file.name}"
-    wanted = ["check ", "valid\nstatus 0", "sha256sum", proof_words(), "Premises.", "The toolchain and its logic, the C library", "What is left to you", "prefers-color-scheme", "@media print"]
+    wanted = ["check ", "valid\nstatus 0", "sha256sum", proof_words(), "Premises", "A job's window lies within a schedule", "That no two sets have one digest is not claimed", "The toolchain and its logic, the C library", "What is left to you", "prefers-color-scheme", "@media print"]
     yield from (f"the page has no {word!r}" for word in wanted if word not in words)
 
 
@@ -110,17 +111,20 @@ def of_plant(folder, program):
     by = [["t5", "t1", "2", "1000", "2000"], ["t6", "t2", "1", "3000", "3000"], ["t7", "t3", "2", "4000", "8000"], ["t8", "t4", "3", "6000", "18000"]]
     shown = ["Response times under FMLP+", "plant.json", "interference by t4: 3 jobs of 6000 ticks", "slack 39330, 78.7 %"]
     yield dossier(["fmlp+", *PLANT], folder, program, PLANT, [(PARTS, parts), (INTERFERENCE, by)], shown)
-    distributed = [PLANT[0], written(folder, "dpcp", program, "analyse", "dpcp", PLANT[0])]
-    yield dossier(["dpcp", *distributed], folder, program, distributed, [(INTERFERENCE, [["t5", "t1", "1", "1000", "1000"]])], ["each for its local limit"])
+    for protocol in ("dpcp", "dflp", "dpcp-w"):
+        distributed = [PLANT[0], written(folder, protocol, program, "analyse", protocol, PLANT[0])]
+        by = [["t5", "t1", "1", "1000", "1000"]]
+        yield dossier([protocol, *distributed], folder, program, distributed, [(INTERFERENCE, by)], ["each for its local limit"])
     title = 'a <plant> & "more"'
     yield dossier(["fmlp+", *PLANT, "--title", title], folder, program, PLANT, [], [title])
 
 
-def certificate(folder, name, bounds, rows=0):
-    """A certificate for FMLP+ of tasks that request nothing, or of what `analyse` says."""
+def certificate(folder, name, of, bounds, rows=0):
+    """A certificate for FMLP+ of the set of a file, whose tasks request nothing, or of what `analyse` says."""
     dual = {"den": 1, "num": [0] * rows}
     path = Path(folder) / name
-    path.write_text(json.dumps({"version": 1, "protocol": "fmlp+", "verdict": "schedulable", "bounds": bounds, "duals": [dual] * len(bounds)}))
+    digest = hashlib.sha256(Path(of).read_bytes()).hexdigest()
+    path.write_text(json.dumps({"version": 2, "protocol": "fmlp+", "set": digest, "verdict": "schedulable", "bounds": bounds, "duals": [dual] * len(bounds)}))
     return path
 
 
@@ -133,11 +137,11 @@ def written(folder, name, program, *words):
 
 def of_bounds(folder, program):
     """A bound that was raised, and jitter."""
-    three = [EXAMPLES / "three.json", certificate(folder, "three", [2, 3, 10])]
+    three = [EXAMPLES / "three.json", certificate(folder, "three", EXAMPLES / "three.json", [2, 3, 10])]
     parts = [["sample", "4", "0", "2", "2", "1", "0", "0", "1"], ["log", "20", "0", "10", "10", "3", "0", "7", "0"]]
     by = [["control", "sample", "1", "1", "1"], ["log", "sample", "3", "1", "3"], ["log", "control", "2", "2", "4"]]
     yield dossier(["fmlp+", *three], folder, program, three, [(PARTS, parts), (INTERFERENCE, by)], ["raised by 1"])
-    late = [JITTER[0], certificate(folder, "late", [2, 9])]
+    late = [JITTER[0], certificate(folder, "late", JITTER[0], [2, 9])]
     parts = [["receive", "10", "4", "2", "4", "2", "0", "0", "0"], ["display", "20", "0", "9", "11", "5", "0", "4", "0"]]
     yield dossier(["fmlp+", *late], folder, program, late, [(PARTS, parts), (INTERFERENCE, [["display", "receive", "2", "2", "4"]])], ["jitter 4"])
     recorded = [*late, *JITTER[1:]]
@@ -151,6 +155,10 @@ def of_recordings(folder, program):
     audited = [["control", "5", "5", "100.0 %", "2", "2", "2", "0", "0"], ["sense", "4", "5", "80.0 %", "0", "1", "0", "0", "0"]]
     shown = ["control, ticks 0 to 1", "sense in a request of bus, ticks 1 to 3", "control is blocked, ticks 1 to 3", "The whole recording, 5 ticks", "kept 5"]
     yield dossier(["fmlp+", *pair], folder, program, pair, [(AUDIT, audited), (INTERFERENCE, [])], shown)
+    spun = [SPIN[0], written(folder, "spin", program, "analyse", "spin", SPIN[0]), *SPIN[1:]]
+    audited = [["guard", "6", "7", "85.7 %", "4", "5", "0", "2", "2"], ["send", "9", "11", "81.8 %", "3", "3", "3", "0", "0"]]
+    shown = ["Response times under spin locks", "send spins for bus, ticks 1 to 4", "guard is blocked, ticks 2 to 6", "a low dashed box that it spins", "each for its cost"]
+    yield dossier(["spin", *spun], folder, program, spun, [(AUDIT, audited), (INTERFERENCE, [["send", "guard", "2", "2", "4"]])], shown)
     # of the jobs of sense all but the first wait for the bus
     jobs = Path(folder) / "many"
     lines = [f"{task},{10 * k},{script}" for k in range(40) for task, script in (("control", "1 bus:1 1"), ("sense", "1 bus:2 1")) if k or task == "sense"]
@@ -164,7 +172,7 @@ def of_refusals(folder, program):
     """Nothing is written where the program doesn't accept what it is given."""
     out = Path(folder) / "out.html"
     words = ["fmlp+", PAIR[0], "pair", *PAIR[1:], "--output", out]
-    said = f"block check fmlp+ {PAIR[0]} {PLANT[1]} answers invalid size, so nothing is written"
+    said = f"block check fmlp+ {PAIR[0]} {PLANT[1]} answers invalid otherset, so nothing is written"
     yield refused(TOOL, ["fmlp+", PAIR[0], PLANT[1], "--output", out], folder, program, [said], status=1)
     said = f"block check dpcp {PAIR[0]} pair answers refused cert otherprotocol, so nothing is written"
     yield refused(TOOL, ["dpcp", *words[1:]], folder, program, [said])

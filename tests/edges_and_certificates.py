@@ -235,7 +235,7 @@ def certify_problems(tools):
         late = tools.file("late", json.dumps(LATE))
         yield certified(tools, python, "mpcp", "examples/wide.json", [24617120, 26689594, 26689594])
         yield certified(tools, python, "fmlp+", "examples/jitter.json", [2, 9])
-        for protocol in ("mpcp", "fmlp+", "dpcp"):
+        for protocol in ("mpcp", "fmlp+", "dpcp", "dflp", "dpcp-w", "spin"):
             yield certified(tools, python, protocol, late, least_bounds(tools, protocol, late))
         yield certified(tools, python, "fmlp+", "examples/plant.json", least_bounds(tools, "fmlp+", "examples/plant.json"))
         said = "certify.py: no certificate was found: not shown control 5 4\n"

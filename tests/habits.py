@@ -1,7 +1,8 @@
-"""./block --help, and the completion of words in bash."""
+"""./block --help, the completion of words in bash, and the reading list of the headline."""
 import re
 import shutil
 import subprocess
+import sys
 from pathlib import Path
 
 from tool_runs import TOP
@@ -10,7 +11,7 @@ COMPLETION = TOP / "tools" / "block-completion.bash"
 FILES = {"one.json": "json", "two.json": "json", "jobs.csv": "csv", "a text": ""}
 FOLDER = "sets"
 # What is offered for a word of a form that isn't the command's own name.
-OFFERED = {"PROTOCOL": ["dpcp", "fmlp+", "mpcp"], "SET": "json", "CERT": "json", "JOBS": "csv", "ROWS": "csv", "ALLOWANCE": "", "TICKS": "", "SEED": "", "SETS": ""}
+OFFERED = {"PROTOCOL": ["dflp", "dpcp", "dpcp-w", "fmlp+", "mpcp", "spin"], "SET": "json", "CERT": "json", "JOBS": "csv", "ROWS": "csv", "ALLOWANCE": "", "TICKS": "", "SEED": "", "SETS": ""}
 
 
 def helped(folder, words):
@@ -56,6 +57,13 @@ def form_problems(forms, folder):
                 yield f"at {word} of {' '.join(form)} bash is offered {found}"
 
 
+def reading_problem():
+    """docs/PROOFS.md is to hold the tables that bench/reading.py prints."""
+    printed = subprocess.run([sys.executable, TOP / "bench" / "reading.py", "--table"], capture_output=True, text=True).stdout.strip()
+    same = printed and printed in (TOP / "docs" / "PROOFS.md").read_text()
+    return None if same else "the tables of docs/PROOFS.md aren't those that bench/reading.py --table prints"
+
+
 def problems(folder):
     """What is wrong, or None, for each thing that is tried."""
     shown = [helped(folder, words) for words in (["--help"], ["-h"], ["--help", "analyse"])]
@@ -75,3 +83,4 @@ def problems(folder):
     registered = subprocess.run(["bash", "--norc", "-c", f'source "{COMPLETION}"; complete -p block block_cli'], capture_output=True, text=True)
     yield None if registered.returncode == 0 else f"the completion isn't registered: {registered.stderr}"
     yield from list(form_problems(forms, place)) or [None]
+    yield reading_problem()

@@ -31,6 +31,9 @@ HOMES = {
     "rows": "ticks,P1,P2,a\n1,1,2,\n2,,2,2\n1,,1,1\n1,1,2,\n2,,3,\n",
 }
 
+# a set, jobs and rows under spin locks: while one job spins, a higher one of its processor waits
+SPIN = [TOP / "examples" / name for name in ("spin.json", "spin-jobs.csv", "spin-rows.csv")]
+
 # who executes from when to when, where, and in which request; and who is blocked from when to when
 PAIR_BOXES = (
     [("control", 0, 1, 1, None), ("sense", 0, 1, 2, None), ("sense", 1, 3, 2, "bus"), ("control", 3, 4, 1, "bus"), ("sense", 3, 4, 2, None), ("control", 4, 5, 1, None)],
@@ -47,12 +50,19 @@ JITTER_BOXES = (
     [],
 )
 
+SPIN_BOXES = (
+    [("send", 0, 1, 1, None), ("log", 0, 1, 2, None), ("log", 1, 4, 2, "bus"), ("send", 4, 6, 1, "bus"), ("log", 4, 5, 2, None), ("guard", 6, 8, 1, None), ("send", 8, 9, 1, None)],
+    [("send", 1, 4), ("guard", 2, 6)],
+)
+SPUN = [("send", 1, 4, 1, "bus")]
+
 # of a job that is released late the arrival is marked too, and the deadline counts from it; what comes after the end isn't marked
 PAIR_MARKS = [("release", 0, "control"), ("release", 0, "sense")]
 JITTER_MARKS = [("arrival", 0, "receive"), ("release", 4, "receive"), ("deadline", 10, "receive"), ("release", 10, "receive"), ("release", 4, "display")]
 
 REFUSED = [
-    ("draw_schedule.py", [], "draw_schedule.py: the words are SET JOBS ROWS OUT.svg"),
+    ("draw_schedule.py", [], "draw_schedule.py: the words are SET JOBS ROWS OUT.svg, and --spin or nothing"),
+    ("draw_schedule.py", [*PAIR, "out.svg", "--spins"], "draw_schedule.py: the words are SET JOBS ROWS OUT.svg, and --spin or nothing"),
     ("draw_schedule.py", ["none", *PAIR[1:], "out.svg"], "draw_schedule.py: none can't be read: No such file or directory"),
     ("draw_schedule.py", [PAIR[1], *PAIR[1:], "out.svg"], None),
     ("draw_schedule.py", [PAIR[0], PAIR[2], PAIR[2], "out.svg"], f"draw_schedule.py: {PAIR[2]} doesn't begin with the line task,release,script or task,arrival,release,script"),
@@ -106,9 +116,12 @@ def problems(folder):
         paths[-1].write_text(text)
     (Path(folder) / "study").write_text(STUDY)
     (Path(folder) / "mixed").write_text("task,arrival,release,script\ncontrol,0,1\n")
-    for given, wanted in ((PAIR, PAIR_BOXES), (paths, HOMES_BOXES), (JITTER, JITTER_BOXES)):
+    for given, wanted in ((PAIR, PAIR_BOXES), (paths, HOMES_BOXES), (JITTER, JITTER_BOXES), (SPIN, SPIN_BOXES)):
         found = boxes_of(given)
         yield None if found == wanted else f"the boxes of {given[0].name} are {found}, and not {wanted}"
+    for spins, wanted in ((True, SPUN), (False, [])):
+        found = [(box.job.task.name, box.start, box.end, box.processor, box.resource) for box in schedule.picture_of(*SPIN, spins).spinning]
+        yield None if found == wanted else f"what spins is {found}, and not {wanted}"
     for given, wanted in ((PAIR, PAIR_MARKS), (JITTER, JITTER_MARKS)):
         found = marks_of(given)
         yield None if found == wanted else f"the marks of {given[0].name} are {found}, and not {wanted}"
@@ -119,6 +132,7 @@ def problems(folder):
     yield drawn(python, "draw_schedule.py", [*PAIR, "out.svg"], folder, ["control", "sense", "in bus", "blocked", "P2", "ticks"])
     yield drawn(python, "draw_schedule.py", [*paths, "out.svg"], folder, ["t3", "in a", "release", "deadline"])
     yield drawn(python, "draw_schedule.py", [*JITTER, "out.svg"], folder, ["receive", "arrival", "release", "deadline"])
+    yield drawn(python, "draw_schedule.py", [*SPIN, "out.svg", "--spin"], folder, ["guard", "in bus", "spins", "blocked"])
     yield drawn(python, "draw_study.py", ["study", "out.svg"], folder, ["mpcp", "fmlp+", "dpcp", "schedulable sets", "3 analyses ended without an answer"])
     yield drawn(python, "draw_study.py", ["study", "out.svg", "20"], folder, ["schedulable sets, %"])
     for tool in ("draw_schedule.py", "draw_study.py"):

@@ -12,7 +12,9 @@ from typing import NamedTuple
 
 TOP = Path(__file__).resolve().parent.parent
 BUILT = TOP / "crates" / "block_cli" / "out" / "block_cli"
-PROTOCOLS = ("mpcp", "fmlp+", "dpcp")
+PROTOCOLS = ("mpcp", "fmlp+", "dpcp", "dflp", "dpcp-w", "spin")
+# those under which a request runs on its resource's home, so that a job delays lower ones of its processor only outside of its requests
+AT_HOMES = ("dpcp", "dflp", "dpcp-w")
 
 # the program's own statuses, and one for what a tool lacks
 DONE, NOT_SHOWN, WRONG_WORDS, REFUSED, FAULT, WIDE, ALLOWANCE = range(7)
@@ -50,7 +52,7 @@ def run_tool(main):
 def words_of(description):
     """The words that these tools have in common."""
     words = argparse.ArgumentParser(description=description, formatter_class=argparse.RawDescriptionHelpFormatter)
-    words.add_argument("protocol", metavar="PROTOCOL", choices=PROTOCOLS, help="mpcp, fmlp+ or dpcp")
+    words.add_argument("protocol", metavar="PROTOCOL", choices=PROTOCOLS, help=f"{', '.join(PROTOCOLS[:-1])} or {PROTOCOLS[-1]}")
     words.add_argument("set", metavar="SET", help="the file of the task set")
     words.add_argument("--program", metavar="FILE", type=Path, default=BUILT, help="the executable, where it isn't the one that ./block builds")
     return words

@@ -3,7 +3,7 @@
 It shares nothing with the program that it is compared with. A blocking program is its columns' costs and its rows, each row a list of
 (column, coefficient) and a limit, in the order of that page.
 """
-PROTOCOLS = ("mpcp", "fmlp+", "dpcp")
+from block_calls import AT_HOMES
 
 
 class TaskSet:
@@ -39,14 +39,33 @@ class TaskSet:
 
     def jobs(self, bounds, i, x):
         """How many jobs of x run while one of i does, at most."""
-        return -(-(bounds[i] + bounds[x] + self.jitter[x]) // self.period[x])
+        return self.jobs_in(bounds[i], bounds, x)
+
+    def jobs_in(self, ticks, bounds, x):
+        """How many jobs of x run in so many ticks, at most."""
+        return -(-(ticks + bounds[x] + self.jitter[x]) // self.period[x])
+
+    def time_at(self, x, k):
+        """For how many ticks the requests of a job of x run on processor k, at most."""
+        return sum(n * self.length[x][q] for q, n in self.count[x].items() if self.home[q] == k)
+
+    def window(self, bounds, i, q):
+        """Within how many ticks of its issue a request of q by i ends under DPCP, or None where no such number is within the deadline."""
+        k = self.home[q]
+        lower = [self.length[x][r] for x in range(i + 1, self.n) for r in self.count[x] if self.home[r] == k and min(self.users(r)) <= i]
+        ticks, least = 0, 1
+        while ticks < least <= self.deadline[i]:
+            ticks = least
+            higher = sum(self.jobs_in(ticks, bounds, x) * self.time_at(x, k) for x in range(i))
+            least = self.length[i][q] + max(lower, default=0) + higher
+        return ticks if least <= ticks else None
 
     def interference(self, protocol, bounds, i):
         """The ticks that jobs of higher tasks on i's processor take in its window."""
         ticks = 0
         for h in range(i):
             if self.processor[h] == self.processor[i]:
-                g = self.local[h] if protocol == "dpcp" else self.cost[h]
+                g = self.local[h] if protocol in AT_HOMES else self.cost[h]
                 ticks += -(-(bounds[i] + bounds[h] + self.jitter[h] - g) // self.period[h]) * g
         return ticks
 
@@ -63,30 +82,48 @@ def has_path(s, protocol, i, x, q):
     return False
 
 
+def ways_beside(s, protocol, i, x, q):
+    """The ways in which x's requests of q may block i where each runs on its task's processor, and who waits is suspended."""
+    here = s.processor[x] == s.processor[i]
+    if here and x < i:
+        return
+    if q in s.count[i]:
+        yield "direct"
+    if has_path(s, protocol, i, x, q):
+        yield "indirect"
+    if here:
+        yield "preemption"
+
+
+def ways_at_home(s, protocol, i, x, q):
+    """The ways in which x's requests of q may block i where they run on q's home. Only DPCP has ceilings, which keep lower ones away."""
+    if q in s.count[i]:
+        yield "direct"
+    beside = any(r != q and s.home[r] == s.home[q] for r in s.count[i])
+    if beside and (protocol == "dflp" or x < i or min(s.users(q)) <= i):
+        yield "indirect"
+    if s.home[q] == s.processor[i]:
+        yield "preemption"
+
+
+def ways_by_spinning(s, _, i, x, q):
+    """The ways in which x's requests of q may block i where who waits spins, and no job in a request is preempted."""
+    k = s.processor[i]
+    if s.processor[x] == k:
+        if x > i:
+            yield "preemption"
+        return
+    if q in s.count[i]:
+        yield "direct"
+    if any(z != i and s.processor[z] == k for z in s.users(q)):
+        yield "indirect"
+
+
 def columns_of(s, protocol, i):
     """The columns of task i: a task, a resource and a class."""
-    columns = []
-    for x in range(s.n):
-        if x == i:
-            continue
-        here = s.processor[x] == s.processor[i]
-        if protocol != "dpcp" and here and x < i:
-            continue
-        for q in sorted(s.count[x]):
-            if q in s.count[i]:
-                columns.append((x, q, "direct"))
-            if protocol == "dpcp":
-                beside = any(r != q and s.home[r] == s.home[q] for r in s.count[i])
-                if beside and (x < i or min(s.users(q)) <= i):
-                    columns.append((x, q, "indirect"))
-                if s.home[q] == s.processor[i]:
-                    columns.append((x, q, "preemption"))
-            else:
-                if has_path(s, protocol, i, x, q):
-                    columns.append((x, q, "indirect"))
-                if here:
-                    columns.append((x, q, "preemption"))
-    return columns
+    ways = ways_by_spinning if protocol == "spin" else ways_at_home if protocol in AT_HOMES else ways_beside
+    others = [x for x in range(s.n) if x != i]
+    return [(x, q, way) for x in others for q in sorted(s.count[x]) for way in ways(s, protocol, i, x, q)]
 
 
 def holdings(s, bounds, i, x):
@@ -109,60 +146,124 @@ class Shape:
         self.costs = [s.length[x][q] for x, q, _ in self.columns]
         self.rows = []
         self.others = [x for x in range(s.n) if x != i]
+        self.processors = range(1, s.parts["processors"] + 1)
+        self.every = list(enumerate(self.columns))
         self.of_task = {x: [(c, column) for c, column in enumerate(self.columns) if column[0] == x] for x in self.others}
-        self.add_common_rows()
-        {"mpcp": self.add_mpcp_rows, "fmlp+": self.add_fmlp_rows, "dpcp": self.add_dpcp_rows}[protocol]()
+        for kind in KINDS[protocol]:
+            kind(self)
 
     def add(self, limit, columns, weight):
         row = [(c, weight(column)) for c, column in columns if weight(column)]
         if row:
             self.rows.append((row, limit))
 
-    def add_common_rows(self):
-        """Requests, Time and Intervals."""
+    def add_requests(self):
         s, i = self.s, self.i
         for x in self.others:
             for q in sorted(s.count[x]):
                 self.add(lambda r, x=x, q=q: s.count[x][q] * s.jobs(r, i, x), self.of_task[x], lambda c: int(c[1] == q))
+
+    def add_time(self):
+        s, i = self.s, self.i
         for x in self.others:
             self.add(lambda r, x=x: s.cost[x] * s.jobs(r, i, x), self.of_task[x], lambda c: s.length[x][c[1]])
+
+    def add_intervals(self):
+        s, i = self.s, self.i
         for x in self.others:
             if x > i and s.processor[x] == s.processor[i]:
                 self.add(lambda r: 1 + self.requests(), self.of_task[x], lambda c: int(c[2] == "preemption"))
 
-    def add_fmlp_rows(self):
-        """Turns and Queues."""
+    def add_turns(self):
         s, i = self.s, self.i
         for x in self.others:
             for q in sorted(s.count[x]):
                 self.add(lambda r, q=q: s.count[i].get(q, 0), self.of_task[x], lambda c: int(c[1:] == (q, "direct")))
+
+    def add_queues(self):
         for x in self.others:
             self.add(lambda r: self.requests(), self.of_task[x], lambda c: int(c[2] != "preemption"))
 
-    def add_mpcp_rows(self):
-        """Lower holders and Holdings."""
+    def add_lower_holders(self):
         s, i = self.s, self.i
-        every = list(enumerate(self.columns))
         for q in range(len(s.resources)):
-            self.add(lambda r, q=q: s.count[i].get(q, 0), every, lambda c: int(c[0] > i and c[1:] == (q, "direct")))
+            self.add(lambda r, q=q: s.count[i].get(q, 0), self.every, lambda c: int(c[0] > i and c[1:] == (q, "direct")))
+
+    def add_holdings(self):
+        s, i = self.s, self.i
         for x in self.others:
             self.add(lambda r, x=x: holdings(s, r, i, x), self.of_task[x], lambda c: int(c[2] == "indirect"))
 
-    def add_dpcp_rows(self):
-        """Homes."""
+    def add_homes(self):
         s, i = self.s, self.i
-        every = list(enumerate(self.columns))
-        for k in range(1, s.parts["processors"] + 1):
-            limit = sum(n for q, n in s.count[i].items() if s.home[q] == k)
-            self.add(lambda r, limit=limit: limit, every, lambda c: int(c[0] > i and s.home[c[1]] == k and c[2] != "preemption"))
+        for k in self.processors:
+            self.add(lambda r, k=k: self.requests_at(k), self.every, lambda c: int(c[0] > i and s.home[c[1]] == k and c[2] != "preemption"))
+
+    def add_home_queues(self):
+        s = self.s
+        for x in self.others:
+            for k in self.processors:
+                self.add(lambda r, k=k: self.requests_at(k), self.of_task[x], lambda c: int(s.home[c[1]] == k and c[2] != "preemption"))
+
+    def add_windows(self):
+        for x in range(self.i):
+            for q in sorted(self.s.count[x]):
+                self.add(lambda r, x=x, q=q: self.requests_met(r, x, q), self.of_task[x], lambda c: int(c[1] == q and c[2] != "preemption"))
+
+    def add_lower_requests(self):
+        self.add(lambda r: 1, self.every, lambda c: int(c[2] == "preemption"))
+
+    def add_spinning(self):
+        s = self.s
+        for k in self.processors:
+            for q in range(len(s.resources)):
+                self.add(lambda r, q=q: self.spins(r, q), self.every, lambda c: int(s.processor[c[0]] == k and c[1] == q and c[2] != "preemption"))
+
+    def add_own_spinning(self):
+        s, i = self.s, self.i
+        for k in self.processors:
+            for q in range(len(s.resources)):
+                self.add(lambda r, q=q: s.count[i].get(q, 0), self.every, lambda c: int(s.processor[c[0]] == k and c[1:] == (q, "direct")))
+
+    def spins(self, bounds, q):
+        """How many requests of q from i's processor may spin while a job of i is there."""
+        s, i = self.s, self.i
+        beside = [x for x in s.users(q) if x != i and s.processor[x] == s.processor[i]]
+        higher = sum(s.count[h][q] * s.jobs(bounds, i, h) for h in beside if h < i)
+        return s.count[i].get(q, 0) + higher + int(any(x > i for x in beside))
+
+    def requests_met(self, bounds, x, q):
+        """The requests of q by x that i waits for at its home: no more than run within the windows of i's own requests there."""
+        s, i = self.s, self.i
+        every = s.count[x][q] * s.jobs(bounds, i, x)
+        windows = {r: s.window(bounds, i, r) for r in s.count[i] if s.home[r] == s.home[q]}
+        if None in windows.values():
+            return every
+        return min(every, sum(s.count[i][r] * s.count[x][q] * s.jobs_in(ticks, bounds, x) for r, ticks in windows.items()))
 
     def requests(self):
         """All requests of i."""
         return sum(self.s.count[self.i].values())
 
+    def requests_at(self, k):
+        """The requests of i that run on processor k."""
+        return sum(n for q, n in self.s.count[self.i].items() if self.s.home[q] == k)
+
     def limits(self, bounds):
         """The limits of the rows at these bounds."""
         return [limit(bounds) for _, limit in self.rows]
+
+
+# the kinds of rows of each protocol, in the order in which they stand
+COMMON = (Shape.add_requests, Shape.add_time, Shape.add_intervals)
+KINDS = {
+    "mpcp": (*COMMON, Shape.add_lower_holders, Shape.add_holdings),
+    "fmlp+": (*COMMON, Shape.add_turns, Shape.add_queues),
+    "dpcp": (*COMMON, Shape.add_homes),
+    "dflp": (*COMMON, Shape.add_turns, Shape.add_home_queues),
+    "dpcp-w": (*COMMON, Shape.add_homes, Shape.add_windows),
+    "spin": (Shape.add_requests, Shape.add_time, Shape.add_lower_requests, Shape.add_spinning, Shape.add_own_spinning),
+}
 
 
 def program_of(s, protocol, i, bounds):

@@ -1,4 +1,5 @@
 """Looks for a certificate of a set: duals over whole numbers that cover their programs, and bounds that fit what they are worth."""
+import hashlib
 import json
 import math
 from dataclasses import dataclass
@@ -120,8 +121,9 @@ def found_certificate(s, protocol, solvers, told=lambda solved: None):
     return Found(bounds, [task.dual for task in tasks], sum(task.solved for task in tasks), sum(task.unsolved for task in tasks))
 
 
-def certificate_text(protocol, found):
-    """The text of a certificate, in the form of docs/FORMATS.md."""
+def certificate_text(protocol, found, data):
+    """The text of a certificate of the set with these bytes, in the form of docs/FORMATS.md."""
     duals = [{"den": dual.den, "num": dual.num} for dual in found.duals]
-    written = {"bounds": found.bounds, "duals": duals, "protocol": protocol, "verdict": "schedulable", "version": 1}
+    digest = hashlib.sha256(data).hexdigest()
+    written = {"bounds": found.bounds, "duals": duals, "protocol": protocol, "set": digest, "verdict": "schedulable", "version": 2}
     return json.dumps(written, separators=(",", ":")) + "\n"

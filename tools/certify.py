@@ -14,6 +14,7 @@ Statuses: 0 a certificate is written that `block check` answered to be valid; 1 
 wrong words, 3 the set is refused, 4 a read or a write failed; and 70 where something that the tool needs is missing.
 """
 import sys
+from pathlib import Path
 
 from block_calls import DONE, NOT_SHOWN, Block, Stop, folder_of_calls, run_tool, words_of
 from blocking_programs import TaskSet
@@ -58,7 +59,7 @@ def main():
             raise Stop(f"no certificate was found: {why}", NOT_SHOWN) from None
         finally:
             told(None)
-        text = certificate_text(given.protocol, found)
+        text = certificate_text(given.protocol, found, Path(given.set).read_bytes())
         line = checked(block, given.set, text)
     sys.stdout.write(text)
     print(f"certify.py: block check {given.protocol} {given.set} answers: {line}", file=sys.stderr)

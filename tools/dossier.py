@@ -22,11 +22,11 @@ from pathlib import Path
 import bars
 import lanes
 from bars import Bar, Part
-from block_calls import DONE, LACKING, TOP, Stop, run_tool, words_of
+from block_calls import AT_HOMES, DONE, LACKING, TOP, Stop, run_tool, words_of
 from evidence import Evidence
 from pages import element, escaped, figure, listed, marked, page, paragraph, section, section_of, table
 
-NAMES = {"mpcp": "MPCP", "fmlp+": "FMLP+", "dpcp": "DPCP"}
+NAMES = {"mpcp": "MPCP", "fmlp+": "FMLP+", "dpcp": "DPCP", "dflp": "the distributed FIFO protocol", "dpcp-w": "DPCP with windows of requests", "spin": "spin locks"}
 LOOKS = (("jitter", "jitter"), ("cost", "cost"), ("blocking", "blocking"), ("interference", "interference"), ("room", "raised"), ("track", "slack"))
 # A recording with more boxes than this is drawn in part, and the part has no more than that.
 WHOLE_BOXES = 150
@@ -85,6 +85,10 @@ def claim():
         element("h3", "In the words of docs/PROOFS.md"),
         paragraph("The dossier rests on the second half of the sentence, on what `check` accepts. It doesn't ask how the certificate was made."),
         words_from("docs/PROOFS.md", "The headline"),
+        element("h4", "Premises"),
+        words_from("docs/PROOFS.md", "Premises"),
+        element("h4", "What a digest doesn't promise"),
+        words_from("docs/PROOFS.md", "What a digest doesn't promise"),
         element("h3", "What is trusted"),
         words_from("README.md", "What is trusted"),
         element("h3", "What is left to you"),
@@ -115,7 +119,7 @@ def requests_tables(evidence):
         users[resource].append(name)
     homes = [[resource["name"], resource.get("home", "–"), ", ".join(users[resource["name"]])] for resource in evidence.set["resources"]]
     requests = table(["Task", "Resource", "Requests of a job, at most", "Ticks of one, at most"], rows, "From the set.")
-    return requests + table(["Resource", "Home", "Users, the highest first"], homes, "From the set. Under DPCP a request runs on its resource's home.")
+    return requests + table(["Resource", "Home", "Users, the highest first"], homes, "From the set. Under DPCP and the distributed FIFO protocol a request runs on its resource's home.")
 
 
 def model(evidence):
@@ -157,7 +161,7 @@ def interference_table(evidence):
     rows = [[task.name, part.task.name, part.jobs, part.each, part.ticks()] for task in evidence.tasks for part in evidence.interference(task)]
     if not rows:
         return paragraph("No processor has two tasks, so none is delayed by a higher one.")
-    each = "its local limit" if evidence.protocol == "dpcp" else "its cost"
+    each = "its local limit" if evidence.protocol in AT_HOMES else "its cost"
     words = (
         f"At most so many jobs of the higher task run in the ticks from a job's release to its bound, each for {each}: the bounds of both tasks and the higher "
         "one's jitter, less these ticks, over its period, rounded up. Formed by this tool."
@@ -208,9 +212,10 @@ def drawn_schedule(evidence):
     if evidence.picture is None:
         return paragraph("The recording is not drawn: it is too long, or has no tick.")
     stretch, words = stretch_of(evidence, evidence.picture)
+    spins = ", and a low dashed box that it spins, which keeps its processor busy" if evidence.picture.spinning else ""
     legend = (
         " A box is a job that executes, hatched where it is in a request. An arrow upwards is a release, a dotted one the arrival of a job that is released later, one downwards a "
-        "deadline. A thin bar below a lane shows the ticks at which a job is blocked. Drawn by this tool from the jobs and rows that `audit` judged."
+        "deadline. A thin bar below a lane shows the ticks at which a job is blocked" + spins + ". Drawn by this tool from the jobs and rows that `audit` judged."
     )
     return figure(lanes.picture_of(evidence.picture, stretch, "The schedule, a lane for each processor"), words + legend)
 

@@ -1,13 +1,16 @@
 #!/usr/bin/env python3
 """Draws a schedule.
 
-    tools/draw_schedule.py SET JOBS ROWS OUT.svg
+    tools/draw_schedule.py SET JOBS ROWS OUT.svg [--spin]
 
 SET, JOBS and ROWS are files as the program reads them; OUT ends in .svg, or in .png or .pdf. There is a lane for each processor, and a
 colour for each task. A box is a job that executes; in a request it is hatched by the resource. An arrow upwards is a release, one
 downwards a deadline, and a dotted one upwards the arrival of a job that is released later. The thin bars below a lane are ticks at which a job of that processor is blocked: active, not running, and not
 delayed by a higher task there. Where a job runs on another processor than its task's, requests run at homes, and only a higher job
 that is outside its requests delays.
+
+With --spin the schedule is one of spin locks: a low box with a dashed edge is a job that spins. It keeps its processor busy and doesn't execute,
+so it is blocked as well.
 """
 import sys
 
@@ -18,6 +21,7 @@ from drawing import COLOURS, stop
 HATCHES = ["////", "....", "xxxx", "----", "\\\\\\\\", "oooo", "||||", "++++", "OO", "**"]
 MOST_BOXES = 5000
 BAR = 0.12
+SPINNING = 0.32
 
 
 def colour_of(task):
@@ -55,6 +59,9 @@ def draw_boxes(axes, picture, lanes, resources):
         if box.end - box.start >= wide * max(1, len(box.job.task.name) / 4):
             back = {"boxstyle": "round,pad=0.15", "facecolor": "white", "edgecolor": "none", "alpha": 0.85}
             axes.text((box.start + box.end) / 2, base + 0.37, box.job.task.name, ha="center", va="center", fontsize=8, bbox=back)
+    for box in picture.spinning:
+        shown = {"facecolor": "white", "edgecolor": colour_of(box.job.task), "linewidth": 1.2, "linestyle": "--", "hatch": hatch_of(box.resource, resources)}
+        axes.broken_barh([(box.start, box.end - box.start)], (lanes.bases[box.processor], SPINNING), **shown)
     for box in picture.blocked:
         shown = {"facecolor": colour_of(box.job.task), "edgecolor": "black", "linewidth": 0.4}
         axes.broken_barh([(box.start, box.end - box.start)], (lanes.bar(box.job.task), BAR * 0.75), **shown)
@@ -96,6 +103,8 @@ def draw_legend(axes, pyplot, picture, resources):
     patch, line = pyplot.Rectangle, pyplot.Line2D
     shown = [patch((0, 0), 1, 1, facecolor=colour_of(task), edgecolor="black", linewidth=0.6, label=task.name) for task in picture.tasks]
     shown += [patch((0, 0), 1, 1, facecolor="white", edgecolor="black", linewidth=0.6, hatch=hatch_of(name, resources), label=f"in {name}") for name in resources]
+    if picture.spinning:
+        shown.append(patch((0, 0), 1, 1, facecolor="white", edgecolor="#7f7f7f", linewidth=1.2, linestyle="--", label="spins"))
     if any(kind == "arrival" for kind, _, _ in schedule.marks_of(picture)):
         shown.append(line([], [], color="black", marker=r"$\uparrow$", linestyle="none", label="arrival"))
     shown += [
@@ -108,12 +117,13 @@ def draw_legend(axes, pyplot, picture, resources):
 
 def main():
     drawing.show_help(__doc__)
-    if len(sys.argv) != 5:
-        stop("the words are SET JOBS ROWS OUT.svg")
-    picture = schedule.picture_of(*sys.argv[1:4])
+    spins = sys.argv[5:] == ["--spin"]
+    if len(sys.argv) != 5 + spins:
+        stop("the words are SET JOBS ROWS OUT.svg, and --spin or nothing")
+    picture = schedule.picture_of(*sys.argv[1:4], spins)
     if picture.ticks == 0:
         stop(f"{sys.argv[3]} has no rows: there is nothing to draw")
-    if len(picture.executed) + len(picture.blocked) > MOST_BOXES:
+    if len(picture.executed) + len(picture.spinning) + len(picture.blocked) > MOST_BOXES:
         stop(f"{sys.argv[3]} is too long to draw: it has more than {MOST_BOXES} boxes")
     resources = [resource["name"] for resource in picture.set.get("resources", [])]
     lanes = Lanes(picture)

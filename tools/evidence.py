@@ -6,7 +6,7 @@ from dataclasses import dataclass
 from pathlib import Path
 
 import schedule
-from block_calls import DONE, FAULT, LACKING, Block, Stop, folder_of_calls
+from block_calls import AT_HOMES, DONE, FAULT, LACKING, Block, Stop, folder_of_calls
 
 # Jobs times lines of rows, from which on a recording is not drawn: it would take longer than a minute.
 MOST_STEPS = 20_000_000
@@ -56,7 +56,7 @@ class Task:
 
     def interfering(self, protocol):
         """The ticks for which one job of this task delays a lower one of its processor, at most."""
-        return self.local if protocol == "dpcp" else self.cost
+        return self.local if protocol in AT_HOMES else self.cost
 
 
 @dataclass(frozen=True)
@@ -125,7 +125,7 @@ class Evidence:
         lines = [self.inputs[word].data.count(b"\n") for word in ("jobs", "rows")]
         if lines[0] * lines[1] > MOST_STEPS or not self.ticks():
             return None
-        return schedule.picture_of(*(str(Path(folder) / word) for word in ("set", "jobs", "rows")))
+        return schedule.picture_of(*(str(Path(folder) / word) for word in ("set", "jobs", "rows")), spins=self.protocol == "spin")
 
     def answers(self):
         """What the program was asked, in that order."""

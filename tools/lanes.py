@@ -7,6 +7,7 @@ from pages import element, escaped
 
 WIDTH = 760
 LANE = 34
+LOW = 11
 ARROW = 24
 BAR = 5
 LEFT = 40
@@ -83,6 +84,14 @@ def executed(box, stretch, lanes, resources):
     return drawn
 
 
+def spinning(box, stretch, lanes):
+    """The low box of a job that spins: its processor is busy, and nothing executes there."""
+    left, right = stretch.place(box.start), stretch.place(box.end)
+    shape = {"x": f"{left:.2f}", "y": lanes.bases[box.processor] - LOW, "width": f"{max(right - left, 0.5):.2f}", "height": LOW}
+    words = element("title", escaped(f"{box.job.task.name} spins for {box.resource}, ticks {box.start} to {box.end}"))
+    return element("rect", words, fill="none", stroke=colour_of(box.job.task), class_="spins", **shape)
+
+
 def blocked(box, stretch, lanes):
     """The thin bar of a job that is blocked, below the lane of its processor."""
     left, right = stretch.place(box.start), stretch.place(box.end)
@@ -148,6 +157,7 @@ def picture_of(picture, stretch, words):
     lanes = Lanes(picture)
     drawn = [hatches(resources), axis(stretch, lanes)]
     drawn += [executed(box, stretch, lanes, resources) for box in picture.executed if stretch.has(box)]
+    drawn += [spinning(box, stretch, lanes) for box in picture.spinning if stretch.has(box)]
     drawn += [blocked(box, stretch, lanes) for box in picture.blocked if stretch.has(box)]
     drawn.append(arrows(picture, stretch, lanes))
     keys, height = legend(picture, resources, lanes.height + 24)

@@ -76,8 +76,8 @@ def block_of(block):
 
 
 def section_of(text, title):
-    """The section of a Markdown text with this title, as HTML without the title, or None where there is none."""
-    found = re.search(rf"^## {re.escape(title)}\n(.*?)(?=^## |\Z)", text, re.M | re.S)
+    """The section of a Markdown text with this title, as HTML without the title and without sections of its own, or None where there is none."""
+    found = re.search(rf"^###? {re.escape(title)}\n(.*?)(?=^###? |\Z)", text, re.M | re.S)
     return "".join(block_of(block) for block in re.split(r"\n{2,}", found[1].strip())) if found else None
 
 

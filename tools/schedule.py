@@ -54,7 +54,7 @@ class Run:
 
 @dataclass
 class Box:
-    """A job executes, or is blocked, from a tick to another."""
+    """A job executes, spins or is blocked, from a tick to another."""
 
     job: Job
     start: int
@@ -65,13 +65,14 @@ class Box:
 
 @dataclass
 class Picture:
-    """What a schedule comes to: boxes of executing and of blocked jobs."""
+    """What a schedule comes to: boxes of executing, of spinning and of blocked jobs."""
 
     set: dict
     tasks: list
     jobs: list
     ticks: int
     executed: list = field(default_factory=list)
+    spinning: list = field(default_factory=list)
     blocked: list = field(default_factory=list)
 
 
@@ -164,16 +165,27 @@ def add(boxes, box):
 
 
 def is_distributed(picture, run):
-    """Whether a job runs on another processor than its task's, as requests do under DPCP."""
+    """Whether a job runs on another processor than its task's, as requests do that run on homes."""
     return any(job is not None and picture.jobs[job].task.processor != k for k, job in enumerate(run.running, 1))
 
 
-def take(picture, run, tick, ticks, at_homes):
+def is_spinning(picture, run, job):
+    """Whether a job is in a request that it doesn't hold. Under spin locks it keeps its processor busy then."""
+    resources = [resource["name"] for resource in picture.set.get("resources", [])]
+    if job.resource() is None:
+        return False
+    holder = run.holders[resources.index(job.resource())]
+    return holder is None or picture.jobs[holder] is not job
+
+
+def take(picture, run, tick, ticks, at_homes, spins):
     """Some ticks of a run, in which no job comes to another part and none is released."""
     running = {k: picture.jobs[job] for k, job in enumerate(run.running, 1) if job is not None and not picture.jobs[job].is_finished()}
     for job in active_jobs(picture.jobs, tick):
         if any(other is job for other in running.values()):
             continue
+        if spins and is_spinning(picture, run, job):
+            add(picture.spinning, Box(job, tick, tick + ticks, job.task.processor, job.resource()))
         here = running.get(job.task.processor)
         interferes = here is not None and here.task.place < job.task.place and here.task.processor == job.task.processor
         if not (interferes and (here.resource() is None or not at_homes)):
@@ -195,7 +207,8 @@ def marks_of(picture):
     return [mark for mark in marks if mark[1] <= picture.ticks]
 
 
-def picture_of(set_path, jobs_path, rows_path):
+def picture_of(set_path, jobs_path, rows_path, spins=False):
+    """The boxes of a schedule; `spins` says whether who waits spins."""
     value, tasks, resources = read_set(set_path)
     jobs = read_jobs(jobs_path, tasks, resources)
     runs = read_rows(rows_path, value["processors"], resources, jobs)
@@ -210,6 +223,6 @@ def picture_of(set_path, jobs_path, rows_path):
             steps = [job.left() for job in running if not job.is_finished()]
             steps += [release - tick for release in releases if release > tick][:1]
             ticks = min([end - tick, *steps])
-            take(picture, run, tick, ticks, at_homes)
+            take(picture, run, tick, ticks, at_homes, spins)
             tick += ticks
     return picture

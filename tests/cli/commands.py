@@ -1,9 +1,10 @@
 """Each command over the pair of tasks: its words, the inputs that it reads, in that order, and the whole of what it writes."""
 from dataclasses import dataclass
 
-from sets import PAIR, PAIR_AUDITED, PAIR_CERTIFICATE, PAIR_FULL_TABLE, PAIR_JOBS, PAIR_MEASURED, PAIR_ROWS, PAIR_SIMULATED, PAIR_TABLE, STUDIED
+from sets import OLD_PAIR_CERTIFICATE, PAIR, PAIR_AUDITED, PAIR_CERTIFICATE, PAIR_FULL_TABLE, PAIR_JOBS, PAIR_MEASURED, PAIR_ROWS, PAIR_SIMULATED, PAIR_TABLE, STUDIED
 
 INPUTS = {"set": PAIR, "cert": PAIR_CERTIFICATE, "jobs": PAIR_JOBS, "rows": PAIR_ROWS}
+FILES = {**INPUTS, "old": OLD_PAIR_CERTIFICATE}
 
 
 @dataclass(frozen=True)
@@ -13,12 +14,13 @@ class Command:
 
     def files(self):
         """The inputs that it reads, by name."""
-        return {word: INPUTS[word] for word in self.words.split() if word in INPUTS}
+        return {word: FILES[word] for word in self.words.split() if word in FILES}
 
 
 COMMANDS = [
     Command("analyse fmlp+ set", PAIR_CERTIFICATE),
     Command("check fmlp+ set cert", "valid\n"),
+    Command("upgrade fmlp+ set old", PAIR_CERTIFICATE),
     Command("report fmlp+ set", PAIR_TABLE),
     Command("report fmlp+ set cert", PAIR_FULL_TABLE),
     Command("conform fmlp+ set jobs rows", PAIR_MEASURED),

@@ -58,7 +58,8 @@ def shown_commands(document, folder):
                 continue
             words, _, saves = line.removeprefix("./block ").partition(" >")
             # the status isn't shown: it follows from the answer
-            status = 1 if answer.startswith(("not shown ", "broken ", "invalid ")) else 5 if answer.startswith("wide ") else 0
+            starts = {"not shown ": 1, "broken ": 1, "invalid ": 1, "refused ": 3, "wide ": 5}
+            status = next((status for start, status in starts.items() if answer.startswith(start)), 0)
             yield Case(f"as shown: {line}", words, None if saves else answer, status, at=folder, saves=saves.strip())
 
 

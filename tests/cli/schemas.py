@@ -27,10 +27,11 @@ def shown_certificates():
 
 
 def examples():
-    """Each JSON file among the examples, and the schema that it has to meet."""
+    """Each JSON file among the examples, and the schema that it has to meet. Certificates of version 1 have none."""
     for path in sorted((TOP / "examples").glob("*.json")):
         value = json.loads(path.read_text())
-        yield path.name, "certificate" if "verdict" in value else "task-set", value
+        if value.get("version") != 1:
+            yield path.name, "certificate" if "verdict" in value else "task-set", value
 
 
 def accepted_sets(cases):

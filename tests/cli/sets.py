@@ -1,5 +1,7 @@
 """Inputs that several cases share, and what is written of them."""
+import hashlib
 import json
+import re
 
 
 def resource(name, home=None):
@@ -16,15 +18,32 @@ def task_set(processors, resources, *tasks):
     return json.dumps({"processors": processors, "resources": resources, "tasks": list(tasks)}) + "\n"
 
 
-def certificate(protocol, bounds, duals):
-    """The text of a certificate; a dual is a list of numerators over 1, or a denominator and such a list."""
+def digest_of(text):
+    """What `sha256sum` prints of a file with this text."""
+    return hashlib.sha256(text if isinstance(text, bytes) else text.encode()).hexdigest()
+
+
+def tied(text, of):
+    """The certificate with the digest of another set's text."""
+    return re.sub('"set":"[0-9a-f]{64}"', f'"set":"{digest_of(of)}"', text)
+
+
+def old(text):
+    """The certificate as it was before it had a digest."""
+    return re.sub('"set":"[0-9a-f]{64}",', "", text).replace('"version":2', '"version":1')
+
+
+def certificate(protocol, bounds, duals, of=None):
+    """The text of a certificate; a dual is a list of numerators over 1, or a denominator and such a list. It is of the pair, or of the set
+    whose text is given."""
     whole = [dual if isinstance(dual, tuple) else (1, dual) for dual in duals]
     written = {
         "bounds": bounds,
         "duals": [{"den": den, "num": num} for den, num in whole],
         "protocol": protocol,
+        "set": digest_of(PAIR if of is None else of),
         "verdict": "schedulable",
-        "version": 1,
+        "version": 2,
     }
     return json.dumps(written, separators=(",", ":")) + "\n"
 
@@ -38,6 +57,7 @@ def pair(resources=None, first=None, second=None):
 
 PAIR = pair()
 PAIR_CERTIFICATE = certificate("fmlp+", [5, 5], [[2, 0, 0, 0], [1, 0, 0, 0]])
+OLD_PAIR_CERTIFICATE = old(PAIR_CERTIFICATE)
 PAIR_JOBS = "task,release,script\nt1,0,1 q:1 1\nt2,0,1 q:2 1\n"
 PAIR_ROWS = "ticks,P1,P2,q\n1,1,2,\n2,,2,2\n1,1,2,1\n1,1,,\n"
 PAIR_MEASURED = "lawful 5\nt1 1 5 2\nt2 1 4 0\n"
@@ -60,13 +80,18 @@ PAIR_FULL_TABLE = (
 
 # t1 may be released up to 4 ticks after it arrives, so that two of its jobs may come 6 ticks apart
 LATE = task_set(1, [], task("t1", 1, 10, 2, jitter=4), task("t2", 1, 20, 5))
-LATE_CERTIFICATE = certificate("fmlp+", [2, 9], [[], []])
+LATE_CERTIFICATE = certificate("fmlp+", [2, 9], [[], []], LATE)
 LATE_JOBS = "task,arrival,release,script\nt1,0,4,2\nt1,10,10,2\nt2,4,4,5\n"
 LATE_ROWS = "ticks,P1\n4,\n2,1\n4,3\n2,2\n1,3\n"
 LATE_MEASURED = "lawful 13\nt1 2 2 0\nt2 1 9 0\n"
 
 # each of eight generated sets, one of each step, is schedulable under each protocol
 STUDIED = "step mpcp fmlp+ dpcp\n" + "".join(f"{step} 1 1 1\n" for step in range(1, 9)) + "stopped 0\n"
+
+# two resources of one home, on a processor without tasks
+HOME = task_set(3, [resource("a", 3), resource("b", 3)], task("t1", 1, 20, 4, ("a", 1), ("b", 1)), task("t2", 2, 20, 4, ("a", 2)))
+HOME_JOBS = "task,release,script\nt1,1,1 b:1 1\nt2,0,1 a:2 1\n"
+HOME_ROWS = "ticks,P1,P2,P3,a,b\n1,,2,,,\n1,1,,2,2,\n1,,,2,2,\n1,,2,1,,1\n1,1,,,,\n"
 
 FIVE = task_set(2, [resource("q")], task("t1", 1, 10, 2), task("t2", 1, 20, 4, ("q", 2)), task("t3", 2, 20, 5, ("q", 3)))
 
@@ -77,7 +102,7 @@ SIX = task_set(
     task("t2", 2, 100, 4, ("q1", 3), ("q2", 2)),
     task("t3", 3, 100, 3, ("q1", 2)),
 )
-SIX_CERTIFICATE = certificate("mpcp", [8, 8, 7], [(3, [0, 4, 0, 1, 0, 6, 0]), [1, 1, 2, 0, 0, 0], [1, 3, 0, 0]])
+SIX_CERTIFICATE = certificate("mpcp", [8, 8, 7], [(3, [0, 4, 0, 1, 0, 6, 0]), [1, 1, 2, 0, 0, 0], [1, 3, 0, 0]], SIX)
 
 # the program of t1 has one optimum, at a point whose least common denominator passes 64 bits
 WIDE = task_set(

@@ -23,7 +23,7 @@ abbrev pub Audits : (Rule → Trace → ℕ → Type 0) → (Trace → ℕ → �
 Audits keeps interferes charges f c w n (Ok figures) =
     IsValid f c × KeepsBefore keeps w n × AreFigures charges interferes w (slice_index c.bounds) (value_at f c) n figures.items
 Audits keeps interferes charges f c w n (Err (stop.Invalid e)) = IsFailure e f c
-Audits keeps interferes charges f c w n (Err (stop.Broken t r)) = IsValid f c × IsFirstUnlawful keeps w n t r
+Audits keeps interferes charges f c w n (Err (stop.Broken b)) = IsValid f c × IsFirstUnlawful keeps w n b.tick b.rule
 Audits keeps interferes charges f c w n (Err stop.Memory) = Unit {0}
 
 -- Is the response, where there is one, at most the bound, and the blocking at most the value?

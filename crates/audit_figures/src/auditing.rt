@@ -2,17 +2,18 @@ ghost use Rattle.std.specs.Prelude.{◌≡◌, ℕ, ◌<◌, ◌≤◌, true, le
 ghost use Rattle.std.specs.List.{All};
 ghost use Rattle.program_form.specs.Certificate.{certificate_seen};
 ghost use Rattle.sporadic_model.specs.Homes.{HasHomesFor};
+ghost use Rattle.program_sources.specs.Recurrence.{source_at};
+ghost use Rattle.program_laws.specs.Programs.{source_of};
 ghost use Rattle.schedule_model.specs.RowDef.{trace_in, ticks_of};
 ghost use Rattle.schedule_model.specs.Fitting.{is_fitting};
 ghost use Rattle.schedule_model.specs.Keeping.{KeepsBefore};
 ghost use Rattle.trace_conform.specs.Conforming.{AreMeasures};
-ghost use Rattle.trace_conform.specs.ByProtocol.{rules_of, interference_of};
+ghost use Rattle.schedule_model.specs.ByProtocol.{rules_of, interference_of};
 ghost use Rattle.charge_model.specs.Windows.{AreBounds};
 ghost use Rattle.soundness_laws.specs.Sound.{Sound};
-ghost use Rattle.soundness_laws.specs.Analyses.{source_of};
 ghost use Rattle.charge.specs.Table.{item_seen, IsChargeTable};
 ghost use Rattle.charge.specs.ByProtocol.{charges_of};
-ghost use Rattle.dual_check.specs.Answers.{source_for, HasDenominators};
+ghost use Rattle.dual_check.specs.Answers.{HasDenominators};
 ghost use Rattle.audit_figures.specs.Figures.{no_figures, blocked_sum, AreFigures};
 ghost use Rattle.audit_figures.specs.Audited.{Audits, LieWithin, charged_ticks};
 
@@ -23,11 +24,11 @@ use dual_check::{Invalid, check_with};
 use fmlp_rules::FmlpPlus;
 use mpcp_rules::Mpcp;
 use program_form::Certificate;
-use schedule_model::{JobList, RowList, Rule};
+use schedule_model::{JobList, RowList};
 use sporadic_model::Protocol;
 use std::alloc::{AllocError, Global};
 use thiserror::Error;
-use trace_conform::{Measured, Unlawful, conform_with};
+use trace_conform::{Breach, Measured, Unlawful, conform_with};
 
 /// Why a schedule is not audited. The causes are tried in the order in which they stand here.
 #[derive(Clone, Copy, Debug, PartialEq, Eq, Error)]
@@ -35,14 +36,9 @@ pub enum AuditStop {
     /// The certificate is not valid: the first test that fails.
     #[error("the certificate is not valid")]
     Invalid(Invalid),
-    /// A row breaks a rule: the first such tick, and the first rule that its row breaks.
-    #[error("the row at tick {tick} breaks a rule")]
-    Broken {
-        /// The tick, counted from 0.
-        tick: u64,
-        /// The rule.
-        rule: Rule,
-    },
+    /// A row breaks a rule.
+    #[error("a row breaks a rule")]
+    Broken(Breach),
     /// Memory was refused.
     #[error("out of memory")]
     Memory,
@@ -80,7 +76,7 @@ fn sound_charges<P: ChargedProtocol>(
     match charge_with(alloc, protocol, jobs, rows, bounds) {
         Ok(table) => Ok(table),
         Err(ChargeStop::Memory) => Err(AllocError),
-        Err(ChargeStop::Unlawful { .. }) => unreachable!(),
+        Err(ChargeStop::Unlawful(_)) => unreachable!(),
         Err(ChargeStop::BoundPassed(_)) => unreachable!(),
     }
 }
@@ -126,7 +122,7 @@ pub fn audit_with<P: ChargedProtocol>(
 
     // The figures; or why the certificate is not valid; or else the first row that breaks a rule.
     ensures audits { Audits (P.keeps protocol.now) (P.interferes protocol.now) (P.charges protocol.now)
-        (source_for (P.program_of protocol.now) (P.interfering protocol.now) jobs.now.set) (certificate_seen certificate.now)
+        (source_at (P.source protocol.now) jobs.now.set) (certificate_seen certificate.now)
         (trace_in jobs.now rows.now.runs) (ticks_of rows.now.runs) result }
 
     // The response of each task is at most its bound, and its blocking at most its value.
@@ -146,7 +142,7 @@ pub fn audit_with<P: ChargedProtocol>(
     };
     let measured = match conform_with(alloc, protocol, jobs, rows) {
         Ok(measured) => measured,
-        Err(Unlawful::Broken { tick, rule }) => return Err(AuditStop::Broken { tick, rule }),
+        Err(Unlawful::Broken(breach)) => return Err(AuditStop::Broken(breach)),
         Err(Unlawful::Memory) => return Err(AuditStop::Memory),
     };
     let bounds = &certificate.bounds;

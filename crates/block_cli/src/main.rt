@@ -3,6 +3,7 @@
 #![tactic(auto)]
 
 use block_top::Status;
+use outside_ports::{FileShelf, OutSink};
 use program_edge::{ended, status_of, words_of};
 use std::alloc::AllocError;
 use std::env;
@@ -10,10 +11,13 @@ use std::process::ExitCode;
 use std::rt::Runtime;
 use std::thread::Threads;
 
-/// Answers the words that the program was given. An error is want of memory before anything was tried.
+/// Answers the words that the program was given, over the system's files and standard output. An error is want of memory before
+/// anything was tried.
 fn answered<R: Runtime + AllocGlobal + Threads + Sync>(rt: &R) -> Result<Status, AllocError> {
     let words = words_of(rt.alloc(), env::args(rt))?;
-    status_of(rt, &words)
+    let mut shelf = FileShelf::new(rt)?;
+    let mut sink = OutSink::new(rt)?;
+    Ok(status_of(rt, &words, &mut shelf, &mut sink))
 }
 
 fn main(rt: HostRuntime) -> ExitCode {

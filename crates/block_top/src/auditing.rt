@@ -2,23 +2,27 @@
 
 ghost use Rattle.std.specs.Prelude.{◌≡◌, length, IfOk, slice_index_or};
 ghost use Rattle.program_form.specs.Certificate.{certificate_seen};
-ghost use Rattle.sporadic_model.specs.Homes.{HasHomesFor};
-ghost use Rattle.schedule_model.specs.RowDef.{trace_in, ticks_of};
+ghost use Rattle.named_protocols.specs.Named.{HasHomes};
 ghost use Rattle.schedule_model.specs.Fitting.{IsMadeFor};
 ghost use Rattle.dual_check.specs.Answers.{HasDenominators};
 ghost use Rattle.audit_figures.specs.Figures.{no_figures};
-ghost use Rattle.answer_texts.specs.Texts.{kept_text};
-ghost use Rattle.run_plans.specs.Commands.{IsAudit};
+ghost use Rattle.reply_texts.specs.Texts.{kept_text};
+ghost use Rattle.run_plans.specs.Commands.{IfTied, IsAuditOf};
+ghost use Rattle.cert_json.specs.File.{file_seen};
 ghost use Rattle.run_plans.specs.Replies.{reply_seen, Answered};
 
 use crate::judging::invalid_reply;
+use crate::tying::untied;
 use crate::work::broken_reply;
-use answer_texts::kept_lines;
-use audit_figures::{AuditStop, TaskFigures, audit};
+use audit_figures::{AuditStop, TaskFigures};
+use cert_json::CertFile;
+use named_protocols::audit;
 use program_form::Certificate;
-use run_plans::{Halt, Reply};
+use protocol_names::ProtocolName;
+use reply_texts::kept_lines;
+use run_plans::{Halt, Reply, Status};
 use schedule_model::{JobList, RowList};
-use sporadic_model::{Protocol, TaskSet};
+use sporadic_model::TaskSet;
 use std::alloc::{AllocError, Global};
 
 /// The reply where each row keeps the rules, and so the bounds.
@@ -35,30 +39,49 @@ fn kept_reply(
     }) }
 {
     Ok(Reply {
-        status: 0,
+        status: Status::Done,
         text: kept_lines(alloc, set, ticks, figures)?,
     })
 }
 
-/// The work of `audit`.
-pub fn audited(
+/// Audits the rows against the certificate.
+fn audited_rows(
     alloc: Global,
-    protocol: Protocol,
+    protocol: ProtocolName,
     certificate: &Certificate,
     jobs: &JobList<'_>,
     rows: &RowList,
 ) -> Result<Reply, Halt>
-    requires suits { HasHomesFor protocol jobs.now.set }
+    requires suits { HasHomes protocol jobs.now.set }
     requires denominators { HasDenominators (certificate_seen certificate.now) }
     requires made { IsMadeFor rows.now jobs.now }
-    ensures { Answered result (IsAudit protocol (certificate_seen certificate.now) (trace_in jobs.now rows.now.runs)
-        (ticks_of rows.now.runs)) }
+    ensures { Answered result (IsAuditOf protocol jobs.now rows.now (certificate_seen certificate.now)) }
 {
     let ticks = rows.ticks();
     match audit(alloc, protocol, certificate, jobs, rows) {
         Ok(figures) => Ok(kept_reply(alloc, jobs.set(), ticks, &figures)?),
         Err(AuditStop::Invalid(failure)) => Ok(invalid_reply(alloc, jobs.set(), failure)?),
-        Err(AuditStop::Broken { tick, rule }) => Ok(broken_reply(alloc, tick, rule)?),
+        Err(AuditStop::Broken(breach)) => Ok(broken_reply(alloc, breach)?),
         Err(AuditStop::Memory) => Err(Halt::Memory),
+    }
+}
+
+/// The work of `audit`, on the set of this digest.
+pub fn audited(
+    alloc: Global,
+    protocol: ProtocolName,
+    digest: &[u8; 32],
+    file: &CertFile,
+    jobs: &JobList<'_>,
+    rows: &RowList,
+) -> Result<Reply, Halt>
+    requires suits { HasHomes protocol jobs.now.set }
+    requires denominators { HasDenominators (certificate_seen file.now.certificate) }
+    requires made { IsMadeFor rows.now jobs.now }
+    ensures { Answered result (IfTied digest.now (file_seen file.now) (IsAuditOf protocol jobs.now rows.now)) }
+{
+    match untied(alloc, file, digest)? {
+        Some(reply) => Ok(reply),
+        None => audited_rows(alloc, protocol, &file.certificate, jobs, rows),
     }
 }

@@ -1,26 +1,29 @@
-ghost use Rattle.std.specs.Prelude.{◌≤◌, is_some, IfOk};
+ghost use Rattle.std.specs.Prelude.{◌≤◌, IfOk};
 ghost use Rattle.sporadic_model.specs.declared.limits.TheConstants.{MOST_TICKS};
-ghost use Rattle.sporadic_model.specs.Homes.{HasHomesFor};
-ghost use Rattle.command_words.specs.Words.{Analyse, Check, Report, FullReport, Conform, Simulate, words_seen, Audit};
+ghost use Rattle.named_protocols.specs.Named.{HasHomes};
+ghost use Rattle.command_words.specs.Words.{Analyse, Check, Upgrade, Report, FullReport, Conform, Simulate, words_seen, Audit};
 ghost use Rattle.command_words.specs.FormSeen.{form_seen, HasFittingNumbers};
-ghost use Rattle.run_plans.specs.Commands.{check_of, full_table_of, with_certificate, judging_rows, judging_jobs};
+ghost use Rattle.run_plans.specs.Commands.{check_of, full_table_of, upgrading, with_certificate, judging_rows, judging_jobs};
 ghost use Rattle.run_plans.specs.Commands.{simulating_jobs, plan_of, auditing_rows, auditing_jobs, auditing};
 ghost use Rattle.program_form.specs.Certificate.{certificate_seen};
+ghost use Rattle.cert_json.specs.File.{file_seen};
 ghost use Rattle.dual_check.specs.Answers.{HasDenominators};
-ghost use Rattle.run_plans.specs.Outcome.{IsReplyOf, IsReply};
-ghost use Rattle.run_plans.specs.Replies.{reply_seen, Answered, Keeps};
+ghost use Rattle.run_plans.specs.Outcome.{shown, IsReply};
+ghost use Rattle.run_plans.specs.Replies.{reply_seen, AnswersPlan, Keeps};
 
 use crate::auditing::audited;
-use crate::input::{get_cert, get_jobs, get_rows, get_set};
+use crate::input::{get_cert, get_jobs, get_old_cert, get_rows, get_set, get_tied_set};
 use crate::judging::{judgement, proved_table};
 use crate::study::counted;
+use crate::upgrading::upgraded;
 use crate::work::{analysis, conformance, no_form, simulation, table};
+use cert_json::CertFile;
 use command_words::{Command, command_of};
 use outside_ports::Shelf;
-use program_form::Certificate;
+use protocol_names::ProtocolName;
 use run_plans::{Halt, Reply, settled};
 use schedule_model::JobList;
-use sporadic_model::{Protocol, TaskSet};
+use sporadic_model::TaskSet;
 use std::alloc::{AllocError, Global};
 use std::thread::Threads;
 
@@ -29,108 +32,124 @@ fn analyse_reply<R: Threads + Sync, S: Shelf>(
     rt: &R,
     alloc: Global,
     shelf: &mut S,
-    protocol: Protocol,
+    protocol: ProtocolName,
     name: &str,
     allowance: u64,
 ) -> Result<Reply, Halt>
-    ensures reply { Answered result (IsReplyOf
-        (record { names = S.names shelf.old; before = S.faults shelf.old; now = S.faults shelf.new; given = S.given shelf.new })
-        (plan_of (Analyse protocol name.now allowance))) }
-    ensures keeps { Keeps (S.names shelf.old) (S.names shelf.new) (is_some (S.rest shelf.old)) (is_some (S.rest shelf.new))
-        (S.faults shelf.old) (S.faults shelf.new) (S.steady shelf.old) (S.steady shelf.new) }
+    ensures reply { AnswersPlan result (S.seen shelf.old) (S.seen shelf.new) (plan_of (Analyse protocol name.now allowance)) }
+    ensures keeps { Keeps (S.seen shelf.old) (S.seen shelf.new) }
 {
-    let (_bytes, set) = get_set(alloc, shelf, protocol, name)?;
-    analysis(rt, alloc, &set, protocol, allowance)
+    let (set, digest) = get_tied_set(alloc, shelf, protocol, name)?;
+    analysis(rt, alloc, &digest, &set, protocol, allowance)
 }
 
 /// Reads the certificate of `check`, once its set is read, and does its work.
 fn judgement_reply<S: Shelf>(
     alloc: Global,
     shelf: &mut S,
-    protocol: Protocol,
+    protocol: ProtocolName,
+    digest: &[u8; 32],
     set: &TaskSet,
     certificate: &str,
 ) -> Result<Reply, Halt>
-    requires { HasHomesFor protocol set.now }
-    ensures reply { Answered result (IsReplyOf
-        (record { names = S.names shelf.old; before = S.faults shelf.old; now = S.faults shelf.new; given = S.given shelf.new })
-        (with_certificate protocol certificate.now (check_of protocol set.now))) }
-    ensures keeps { Keeps (S.names shelf.old) (S.names shelf.new) (is_some (S.rest shelf.old)) (is_some (S.rest shelf.new))
-        (S.faults shelf.old) (S.faults shelf.new) (S.steady shelf.old) (S.steady shelf.new) }
+    requires { HasHomes protocol set.now }
+    ensures reply { AnswersPlan result (S.seen shelf.old) (S.seen shelf.new) (with_certificate protocol certificate.now (check_of protocol digest.now set.now)) }
+    ensures keeps { Keeps (S.seen shelf.old) (S.seen shelf.new) }
 {
-    let (_bytes, certificate) = get_cert(alloc, shelf, protocol, certificate)?;
-    judgement(alloc, protocol, set, &certificate)
+    let file = get_cert(alloc, shelf, protocol, certificate)?;
+    judgement(alloc, protocol, digest, set, &file)
 }
 
 /// Reads the inputs of `check`, and does its work.
 fn check_reply<S: Shelf>(
     alloc: Global,
     shelf: &mut S,
-    protocol: Protocol,
+    protocol: ProtocolName,
     set: &str,
     certificate: &str,
 ) -> Result<Reply, Halt>
-    ensures reply { Answered result (IsReplyOf
-        (record { names = S.names shelf.old; before = S.faults shelf.old; now = S.faults shelf.new; given = S.given shelf.new })
-        (plan_of (Check protocol set.now certificate.now))) }
-    ensures keeps { Keeps (S.names shelf.old) (S.names shelf.new) (is_some (S.rest shelf.old)) (is_some (S.rest shelf.new))
-        (S.faults shelf.old) (S.faults shelf.new) (S.steady shelf.old) (S.steady shelf.new) }
+    ensures reply { AnswersPlan result (S.seen shelf.old) (S.seen shelf.new) (plan_of (Check protocol set.now certificate.now)) }
+    ensures keeps { Keeps (S.seen shelf.old) (S.seen shelf.new) }
 {
-    let (_bytes, set) = get_set(alloc, shelf, protocol, set)?;
-    judgement_reply(alloc, shelf, protocol, &set, certificate)
+    let (set, digest) = get_tied_set(alloc, shelf, protocol, set)?;
+    judgement_reply(alloc, shelf, protocol, &digest, &set, certificate)
+}
+
+/// Reads the certificate of `upgrade`, once its set is read, and does its work.
+fn upgraded_reply<S: Shelf>(
+    alloc: Global,
+    shelf: &mut S,
+    protocol: ProtocolName,
+    digest: &[u8; 32],
+    set: &TaskSet,
+    certificate: &str,
+) -> Result<Reply, Halt>
+    requires { HasHomes protocol set.now }
+    ensures reply { AnswersPlan result (S.seen shelf.old) (S.seen shelf.new) (upgrading protocol certificate.now digest.now set.now) }
+    ensures keeps { Keeps (S.seen shelf.old) (S.seen shelf.new) }
+{
+    let certificate = get_old_cert(alloc, shelf, protocol, certificate)?;
+    upgraded(alloc, protocol, digest, set, &certificate)
+}
+
+/// Reads the inputs of `upgrade`, and does its work.
+fn upgrade_reply<S: Shelf>(
+    alloc: Global,
+    shelf: &mut S,
+    protocol: ProtocolName,
+    set: &str,
+    certificate: &str,
+) -> Result<Reply, Halt>
+    ensures reply { AnswersPlan result (S.seen shelf.old) (S.seen shelf.new) (plan_of (Upgrade protocol set.now certificate.now)) }
+    ensures keeps { Keeps (S.seen shelf.old) (S.seen shelf.new) }
+{
+    let (set, digest) = get_tied_set(alloc, shelf, protocol, set)?;
+    upgraded_reply(alloc, shelf, protocol, &digest, &set, certificate)
 }
 
 /// Reads the certificate of `report`, once its set is read, and does its work.
 fn proved_table_reply<S: Shelf>(
     alloc: Global,
     shelf: &mut S,
-    protocol: Protocol,
+    protocol: ProtocolName,
+    digest: &[u8; 32],
     set: &TaskSet,
     certificate: &str,
 ) -> Result<Reply, Halt>
-    requires { HasHomesFor protocol set.now }
-    ensures reply { Answered result (IsReplyOf
-        (record { names = S.names shelf.old; before = S.faults shelf.old; now = S.faults shelf.new; given = S.given shelf.new })
-        (with_certificate protocol certificate.now (full_table_of protocol set.now))) }
-    ensures keeps { Keeps (S.names shelf.old) (S.names shelf.new) (is_some (S.rest shelf.old)) (is_some (S.rest shelf.new))
-        (S.faults shelf.old) (S.faults shelf.new) (S.steady shelf.old) (S.steady shelf.new) }
+    requires { HasHomes protocol set.now }
+    ensures reply { AnswersPlan result (S.seen shelf.old) (S.seen shelf.new) (with_certificate protocol certificate.now (full_table_of protocol digest.now set.now)) }
+    ensures keeps { Keeps (S.seen shelf.old) (S.seen shelf.new) }
 {
-    let (_bytes, certificate) = get_cert(alloc, shelf, protocol, certificate)?;
-    proved_table(alloc, protocol, set, &certificate)
+    let file = get_cert(alloc, shelf, protocol, certificate)?;
+    proved_table(alloc, protocol, digest, set, &file)
 }
 
 /// Reads the inputs of `report` with a certificate, and does its work.
 fn full_report_reply<S: Shelf>(
     alloc: Global,
     shelf: &mut S,
-    protocol: Protocol,
+    protocol: ProtocolName,
     set: &str,
     certificate: &str,
 ) -> Result<Reply, Halt>
-    ensures reply { Answered result (IsReplyOf
-        (record { names = S.names shelf.old; before = S.faults shelf.old; now = S.faults shelf.new; given = S.given shelf.new })
-        (plan_of (FullReport protocol set.now certificate.now))) }
-    ensures keeps { Keeps (S.names shelf.old) (S.names shelf.new) (is_some (S.rest shelf.old)) (is_some (S.rest shelf.new))
-        (S.faults shelf.old) (S.faults shelf.new) (S.steady shelf.old) (S.steady shelf.new) }
+    ensures reply { AnswersPlan result (S.seen shelf.old) (S.seen shelf.new) (plan_of (FullReport protocol set.now certificate.now)) }
+    ensures keeps { Keeps (S.seen shelf.old) (S.seen shelf.new) }
 {
-    let (_bytes, set) = get_set(alloc, shelf, protocol, set)?;
-    proved_table_reply(alloc, shelf, protocol, &set, certificate)
+    let (set, digest) = get_tied_set(alloc, shelf, protocol, set)?;
+    proved_table_reply(alloc, shelf, protocol, &digest, &set, certificate)
 }
 
 /// Reads the inputs of `report`, and does its work.
 fn report_reply<S: Shelf>(
     alloc: Global,
     shelf: &mut S,
-    protocol: Protocol,
+    protocol: ProtocolName,
     name: &str,
 ) -> Result<Reply, Halt>
-    ensures reply { Answered result (IsReplyOf
-        (record { names = S.names shelf.old; before = S.faults shelf.old; now = S.faults shelf.new; given = S.given shelf.new })
-        (plan_of (Report protocol name.now))) }
-    ensures keeps { Keeps (S.names shelf.old) (S.names shelf.new) (is_some (S.rest shelf.old)) (is_some (S.rest shelf.new))
-        (S.faults shelf.old) (S.faults shelf.new) (S.steady shelf.old) (S.steady shelf.new) }
+    ensures reply { AnswersPlan result (S.seen shelf.old) (S.seen shelf.new) (plan_of (Report protocol name.now)) }
+    ensures keeps { Keeps (S.seen shelf.old) (S.seen shelf.new) }
 {
-    let (_bytes, set) = get_set(alloc, shelf, protocol, name)?;
+    let set = get_set(alloc, shelf, protocol, name)?;
     table(alloc, &set)
 }
 
@@ -138,18 +157,15 @@ fn report_reply<S: Shelf>(
 fn rows_reply<S: Shelf>(
     alloc: Global,
     shelf: &mut S,
-    protocol: Protocol,
+    protocol: ProtocolName,
     jobs: &JobList<'_>,
     rows: &str,
 ) -> Result<Reply, Halt>
-    requires { HasHomesFor protocol jobs.now.set }
-    ensures reply { Answered result (IsReplyOf
-        (record { names = S.names shelf.old; before = S.faults shelf.old; now = S.faults shelf.new; given = S.given shelf.new })
-        (judging_rows protocol rows.now jobs.now)) }
-    ensures keeps { Keeps (S.names shelf.old) (S.names shelf.new) (is_some (S.rest shelf.old)) (is_some (S.rest shelf.new))
-        (S.faults shelf.old) (S.faults shelf.new) (S.steady shelf.old) (S.steady shelf.new) }
+    requires { HasHomes protocol jobs.now.set }
+    ensures reply { AnswersPlan result (S.seen shelf.old) (S.seen shelf.new) (judging_rows protocol rows.now jobs.now) }
+    ensures keeps { Keeps (S.seen shelf.old) (S.seen shelf.new) }
 {
-    let (_bytes, rows) = get_rows(alloc, shelf, jobs, rows)?;
+    let rows = get_rows(alloc, shelf, jobs, rows)?;
     conformance(alloc, protocol, jobs, &rows)
 }
 
@@ -157,19 +173,16 @@ fn rows_reply<S: Shelf>(
 fn jobs_reply<S: Shelf>(
     alloc: Global,
     shelf: &mut S,
-    protocol: Protocol,
+    protocol: ProtocolName,
     set: &TaskSet,
     jobs: &str,
     rows: &str,
 ) -> Result<Reply, Halt>
-    requires { HasHomesFor protocol set.now }
-    ensures reply { Answered result (IsReplyOf
-        (record { names = S.names shelf.old; before = S.faults shelf.old; now = S.faults shelf.new; given = S.given shelf.new })
-        (judging_jobs protocol jobs.now rows.now set.now)) }
-    ensures keeps { Keeps (S.names shelf.old) (S.names shelf.new) (is_some (S.rest shelf.old)) (is_some (S.rest shelf.new))
-        (S.faults shelf.old) (S.faults shelf.new) (S.steady shelf.old) (S.steady shelf.new) }
+    requires { HasHomes protocol set.now }
+    ensures reply { AnswersPlan result (S.seen shelf.old) (S.seen shelf.new) (judging_jobs protocol jobs.now rows.now set.now) }
+    ensures keeps { Keeps (S.seen shelf.old) (S.seen shelf.new) }
 {
-    let (_bytes, jobs) = get_jobs(alloc, shelf, set, jobs)?;
+    let jobs = get_jobs(alloc, shelf, set, jobs)?;
     rows_reply(alloc, shelf, protocol, &jobs, rows)
 }
 
@@ -177,18 +190,15 @@ fn jobs_reply<S: Shelf>(
 fn conform_reply<S: Shelf>(
     alloc: Global,
     shelf: &mut S,
-    protocol: Protocol,
+    protocol: ProtocolName,
     set: &str,
     jobs: &str,
     rows: &str,
 ) -> Result<Reply, Halt>
-    ensures reply { Answered result (IsReplyOf
-        (record { names = S.names shelf.old; before = S.faults shelf.old; now = S.faults shelf.new; given = S.given shelf.new })
-        (plan_of (Conform protocol set.now jobs.now rows.now))) }
-    ensures keeps { Keeps (S.names shelf.old) (S.names shelf.new) (is_some (S.rest shelf.old)) (is_some (S.rest shelf.new))
-        (S.faults shelf.old) (S.faults shelf.new) (S.steady shelf.old) (S.steady shelf.new) }
+    ensures reply { AnswersPlan result (S.seen shelf.old) (S.seen shelf.new) (plan_of (Conform protocol set.now jobs.now rows.now)) }
+    ensures keeps { Keeps (S.seen shelf.old) (S.seen shelf.new) }
 {
-    let (_bytes, set) = get_set(alloc, shelf, protocol, set)?;
+    let set = get_set(alloc, shelf, protocol, set)?;
     jobs_reply(alloc, shelf, protocol, &set, jobs, rows)
 }
 
@@ -196,21 +206,18 @@ fn conform_reply<S: Shelf>(
 fn simulated_reply<S: Shelf>(
     alloc: Global,
     shelf: &mut S,
-    protocol: Protocol,
+    protocol: ProtocolName,
     set: &TaskSet,
     jobs: &str,
     ticks: u64,
 ) -> Result<Reply, Halt>
-    requires suits { HasHomesFor protocol set.now }
+    requires suits { HasHomes protocol set.now }
     requires some { 1 ≤ ticks }
     requires most { ticks ≤ MOST_TICKS }
-    ensures reply { Answered result (IsReplyOf
-        (record { names = S.names shelf.old; before = S.faults shelf.old; now = S.faults shelf.new; given = S.given shelf.new })
-        (simulating_jobs protocol jobs.now ticks set.now)) }
-    ensures keeps { Keeps (S.names shelf.old) (S.names shelf.new) (is_some (S.rest shelf.old)) (is_some (S.rest shelf.new))
-        (S.faults shelf.old) (S.faults shelf.new) (S.steady shelf.old) (S.steady shelf.new) }
+    ensures reply { AnswersPlan result (S.seen shelf.old) (S.seen shelf.new) (simulating_jobs protocol jobs.now ticks set.now) }
+    ensures keeps { Keeps (S.seen shelf.old) (S.seen shelf.new) }
 {
-    let (_bytes, jobs) = get_jobs(alloc, shelf, set, jobs)?;
+    let jobs = get_jobs(alloc, shelf, set, jobs)?;
     simulation(alloc, protocol, &jobs, ticks)
 }
 
@@ -218,20 +225,17 @@ fn simulated_reply<S: Shelf>(
 fn simulate_reply<S: Shelf>(
     alloc: Global,
     shelf: &mut S,
-    protocol: Protocol,
+    protocol: ProtocolName,
     set: &str,
     jobs: &str,
     ticks: u64,
 ) -> Result<Reply, Halt>
     requires some { 1 ≤ ticks }
     requires most { ticks ≤ MOST_TICKS }
-    ensures reply { Answered result (IsReplyOf
-        (record { names = S.names shelf.old; before = S.faults shelf.old; now = S.faults shelf.new; given = S.given shelf.new })
-        (plan_of (Simulate protocol set.now jobs.now ticks))) }
-    ensures keeps { Keeps (S.names shelf.old) (S.names shelf.new) (is_some (S.rest shelf.old)) (is_some (S.rest shelf.new))
-        (S.faults shelf.old) (S.faults shelf.new) (S.steady shelf.old) (S.steady shelf.new) }
+    ensures reply { AnswersPlan result (S.seen shelf.old) (S.seen shelf.new) (plan_of (Simulate protocol set.now jobs.now ticks)) }
+    ensures keeps { Keeps (S.seen shelf.old) (S.seen shelf.new) }
 {
-    let (_bytes, set) = get_set(alloc, shelf, protocol, set)?;
+    let set = get_set(alloc, shelf, protocol, set)?;
     simulated_reply(alloc, shelf, protocol, &set, jobs, ticks)
 }
 
@@ -239,84 +243,84 @@ fn simulate_reply<S: Shelf>(
 fn audited_rows_reply<S: Shelf>(
     alloc: Global,
     shelf: &mut S,
-    protocol: Protocol,
-    certificate: &Certificate,
+    protocol: ProtocolName,
+    digest: &[u8; 32],
+    file: &CertFile,
     jobs: &JobList<'_>,
     rows: &str,
 ) -> Result<Reply, Halt>
-    requires suits { HasHomesFor protocol jobs.now.set }
-    requires denominators { HasDenominators (certificate_seen certificate.now) }
-    ensures reply { Answered result (IsReplyOf
-        (record { names = S.names shelf.old; before = S.faults shelf.old; now = S.faults shelf.new; given = S.given shelf.new })
-        (auditing_rows protocol (certificate_seen certificate.now) rows.now jobs.now)) }
-    ensures keeps { Keeps (S.names shelf.old) (S.names shelf.new) (is_some (S.rest shelf.old)) (is_some (S.rest shelf.new))
-        (S.faults shelf.old) (S.faults shelf.new) (S.steady shelf.old) (S.steady shelf.new) }
+    requires suits { HasHomes protocol jobs.now.set }
+    requires denominators { HasDenominators (certificate_seen file.now.certificate) }
+    ensures reply { AnswersPlan result (S.seen shelf.old) (S.seen shelf.new) (auditing_rows protocol digest.now (file_seen file.now) rows.now jobs.now) }
+    ensures keeps { Keeps (S.seen shelf.old) (S.seen shelf.new) }
 {
-    let (_bytes, rows) = get_rows(alloc, shelf, jobs, rows)?;
-    audited(alloc, protocol, certificate, jobs, &rows)
+    let rows = get_rows(alloc, shelf, jobs, rows)?;
+    audited(alloc, protocol, digest, file, jobs, &rows)
 }
 
 /// Reads the jobs and the rows of `audit`, once its set and its certificate are read, and does its work.
 fn audited_jobs_reply<S: Shelf>(
     alloc: Global,
     shelf: &mut S,
-    protocol: Protocol,
+    protocol: ProtocolName,
+    digest: &[u8; 32],
     set: &TaskSet,
-    certificate: &Certificate,
+    file: &CertFile,
     jobs: &str,
     rows: &str,
 ) -> Result<Reply, Halt>
-    requires suits { HasHomesFor protocol set.now }
-    requires denominators { HasDenominators (certificate_seen certificate.now) }
-    ensures reply { Answered result (IsReplyOf
-        (record { names = S.names shelf.old; before = S.faults shelf.old; now = S.faults shelf.new; given = S.given shelf.new })
-        (auditing_jobs protocol (certificate_seen certificate.now) jobs.now rows.now set.now)) }
-    ensures keeps { Keeps (S.names shelf.old) (S.names shelf.new) (is_some (S.rest shelf.old)) (is_some (S.rest shelf.new))
-        (S.faults shelf.old) (S.faults shelf.new) (S.steady shelf.old) (S.steady shelf.new) }
+    requires suits { HasHomes protocol set.now }
+    requires denominators { HasDenominators (certificate_seen file.now.certificate) }
+    ensures reply { AnswersPlan result (S.seen shelf.old) (S.seen shelf.new) (auditing_jobs protocol digest.now (file_seen file.now) jobs.now rows.now set.now) }
+    ensures keeps { Keeps (S.seen shelf.old) (S.seen shelf.new) }
 {
-    let (_bytes, jobs) = get_jobs(alloc, shelf, set, jobs)?;
-    audited_rows_reply(alloc, shelf, protocol, certificate, &jobs, rows)
+    let jobs = get_jobs(alloc, shelf, set, jobs)?;
+    audited_rows_reply(alloc, shelf, protocol, digest, file, &jobs, rows)
 }
 
 /// Reads the certificate, the jobs and the rows of `audit`, once its set is read, and does its work.
 fn audited_reply<S: Shelf>(
     alloc: Global,
     shelf: &mut S,
-    protocol: Protocol,
+    protocol: ProtocolName,
+    digest: &[u8; 32],
     set: &TaskSet,
     certificate: &str,
     jobs: &str,
     rows: &str,
 ) -> Result<Reply, Halt>
-    requires { HasHomesFor protocol set.now }
-    ensures reply { Answered result (IsReplyOf
-        (record { names = S.names shelf.old; before = S.faults shelf.old; now = S.faults shelf.new; given = S.given shelf.new })
-        (auditing protocol certificate.now jobs.now rows.now set.now)) }
-    ensures keeps { Keeps (S.names shelf.old) (S.names shelf.new) (is_some (S.rest shelf.old)) (is_some (S.rest shelf.new))
-        (S.faults shelf.old) (S.faults shelf.new) (S.steady shelf.old) (S.steady shelf.new) }
+    requires { HasHomes protocol set.now }
+    ensures reply { AnswersPlan result (S.seen shelf.old) (S.seen shelf.new) (auditing protocol certificate.now jobs.now rows.now digest.now set.now) }
+    ensures keeps { Keeps (S.seen shelf.old) (S.seen shelf.new) }
 {
-    let (_bytes, certificate) = get_cert(alloc, shelf, protocol, certificate)?;
-    audited_jobs_reply(alloc, shelf, protocol, set, &certificate, jobs, rows)
+    let file = get_cert(alloc, shelf, protocol, certificate)?;
+    audited_jobs_reply(alloc, shelf, protocol, digest, set, &file, jobs, rows)
 }
 
 /// Reads the inputs of `audit`, and does its work.
 fn audit_reply<S: Shelf>(
     alloc: Global,
     shelf: &mut S,
-    protocol: Protocol,
+    protocol: ProtocolName,
     set: &str,
     certificate: &str,
     jobs: &str,
     rows: &str,
 ) -> Result<Reply, Halt>
-    ensures reply { Answered result (IsReplyOf
-        (record { names = S.names shelf.old; before = S.faults shelf.old; now = S.faults shelf.new; given = S.given shelf.new })
-        (plan_of (Audit protocol set.now certificate.now jobs.now rows.now))) }
-    ensures keeps { Keeps (S.names shelf.old) (S.names shelf.new) (is_some (S.rest shelf.old)) (is_some (S.rest shelf.new))
-        (S.faults shelf.old) (S.faults shelf.new) (S.steady shelf.old) (S.steady shelf.new) }
+    ensures reply { AnswersPlan result (S.seen shelf.old) (S.seen shelf.new) (plan_of (Audit protocol set.now certificate.now jobs.now rows.now)) }
+    ensures keeps { Keeps (S.seen shelf.old) (S.seen shelf.new) }
 {
-    let (_bytes, set) = get_set(alloc, shelf, protocol, set)?;
-    audited_reply(alloc, shelf, protocol, &set, certificate, jobs, rows)
+    let (set, digest) = get_tied_set(alloc, shelf, protocol, set)?;
+    audited_reply(
+        alloc,
+        shelf,
+        protocol,
+        &digest,
+        &set,
+        certificate,
+        jobs,
+        rows,
+    )
 }
 
 /// Does what the words ask for.
@@ -327,11 +331,8 @@ fn command_reply<R: Threads + Sync, S: Shelf>(
     command: Command<'_>,
 ) -> Result<Reply, Halt>
     requires { HasFittingNumbers (form_seen command) }
-    ensures reply { Answered result (IsReplyOf
-        (record { names = S.names shelf.old; before = S.faults shelf.old; now = S.faults shelf.new; given = S.given shelf.new })
-        (plan_of (form_seen command.entry))) }
-    ensures keeps { Keeps (S.names shelf.old) (S.names shelf.new) (is_some (S.rest shelf.old)) (is_some (S.rest shelf.new))
-        (S.faults shelf.old) (S.faults shelf.new) (S.steady shelf.old) (S.steady shelf.new) }
+    ensures reply { AnswersPlan result (S.seen shelf.old) (S.seen shelf.new) (plan_of (form_seen command.entry)) }
+    ensures keeps { Keeps (S.seen shelf.old) (S.seen shelf.new) }
 {
     match command {
         Command::Analyse {
@@ -344,6 +345,11 @@ fn command_reply<R: Threads + Sync, S: Shelf>(
             set,
             certificate,
         } => check_reply(alloc, shelf, protocol, set, certificate),
+        Command::Upgrade {
+            protocol,
+            set,
+            certificate,
+        } => upgrade_reply(alloc, shelf, protocol, set, certificate),
         Command::Report { protocol, set } => report_reply(alloc, shelf, protocol, set),
         Command::FullReport {
             protocol,
@@ -380,11 +386,9 @@ pub fn reply_to<R: Threads + Sync, S: Shelf>(
     words: &[String],
     shelf: &mut S,
 ) -> Result<Reply, AllocError>
-    ensures reply { IfOk result (λ r. IsReply
-        (record { names = S.names shelf.old; before = S.faults shelf.old; now = S.faults shelf.new; given = S.given shelf.new })
+    ensures reply { IfOk result (λ r. IsReply (shown (S.seen shelf.old) (S.seen shelf.new))
         (words_seen words.now) (reply_seen r)) }
-    ensures keeps { Keeps (S.names shelf.old) (S.names shelf.new) (is_some (S.rest shelf.old)) (is_some (S.rest shelf.new))
-        (S.faults shelf.old) (S.faults shelf.new) (S.steady shelf.old) (S.steady shelf.new) }
+    ensures keeps { Keeps (S.seen shelf.old) (S.seen shelf.new) }
 {
     match command_of(words) {
         Some(command) => settled(command_reply(rt, alloc, shelf, command)),

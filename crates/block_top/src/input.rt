@@ -1,20 +1,23 @@
-ghost use Rattle.std.specs.Prelude.{◌≡◌, ◌≤◌, length, is_some, codes, IfOk};
+ghost use Rattle.std.specs.Prelude.{◌≡◌, ◌≤◌, length, codes, IfOk};
 ghost use Rattle.outside_ports.specs.declared.whole.TheConstants.{GREATEST_INPUT_BYTES};
 ghost use Rattle.program_form.specs.Certificate.{certificate_seen};
-ghost use Rattle.sporadic_model.specs.Homes.{HasHomesFor};
+ghost use Rattle.named_protocols.specs.Named.{HasHomes};
 ghost use Rattle.dual_check.specs.Answers.{HasDenominators};
 ghost use Rattle.run_plans.specs.Plans.{refused};
-ghost use Rattle.refusal_texts.specs.Refusals.{reason_text, cert_reason_text, jobs_reason_text, rows_reason_text};
-ghost use Rattle.run_plans.specs.Inputs.{set_input, cert_input, jobs_input, rows_input};
-ghost use Rattle.run_plans.specs.Replies.{HaltsWith, IsLoaded, IsTaken, IsGot, cert_taken, cert_got, ReadsSetFor, Keeps};
+ghost use Rattle.reply_texts.specs.Refusals.{reason_text, cert_reason_text, jobs_reason_text, rows_reason_text};
+ghost use Rattle.run_plans.specs.Inputs.{set_input, cert_input, old_cert_input, jobs_input, rows_input};
+ghost use Rattle.run_plans.specs.Outcome.{shown};
+ghost use Rattle.run_plans.specs.Replies.{HaltsWith, IsLoaded, IsTaken, IsGot, IsGotTied, cert_taken, old_cert_taken, ReadsSetFor, Keeps};
 
-use cert_json::CertRefusal;
+use cert_json::{CertFile, CertRefusal};
 use outside_ports::{LoadFault, Shelf, load};
 use program_form::Certificate;
-use refusal_texts::{cert_reason, jobs_reason, reason, rows_reason};
+use protocol_names::ProtocolName;
+use reply_texts::{cert_reason, jobs_reason, reason, rows_reason};
 use run_plans::{Halt, fault, refusal};
 use schedule_model::{JobList, RowList};
-use sporadic_model::{Protocol, TaskSet};
+use set_digests::set_digest;
+use sporadic_model::TaskSet;
 use std::alloc::{AllocError, Global};
 use taskset_json::{SetRefusal, home_check, read};
 use trace_csv::{JobsRefusal, RowsRefusal, read_jobs, read_rows};
@@ -27,10 +30,9 @@ fn load_input<S: Shelf>(
     name: &str,
 ) -> Result<Vec<u8>, Halt>
     ensures loaded { IsLoaded
-        (record { names = S.names shelf.old; before = S.faults shelf.old; now = S.faults shelf.new; given = S.given shelf.new })
+        (shown (S.seen shelf.old) (S.seen shelf.new))
         word.now name.now result }
-    ensures keeps { Keeps (S.names shelf.old) (S.names shelf.new) (is_some (S.rest shelf.old)) (is_some (S.rest shelf.new))
-        (S.faults shelf.old) (S.faults shelf.new) (S.steady shelf.old) (S.steady shelf.new) }
+    ensures keeps { Keeps (S.seen shelf.old) (S.seen shelf.new) }
 {
     match load(alloc, shelf, name) {
         Ok(bytes) => Ok(bytes),
@@ -52,21 +54,21 @@ fn set_refusal(alloc: Global, cause: SetRefusal) -> Halt
 }
 
 /// The set that the bytes are, with the homes that the protocol asks for.
-fn set_for(alloc: Global, bytes: &[u8], protocol: Protocol) -> Result<TaskSet, SetRefusal>
+fn set_for(alloc: Global, bytes: &[u8], protocol: ProtocolName) -> Result<TaskSet, SetRefusal>
     requires { length bytes.now ≤ GREATEST_INPUT_BYTES }
     ensures reads { ReadsSetFor protocol bytes.now result }
-    ensures suits { IfOk result (λ set. HasHomesFor protocol set) }
+    ensures suits { IfOk result (λ set. HasHomes protocol set) }
 {
     let set = read(alloc, bytes)?;
-    home_check(&set, protocol)?;
+    home_check(&set, protocol.homes_as())?;
     Ok(set)
 }
 
 /// The set that the bytes are, or the reply that refuses it.
-fn take_set(alloc: Global, bytes: &[u8], protocol: Protocol) -> Result<TaskSet, Halt>
+fn take_set(alloc: Global, bytes: &[u8], protocol: ProtocolName) -> Result<TaskSet, Halt>
     requires { length bytes.now ≤ GREATEST_INPUT_BYTES }
     ensures taken { IsTaken (set_input protocol) bytes.now result }
-    ensures suits { IfOk result (λ set. HasHomesFor protocol set) }
+    ensures suits { IfOk result (λ set. HasHomes protocol set) }
 {
     match set_for(alloc, bytes, protocol) {
         Ok(set) => Ok(set),
@@ -79,19 +81,34 @@ fn take_set(alloc: Global, bytes: &[u8], protocol: Protocol) -> Result<TaskSet, 
 pub fn get_set<S: Shelf>(
     alloc: Global,
     shelf: &mut S,
-    protocol: Protocol,
+    protocol: ProtocolName,
     name: &str,
-) -> Result<(Vec<u8>, TaskSet), Halt>
+) -> Result<TaskSet, Halt>
     ensures got { IsGot
-        (record { names = S.names shelf.old; before = S.faults shelf.old; now = S.faults shelf.new; given = S.given shelf.new })
+        (shown (S.seen shelf.old) (S.seen shelf.new))
         (set_input protocol) name.now result }
-    ensures suits { IfOk result (λ got. HasHomesFor protocol got.1) }
-    ensures keeps { Keeps (S.names shelf.old) (S.names shelf.new) (is_some (S.rest shelf.old)) (is_some (S.rest shelf.new))
-        (S.faults shelf.old) (S.faults shelf.new) (S.steady shelf.old) (S.steady shelf.new) }
+    ensures suits { IfOk result (λ set. HasHomes protocol set) }
+    ensures keeps { Keeps (S.seen shelf.old) (S.seen shelf.new) }
+{
+    let bytes = load_input(alloc, shelf, "set", name)?;
+    take_set(alloc, &bytes, protocol)
+}
+
+/// Loads and reads the task set of this name, for use with this protocol, and gives the digest of its bytes with it.
+pub fn get_tied_set<S: Shelf>(
+    alloc: Global,
+    shelf: &mut S,
+    protocol: ProtocolName,
+    name: &str,
+) -> Result<(TaskSet, [u8; 32]), Halt>
+    ensures got { IsGotTied (shown (S.seen shelf.old) (S.seen shelf.new)) protocol name.now result }
+    ensures suits { IfOk result (λ got. HasHomes protocol got.0) }
+    ensures keeps { Keeps (S.seen shelf.old) (S.seen shelf.new) }
 {
     let bytes = load_input(alloc, shelf, "set", name)?;
     let set = take_set(alloc, &bytes, protocol)?;
-    Ok((bytes, set))
+    let digest = set_digest(&bytes);
+    Ok((set, digest))
 }
 
 /// The reply that a certificate is refused.
@@ -104,36 +121,64 @@ fn cert_refusal(alloc: Global, cause: CertRefusal) -> Halt
     }
 }
 
-/// The certificate for the protocol that the bytes are, or the reply that refuses them.
-fn take_cert(alloc: Global, bytes: &[u8], protocol: Protocol) -> Result<Certificate, Halt>
+/// The certificate for the protocol that the bytes are, with its set's digest, or the reply that refuses them.
+fn take_cert(alloc: Global, bytes: &[u8], protocol: ProtocolName) -> Result<CertFile, Halt>
     requires { length bytes.now ≤ GREATEST_INPUT_BYTES }
     ensures taken { IsTaken (cert_input protocol) bytes.now (cert_taken result) }
+    ensures denominators { IfOk result (λ file. HasDenominators (certificate_seen file.certificate)) }
+{
+    match cert_json::read(alloc, bytes, protocol.word()) {
+        Ok(file) => Ok(file),
+        Err(CertRefusal::Memory) => Err(Halt::Memory),
+        Err(cause) => Err(cert_refusal(alloc, cause)),
+    }
+}
+
+/// The certificate of the version before that the bytes are, or the reply that refuses them.
+fn take_old_cert(alloc: Global, bytes: &[u8], protocol: ProtocolName) -> Result<Certificate, Halt>
+    requires { length bytes.now ≤ GREATEST_INPUT_BYTES }
+    ensures taken { IsTaken (old_cert_input protocol) bytes.now (old_cert_taken result) }
     ensures denominators { IfOk result (λ c. HasDenominators (certificate_seen c)) }
 {
-    match cert_json::read(alloc, bytes, protocol) {
+    match cert_json::read_old(alloc, bytes, protocol.word()) {
         Ok(certificate) => Ok(certificate),
         Err(CertRefusal::Memory) => Err(Halt::Memory),
         Err(cause) => Err(cert_refusal(alloc, cause)),
     }
 }
 
-/// Loads and reads the certificate of this name, which is for this protocol.
+/// Loads and reads the certificate of this name, which is for this protocol, with its set's digest.
 pub fn get_cert<S: Shelf>(
     alloc: Global,
     shelf: &mut S,
-    protocol: Protocol,
+    protocol: ProtocolName,
     name: &str,
-) -> Result<(Vec<u8>, Certificate), Halt>
+) -> Result<CertFile, Halt>
     ensures got { IsGot
-        (record { names = S.names shelf.old; before = S.faults shelf.old; now = S.faults shelf.new; given = S.given shelf.new })
-        (cert_input protocol) name.now (cert_got result) }
-    ensures denominators { IfOk result (λ got. HasDenominators (certificate_seen got.1)) }
-    ensures keeps { Keeps (S.names shelf.old) (S.names shelf.new) (is_some (S.rest shelf.old)) (is_some (S.rest shelf.new))
-        (S.faults shelf.old) (S.faults shelf.new) (S.steady shelf.old) (S.steady shelf.new) }
+        (shown (S.seen shelf.old) (S.seen shelf.new))
+        (cert_input protocol) name.now (cert_taken result) }
+    ensures denominators { IfOk result (λ file. HasDenominators (certificate_seen file.certificate)) }
+    ensures keeps { Keeps (S.seen shelf.old) (S.seen shelf.new) }
 {
     let bytes = load_input(alloc, shelf, "cert", name)?;
-    let certificate = take_cert(alloc, &bytes, protocol)?;
-    Ok((bytes, certificate))
+    take_cert(alloc, &bytes, protocol)
+}
+
+/// Loads and reads the certificate of this name, which is of the version before and for this protocol.
+pub fn get_old_cert<S: Shelf>(
+    alloc: Global,
+    shelf: &mut S,
+    protocol: ProtocolName,
+    name: &str,
+) -> Result<Certificate, Halt>
+    ensures got { IsGot
+        (shown (S.seen shelf.old) (S.seen shelf.new))
+        (old_cert_input protocol) name.now (old_cert_taken result) }
+    ensures denominators { IfOk result (λ c. HasDenominators (certificate_seen c)) }
+    ensures keeps { Keeps (S.seen shelf.old) (S.seen shelf.new) }
+{
+    let bytes = load_input(alloc, shelf, "cert", name)?;
+    take_old_cert(alloc, &bytes, protocol)
 }
 
 /// The reply that jobs are refused.
@@ -164,17 +209,15 @@ pub fn get_jobs<'a, S: Shelf>(
     shelf: &mut S,
     set: &'a TaskSet,
     name: &str,
-) -> Result<(Vec<u8>, JobList<'a>), Halt>
+) -> Result<JobList<'a>, Halt>
     ensures got { IsGot
-        (record { names = S.names shelf.old; before = S.faults shelf.old; now = S.faults shelf.new; given = S.given shelf.new })
+        (shown (S.seen shelf.old) (S.seen shelf.new))
         (jobs_input set.now) name.now result }
-    ensures of_set { IfOk result (λ got. got.1.set ≡ set.now) }
-    ensures keeps { Keeps (S.names shelf.old) (S.names shelf.new) (is_some (S.rest shelf.old)) (is_some (S.rest shelf.new))
-        (S.faults shelf.old) (S.faults shelf.new) (S.steady shelf.old) (S.steady shelf.new) }
+    ensures of_set { IfOk result (λ jobs. jobs.set ≡ set.now) }
+    ensures keeps { Keeps (S.seen shelf.old) (S.seen shelf.new) }
 {
     let bytes = load_input(alloc, shelf, "jobs", name)?;
-    let jobs = take_jobs(alloc, set, &bytes)?;
-    Ok((bytes, jobs))
+    take_jobs(alloc, set, &bytes)
 }
 
 /// The reply that rows are refused.
@@ -204,14 +247,12 @@ pub fn get_rows<S: Shelf>(
     shelf: &mut S,
     jobs: &JobList<'_>,
     name: &str,
-) -> Result<(Vec<u8>, RowList), Halt>
+) -> Result<RowList, Halt>
     ensures got { IsGot
-        (record { names = S.names shelf.old; before = S.faults shelf.old; now = S.faults shelf.new; given = S.given shelf.new })
+        (shown (S.seen shelf.old) (S.seen shelf.new))
         (rows_input jobs.now) name.now result }
-    ensures keeps { Keeps (S.names shelf.old) (S.names shelf.new) (is_some (S.rest shelf.old)) (is_some (S.rest shelf.new))
-        (S.faults shelf.old) (S.faults shelf.new) (S.steady shelf.old) (S.steady shelf.new) }
+    ensures keeps { Keeps (S.seen shelf.old) (S.seen shelf.new) }
 {
     let bytes = load_input(alloc, shelf, "rows", name)?;
-    let rows = take_rows(alloc, jobs, &bytes)?;
-    Ok((bytes, rows))
+    take_rows(alloc, jobs, &bytes)
 }

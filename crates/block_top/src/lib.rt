@@ -5,11 +5,12 @@ mod auditing;
 mod commands;
 mod input;
 mod judging;
-mod laws;
 mod study;
 mod top;
+mod tying;
+mod upgrading;
 mod work;
 
 pub use command_words::DEFAULT_ALLOWANCE;
-pub use laws::{analyse_and_check, analysed_then_checked, two_runs};
-pub use top::{Status, run};
+pub use run_plans::Status;
+pub use top::run;

@@ -4,8 +4,8 @@ ghost use Rattle.std.specs.Prelude.{◌≤◌};
 ghost use Rattle.run_plans.specs.Commands.{IsStudyAnswer};
 ghost use Rattle.run_plans.specs.Replies.{Answered};
 
-use answer_texts::study_lines;
-use run_plans::{Halt, Reply};
+use reply_texts::study_lines;
+use run_plans::{Halt, Reply, Status};
 use std::alloc::Global;
 use std::thread::Threads;
 use study_gen::study;
@@ -23,7 +23,7 @@ pub fn counted<R: Threads + Sync>(
 {
     let counts = study(rt, alloc, seed, sets)?;
     Ok(Reply {
-        status: 0,
+        status: Status::Done,
         text: study_lines(alloc, &counts.counts, counts.stopped)?,
     })
 }

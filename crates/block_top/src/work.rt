@@ -1,79 +1,81 @@
 ghost use Rattle.std.specs.Prelude.{◌≡◌, ◌<◌, ◌≤◌, true, length, IfOk, slice_index_or};
 ghost use Rattle.program_form.specs.Certificate.{certificate_seen};
 ghost use Rattle.sporadic_model.specs.declared.limits.TheConstants.{MOST_TICKS};
-ghost use Rattle.sporadic_model.specs.Homes.{HasHomesFor};
-ghost use Rattle.response_fixpoint.specs.Rounds.{NotShown, Wide};
+ghost use Rattle.named_protocols.specs.Named.{HasHomes};
 ghost use Rattle.schedule_model.specs.RowDef.{trace_in, ticks_of};
 ghost use Rattle.schedule_model.specs.Fitting.{is_fitting, IsMadeFor};
+ghost use Rattle.protocol_names.specs.Names.{word_of};
 ghost use Rattle.cert_json.specs.Text.{certificate_text};
 ghost use Rattle.trace_csv.specs.Written.{rows_text};
 ghost use Rattle.trace_conform.specs.Measured.{measure_seen, no_measure};
-ghost use Rattle.trace_conform.specs.ByProtocol.{rules_of, interference_of};
-ghost use Rattle.answer_texts.specs.Texts.{allowance_text, lawful_text, broken_text};
-ghost use Rattle.run_plans.specs.Commands.{ending_answer, IsAnalysis, IsTable, IsConformance, IsSimulation};
+ghost use Rattle.named_protocols.specs.Named.{rules_of, interference_of};
+ghost use Rattle.sporadic_model.specs.SetDef.{task_at, latest_bound};
+ghost use Rattle.reply_texts.specs.Texts.{not_shown_text, wide_text, allowance_text, lawful_text, broken_text};
+ghost use Rattle.run_plans.specs.Commands.{IsAnalysis, IsTable, IsConformance, IsSimulation};
 ghost use Rattle.run_plans.specs.Outcome.{refused_words};
 ghost use Rattle.run_plans.specs.Replies.{reply_seen, Answered, RepliesTo};
 ghost use Rattle.run_plans.specs.Reached.{NamesTask};
 
-use answer_texts::{broken_line, lawful_lines, not_shown_line, wide_line};
+use named_protocols::{analyse, conform, simulate};
 use program_form::Certificate;
+use protocol_names::ProtocolName;
+use reply_texts::{
+    allowance_line, broken_line, lawful_lines, no_form_line, not_shown_line, wide_line,
+};
 use report::set_table;
-use response_fixpoint::{Stop, Verdict, analyse};
-use run_plans::{Halt, Reply};
-use schedule_model::{JobList, RowList, Rule};
-use sim_engine::simulate;
-use sporadic_model::{Protocol, TaskId, TaskSet};
+use response_fixpoint::{Stop, Verdict};
+use run_plans::{Halt, Reply, Status};
+use schedule_model::{JobList, RowList};
+use sporadic_model::{TaskId, TaskSet};
 use std::alloc::{AllocError, Global};
 use std::thread::Threads;
-use trace_conform::{TaskMeasure, Unlawful, conform};
+use trace_conform::{Breach, TaskMeasure, Unlawful};
 use trace_csv::write_rows;
 
-/// The reply with a certificate.
-fn certificate_reply(
+/// The reply with a certificate for the set of this digest.
+pub(crate) fn certificate_reply(
     alloc: Global,
-    protocol: Protocol,
+    protocol: ProtocolName,
+    digest: &[u8; 32],
     certificate: &Certificate,
 ) -> Result<Reply, AllocError>
     ensures { IfOk result (λ r. reply_seen r ≡ record {
       status = 0;
-      text = certificate_text protocol (certificate_seen certificate.now);
+      text = certificate_text (word_of protocol) digest.now (certificate_seen certificate.now);
     }) }
 {
     Ok(Reply {
-        status: 0,
-        text: cert_json::write(alloc, protocol, certificate)?,
+        status: Status::Done,
+        text: cert_json::write(alloc, protocol.word(), digest, certificate)?,
     })
 }
 
 /// The reply where a task's value passes its latest bound.
 fn not_shown_reply(
     alloc: Global,
-    protocol: Protocol,
     set: &TaskSet,
     task: TaskId,
     bound: u64,
 ) -> Result<Reply, AllocError>
     requires { task.0 < length set.now.tasks }
-    ensures { IfOk result (λ r. reply_seen r ≡ ending_answer protocol set.now (NotShown task.0 bound)) }
+    ensures { IfOk result (λ r. reply_seen r ≡ record {
+      status = 1;
+      text = not_shown_text (task_at set.now task.0).name bound (latest_bound (task_at set.now task.0));
+    }) }
 {
     Ok(Reply {
-        status: 1,
+        status: Status::No,
         text: not_shown_line(alloc, set.task_name(task), bound, set.latest_bound(task))?,
     })
 }
 
 /// The reply where a task's program is too wide.
-fn wide_reply(
-    alloc: Global,
-    protocol: Protocol,
-    set: &TaskSet,
-    task: TaskId,
-) -> Result<Reply, AllocError>
+fn wide_reply(alloc: Global, set: &TaskSet, task: TaskId) -> Result<Reply, AllocError>
     requires { task.0 < length set.now.tasks }
-    ensures { IfOk result (λ r. reply_seen r ≡ ending_answer protocol set.now (Wide task.0)) }
+    ensures { IfOk result (λ r. reply_seen r ≡ record { status = 5; text = wide_text (task_at set.now task.0).name }) }
 {
     Ok(Reply {
-        status: 5,
+        status: Status::Wide,
         text: wide_line(alloc, set.task_name(task))?,
     })
 }
@@ -83,45 +85,47 @@ fn allowance_reply(alloc: Global) -> Result<Reply, AllocError>
     ensures { IfOk result (λ r. reply_seen r ≡ record { status = 6; text = allowance_text }) }
 {
     Ok(Reply {
-        status: 6,
-        text: Vec::from_slice(alloc, b"allowance\n")?,
+        status: Status::Allowance,
+        text: allowance_line(alloc)?,
     })
 }
 
-/// The reply to an analysis of the set.
+/// The reply to an analysis of the set of this digest.
 fn verdict_reply(
     alloc: Global,
-    protocol: Protocol,
+    protocol: ProtocolName,
+    digest: &[u8; 32],
     set: &TaskSet,
     verdict: Result<Verdict, Stop>,
 ) -> Result<Reply, AllocError>
     requires { NamesTask set.now verdict }
-    ensures { IfOk result (λ r. RepliesTo protocol set.now verdict (reply_seen r)) }
+    ensures { IfOk result (λ r. RepliesTo protocol digest.now set.now verdict (reply_seen r)) }
 {
     match verdict {
-        Ok(Verdict::Schedulable(certificate)) => certificate_reply(alloc, protocol, &certificate),
-        Ok(Verdict::NotShown { task, bound }) => {
-            not_shown_reply(alloc, protocol, set, task, bound)
+        Ok(Verdict::Schedulable(certificate)) => {
+            certificate_reply(alloc, protocol, digest, &certificate)
         }
-        Err(Stop::Wide(task)) => wide_reply(alloc, protocol, set, task),
+        Ok(Verdict::NotShown { task, bound }) => { not_shown_reply(alloc, set, task, bound) }
+        Err(Stop::Wide(task)) => wide_reply(alloc, set, task),
         Err(Stop::Allowance) => allowance_reply(alloc),
         Err(Stop::Memory) => Err(AllocError),
     }
 }
 
-/// The work of `analyse`.
+/// The work of `analyse`, on the set of this digest.
 pub fn analysis<R: Threads + Sync>(
     rt: &R,
     alloc: Global,
+    digest: &[u8; 32],
     set: &TaskSet,
-    protocol: Protocol,
+    protocol: ProtocolName,
     allowance: u64,
 ) -> Result<Reply, Halt>
-    requires { HasHomesFor protocol set.now }
-    ensures { Answered result (IsAnalysis protocol set.now allowance) }
+    requires { HasHomes protocol set.now }
+    ensures { Answered result (IsAnalysis protocol digest.now set.now allowance) }
 {
     let verdict = analyse(rt, alloc, set, protocol, allowance);
-    Ok(verdict_reply(alloc, protocol, set, verdict)?)
+    Ok(verdict_reply(alloc, protocol, digest, set, verdict)?)
 }
 
 /// The work of `report`.
@@ -129,7 +133,7 @@ pub fn table(alloc: Global, set: &TaskSet) -> Result<Reply, Halt>
     ensures { Answered result (IsTable set.now) }
 {
     Ok(Reply {
-        status: 0,
+        status: Status::Done,
         text: set_table(alloc, set)?,
     })
 }
@@ -148,29 +152,29 @@ fn lawful_reply(
     }) }
 {
     Ok(Reply {
-        status: 0,
+        status: Status::Done,
         text: lawful_lines(alloc, set, ticks, measures)?,
     })
 }
 
-/// The reply where the row at this tick breaks this rule.
-pub(crate) fn broken_reply(alloc: Global, tick: u64, rule: Rule) -> Result<Reply, AllocError>
-    ensures { IfOk result (λ r. reply_seen r ≡ record { status = 1; text = broken_text tick rule }) }
+/// The reply where a row breaks a rule.
+pub(crate) fn broken_reply(alloc: Global, breach: Breach) -> Result<Reply, AllocError>
+    ensures { IfOk result (λ r. reply_seen r ≡ record { status = 1; text = broken_text breach.tick breach.rule }) }
 {
     Ok(Reply {
-        status: 1,
-        text: broken_line(alloc, tick, rule)?,
+        status: Status::No,
+        text: broken_line(alloc, breach)?,
     })
 }
 
 /// The work of `conform`.
 pub fn conformance(
     alloc: Global,
-    protocol: Protocol,
+    protocol: ProtocolName,
     jobs: &JobList<'_>,
     rows: &RowList,
 ) -> Result<Reply, Halt>
-    requires suits { HasHomesFor protocol jobs.now.set }
+    requires suits { HasHomes protocol jobs.now.set }
     requires made { IsMadeFor rows.now jobs.now }
     ensures { Answered result (IsConformance (rules_of protocol) (interference_of protocol)
         (trace_in jobs.now rows.now.runs) (ticks_of rows.now.runs)) }
@@ -178,7 +182,7 @@ pub fn conformance(
     let ticks = rows.ticks();
     match conform(alloc, protocol, jobs, rows) {
         Ok(measured) => Ok(lawful_reply(alloc, jobs.set(), ticks, &measured.tasks)?),
-        Err(Unlawful::Broken { tick, rule }) => Ok(broken_reply(alloc, tick, rule)?),
+        Err(Unlawful::Broken(breach)) => Ok(broken_reply(alloc, breach)?),
         Err(Unlawful::Memory) => Err(Halt::Memory),
     }
 }
@@ -194,18 +198,18 @@ fn rows_of_jobs(alloc: Global, jobs: &JobList<'_>, rows: &RowList) -> Result<Vec
 /// The work of `simulate`.
 pub fn simulation(
     alloc: Global,
-    protocol: Protocol,
+    protocol: ProtocolName,
     jobs: &JobList<'_>,
     ticks: u64,
 ) -> Result<Reply, Halt>
-    requires suits { HasHomesFor protocol jobs.now.set }
+    requires suits { HasHomes protocol jobs.now.set }
     requires some { 1 ≤ ticks }
     requires most { ticks ≤ MOST_TICKS }
     ensures { Answered result (IsSimulation protocol jobs.now ticks) }
 {
     let rows = simulate(alloc, protocol, jobs, ticks)?;
     Ok(Reply {
-        status: 0,
+        status: Status::Done,
         text: rows_of_jobs(alloc, jobs, &rows)?,
     })
 }
@@ -215,7 +219,7 @@ pub fn no_form(alloc: Global) -> Result<Reply, Halt>
     ensures { Answered result (λ answer. answer ≡ refused_words) }
 {
     Ok(Reply {
-        status: 2,
-        text: Vec::from_slice(alloc, b"refused words\n")?,
+        status: Status::RefusedWords,
+        text: no_form_line(alloc)?,
     })
 }

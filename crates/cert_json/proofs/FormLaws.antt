@@ -6,12 +6,12 @@ use Rattle.std.proofs.lemmas.Bool.{lt-ltb, le-ltb}
 use Rattle.std.specs.List.{list_all, position, position_or_len}
 use Rattle.std.specs.Option.{is_none, option_or, option_map_or}
 use Rattle.serde_json.specs.Data.{Data}
-use Rattle.sporadic_model.specs.declared.ids.Protocol.{Protocol}
 use Rattle.taskset_json.specs.Members.{whole_at, list_at}
+use Rattle.cert_json.specs.declared.version.Version.{Version}
 use Rattle.cert_json.specs.declared.refusal.CertRefusal.{CertRefusal}
 use Rattle.cert_json.specs.declared.refusal.CertRefusal.TheVariants as refusal
 use Rattle.cert_json.specs.declared.refusal.CertPlace.TheVariants as place
-use Rattle.cert_json.specs.Form.{is_certificate, is_whole, is_dual, is_for, has_certificate_form}
+use Rattle.cert_json.specs.Form.{number_of, is_certificate, is_whole, is_dual, is_for, has_form}
 use Rattle.cert_json.specs.Answers.{JudgesValue}
 use Rattle.cert_json.specs.Refusals.{version_refusal, refused_unless, first_bad_dual, first_refusal}
 
@@ -55,41 +55,41 @@ one_or_other : (b : Bool) → is_none {T = CertRefusal} (if b then None else Som
 one_or_other true = refl
 one_or_other false = refl
 
-none_version : (o : Option ℕ) → is_none (version_refusal o) ≡ option_map_or (λ n. n == 1) o false
-none_version None = refl
-none_version (Some n) = one_or_other (n == 1)
+none_version : (v : Version) (o : Option ℕ) → is_none (version_refusal v o) ≡ option_map_or (λ n. n == number_of v) o false
+none_version v None = refl
+none_version v (Some n) = one_or_other (n == number_of v)
 
 both : {a b c d : Bool} → a ≡ b → c ≡ d → (a && c) ≡ (b && d)
 both e f = ap₂ (λ x y. x && y) e f
 
-none_refused : (p : Protocol) (d : Data) → is_none (first_refusal p d) ≡ has_certificate_form p d
-none_refused p d =
-    none_or (version_refusal (whole_at (codes "version") d)) _
-    ∙ both (none_version (whole_at (codes "version") d))
-    (none_or (refused_unless (is_certificate d) (refusal.Shape place.Root)) _
-    ∙ both (none_unless (is_certificate d) (refusal.Shape place.Root))
+none_refused : (v : Version) (word : List ℕ) (d : Data) → is_none (first_refusal v word d) ≡ has_form v word d
+none_refused v word d =
+    none_or (version_refusal v (whole_at (codes "version") d)) _
+    ∙ both (none_version v (whole_at (codes "version") d))
+    (none_or (refused_unless (is_certificate v d) (refusal.Shape place.Root)) _
+    ∙ both (none_unless (is_certificate v d) (refusal.Shape place.Root))
     (none_or (refused_unless (list_all is_whole (list_at (codes "bounds") d)) (refusal.Shape place.Bounds)) _
     ∙ both (none_unless (list_all is_whole (list_at (codes "bounds") d)) (refusal.Shape place.Bounds))
     (none_or (option_map (λ k. refusal.Shape (place.Dual k)) (first_bad_dual d)) _
     ∙ both
     (none_map (λ k. refusal.Shape (place.Dual k)) (first_bad_dual d) ∙ none_fails is_dual (list_at (codes "duals") d))
-    (none_unless (is_for p d) refusal.OtherProtocol))))
+    (none_unless (is_for word d) refusal.OtherProtocol))))
 
 -- Where there is no cause the value has the form.
-pub form_from : (p : Protocol) (d : Data) → first_refusal p d ≡ None → has_certificate_form p d ≡ true
-form_from p d h = sym (none_refused p d) ∙ ap is_none h
+pub form_from : (v : Version) (word : List ℕ) (d : Data) → first_refusal v word d ≡ None → has_form v word d ≡ true
+form_from v word d h = sym (none_refused v word d) ∙ ap is_none h
 
 is_there : (o : Option CertRefusal) → is_none o ≡ true → o ≡ None
 is_there None e = refl
 is_there (Some r) e = absurd (cc)
 
 -- Where the value has the form there is no cause.
-pub none_from_form : (p : Protocol) (d : Data) → has_certificate_form p d ≡ true → first_refusal p d ≡ None
-none_from_form p d h = is_there (first_refusal p d) (none_refused p d ∙ h)
+pub none_from_form : (v : Version) (word : List ℕ) (d : Data) → has_form v word d ≡ true → first_refusal v word d ≡ None
+none_from_form v word d h = is_there (first_refusal v word d) (none_refused v word d ∙ h)
 
-pub form_of : (o : Option CertRefusal) (p : Protocol) (d : Data) → o ≡ first_refusal p d → IfNone o (has_certificate_form p d ≡ true)
-form_of None p d h = form_from p d (sym h)
-form_of (Some r) p d h = tt
+pub form_of : (o : Option CertRefusal) (v : Version) (word : List ℕ) (d : Data) → o ≡ first_refusal v word d → IfNone o (has_form v word d ≡ true)
+form_of None v word d h = form_from v word d (sym h)
+form_of (Some r) v word d h = tt
 
 -- ---- a cause tells of a value, so it is not that there is none
 
@@ -116,27 +116,28 @@ one_refused : (b : Bool) → IfRefused (if b then None else Some refusal.Version
 one_refused true = tt
 one_refused false = tt
 
-version_refused : (o : Option ℕ) → IfRefused (version_refusal o)
-version_refused None = tt
-version_refused (Some n) = one_refused (n == 1)
+version_refused : (v : Version) (o : Option ℕ) → IfRefused (version_refusal v o)
+version_refused v None = tt
+version_refused v (Some n) = one_refused (n == number_of v)
 
 dual_refused : (o : Option ℕ) → IfRefused (option_map (λ k. refusal.Shape (place.Dual k)) o)
 dual_refused None = tt
 dual_refused (Some k) = tt
 
-refused : (p : Protocol) (d : Data) → IfRefused (first_refusal p d)
-refused p d =
-    or_refused (version_refusal (whole_at (codes "version") d)) _ (version_refused (whole_at (codes "version") d))
-    (or_refused (refused_unless (is_certificate d) (refusal.Shape place.Root)) _
-    (unless_refused (is_certificate d) (refusal.Shape place.Root) tt)
+refused : (v : Version) (word : List ℕ) (d : Data) → IfRefused (first_refusal v word d)
+refused v word d =
+    or_refused (version_refusal v (whole_at (codes "version") d)) _ (version_refused v (whole_at (codes "version") d))
+    (or_refused (refused_unless (is_certificate v d) (refusal.Shape place.Root)) _
+    (unless_refused (is_certificate v d) (refusal.Shape place.Root) tt)
     (or_refused (refused_unless (list_all is_whole (list_at (codes "bounds") d)) (refusal.Shape place.Bounds)) _
     (unless_refused (list_all is_whole (list_at (codes "bounds") d)) (refusal.Shape place.Bounds) tt)
     (or_refused (option_map (λ k. refusal.Shape (place.Dual k)) (first_bad_dual d)) _ (dual_refused (first_bad_dual d))
-    (unless_refused (is_for p d) refusal.OtherProtocol tt))))
+    (unless_refused (is_for word d) refusal.OtherProtocol tt))))
 
-pub judged_by_cause : (r : CertRefusal) (p : Protocol) (d : Data) → first_refusal p d ≡ Some r → JudgesValue (Err r) p d
-judged_by_cause refusal.NotJson p d h = subst IfRefused h (refused p d)
-judged_by_cause (refusal.Shape at) p d h = h
-judged_by_cause refusal.Version p d h = h
-judged_by_cause refusal.OtherProtocol p d h = h
-judged_by_cause refusal.Memory p d h = tt
+pub judged_by_cause : {T : Type 0} (IsOf : T → Data → Type 0) (r : CertRefusal) (v : Version) (word : List ℕ) (d : Data)
+    → first_refusal v word d ≡ Some r → JudgesValue v IsOf (Err r) word d
+judged_by_cause IsOf refusal.NotJson v word d h = subst IfRefused h (refused v word d)
+judged_by_cause IsOf (refusal.Shape at) v word d h = h
+judged_by_cause IsOf refusal.Version v word d h = h
+judged_by_cause IsOf refusal.OtherProtocol v word d h = h
+judged_by_cause IsOf refusal.Memory v word d h = tt

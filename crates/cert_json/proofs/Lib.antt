@@ -2,5 +2,6 @@ pub mod Examples
 pub mod FormLaws
 pub mod SmallDuals
 pub mod LineEnd
-pub mod TextLaws
+pub mod PlainTexts
+pub mod ValueLaws
 pub mod ReadBack

@@ -11,14 +11,17 @@ use Rattle.serde_json.specs.Find.{get}
 use Rattle.program_form.specs.declared.TheConstants.{MOST_NUMBER}
 use Rattle.program_form.specs.declared.certificate.Certificate.{Certificate}
 use Rattle.program_form.specs.Certificate.{certificate_seen}
-use Rattle.sporadic_model.specs.declared.ids.Protocol.{Protocol}
 use Rattle.taskset_json.specs.Members.{whole, list_at}
 use Rattle.taskset_json.specs.Form.{is_object_of}
+use Rattle.cert_json.specs.declared.file.CertFile.{CertFile}
+use Rattle.cert_json.specs.declared.version.Version.{Version}
+use Rattle.cert_json.specs.declared.version.Version.TheVariants as version
 use Rattle.cert_json.specs.declared.refusal.CertRefusal.{CertRefusal}
-use Rattle.cert_json.specs.Form.{dual_form, is_from, is_dual, is_first_version, is_certificate, is_whole, has_certificate_form}
+use Rattle.cert_json.specs.FileDef.{FileDef}
+use Rattle.cert_json.specs.Form.{dual_form, is_from, is_dual, is_version, is_certificate, is_whole, has_form}
 use Rattle.cert_json.specs.Written.{number_written, numbers_written, dual_written, certificate_written}
 use Rattle.cert_json.specs.Ranges.{IsSmallDual, HasSmallDuals}
-use Rattle.cert_json.specs.Answers.{JudgesValue}
+use Rattle.cert_json.specs.Answers.{JudgesValue, IsFileOf, IsCertificateOf}
 
 in_range : (least : ℕ) (o : Option ℕ) → option_map_or (λ n. nat_le least n && nat_le n MOST_NUMBER) o false ≡ true
     → (least ≤ unwrap_or o 0) × (unwrap_or o 0 ≤ MOST_NUMBER)
@@ -48,14 +51,20 @@ small_duals [] h = All-nil IsSmallDual
 small_duals (d ∷ ds) h = let p = and_parts (is_dual d) _ h in
     All-cons IsSmallDual (dual_written d) (map dual_written ds) (small_dual d p.0) (small_duals ds p.1)
 
-pub small_of_form : (p : Protocol) (d : Data) → has_certificate_form p d ≡ true → HasSmallDuals (certificate_written d)
-small_of_form p d h =
-    let first = and_parts (is_first_version d) _ h in
-    let second = and_parts (is_certificate d) _ first.1 in
+pub small_of_form : (v : Version) (word : List ℕ) (d : Data) → has_form v word d ≡ true → HasSmallDuals (certificate_written d)
+small_of_form v word d h =
+    let first = and_parts (is_version v d) _ h in
+    let second = and_parts (is_certificate v d) _ first.1 in
     let third = and_parts (list_all is_whole (list_at (codes "bounds") d)) _ second.1 in
     small_duals (list_at (codes "duals") d) (and_parts (list_all is_dual (list_at (codes "duals") d)) _ third.1).0
 
-pub small_if_judged : (r : Result Certificate CertRefusal) (p : Protocol) (d : Data) → JudgesValue r p d
+pub small_if_judged : (r : Result CertFile CertRefusal) (word : List ℕ) (d : Data) → JudgesValue version.Second IsFileOf r word d
+    → IfOk r (λ f. HasSmallDuals (certificate_seen f.certificate))
+small_if_judged (Ok f) word d h =
+    subst (λ (x : FileDef). HasSmallDuals x.certificate) (sym h.1) (small_of_form version.Second word d h.0)
+small_if_judged (Err r) word d h = tt
+
+pub small_if_old : (r : Result Certificate CertRefusal) (word : List ℕ) (d : Data) → JudgesValue version.First IsCertificateOf r word d
     → IfOk r (λ c. HasSmallDuals (certificate_seen c))
-small_if_judged (Ok c) p d h = subst HasSmallDuals (sym h.1) (small_of_form p d h.0)
-small_if_judged (Err r) p d h = tt
+small_if_old (Ok c) word d h = subst HasSmallDuals (sym h.1) (small_of_form version.First word d h.0)
+small_if_old (Err r) word d h = tt

@@ -2,33 +2,51 @@
 use Rattle.std.specs.Prelude.{◌≡◌, ℕ, true, List, Some, Result, Ok, Err}
 use Rattle.serde_json.specs.Data.{Data}
 use Rattle.program_form.specs.declared.certificate.Certificate.{Certificate}
-use Rattle.program_form.specs.Certificate.{CertificateDef, certificate_seen}
-use Rattle.sporadic_model.specs.declared.ids.Protocol.{Protocol}
+use Rattle.program_form.specs.Certificate.{certificate_seen}
 use Rattle.taskset_json.specs.Answers.{IsValue}
+use Rattle.cert_json.specs.declared.file.CertFile.{CertFile}
+use Rattle.cert_json.specs.declared.version.Version.{Version}
+use Rattle.cert_json.specs.declared.version.Version.TheVariants as version
 use Rattle.cert_json.specs.declared.refusal.CertRefusal.{CertRefusal}
 use Rattle.cert_json.specs.declared.refusal.CertRefusal.TheVariants as refusal
-use Rattle.cert_json.specs.Form.{has_certificate_form}
+use Rattle.cert_json.specs.FileDef.{FileDef}
+use Rattle.cert_json.specs.File.{file_seen}
+use Rattle.cert_json.specs.Form.{has_form}
 use Rattle.cert_json.specs.Refusals.{first_refusal}
-use Rattle.cert_json.specs.Written.{certificate_written}
+use Rattle.cert_json.specs.Written.{certificate_written, file_written}
 
--- What the answer on a value says of it: that it has the form of a certificate for the protocol, and the certificate
--- that it writes; or why it is refused first. Only want of memory says nothing of it.
-abbrev pub JudgesValue : Result Certificate CertRefusal → Protocol → Data → Type 0
-JudgesValue (Ok c) p d = (has_certificate_form p d ≡ true) × (certificate_seen c ≡ certificate_written d)
-JudgesValue (Err refusal.NotJson) p d = ⊥
-JudgesValue (Err (refusal.Shape place)) p d = first_refusal p d ≡ Some (refusal.Shape place)
-JudgesValue (Err refusal.Version) p d = first_refusal p d ≡ Some refusal.Version
-JudgesValue (Err refusal.OtherProtocol) p d = first_refusal p d ≡ Some refusal.OtherProtocol
-JudgesValue (Err refusal.Memory) p d = Unit {0}
+-- What the answer on a value says of it: that it has the version's form for the protocol of the word, and what it writes;
+-- or why it is refused first. Only want of memory says nothing of it.
+abbrev pub JudgesValue : {T : Type 0} → Version → (T → Data → Type 0) → Result T CertRefusal → List ℕ → Data → Type 0
+JudgesValue v IsOf (Ok t) word d = (has_form v word d ≡ true) × IsOf t d
+JudgesValue v IsOf (Err refusal.NotJson) word d = ⊥
+JudgesValue v IsOf (Err (refusal.Shape place)) word d = first_refusal v word d ≡ Some (refusal.Shape place)
+JudgesValue v IsOf (Err refusal.Version) word d = first_refusal v word d ≡ Some refusal.Version
+JudgesValue v IsOf (Err refusal.OtherProtocol) word d = first_refusal v word d ≡ Some refusal.OtherProtocol
+JudgesValue v IsOf (Err refusal.Memory) word d = Unit {0}
 
 -- What the answer of reading says of the bytes: that they are no JSON text, or what it says of their value.
 -- Only want of memory says nothing of them.
-abbrev pub Reads : Result Certificate CertRefusal → Protocol → List ℕ → Type 0
-Reads (Err refusal.NotJson) p bytes = (d : Data) → IsValue bytes d → ⊥
-Reads (Err refusal.Memory) p bytes = Unit {0}
-Reads answer p bytes = (d : Data) × IsValue bytes d × JudgesValue answer p d
+abbrev pub ReadsAs : {T : Type 0} → Version → (T → Data → Type 0) → Result T CertRefusal → List ℕ → List ℕ → Type 0
+ReadsAs v IsOf (Err refusal.NotJson) word bytes = (d : Data) → IsValue bytes d → ⊥
+ReadsAs v IsOf (Err refusal.Memory) word bytes = Unit {0}
+ReadsAs v IsOf answer word bytes = (d : Data) × IsValue bytes d × JudgesValue v IsOf answer word d
 
--- Does the answer give this certificate, but for want of memory?
-abbrev pub Gives : Result Certificate CertRefusal → CertificateDef → Type 0
-Gives (Ok k) c = certificate_seen k ≡ c
-Gives (Err r) c = r ≡ refusal.Memory
+-- Is it the file, the certificate, that the value writes?
+abbrev pub IsFileOf : CertFile → Data → Type 0
+IsFileOf file d = file_seen file ≡ file_written d
+
+abbrev pub IsCertificateOf : Certificate → Data → Type 0
+IsCertificateOf c d = certificate_seen c ≡ certificate_written d
+
+-- What the answer of reading a certificate of version 2 says of the bytes, and that of version 1.
+abbrev pub Reads : Result CertFile CertRefusal → List ℕ → List ℕ → Type 0
+Reads answer word bytes = ReadsAs version.Second IsFileOf answer word bytes
+
+abbrev pub ReadsOld : Result Certificate CertRefusal → List ℕ → List ℕ → Type 0
+ReadsOld answer word bytes = ReadsAs version.First IsCertificateOf answer word bytes
+
+-- Does the answer give this file, but for want of memory?
+abbrev pub Gives : Result CertFile CertRefusal → FileDef → Type 0
+Gives (Ok k) f = file_seen k ≡ f
+Gives (Err r) f = r ≡ refusal.Memory

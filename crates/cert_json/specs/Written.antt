@@ -1,9 +1,11 @@
--- The certificate that a value of the form writes. A number that the form asks for is there, so the 0 that
--- would stand for it is not used.
-use Rattle.std.specs.Prelude.{ℕ, List, map, codes, unwrap_or}
+-- The certificate that a value of the form writes, and the file with its set's digest. A number that the form asks for is
+-- there, and so is the digest, so the zeros that would stand for them are not used.
+use Rattle.std.specs.Prelude.{ℕ, List, map, codes, unwrap_or, replicate}
 use Rattle.serde_json.specs.Data.{Data}
 use Rattle.program_form.specs.Certificate.{DualDef, CertificateDef}
-use Rattle.taskset_json.specs.Members.{whole, whole_or, list_at}
+use Rattle.taskset_json.specs.Members.{whole, whole_or, text_at, list_at}
+use Rattle.set_digests.specs.Digests.{size_of_digest, digest_of}
+use Rattle.cert_json.specs.FileDef.{FileDef}
 
 abbrev pub number_written : Data → ℕ
 number_written d = unwrap_or (whole d) 0
@@ -20,3 +22,9 @@ certificate_written d =
       bounds = numbers_written (list_at (codes "bounds") d);
       duals = map dual_written (list_at (codes "duals") d);
     }
+
+abbrev pub digest_written : Data → List ℕ
+digest_written d = unwrap_or (digest_of (text_at (codes "set") d)) (replicate size_of_digest 0)
+
+abbrev pub file_written : Data → FileDef
+file_written d = record { certificate = certificate_written d; digest = digest_written d }

@@ -4,16 +4,17 @@ ghost use Rattle.std.specs.Option.{option_map_or};
 ghost use Rattle.serde_json.specs.View.{view};
 ghost use Rattle.serde_json.specs.Find.{get};
 ghost use Rattle.taskset_json.specs.Form.{is_object_of};
-ghost use Rattle.cert_json.specs.Form.{certificate_form, dual_form, is_certificate, is_whole, is_from, is_dual, is_for};
+ghost use Rattle.cert_json.specs.Form.{first_form, second_form, dual_form, is_certificate, is_whole, is_from, is_dual, is_for};
 
-use crate::words::{is_protocol_word, is_verdict_word, word_of};
+use crate::version::Version;
+use crate::words::is_verdict_word;
 use program_form::MOST_NUMBER;
 use serde_json::Value;
-use sporadic_model::Protocol;
+use set_digests::is_digest_text;
 use taskset_json::{Kind, is_object_of, list_at, must, text_at};
 
-fn has_certificate_members(value: &Value) -> bool
-    ensures { result ≡ is_object_of certificate_form (view value.now) }
+fn has_first_members(value: &Value) -> bool
+    ensures { result ≡ is_object_of first_form (view value.now) }
 {
     let form = [
         must("bounds", Kind::List),
@@ -25,13 +26,32 @@ fn has_certificate_members(value: &Value) -> bool
     is_object_of(value, &form)
 }
 
-/// Is the value an object of a certificate's members, with words that a certificate can have?
-pub(crate) fn is_certificate(value: &Value) -> bool
-    ensures { result ≡ is_certificate (view value.now) }
+fn has_second_members(value: &Value) -> bool
+    ensures { result ≡ is_object_of second_form (view value.now) }
 {
-    has_certificate_members(value)
-        && is_protocol_word(text_at(value, "protocol"))
-        && is_verdict_word(text_at(value, "verdict"))
+    let form = [
+        must("set", Kind::Text),
+        must("bounds", Kind::List),
+        must("duals", Kind::List),
+        must("protocol", Kind::Text),
+        must("verdict", Kind::Text),
+        must("version", Kind::Whole),
+    ];
+    is_object_of(value, &form)
+}
+
+/// Is the value an object of the version's members, with the text of a digest and the word of the verdict?
+pub(crate) fn is_certificate(value: &Value, version: Version) -> bool
+    ensures { result ≡ is_certificate version (view value.now) }
+{
+    match version {
+        Version::First => has_first_members(value) && is_verdict_word(text_at(value, "verdict")),
+        Version::Second => {
+            has_second_members(value)
+                && is_digest_text(text_at(value, "set"))
+                && is_verdict_word(text_at(value, "verdict"))
+        }
+    }
 }
 
 fn is_whole(value: &Value) -> bool
@@ -95,9 +115,9 @@ pub(crate) fn is_dual(value: &Value) -> bool
     has_dual_members(value) && has_denominator(value) && are_numerators(list_at(value, "num"))
 }
 
-/// Is the value's protocol this one?
-pub(crate) fn is_for(value: &Value, protocol: Protocol) -> bool
-    ensures { result ≡ is_for protocol (view value.now) }
+/// Is the value's protocol of this word?
+pub(crate) fn is_for(value: &Value, word: &str) -> bool
+    ensures { result ≡ is_for word.now (view value.now) }
 {
-    text_at(value, "protocol") == word_of(protocol)
+    text_at(value, "protocol") == word
 }

@@ -1,17 +1,24 @@
 //! The text of certificates: one compact JSON object, which `write` gives and `read` reads again, free in white
-//! space and in the order of members.
+//! space and in the order of members. A certificate carries the digest of its set's bytes; `read_old` reads the
+//! version before, which doesn't.
 #![tactic(auto)]
 
+mod file;
 mod form;
 mod laws;
 mod reading;
 mod refusal;
 mod refusing;
+mod value;
+mod version;
 mod words;
 mod writing;
 mod written;
 
+pub use file::CertFile;
 pub use laws::{form_is_exact, what_is_written_is_read};
-pub use reading::read;
+pub use reading::{read, read_old};
 pub use refusal::{CertPlace, CertRefusal};
+pub use set_digests::set_digest;
+pub use version::Version;
 pub use writing::write;

@@ -24,7 +24,7 @@ pub enum CertRefusal {
     /// The value at the place does not have its form. The version is looked at before all else of the object.
     #[error("the certificate does not have its form")]
     Shape(CertPlace),
-    /// The version is a whole number and not the first.
+    /// The version is a whole number and not the one that is read.
     #[error("the certificate has another version")]
     Version,
     /// The certificate is for another protocol than the one asked for.

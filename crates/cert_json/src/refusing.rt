@@ -6,17 +6,17 @@ ghost use Rattle.cert_json.specs.Refusals.{version_refusal, first_bad_dual, firs
 
 use crate::form::{are_whole, is_certificate, is_dual, is_for};
 use crate::refusal::{CertPlace, CertRefusal};
+use crate::version::{Version, number_of};
 use serde_json::Value;
-use sporadic_model::Protocol;
 use taskset_json::{list_at, whole_at};
 
 /// The version is tried before the members: a certificate of another version may have others.
-fn version_refusal(version: Option<u64>) -> Option<CertRefusal>
-    ensures { result ≡ version_refusal version }
+fn version_refusal(version: Version, given: Option<u64>) -> Option<CertRefusal>
+    ensures { result ≡ version_refusal version given }
 {
-    match version {
+    match given {
         None => Some(CertRefusal::Shape(CertPlace::Root)),
-        Some(1) => None,
+        Some(n) if n == number_of(version) => None,
         Some(_) => Some(CertRefusal::Version),
     }
 }
@@ -46,15 +46,15 @@ fn first_bad_dual(value: &Value) -> Option<u32>
     first_misshapen(list_at(value, "duals"))
 }
 
-/// Why the value is refused first as a certificate for the protocol.
-pub(crate) fn first_refusal(value: &Value, protocol: Protocol) -> Option<CertRefusal>
+/// Why the value is refused first as a certificate of the version, for the protocol of the word.
+pub(crate) fn first_refusal(value: &Value, version: Version, word: &str) -> Option<CertRefusal>
     requires { size (view value.now) < 2 ^ 32 }
-    ensures { result ≡ first_refusal protocol (view value.now) }
+    ensures { result ≡ first_refusal version word.now (view value.now) }
 {
-    if let Some(refusal) = version_refusal(whole_at(value, "version")) {
+    if let Some(refusal) = version_refusal(version, whole_at(value, "version")) {
         return Some(refusal);
     }
-    if !is_certificate(value) {
+    if !is_certificate(value, version) {
         return Some(CertRefusal::Shape(CertPlace::Root));
     }
     if !are_whole(list_at(value, "bounds")) {
@@ -63,7 +63,7 @@ pub(crate) fn first_refusal(value: &Value, protocol: Protocol) -> Option<CertRef
     if let Some(k) = first_bad_dual(value) {
         return Some(CertRefusal::Shape(CertPlace::Dual(k)));
     }
-    if is_for(value, protocol) {
+    if is_for(value, word) {
         None
     } else {
         Some(CertRefusal::OtherProtocol)

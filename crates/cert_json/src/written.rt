@@ -1,12 +1,15 @@
 ghost use Rattle.std.specs.Prelude.{◌≡◌, map, IfOk};
 ghost use Rattle.serde_json.specs.View.{view};
 ghost use Rattle.program_form.specs.Certificate.{dual_seen, certificate_seen};
-ghost use Rattle.cert_json.specs.Written.{number_written, numbers_written, dual_written, certificate_written};
+ghost use Rattle.cert_json.specs.File.{file_seen};
+ghost use Rattle.cert_json.specs.Written.{number_written, numbers_written, dual_written, certificate_written, digest_written, file_written};
 
+use crate::file::CertFile;
 use program_form::{Certificate, Dual};
 use serde_json::Value;
+use set_digests::digest_of;
 use std::alloc::{AllocError, Global};
-use taskset_json::{list_at, whole_at};
+use taskset_json::{list_at, text_at, whole_at};
 
 fn number_of(value: &Value) -> u64
     ensures { result ≡ number_written (view value.now) }
@@ -51,5 +54,22 @@ pub(crate) fn certificate_of(alloc: Global, value: &Value) -> Result<Certificate
     Ok(Certificate {
         bounds: numbers_of(alloc, list_at(value, "bounds"))?,
         duals: duals_of(alloc, list_at(value, "duals"))?,
+    })
+}
+
+/// The digest that a value of the form writes.
+fn digest_at(value: &Value) -> [u8; 32]
+    ensures { result ≡ digest_written (view value.now) }
+{
+    digest_of(text_at(value, "set")).unwrap_or([0; 32])
+}
+
+/// The file that a value of the form writes.
+pub(crate) fn file_of(alloc: Global, value: &Value) -> Result<CertFile, AllocError>
+    ensures { IfOk result (λ f. file_seen f ≡ file_written (view value.now)) }
+{
+    Ok(CertFile {
+        certificate: certificate_of(alloc, value)?,
+        digest: digest_at(value),
     })
 }

@@ -1,6 +1,6 @@
-mod SharedNow
-mod DistributedNow
-mod Uncharged
+pub mod SharedNow
+pub mod DistributedNow
+pub mod Uncharged
 mod Analysed
 mod Passing
 mod PassedNext

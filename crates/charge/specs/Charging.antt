@@ -22,7 +22,7 @@ abbrev pub Charged : (Rule → Trace → ℕ → Type 0) → (Trace → ℕ → 
     → Result ChargeTable ChargeStop → Type 0
 Charged keeps interferes charges w bound n (Ok table) =
     KeepsBefore keeps w n × (first_passed w bound n ≡ None) × IsChargeTable charges interferes w bound n (map item_seen table.charges.items)
-Charged keeps interferes charges w bound n (Err (stop.Unlawful t r)) = IsFirstUnlawful keeps w n t r
+Charged keeps interferes charges w bound n (Err (stop.Unlawful b)) = IsFirstUnlawful keeps w n b.tick b.rule
 Charged keeps interferes charges w bound n (Err (stop.BoundPassed j)) = KeepsBefore keeps w n × (first_passed w bound n ≡ Some j.0)
 Charged keeps interferes charges w bound n (Err stop.Memory) = Unit {0}
 

@@ -26,6 +26,6 @@ pub record IsReached (keeps : Rule → Trace → ℕ → Type 0) (charges : Trac
 abbrev pub GoesOn : {T : Type 0} → (Rule → Trace → ℕ → Type 0) → (Trace → ℕ → ℕ → Option Charge) → (ℕ → RowDef) → List ℕ → ℕ
     → MachineDef → MachineDef → Ledger → Result T ChargeStop → Type 0
 GoesOn keeps charges rows bounds n before after ledger (Ok _) = (after.tick ≡ n) × IsReached keeps charges rows bounds after ledger
-GoesOn keeps charges rows bounds n before after ledger (Err (stop.Unlawful t r)) = IsFirstUnlawful keeps (under before rows) n t r
+GoesOn keeps charges rows bounds n before after ledger (Err (stop.Unlawful b)) = IsFirstUnlawful keeps (under before rows) n b.tick b.rule
 GoesOn keeps charges rows bounds n before after ledger (Err (stop.BoundPassed j)) = ⊥
 GoesOn keeps charges rows bounds n before after ledger (Err stop.Memory) = Unit {0}

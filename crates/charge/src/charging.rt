@@ -5,7 +5,7 @@ ghost use Rattle.schedule_model.specs.Fitting.{is_fitting};
 ghost use Rattle.charge_model.specs.Windows.{AreBounds};
 ghost use Rattle.fragments.specs.Columns.{columns_of};
 ghost use Rattle.program_laws.specs.Programs.{program_of};
-ghost use Rattle.trace_conform.specs.ByProtocol.{rules_of, interference_of};
+ghost use Rattle.schedule_model.specs.ByProtocol.{rules_of, interference_of};
 ghost use Rattle.charge.specs.ByProtocol.{charges_of};
 ghost use Rattle.charge.specs.Charging.{Charged, MeetRows};
 
@@ -38,7 +38,7 @@ pub fn charge_with<P: ChargedProtocol>(
     requires bounds { AreBounds jobs.now.set (slice_index bounds.now) }
     ensures charged { Charged (P.keeps protocol.now) (P.interferes protocol.now) (P.charges protocol.now)
         (trace_in jobs.now rows.now.runs) (slice_index bounds.now) (ticks_of rows.now.runs) result }
-    ensures rows { OnOk result (MeetRows (P.program_of protocol.now jobs.now.set) (P.columns_of protocol.now jobs.now.set)
+    ensures rows { OnOk result (MeetRows (P.source protocol.now jobs.now.set).program (P.columns_of protocol.now jobs.now.set)
         (P.charges protocol.now) (trace_in jobs.now rows.now.runs) bounds.now (ticks_of rows.now.runs)) }
 {
     jobs.set().keeps_the_model();

@@ -1,8 +1,7 @@
-ghost use Rattle.std.specs.Prelude.{◌≡◌, ℕ, ◌<◌, ◌≤◌, length, IfSome};
-ghost use Rattle.sporadic_model.specs.Homes.{EachHasHome, home_in};
+ghost use Rattle.std.specs.Prelude.{◌≡◌, ℕ, ◌<◌, length, IfSome};
+ghost use Rattle.sporadic_model.specs.Homes.{EachHasHome};
 ghost use Rattle.schedule_model.specs.RowDef.{RowDef};
-ghost use Rattle.schedule_model.specs.Protocols.{dpcp_rule};
-ghost use Rattle.schedule_model.specs.Keeping.{KeepsRow};
+ghost use Rattle.schedule_model.specs.DpcpRules.{KeepsRun};
 ghost use Rattle.schedule_model.specs.Seen.{row_seen};
 ghost use Rattle.phase_machine.specs.MachineDef.{under};
 ghost use Rattle.phase_machine.specs.Now.{phase_now};
@@ -13,26 +12,13 @@ ghost use Rattle.charge.specs.Seen.{charge_seen};
 ghost use Rattle.charge.specs.ChargeNow.{home_charge_now, dpcp_charge_now};
 
 use crate::shared::charge_to;
-use dpcp_rules::Dpcp;
+use dpcp_rules::blocking::blocked;
+use dpcp_rules::lookup::home_of;
 use fragments::Class;
-use phase_machine::{Judge, Machine, Phase};
+use phase_machine::{Machine, Phase};
 use schedule_model::{JobId, Row};
 use shared_rules::lookup::{column_at, running_beside};
 use sporadic_model::ResourceId;
-
-/// The processor at which requests of the resource run, counted from 1.
-fn home_of(machine: &Machine, q: ResourceId) -> u32
-    requires suits { EachHasHome machine.now.list.set }
-    requires resource { q.0 < length machine.now.list.set.resources }
-    ensures value { result ≡ home_in machine.now.list.set q.0 }
-    ensures least { 1 ≤ result }
-    ensures most { result ≤ machine.now.list.set.processors }
-{
-    match machine.jobs().set().home(q) {
-        Some(k) => k,
-        None => 0,
-    }
-}
 
 /// Direct where the job is in a request of the resource, else indirect.
 fn class_at_home(machine: &Machine, q: ResourceId, y: JobId) -> Class
@@ -59,8 +45,8 @@ fn charge_at_home(machine: &Machine, row: &Row, q: ResourceId) -> Option<(JobId,
     }
 }
 
-/// The charge of a blocked job.
-fn charge_of_blocked(machine: &Machine, row: &Row, j: JobId) -> Option<(JobId, Class)>
+/// The charge of a blocked job, where requests run on their resource's home.
+pub fn charge_of_blocked(machine: &Machine, row: &Row, j: JobId) -> Option<(JobId, Class)>
     requires suits { EachHasHome machine.now.list.set }
     requires fits { IsRowFor machine.now.list (row_seen row.now) }
     requires listed { j.0 < length machine.now.list.jobs }
@@ -74,17 +60,17 @@ fn charge_of_blocked(machine: &Machine, row: &Row, j: JobId) -> Option<(JobId, C
     }
 }
 
-/// The charge of the tick for the job under DPCP.
-pub(crate) fn charged_distributed(machine: &Machine, row: &Row, j: JobId) -> Option<(JobId, Class)>
+/// In a row that keeps Run: the charge of the tick for the job, where requests run on their resource's home.
+pub fn charged_distributed(machine: &Machine, row: &Row, j: JobId) -> Option<(JobId, Class)>
     requires suits { EachHasHome machine.now.list.set }
     requires fits { IsRowFor machine.now.list (row_seen row.now) }
     requires listed { j.0 < length machine.now.list.jobs }
     ensures value { (rows : ℕ → RowDef) → Shows machine.now rows → rows machine.now.tick ≡ row_seen row.now
-        → KeepsRow dpcp_rule (under machine.now rows) machine.now.tick
+        → KeepsRun (under machine.now rows) machine.now.tick
         → charge_seen result ≡ dpcp_charge (under machine.now rows) machine.now.tick j.0 }
     ensures listed { IfSome result (λ c. c.0.0 < length machine.now.list.jobs) }
 {
-    if Dpcp.blocked(machine, row, j) {
+    if blocked(machine, row, j) {
         return charge_of_blocked(machine, row, j);
     }
     None

@@ -1,13 +1,11 @@
 ghost use Rattle.std.specs.Prelude.{refl};
 ghost use Rattle.sporadic_model.specs.declared.ids.Protocol.TheVariants as protocol;
 ghost use Rattle.fragments.specs.Columns.{columns_of as written_columns};
-ghost use Rattle.program_laws.specs.Programs.{program_of as written_program, interfering_cost};
 ghost use Rattle.charge_model.specs.Charges.{shared_charge, dpcp_charge};
 ghost use Rattle.charge_laws.proofs.SharedCharging.{shared_charge_blocked};
 ghost use Rattle.charge_laws.proofs.DpcpCharging.{dpcp_charge_blocked};
 ghost use Rattle.row_laws.proofs.ChargedTicks.{mpcp_is_charged, fmlp_is_charged, dpcp_is_charged};
 ghost use Rattle.row_laws.proofs.EmptyWindows.{mpcp_point_within, fmlp_point_within, dpcp_point_within};
-ghost use Rattle.row_laws.proofs.InterferingCosts.{interfering_least, interfering_most};
 ghost use Rattle.row_laws.proofs.InterferingCosts.{mpcp_interferes_within, fmlp_interferes_within, dpcp_interferes_within};
 
 use crate::distributed::charged_distributed;
@@ -18,18 +16,10 @@ use fmlp_rules::FmlpPlus;
 use fragments::Class;
 use mpcp_rules::Mpcp;
 use phase_machine::Machine;
-use program_form::Program;
-use protocol_programs::{interference, program};
 use schedule_model::{JobId, Row};
-use sporadic_model::{Protocol, TaskId, TaskSet};
-use std::alloc::{AllocError, Global};
 
 impl ChargedProtocol for Mpcp {
     ghost columns_of = { λ p. written_columns protocol.Mpcp };
-
-    ghost program_of = { λ p. written_program protocol.Mpcp };
-
-    ghost interfering = { λ p. interfering_cost protocol.Mpcp };
 
     ghost charges = { λ p. shared_charge };
 
@@ -37,25 +27,9 @@ impl ChargedProtocol for Mpcp {
         charged_shared(machine, row, j)
     }
 
-    fn program(
-        &self,
-        alloc: Global,
-        set: &TaskSet,
-        i: TaskId,
-        bounds: &[u64],
-    ) -> Result<Program, AllocError> {
-        program(alloc, set, Protocol::Mpcp, i, bounds)
-    }
-
-    fn interference(&self, set: &TaskSet, i: TaskId, bounds: &[u64]) -> u64 {
-        interference(set, Protocol::Mpcp, i, bounds)
-    }
+    ghost served = { λ p set suits. suits };
 
     ghost worth = { λ p set i bounds suits here. refl };
-
-    ghost least = { λ p set h suits accepted here. interfering_least protocol.Mpcp set h accepted here };
-
-    ghost most = { λ p set h suits accepted here. interfering_most protocol.Mpcp set h accepted here };
 
     ghost interferes_within = { λ p w n y suits keeps lawful. mpcp_interferes_within w n y keeps lawful };
 
@@ -70,35 +44,15 @@ impl ChargedProtocol for Mpcp {
 impl ChargedProtocol for FmlpPlus {
     ghost columns_of = { λ p. written_columns protocol.FmlpPlus };
 
-    ghost program_of = { λ p. written_program protocol.FmlpPlus };
-
-    ghost interfering = { λ p. interfering_cost protocol.FmlpPlus };
-
     ghost charges = { λ p. shared_charge };
 
     fn charged(&self, machine: &Machine, row: &Row, j: JobId) -> Option<(JobId, Class)> {
         charged_shared(machine, row, j)
     }
 
-    fn program(
-        &self,
-        alloc: Global,
-        set: &TaskSet,
-        i: TaskId,
-        bounds: &[u64],
-    ) -> Result<Program, AllocError> {
-        program(alloc, set, Protocol::FmlpPlus, i, bounds)
-    }
-
-    fn interference(&self, set: &TaskSet, i: TaskId, bounds: &[u64]) -> u64 {
-        interference(set, Protocol::FmlpPlus, i, bounds)
-    }
+    ghost served = { λ p set suits. suits };
 
     ghost worth = { λ p set i bounds suits here. refl };
-
-    ghost least = { λ p set h suits accepted here. interfering_least protocol.FmlpPlus set h accepted here };
-
-    ghost most = { λ p set h suits accepted here. interfering_most protocol.FmlpPlus set h accepted here };
 
     ghost interferes_within = { λ p w n y suits keeps lawful. fmlp_interferes_within w n y keeps lawful };
 
@@ -113,35 +67,15 @@ impl ChargedProtocol for FmlpPlus {
 impl ChargedProtocol for Dpcp {
     ghost columns_of = { λ p. written_columns protocol.Dpcp };
 
-    ghost program_of = { λ p. written_program protocol.Dpcp };
-
-    ghost interfering = { λ p. interfering_cost protocol.Dpcp };
-
     ghost charges = { λ p. dpcp_charge };
 
     fn charged(&self, machine: &Machine, row: &Row, j: JobId) -> Option<(JobId, Class)> {
         charged_distributed(machine, row, j)
     }
 
-    fn program(
-        &self,
-        alloc: Global,
-        set: &TaskSet,
-        i: TaskId,
-        bounds: &[u64],
-    ) -> Result<Program, AllocError> {
-        program(alloc, set, Protocol::Dpcp, i, bounds)
-    }
-
-    fn interference(&self, set: &TaskSet, i: TaskId, bounds: &[u64]) -> u64 {
-        interference(set, Protocol::Dpcp, i, bounds)
-    }
+    ghost served = { λ p set suits. suits };
 
     ghost worth = { λ p set i bounds suits here. refl };
-
-    ghost least = { λ p set h suits accepted here. interfering_least protocol.Dpcp set h accepted here };
-
-    ghost most = { λ p set h suits accepted here. interfering_most protocol.Dpcp set h accepted here };
 
     ghost interferes_within = { λ p w n y suits keeps lawful. dpcp_interferes_within w n y keeps lawful };
 

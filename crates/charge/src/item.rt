@@ -1,10 +1,11 @@
 ghost use Rattle.std.specs.Prelude.{◌≡◌};
 
 use fragments::Class;
-use schedule_model::{JobId, Rule};
+use schedule_model::JobId;
 use sporadic_model::ResourceId;
 use std::alloc::AllocError;
 use thiserror::Error;
+use trace_conform::Breach;
 
 /// So many ticks at which a job was blocked, all charged to one request of another job, in one way.
 #[derive(Clone, Copy, Debug, PartialEq, Eq)]
@@ -33,14 +34,9 @@ pub struct ChargeTable {
 /// Why a schedule is not charged. The causes are tried in the order in which they stand here.
 #[derive(Clone, Copy, Debug, PartialEq, Eq, Error)]
 pub enum ChargeStop {
-    /// A row breaks a rule: the first such tick, and the first rule that its row breaks.
-    #[error("the row at tick {tick} breaks a rule")]
-    Unlawful {
-        /// The tick, counted from 0.
-        tick: u64,
-        /// The rule.
-        rule: Rule,
-    },
+    /// A row breaks a rule.
+    #[error("a row breaks a rule")]
+    Unlawful(Breach),
     /// All rows keep the rules, and a job, the first of these, was not finished at its release plus its bound.
     #[error("a job has passed its bound")]
     BoundPassed(JobId),

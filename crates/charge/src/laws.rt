@@ -4,7 +4,7 @@ ghost use Rattle.std.specs.Prelude.{◌≡◌, ℕ, ◌≤◌, ◌<◌, Bool, Li
 ghost use Rattle.bounded_sums.specs.Sums.{sum_below, only_if};
 ghost use Rattle.bounded_sums.specs.Tests.{count_below};
 ghost use Rattle.program_form.specs.Certificate.{CertificateDef};
-ghost use Rattle.program_sources.specs.Recurrence.{SourceDef};
+ghost use Rattle.program_sources.specs.Recurrence.{SourceDef, source_at};
 ghost use Rattle.program_sources.specs.Valid.{IsValid};
 ghost use Rattle.sporadic_model.specs.SetDef.{SetDef};
 ghost use Rattle.sporadic_model.specs.Accepted.{IsAccepted};
@@ -25,7 +25,7 @@ use schedule_model::BlockingProtocol;
 /// certificate that is valid for them are sound.
 pub fn charged_protocols_are_analysed<P: ChargedProtocol>()
     ensures { (p : P) (set : SetDef) → IsAccepted set → P.suits p set
-        → Analyses (P.keeps p) (P.interferes p) (record { set = set; program = P.program_of p set; interfering = P.interfering p set }) }
+        → Analyses (P.keeps p) (P.interferes p) (source_at (P.source p) set) }
 {}
 
 /// Under every protocol no job of a lawful schedule passes a sound bound: each job whose release plus bound lies within the

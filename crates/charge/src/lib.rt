@@ -8,13 +8,13 @@
 mod bounds;
 mod charging;
 mod counting;
-mod distributed;
+pub mod distributed;
 mod due;
 mod instances;
 mod item;
 mod laws;
 mod protocol;
-mod shared;
+pub mod shared;
 mod table;
 mod tally;
 mod walking;

@@ -1,9 +1,8 @@
 ghost use Rattle.std.specs.Prelude.{◌≡◌, ℕ, ◌*◌, ◌<◌, ◌≤◌, ◌↔◌, true, false, List, length, map, slice_index};
 ghost use Rattle.std.specs.Prelude.{Option, Some, None, IfOk, IfSome};
 ghost use Rattle.bounded_sums.specs.Tests.{count_below};
-ghost use Rattle.program_form.specs.Program.{ProgramDef};
 ghost use Rattle.program_form.specs.Points.{IsScaledPoint};
-ghost use Rattle.sporadic_model.specs.SetDef.{SetDef, task_at};
+ghost use Rattle.sporadic_model.specs.SetDef.{SetDef};
 ghost use Rattle.sporadic_model.specs.Accepted.{IsAccepted};
 ghost use Rattle.schedule_model.specs.JobDef.{job_of};
 ghost use Rattle.schedule_model.specs.LawfulJobs.{AreLawfulJobs, IsLawfulJob};
@@ -15,8 +14,6 @@ ghost use Rattle.schedule_model.specs.Seen.{row_seen};
 ghost use Rattle.phase_machine.specs.MachineDef.{under};
 ghost use Rattle.phase_machine.specs.Shows.{Shows};
 ghost use Rattle.phase_machine.specs.Taking.{IsRowFor};
-ghost use Rattle.program_sources.specs.Bounds.{AreWithinDeadlines, AreFromCostsAbove, most_of_one_task};
-ghost use Rattle.program_sources.specs.Recurrence.{interference_of};
 ghost use Rattle.fragments.specs.ColumnDef.{ColumnDef};
 ghost use Rattle.program_laws.specs.Programs.{cost_of};
 ghost use Rattle.charge_model.specs.Charges.{Charge};
@@ -28,22 +25,14 @@ ghost use Rattle.charge.specs.Seen.{charge_seen};
 
 use fragments::Class;
 use phase_machine::{Judge, Machine};
-use program_form::Program;
+use program_sources::ProgramSource;
 use schedule_model::{JobId, Row};
-use sporadic_model::{TaskId, TaskSet};
-use std::alloc::{AllocError, Global};
 
-/// A locking protocol whose blocked ticks are charged to requests, and whose programs bound what can be charged. Bounds are in
-/// ticks, one for each task.
-pub trait ChargedProtocol: Judge {
+/// A locking protocol whose blocked ticks are charged to requests, and whose programs, those of its [`ProgramSource`], bound what
+/// can be charged. Bounds are in ticks, one for each task.
+pub trait ChargedProtocol: Judge + ProgramSource {
     /// The columns of a task's program: the requests of other tasks that may block it, and how.
     ghost columns_of: { Self → SetDef → ℕ → List ColumnDef };
-
-    /// The blocking program of a task at bounds. Its rows are what charges meet.
-    ghost program_of: { Self → SetDef → ℕ → List ℕ → ProgramDef };
-
-    /// For how many ticks, at most, does one job of a task interfere with others?
-    ghost interfering: { Self → SetDef → ℕ → ℕ };
 
     /// What is a tick charged to, for a job? To nothing where it is not blocked.
     ghost charges: { Self → Trace → ℕ → ℕ → Option Charge };
@@ -62,44 +51,17 @@ pub trait ChargedProtocol: Judge {
             → (result ≡ None) ↔ (is_blocked (Self.interferes self.now) (under machine.now rows) machine.now.tick j.0 ≡ false) }
         ensures listed { IfSome result (λ c. c.0.0 < length machine.now.list.jobs) };
 
-    /// The blocking program of task `i` at these bounds. It refuses for want of memory alone.
-    fn program(
-        &self,
-        alloc: Global,
-        set: &TaskSet,
-        i: TaskId,
-        bounds: &[u64],
-    ) -> Result<Program, AllocError>
-        requires suits { Self.suits self.now set.now }
-        requires task { i.0 < length set.now.tasks }
-        requires within { AreWithinDeadlines set.now bounds.now }
-        ensures { IfOk result (λ p. p ≡ program_of self.now set.now i.0 bounds.now) };
-
-    /// The ticks that the recurrence counts for jobs of all higher tasks on `i`'s processor together.
-    fn interference(&self, set: &TaskSet, i: TaskId, bounds: &[u64]) -> u64
-        requires suits { Self.suits self.now set.now }
-        requires task { i.0 < length set.now.tasks }
-        requires within { AreWithinDeadlines set.now bounds.now }
-        requires from_costs { AreFromCostsAbove set.now bounds.now i.0 }
-        ensures value { result ≡ interference_of (interfering self.now set.now) set.now bounds.now i.0 }
-        ensures most { result ≤ i.0 * most_of_one_task };
+    /// It is a source of programs for each set that suits it.
+    ghost served: { (p : Self) (set : SetDef) → Self.suits p set → Self.serves p set };
 
     /// The program has one column for each of these, and it is worth the length of the column's requests.
     ghost worth: { (p : Self) (set : SetDef) (i : ℕ) (bounds : List ℕ) → Self.suits p set → i < length set.tasks
-        → (program_of p set i bounds).costs ≡ map (cost_of set) (columns_of p set i) };
+        → ((Self.source p set).program i bounds).costs ≡ map (cost_of set) (columns_of p set i) };
 
-    /// The interfering cost is at least 1.
-    ghost least: { (p : Self) (set : SetDef) (h : ℕ) → Self.suits p set → IsAccepted set → h < length set.tasks
-        → 1 ≤ interfering p set h };
-
-    /// It is at most the task's cost.
-    ghost most: { (p : Self) (set : SetDef) (h : ℕ) → Self.suits p set → IsAccepted set → h < length set.tasks
-        → interfering p set h ≤ (task_at set h).cost };
-
-    /// In a lawful schedule a lawful job interferes with others at no more ticks than that.
+    /// In a lawful schedule a lawful job interferes with others at no more ticks than its task's interfering cost.
     ghost interferes_within: { (p : Self) (w : Trace) (n y : ℕ) → Self.suits p w.set → KeepsBefore (Self.keeps p) w n
         → IsLawfulJob w.set (job_of w.jobs y)
-        → count_below n (λ t. interferes_with_some (Self.interferes p) w t y) ≤ interfering p w.set (task_of w y) };
+        → count_below n (λ t. interferes_with_some (Self.interferes p) w t y) ≤ (Self.source p w.set).interfering (task_of w y) };
 
     /// In a lawful schedule each blocked tick is charged to one request, which executes then, and its column is there.
     ghost charges_blocked: { (p : Self) (w : Trace) (n t j : ℕ) → Self.suits p w.set → AreLawfulJobs (jobs_of w)
@@ -116,6 +78,6 @@ pub trait ChargedProtocol: Judge {
     ghost meets_rows: { (p : Self) (w : Trace) (bounds : List ℕ) (n j : ℕ) → Self.suits p w.set → IsAccepted w.set
         → AreLawfulJobs (jobs_of w) → KeepsBefore (Self.keeps p) w n → j < length w.jobs
         → EndedWithin w (slice_index bounds) (bound_end w (slice_index bounds) j) n
-        → IsScaledPoint (program_of p w.set (task_of w j) bounds) (product_of_lengths w.set (columns_of p w.set (task_of w j)))
+        → IsScaledPoint ((Self.source p w.set).program (task_of w j) bounds) (product_of_lengths w.set (columns_of p w.set (task_of w j)))
         (fractions_of (charges p) w (slice_index bounds) n j (columns_of p w.set (task_of w j))) };
 }

@@ -17,7 +17,7 @@ use shared_rules::blocked_shared;
 use shared_rules::lookup::{holder_at, may_run, running_beside};
 
 /// The charge to a job, where there is one, with this class.
-pub(crate) fn charge_to(class: Class, named: Option<JobId>) -> Option<(JobId, Class)>
+pub fn charge_to(class: Class, named: Option<JobId>) -> Option<(JobId, Class)>
     ensures { charge_seen result ≡ charge_to class (place_seen named) }
 {
     match named {
@@ -71,7 +71,7 @@ fn charge_of_blocked(machine: &Machine, row: &Row, j: JobId) -> Option<(JobId, C
 }
 
 /// The charge of the tick for the job, where requests run on their own task's processor.
-pub(crate) fn charged_shared(machine: &Machine, row: &Row, j: JobId) -> Option<(JobId, Class)>
+pub fn charged_shared(machine: &Machine, row: &Row, j: JobId) -> Option<(JobId, Class)>
     requires fits { IsRowFor machine.now.list (row_seen row.now) }
     requires listed { j.0 < length machine.now.list.jobs }
     ensures value { (rows : ℕ → RowDef) → Shows machine.now rows → rows machine.now.tick ≡ row_seen row.now

@@ -13,6 +13,7 @@ use crate::protocol::ChargedProtocol;
 use crate::tally::Ledger;
 use phase_machine::Machine;
 use schedule_model::RowList;
+use trace_conform::Breach;
 use trace_conform::runs::{count_of, run_at};
 
 /// Judges, charges and takes the row of one tick of run number `i`.
@@ -38,7 +39,7 @@ fn walk_tick<P: ChargedProtocol>(
     let tick = machine.tick();
     match protocol.judge(machine, row) {
         Ok(()) => {}
-        Err(rule) => return Err(ChargeStop::Unlawful { tick, rule }),
+        Err(rule) => return Err(ChargeStop::Unlawful(Breach { tick, rule })),
     }
     charge_tick(protocol, rows, i, machine, bounds, &mut ledger.ticks)?;
     machine.advance(row);

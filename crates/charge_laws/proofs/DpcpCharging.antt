@@ -1,5 +1,6 @@
--- Charging under DPCP: each blocked tick is charged to a request that runs where the blocked job would.
-use Rattle.std.proofs.Common.{◌≡◌, ℕ, ◌<◌, ◌≤◌, ◌==◌, ◌&&◌, true, false, refl, sym, subst, ◌∙◌, arith, inl, inr, Some, None}
+-- Charging where requests run on their resource's home: each blocked tick is charged to a request that runs where the blocked job
+-- would. DPCP is an instance.
+use Rattle.std.proofs.Common.{◌≡◌, ℕ, ◌<◌, ◌≤◌, ◌==◌, ◌&&◌, true, false, length, refl, sym, subst, ◌∙◌, arith, inl, inr, Some, None}
 use Rattle.std.specs.Option.{option_map_or}
 use Rattle.std.proofs.lemmas.Bool.{cases_lt, cases_Bool, both_ways, and_parts, and_from, eq-eqb, eqb-true}
 use Rattle.sporadic_model.specs.SetDef.{is_higher_local}
@@ -7,8 +8,8 @@ use Rattle.schedule_model.specs.declared.rule.Rule.TheVariants as rule
 use Rattle.schedule_model.specs.RowDef.{Trace, running_on, holder_in, runs_in}
 use Rattle.schedule_model.specs.Phase.{Phase, is_local, is_finished, phase_of}
 use Rattle.schedule_model.specs.Phase.Phase.{Local, Asking, Finished}
-use Rattle.schedule_model.specs.Activity.{task_of, processor_of, is_active}
-use Rattle.schedule_model.specs.DpcpRules.{home_of, is_at, has_request_at, has_requests, holds_at, KeepsRun, RunsFirstHolder, KeepsPriority}
+use Rattle.schedule_model.specs.Activity.{task_of, processor_of, is_active, is_active_local}
+use Rattle.schedule_model.specs.DpcpRules.{home_of, is_at, has_request_at, has_requests, holds_at, KeepsRun, KeepsIdle, RunsFirstHolder, KeepsPriority}
 use Rattle.schedule_model.specs.Protocols.{dpcp_rule}
 use Rattle.schedule_model.specs.Keeping.{KeepsRow}
 use Rattle.schedule_model.specs.BlockedTicks.{is_delayed, runs_higher_local, is_dpcp_interference, is_blocked}
@@ -55,6 +56,29 @@ pub record IndirectAtHome (w : Trace) (t j r : ℕ) : Type 0 where
   pub blocked : HomeBlocked w t j r
   pub other : (blocked.runner.resource ≡ blocked.resource) → ⊥
 
+-- What a row keeps where requests run on their resource's home, whichever of the holders there runs: the rules Run and Idle of DPCP,
+-- and of its Priority that a holder runs where requests are, and else an active Local job of the highest task.
+pub record RunsAtHomes (w : Trace) (t : ℕ) : Type 0 where
+  pub run : KeepsRun w t
+  pub idle : KeepsIdle w t
+  pub holder : (k : ℕ) → has_requests w t k ≡ true → (r : ℕ) × (running_on (w.row t) k ≡ Some r) × (holds_at w t k r ≡ true)
+  pub locals : (k r : ℕ) → running_on (w.row t) k ≡ Some r → has_requests w t k ≡ false
+      → (i : ℕ) → i < length w.jobs → processor_of w i ≡ k → is_active_local w t i ≡ true → task_of w r ≤ task_of w i
+
+-- In each row before the n-th.
+abbrev pub RunsAtHomesBefore : Trace → ℕ → Type 0
+RunsAtHomesBefore w n = (t : ℕ) → t < n → RunsAtHomes w t
+
+pub dpcp_at_homes : (w : Trace) (t : ℕ) → KeepsRow dpcp_rule w t → RunsAtHomes w t
+dpcp_at_homes w t keeps = record {
+  run = keeps rule.Run;
+  idle = keeps rule.Idle;
+  holder = λ k h. let first : RunsFirstHolder w t k = priority.requests k h in (first.runner, first.runs, first.holds);
+  locals = priority.locals;
+} where
+  priority : KeepsPriority w t
+  priority = keeps rule.Priority
+
 -- Why a blocked tick of job j is charged to job r with a class.
 abbrev pub DpcpReason : Trace → ℕ → ℕ → Class → ℕ → Type 0
 DpcpReason w t j Preemption r = LocalBlocked w t j r
@@ -94,18 +118,17 @@ request_at_is w t k j h = go (phase_of w t j) refl where
   go (Asking m q) e = let x : is_at w k (Asking m q) ≡ true = rw e at parts.1 in (m, q, parts.0, e, eqb-true (home_of w q) k x)
 
 -- Where requests are at a processor, one of them runs there.
-pub requests_run : (w : Trace) (t k r : ℕ) → KeepsRow dpcp_rule w t → has_requests w t k ≡ true → running_on (w.row t) k ≡ Some r
+pub requests_run_home : (w : Trace) (t k r : ℕ) → RunsAtHomes w t → has_requests w t k ≡ true → running_on (w.row t) k ≡ Some r
     → RunsRequest w t k r
 unfolding holds_at
-requests_run w t k r keeps h e =
-    let priority : KeepsPriority w t = keeps rule.Priority in
-    let first : RunsFirstHolder w t k = priority.requests k h in
-    let x : Some first.runner ≡ Some r = sym first.runs ∙ e in
-    let same : first.runner ≡ r = cc in
-    let at : has_request_at w t k first.runner ≡ true = (and_parts (has_request_at w t k first.runner) _ first.holds).0 in
-    let is : (m : ℕ) × (q : ℕ) × (is_active w t first.runner ≡ true) × (phase_of w t first.runner ≡ Asking m q) × (home_of w q ≡ k) =
-    request_at_is w t k first.runner at in
-    runs_request w t k r is.0 is.1 (keeps rule.Run) e (rw (← same) is.3)
+requests_run_home w t k r homes h e =
+    let first : (y : ℕ) × (running_on (w.row t) k ≡ Some y) × (holds_at w t k y ≡ true) = homes.holder k h in
+    let x : Some first.0 ≡ Some r = sym first.1 ∙ e in
+    let same : first.0 ≡ r = cc in
+    let at : has_request_at w t k first.0 ≡ true = (and_parts (has_request_at w t k first.0) _ first.2).0 in
+    let is : (m : ℕ) × (q : ℕ) × (is_active w t first.0 ≡ true) × (phase_of w t first.0 ≡ Asking m q) × (home_of w q ≡ k) =
+    request_at_is w t k first.0 at in
+    runs_request w t k r is.0 is.1 homes.run e (rw (← same) is.3)
 
 -- A Local job of a higher task of a blocked job's processor doesn't run there.
 no_higher_local : (w : Trace) (t j r : ℕ) → KeepsRun w t → Blocked is_dpcp_interference w t j
@@ -121,17 +144,14 @@ no_higher_local w t j r run b e local higher =
     both_ways _ b.free (and_from (is_delayed w t j) _ (delayed_from w t j b.active b.waits) there)
 
 -- What runs on the processor of a blocked Local job is a request.
-local_blocked : (w : Trace) (t j r : ℕ) → KeepsRow dpcp_rule w t → Blocked is_dpcp_interference w t j → phase_of w t j ≡ Local
+pub local_blocked : (w : Trace) (t j r : ℕ) → RunsAtHomes w t → Blocked is_dpcp_interference w t j → phase_of w t j ≡ Local
     → running_on (w.row t) (processor_of w j) ≡ Some r → RunsRequest w t (processor_of w j) r
-local_blocked w t j r keeps b local e = elim (cases_Bool (has_requests w t (processor_of w j))) [
-  | inl some ↦ requests_run w t (processor_of w j) r keeps some e
+local_blocked w t j r homes b local e = elim (cases_Bool (has_requests w t (processor_of w j))) [
+  | inl some ↦ requests_run_home w t (processor_of w j) r homes some e
   | inr none ↦ go none (phase_of w t r) refl
 ] where
   run : KeepsRun w t
-  run = keeps rule.Run
-
-  priority : KeepsPriority w t
-  priority = keeps rule.Priority
+  run = homes.run
 
   active : is_active w t r ≡ true
   active = run.active (processor_of w j) r e
@@ -144,7 +164,7 @@ local_blocked w t j r keeps b local e = elim (cases_Bool (has_requests w t (proc
       absurd (both_ways _ a.unfinished x)
   go none Local h =
       let order : task_of w r ≤ task_of w j =
-      priority.locals (processor_of w j) r e none j (active_listed w t j b.active) refl (active_local_from w t j b.active local) in
+      homes.locals (processor_of w j) r e none j (active_listed w t j b.active) refl (active_local_from w t j b.active local) in
       elim (cases_lt (task_of w r) (task_of w j)) [
         | inl higher ↦ absurd (no_higher_local w t j r run b e h higher)
         | inr same ↦
@@ -154,17 +174,17 @@ local_blocked w t j r keeps b local e = elim (cases_Bool (has_requests w t (proc
       ]
 
 -- The charge of a blocked Local job.
-charged_local : (w : Trace) (t j : ℕ) → KeepsRow dpcp_rule w t → is_blocked is_dpcp_interference w t j ≡ true → phase_of w t j ≡ Local
+charged_local : (w : Trace) (t j : ℕ) → RunsAtHomes w t → is_blocked is_dpcp_interference w t j ≡ true → phase_of w t j ≡ Local
     → DpcpCharged w t j
 unfolding dpcp_charge
-charged_local w t j keeps blocked local =
+charged_local w t j homes blocked local =
     let b : Blocked is_dpcp_interference w t j = blocked_is is_dpcp_interference w t j blocked in
     let busy : (r : ℕ) × (running_on (w.row t) (processor_of w j) ≡ Some r) =
-    locals_busy w t j (keeps rule.Idle) (active_local_from w t j b.active local) in
+    locals_busy w t j homes.idle (active_local_from w t j b.active local) in
     record {
       charge = record { job = busy.0; class = Preemption };
       is_it = rw (blocked, local, busy.1) refl;
-      why = record { active = b.active; local = local; runner = local_blocked w t j busy.0 keeps b local busy.1 };
+      why = record { active = b.active; local = local; runner = local_blocked w t j busy.0 homes b local busy.1 };
     }
 
 home_charge : (w : Trace) (t j n q r : ℕ) → is_blocked is_dpcp_interference w t j ≡ true → phase_of w t j ≡ Asking n q
@@ -174,9 +194,9 @@ unfolding dpcp_charge
 home_charge w t j n q r blocked request e = rw (blocked, request, e) refl
 
 -- The charge of a blocked job that is in a request.
-charged_at_home : (w : Trace) (t j n q : ℕ) → KeepsRow dpcp_rule w t → is_blocked is_dpcp_interference w t j ≡ true
+charged_at_home : (w : Trace) (t j n q : ℕ) → RunsAtHomes w t → is_blocked is_dpcp_interference w t j ≡ true
     → phase_of w t j ≡ Asking n q → DpcpCharged w t j
-charged_at_home w t j n q keeps blocked request = elim (cases_Bool (runner.resource == q)) [
+charged_at_home w t j n q homes blocked request = elim (cases_Bool (runner.resource == q)) [
   | inl same ↦ record {
     charge = record { job = r; class = Direct };
     is_it = home_charge w t j n q r blocked request busy.1 ∙ rw (runner.request, same) refl;
@@ -195,28 +215,31 @@ charged_at_home w t j n q keeps blocked request = elim (cases_Bool (runner.resou
   requests = request_among w t (home_of w q) j (active_listed w t j b.active) (request_at_from w t j n q b.active request)
 
   busy : (r : ℕ) × (running_on (w.row t) (home_of w q) ≡ Some r)
-  busy = requests_busy w t (home_of w q) (keeps rule.Idle) requests
+  busy = requests_busy w t (home_of w q) homes.idle requests
 
   r : ℕ
   r = busy.0
 
   runner : RunsRequest w t (home_of w q) r
-  runner = requests_run w t (home_of w q) r keeps requests busy.1
+  runner = requests_run_home w t (home_of w q) r homes requests busy.1
 
   there : HomeBlocked w t j r
   there = record { active = b.active; waits = b.waits; number = n; resource = q; request = request; runner = runner }
 
 -- Each blocked tick is charged, for one of the three reasons.
-pub dpcp_charged : (w : Trace) (t j : ℕ) → KeepsRow dpcp_rule w t → is_blocked is_dpcp_interference w t j ≡ true → DpcpCharged w t j
-dpcp_charged w t j keeps blocked = go (phase_of w t j) refl where
+pub home_charged : (w : Trace) (t j : ℕ) → RunsAtHomes w t → is_blocked is_dpcp_interference w t j ≡ true → DpcpCharged w t j
+home_charged w t j homes blocked = go (phase_of w t j) refl where
   go : (p : Phase) → phase_of w t j ≡ p → DpcpCharged w t j
-  go Local e = charged_local w t j keeps blocked e
-  go (Asking n q) e = charged_at_home w t j n q keeps blocked e
+  go Local e = charged_local w t j homes blocked e
+  go (Asking n q) e = charged_at_home w t j n q homes blocked e
   go Finished e =
       let b : Blocked is_dpcp_interference w t j = blocked_is is_dpcp_interference w t j blocked in
       let a : Active w t j = active_is w t j b.active in
       let x : is_finished (phase_of w t j) ≡ true = rw e refl in
       absurd (both_ways _ a.unfinished x)
+
+pub dpcp_charged : (w : Trace) (t j : ℕ) → KeepsRow dpcp_rule w t → is_blocked is_dpcp_interference w t j ≡ true → DpcpCharged w t j
+dpcp_charged w t j keeps blocked = home_charged w t j (dpcp_at_homes w t keeps) blocked
 
 -- A tick that isn't blocked is charged to nothing.
 pub dpcp_uncharged : (w : Trace) (t j : ℕ) → is_blocked is_dpcp_interference w t j ≡ false → dpcp_charge w t j ≡ None
@@ -231,13 +254,16 @@ dpcp_charge_blocked w t j c e = elim (cases_Bool (is_blocked is_dpcp_interferenc
 ]
 
 -- Each charge has its reason.
-pub dpcp_reason : (w : Trace) (t j : ℕ) (c : Charge) → KeepsRow dpcp_rule w t → dpcp_charge w t j ≡ Some c
-    → DpcpReason w t j c.class c.job
-dpcp_reason w t j c keeps e =
-    let s : DpcpCharged w t j = dpcp_charged w t j keeps (dpcp_charge_blocked w t j c e) in
+pub home_reason : (w : Trace) (t j : ℕ) (c : Charge) → RunsAtHomes w t → dpcp_charge w t j ≡ Some c → DpcpReason w t j c.class c.job
+home_reason w t j c homes e =
+    let s : DpcpCharged w t j = home_charged w t j homes (dpcp_charge_blocked w t j c e) in
     let x : Some s.charge ≡ Some c = sym s.is_it ∙ e in
     let same : s.charge ≡ c = cc in
     subst (λ (d : Charge). DpcpReason w t j d.class d.job) same s.why
+
+pub dpcp_reason : (w : Trace) (t j : ℕ) (c : Charge) → KeepsRow dpcp_rule w t → dpcp_charge w t j ≡ Some c
+    → DpcpReason w t j c.class c.job
+dpcp_reason w t j c keeps e = home_reason w t j c (dpcp_at_homes w t keeps) e
 
 request_executes : (w : Trace) (t k r : ℕ) (class : Class) → RunsRequest w t k r → Executes w t (record { job = r; class = class })
 request_executes w t k r class a =
@@ -250,5 +276,8 @@ reason_executes w t j Direct r why = request_executes w t (home_of w why.blocked
 reason_executes w t j Indirect r why = request_executes w t (home_of w why.blocked.resource) r Indirect why.blocked.runner
 
 -- The request to which a tick is charged executes.
+pub home_executes : (w : Trace) (t j : ℕ) (c : Charge) → RunsAtHomes w t → dpcp_charge w t j ≡ Some c → Executes w t c
+home_executes w t j c homes e = reason_executes w t j c.class c.job (home_reason w t j c homes e)
+
 pub dpcp_executes : (w : Trace) (t j : ℕ) (c : Charge) → KeepsRow dpcp_rule w t → dpcp_charge w t j ≡ Some c → Executes w t c
-dpcp_executes w t j c keeps e = reason_executes w t j c.class c.job (dpcp_reason w t j c keeps e)
+dpcp_executes w t j c keeps e = home_executes w t j c (dpcp_at_homes w t keeps) e

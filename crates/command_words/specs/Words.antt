@@ -3,37 +3,32 @@ use Rattle.std.specs.Prelude.{◌≡◌, refl, ℕ, ◌-◌, ◌^◌, List, [], 
 use Rattle.std.specs.Prelude.{String, string_bytes, codes}
 use Rattle.std.specs.Global.{Global}
 use Rattle.std.specs.Str.{bytes_eq}
-use Rattle.sporadic_model.specs.declared.ids.Protocol.{Protocol}
+use Rattle.protocol_names.specs.Names.{name_of}
+use Rattle.protocol_names.specs.declared.ProtocolName.{ProtocolName}
 use Rattle.sporadic_model.specs.declared.limits.TheConstants.{MOST_TICKS}
-use Rattle.sporadic_model.specs.declared.ids.Protocol.TheVariants.{Mpcp, FmlpPlus, Dpcp}
 use Rattle.text_pieces.specs.Numbers.{number_between}
 use Rattle.command_words.specs.declared.words.TheConstants.{DEFAULT_ALLOWANCE, GREATEST_ALLOWANCE, MOST_SETS}
 
 -- What the words ask for: a command, with its protocol, the names of its inputs and its numbers.
 pub data Form : Type 0 where
   -- the protocol, the set, the allowance
-  Analyse : Protocol → List ℕ → ℕ → Form
+  Analyse : ProtocolName → List ℕ → ℕ → Form
   -- the protocol, the set, the certificate
-  Check : Protocol → List ℕ → List ℕ → Form
+  Check : ProtocolName → List ℕ → List ℕ → Form
+  -- the protocol, the set, the certificate of the version before
+  Upgrade : ProtocolName → List ℕ → List ℕ → Form
   -- the protocol, the set
-  Report : Protocol → List ℕ → Form
+  Report : ProtocolName → List ℕ → Form
   -- the protocol, the set, the certificate
-  FullReport : Protocol → List ℕ → List ℕ → Form
+  FullReport : ProtocolName → List ℕ → List ℕ → Form
   -- the protocol, the set, the jobs, the rows
-  Conform : Protocol → List ℕ → List ℕ → List ℕ → Form
+  Conform : ProtocolName → List ℕ → List ℕ → List ℕ → Form
   -- the protocol, the set, the jobs, the ticks
-  Simulate : Protocol → List ℕ → List ℕ → ℕ → Form
+  Simulate : ProtocolName → List ℕ → List ℕ → ℕ → Form
   -- the seed, the number of sets
   Study : ℕ → ℕ → Form
   -- the protocol, the set, the certificate, the jobs, the rows
-  Audit : Protocol → List ℕ → List ℕ → List ℕ → List ℕ → Form
-
--- Which protocol does this word name?
-abbrev pub protocol_of : List ℕ → Option Protocol
-protocol_of word = if bytes_eq word (codes "mpcp") then Some Mpcp
-    else if bytes_eq word (codes "fmlp+") then Some FmlpPlus
-    else if bytes_eq word (codes "dpcp") then Some Dpcp
-    else None
+  Audit : ProtocolName → List ℕ → List ℕ → List ℕ → List ℕ → Form
 
 -- Which form have these words of `study`, whose numbers are as they were read?
 abbrev pub study_form : Option ℕ → Option ℕ → Option Form
@@ -43,40 +38,41 @@ study_form _ _ = None
 -- Which form do these three words have?
 abbrev pub form_of_three : List ℕ → List ℕ → List ℕ → Option Form
 form_of_three command second last =
-    if bytes_eq command (codes "analyse") then option_map (λ p. Analyse p last DEFAULT_ALLOWANCE) (protocol_of second)
-    else if bytes_eq command (codes "report") then option_map (λ p. Report p last) (protocol_of second)
+    if bytes_eq command (codes "analyse") then option_map (λ p. Analyse p last DEFAULT_ALLOWANCE) (name_of second)
+    else if bytes_eq command (codes "report") then option_map (λ p. Report p last) (name_of second)
     else if bytes_eq command (codes "study") then study_form (number_between 0 (2 ^ 64 - 1) second) (number_between 1 MOST_SETS last)
     else None
 
 -- Which form have these words of `analyse`, whose protocol and allowance are as they were read?
-abbrev pub analyse_form : Option Protocol → List ℕ → Option ℕ → Option Form
+abbrev pub analyse_form : Option ProtocolName → List ℕ → Option ℕ → Option Form
 analyse_form (Some protocol) name (Some allowance) = Some (Analyse protocol name allowance)
 analyse_form _ name _ = None
 
 -- Which form do these four words have?
 abbrev pub form_of_four : List ℕ → List ℕ → List ℕ → List ℕ → Option Form
 form_of_four command protocol name last =
-    if bytes_eq command (codes "analyse") then analyse_form (protocol_of protocol) name (number_between 1 GREATEST_ALLOWANCE last)
-    else if bytes_eq command (codes "check") then option_map (λ p. Check p name last) (protocol_of protocol)
-    else if bytes_eq command (codes "report") then option_map (λ p. FullReport p name last) (protocol_of protocol)
+    if bytes_eq command (codes "analyse") then analyse_form (name_of protocol) name (number_between 1 GREATEST_ALLOWANCE last)
+    else if bytes_eq command (codes "check") then option_map (λ p. Check p name last) (name_of protocol)
+    else if bytes_eq command (codes "upgrade") then option_map (λ p. Upgrade p name last) (name_of protocol)
+    else if bytes_eq command (codes "report") then option_map (λ p. FullReport p name last) (name_of protocol)
     else None
 
 -- Which form have these words of `simulate`, whose protocol and ticks are as they were read?
-abbrev pub simulate_form : Option Protocol → List ℕ → List ℕ → Option ℕ → Option Form
+abbrev pub simulate_form : Option ProtocolName → List ℕ → List ℕ → Option ℕ → Option Form
 simulate_form (Some protocol) set jobs (Some ticks) = Some (Simulate protocol set jobs ticks)
 simulate_form _ set jobs _ = None
 
 -- Which form do these five words have?
 abbrev pub form_of_five : List ℕ → List ℕ → List ℕ → List ℕ → List ℕ → Option Form
 form_of_five command protocol set jobs last =
-    if bytes_eq command (codes "conform") then option_map (λ p. Conform p set jobs last) (protocol_of protocol)
-    else if bytes_eq command (codes "simulate") then simulate_form (protocol_of protocol) set jobs (number_between 1 MOST_TICKS last)
+    if bytes_eq command (codes "conform") then option_map (λ p. Conform p set jobs last) (name_of protocol)
+    else if bytes_eq command (codes "simulate") then simulate_form (name_of protocol) set jobs (number_between 1 MOST_TICKS last)
     else None
 
 -- Which form do these six words have?
 abbrev pub form_of_six : List ℕ → List ℕ → List ℕ → List ℕ → List ℕ → List ℕ → Option Form
 form_of_six command protocol set cert jobs rows =
-    if bytes_eq command (codes "audit") then option_map (λ p. Audit p set cert jobs rows) (protocol_of protocol)
+    if bytes_eq command (codes "audit") then option_map (λ p. Audit p set cert jobs rows) (name_of protocol)
     else None
 
 -- Which form do the words have, if any?

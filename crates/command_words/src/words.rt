@@ -2,11 +2,13 @@ ghost use Rattle.std.specs.Prelude.{◌≡◌, ◌-◌, ◌^◌, option_map, IfS
 ghost use Rattle.sporadic_model.specs.declared.limits.TheConstants.{MOST_TICKS};
 ghost use Rattle.text_pieces.specs.Numbers.{number_between};
 ghost use Rattle.command_words.specs.declared.words.TheConstants.{GREATEST_ALLOWANCE, MOST_SETS};
-ghost use Rattle.command_words.specs.Words.{protocol_of, study_form, form_of_three, analyse_form, form_of_four};
+ghost use Rattle.protocol_names.specs.Names.{name_of};
+ghost use Rattle.command_words.specs.Words.{study_form, form_of_three, analyse_form, form_of_four};
 ghost use Rattle.command_words.specs.Words.{simulate_form, form_of_five, form_of, words_seen, form_of_six};
 ghost use Rattle.command_words.specs.FormSeen.{form_seen, HasFittingNumbers};
 
-use sporadic_model::{MOST_TICKS, Protocol};
+use protocol_names::{ProtocolName, protocol_named};
+use sporadic_model::MOST_TICKS;
 use text_pieces::number_between;
 
 /// The units that the programs of an analysis may take in all, where the words don't say.
@@ -23,37 +25,44 @@ pub const MOST_SETS: u64 = 1000;
 pub enum Command<'a> {
     /// Find the least bounds of the set of this name within so many units.
     Analyse {
-        protocol: Protocol,
+        protocol: ProtocolName,
         set: &'a str,
         allowance: u64,
     },
     /// Judge the certificate of this name for the set of this name.
     Check {
-        protocol: Protocol,
+        protocol: ProtocolName,
+        set: &'a str,
+        certificate: &'a str,
+    },
+    /// Judge the certificate of this name, which is of the version before, for the set of this name, and write it with the
+    /// set's digest.
+    Upgrade {
+        protocol: ProtocolName,
         set: &'a str,
         certificate: &'a str,
     },
     /// Write the table of the set of this name.
     Report {
-        protocol: Protocol,
+        protocol: ProtocolName,
         set: &'a str,
     },
     /// Write the table with what the certificate of this name proves.
     FullReport {
-        protocol: Protocol,
+        protocol: ProtocolName,
         set: &'a str,
         certificate: &'a str,
     },
     /// Judge the rows of this name, which are of the jobs of this name, which are of the set of this name.
     Conform {
-        protocol: Protocol,
+        protocol: ProtocolName,
         set: &'a str,
         jobs: &'a str,
         rows: &'a str,
     },
     /// Make the schedule of so many ticks for the jobs of this name, which are of the set of this name.
     Simulate {
-        protocol: Protocol,
+        protocol: ProtocolName,
         set: &'a str,
         jobs: &'a str,
         ticks: u64,
@@ -66,24 +75,12 @@ pub enum Command<'a> {
     /// Judge the certificate of this name and the rows of this name, both for the set of this name, and set what the rows did
     /// beside what the certificate proves. The rows are of the jobs of this name.
     Audit {
-        protocol: Protocol,
+        protocol: ProtocolName,
         set: &'a str,
         certificate: &'a str,
         jobs: &'a str,
         rows: &'a str,
     },
-}
-
-/// The protocol that a word names.
-fn protocol_named(word: &str) -> Option<Protocol>
-    ensures { result ≡ protocol_of word.now }
-{
-    match word {
-        "mpcp" => Some(Protocol::Mpcp),
-        "fmlp+" => Some(Protocol::FmlpPlus),
-        "dpcp" => Some(Protocol::Dpcp),
-        _ => None,
-    }
 }
 
 /// What the words of `study` ask for.
@@ -127,7 +124,7 @@ fn command_of_three<'a>(command: &str, second: &str, set: &'a str) -> Option<Com
 /// What an analysis with this allowance asks for.
 fn analyse_within<'a>(protocol: &str, set: &'a str, allowance: &str) -> Option<Command<'a>>
     ensures form { option_map form_seen result
-        ≡ analyse_form (protocol_of protocol.now) set.now (number_between 1 GREATEST_ALLOWANCE allowance.now) }
+        ≡ analyse_form (name_of protocol.now) set.now (number_between 1 GREATEST_ALLOWANCE allowance.now) }
     ensures ticks { IfSome result (λ c. HasFittingNumbers (form_seen c)) }
 {
     match (
@@ -163,6 +160,13 @@ fn command_of_four<'a>(
             certificate: last,
         });
     }
+    if command == "upgrade" {
+        return protocol_named(protocol).map(|protocol| Command::Upgrade {
+            protocol,
+            set,
+            certificate: last,
+        });
+    }
     if command == "report" {
         return protocol_named(protocol).map(|protocol| Command::FullReport {
             protocol,
@@ -175,7 +179,7 @@ fn command_of_four<'a>(
 
 /// What the words of `simulate` ask for, whose protocol is as it was read.
 fn simulation_of<'a>(
-    protocol: Option<Protocol>,
+    protocol: Option<ProtocolName>,
     set: &'a str,
     jobs: &'a str,
     ticks: &str,

@@ -1,7 +1,7 @@
 ghost use Rattle.std.specs.Prelude.{◌<◌, length};
 ghost use Rattle.direct_constraints.specs.Rows.{request_row, time_row, turn_row, lower_holder_row};
 
-use fragments::{Constraint, Fragment, cnt, jobs};
+use fragments::{Constraint, Fragment, RowKind, cnt, jobs};
 use sporadic_model::{ResourceId, TaskId, TaskSet};
 
 /// Of a task and a resource: its requests, of all classes, are at most as many as it makes while a job of the analysed task
@@ -12,7 +12,7 @@ pub(crate) struct RequestRow {
     pub resource: ResourceId,
 }
 
-impl Constraint for RequestRow {
+impl RowKind for RequestRow {
     ghost row_of = { λ k set i. request_row set i k.task.0 k.resource.0 };
 
     ghost fits = { λ k set. (k.task.0 < length set.tasks) × (k.resource.0 < length set.resources) };
@@ -24,7 +24,9 @@ impl Constraint for RequestRow {
             0
         }
     }
+}
 
+impl Constraint for RequestRow {
     fn limit(&self, set: &TaskSet, i: TaskId, bounds: &[u64]) -> u64 {
         cnt(set, i, self.task, self.resource, bounds)
     }
@@ -36,7 +38,7 @@ pub(crate) struct TimeRow {
     pub task: TaskId,
 }
 
-impl Constraint for TimeRow {
+impl RowKind for TimeRow {
     ghost row_of = { λ k set i. time_row set i k.task.0 };
 
     ghost fits = { λ k set. k.task.0 < length set.tasks };
@@ -48,7 +50,9 @@ impl Constraint for TimeRow {
             0
         }
     }
+}
 
+impl Constraint for TimeRow {
     fn limit(&self, set: &TaskSet, i: TaskId, bounds: &[u64]) -> u64 {
         set.cost(self.task) * jobs(set, i, self.task, bounds)
     }
@@ -61,7 +65,7 @@ pub(crate) struct TurnRow {
     pub resource: ResourceId,
 }
 
-impl Constraint for TurnRow {
+impl RowKind for TurnRow {
     ghost row_of = { λ k set i. turn_row set i k.task.0 k.resource.0 };
 
     ghost fits = { λ k set. (k.task.0 < length set.tasks) × (k.resource.0 < length set.resources) };
@@ -76,7 +80,9 @@ impl Constraint for TurnRow {
             0
         }
     }
+}
 
+impl Constraint for TurnRow {
     fn limit(&self, set: &TaskSet, i: TaskId, _bounds: &[u64]) -> u64 {
         set.count(i, self.resource)
     }
@@ -88,7 +94,7 @@ pub(crate) struct LowerHolderRow {
     pub resource: ResourceId,
 }
 
-impl Constraint for LowerHolderRow {
+impl RowKind for LowerHolderRow {
     ghost row_of = { λ k set i. lower_holder_row set i k.resource.0 };
 
     ghost fits = { λ k set. k.resource.0 < length set.resources };
@@ -100,7 +106,9 @@ impl Constraint for LowerHolderRow {
             0
         }
     }
+}
 
+impl Constraint for LowerHolderRow {
     fn limit(&self, set: &TaskSet, i: TaskId, _bounds: &[u64]) -> u64 {
         set.count(i, self.resource)
     }

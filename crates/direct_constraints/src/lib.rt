@@ -82,8 +82,8 @@ fn add_request_rows_of(
     Ok(place)
 }
 
-// Adds the rows of the requests by each task.
-fn add_request_rows(
+/// Adds the rows of the requests by each task behind those of the block, over any columns that stand in order.
+pub fn add_request_rows(
     alloc: Global,
     block: &mut RowBlock,
     set: &TaskSet,
@@ -134,8 +134,8 @@ fn add_time_row(
     Ok(to)
 }
 
-// Adds the rows of the time of each task.
-fn add_time_rows(
+/// Adds the rows of the time of each task behind those of the block, over any columns that stand in order.
+pub fn add_time_rows(
     alloc: Global,
     block: &mut RowBlock,
     set: &TaskSet,
@@ -243,8 +243,8 @@ fn add_turn_rows_of(
     Ok(place)
 }
 
-// Adds the rows of turns with each task.
-fn add_turn_rows(
+/// Adds the rows of turns with each task behind those of the block, over any columns that stand in order.
+pub fn add_turn_rows(
     alloc: Global,
     block: &mut RowBlock,
     set: &TaskSet,

@@ -21,7 +21,7 @@ use Rattle.dpcp_rules.specs.Blocked.{is_interfered, blocked_now}
 use Rattle.dpcp_rules.proofs.Shown.{column_is, unfinished}
 
 -- In a row that keeps Run a job that runs stands in its column.
-runner_column : (m : MachineDef) (rows : ℕ → RowDef) (k j : ℕ) (p : Phase) → Shows m rows
+pub runner_column : (m : MachineDef) (rows : ℕ → RowDef) (k j : ℕ) (p : Phase) → Shows m rows
     → KeepsRun (under m rows) m.tick → running_on (rows m.tick) k ≡ Some j → phase_of (under m rows) m.tick j ≡ p
     → k ≡ column_now m j
 runner_column m rows k j Local shows run e f = run.local k j e (ap is_local f) ∙ sym (column_is m rows j Local shows (run.active k j e) f)
@@ -29,7 +29,7 @@ runner_column m rows k j (Asking n q) shows run e f =
     (run.request k j q e (ap (is_asking q) f ∙ eq-eqb q q refl)).0 ∙ sym (column_is m rows j (Asking n q) shows (run.active k j e) f)
 runner_column m rows k j Finished shows run e f = absurd (unfinished (under m rows) m.tick j (run.active k j e) f)
 
-runs_here : (m : MachineDef) (rows : ℕ → RowDef) (j : ℕ) → Shows m rows → KeepsRun (under m rows) m.tick
+pub runs_here : (m : MachineDef) (rows : ℕ → RowDef) (j : ℕ) → Shows m rows → KeepsRun (under m rows) m.tick
     → is_job j (running_on (rows m.tick) (column_now m j)) ≡ runs_in (rows m.tick) j
 runs_here m rows j shows run = same_bool (is_job j (running_on (rows m.tick) (column_now m j))) (runs_in (rows m.tick) j) there back where
   there : is_job j (running_on (rows m.tick) (column_now m j)) ≡ true → runs_in (rows m.tick) j ≡ true
@@ -42,7 +42,7 @@ runs_here m rows j shows run = same_bool (is_job j (running_on (rows m.tick) (co
       (sym (ap (running_on (rows m.tick)) (runner_column m rows a.0 j (phase_of (under m rows) m.tick j) shows run a.1 refl)) ∙ a.1)
 
 -- What runs on the job's processor is Local as the machine says.
-interfered_shown : (m : MachineDef) (rows : ℕ → RowDef) (j k : ℕ) (o : Option ℕ) → Shows m rows
+pub interfered_shown : (m : MachineDef) (rows : ℕ → RowDef) (j k : ℕ) (o : Option ℕ) → Shows m rows
     → KeepsRun (under m rows) m.tick → running_on (rows m.tick) k ≡ o
     → is_interfered m j o ≡ option_map_or
     (λ r. is_higher_local m.list.set (task_in m.list.jobs j) (task_in m.list.jobs r)

@@ -34,10 +34,11 @@ use Rattle.phase_machine.proofs.Lawful.{task_listed}
 use Rattle.phase_machine.proofs.Facts.{active_shown, requester_shown}
 use Rattle.shared_rules.specs.RowTests.{is_local_now, holds_now}
 use Rattle.shared_rules.specs.Scene.{stays, resource_in}
+use Rattle.shared_rules.specs.Filling.{Takes}
 use Rattle.shared_rules.proofs.HolderTests.{right_of}
 use Rattle.dpcp_rules.specs.Homes.{column_now, entry_at}
 use Rattle.dpcp_rules.specs.RowTests.{is_due}
-use Rattle.dpcp_rules.specs.Choosing.{Takes, grant_claim, holder_claim, local_claim, AreHolders, IsRunning}
+use Rattle.dpcp_rules.specs.Choosing.{grant_claim, holder_claim, local_claim, AreHolders, IsRunning}
 use Rattle.dpcp_rules.proofs.Shown.{RequestAt, request_at_is, request_at_from, HolderAt, holds_at_is, holds_at_from}
 use Rattle.dpcp_rules.proofs.Shown.{phase_is, column_is, column_within, processors_within, unfinished}
 use Rattle.dpcp_rules.proofs.Waiting.{Requesting, waiting_asks, waits_new, waiting_of}
@@ -59,7 +60,7 @@ stays_is asks (Some i) j h = elim (cases_Bool (asks i)) [
   | inr ends ↦ let e : None ≡ Some j = rw ends at h in absurd (cc)
 ]
 
-stays_from : (asks : ℕ → Bool) (j : ℕ) → asks j ≡ true → stays asks (Some j) ≡ Some j
+pub stays_from : (asks : ℕ → Bool) (j : ℕ) → asks j ≡ true → stays asks (Some j) ≡ Some j
 stays_from asks j h = rw h refl
 
 -- A claim that is made where a test passes.
@@ -67,7 +68,7 @@ pub cond_some : (b : Bool) (o : Option ℕ) (k : ℕ) → cond b o None ≡ Some
 cond_some true o k h = (refl, h)
 cond_some false o k h = absurd (cc)
 
-cond_from : (b : Bool) (o : Option ℕ) (k : ℕ) → b ≡ true → o ≡ Some k → cond b o None ≡ Some k
+pub cond_from : (b : Bool) (o : Option ℕ) (k : ℕ) → b ≡ true → o ≡ Some k → cond b o None ≡ Some k
 cond_from b o k e f = ap (λ c. cond c o None) e ∙ f
 
 pub active_of : (m : MachineDef) (rows : ℕ → RowDef) (j : ℕ) → Shows m rows → active_now m j ≡ true
@@ -88,12 +89,12 @@ pub record Due (m : MachineDef) (rows : ℕ → RowDef) (first bars : List ℕ) 
   pub waiting : waiting_now m j ≡ true
   pub due : is_due m first bars j ≡ true
 
-asking_true : (q : ℕ) (p : Phase) → resource_in p ≡ Some q → is_asking q p ≡ true
+pub asking_true : (q : ℕ) (p : Phase) → resource_in p ≡ Some q → is_asking q p ≡ true
 asking_true q Local h = absurd (cc)
 asking_true q Finished h = absurd (cc)
 asking_true q (Asking n r) h = eq-eqb r q (cc)
 
-requests_now : (m : MachineDef) (q j : ℕ) → active_now m j ≡ true → is_asking q (phase_now m j) ≡ true → requester_now m q j ≡ true
+pub requests_now : (m : MachineDef) (q j : ℕ) → active_now m j ≡ true → is_asking q (phase_now m j) ≡ true → requester_now m q j ≡ true
 unfolding requester_now
 requests_now m q j a h = and_from (active_now m j) (is_asking q (phase_now m j)) a h
 
@@ -245,7 +246,7 @@ made_grant m rows first bars made = record {
   granted q j asks g (Some h) e = e ∙ ap (λ i. Some i) (holder_is q j h asks g (held_is m rows first bars q h made e))
 
 -- Who holds at a processor claims it, and the other way round.
-claim_of_holder : (m : MachineDef) (rows : ℕ → RowDef) (k q h : ℕ) → Shows m rows
+pub claim_of_holder : (m : MachineDef) (rows : ℕ → RowDef) (k q h : ℕ) → Shows m rows
     → is_requester (under m rows) m.tick q h ≡ true → holder_in (rows m.tick) q ≡ Some h → home_of (under m rows) q ≡ k
     → holder_claim m (holder_in (rows m.tick)) h ≡ Some k
 claim_of_holder m rows k q h shows asks e home =
@@ -254,7 +255,7 @@ claim_of_holder m rows k q h shows asks e home =
     (holds_at_q m rows (holder_in (rows m.tick)) q h shows asks ∙ named_job h (holder_in (rows m.tick) q) e)
     (ap (λ c. Some c) (column_is m rows h (Asking r.number q) shows r.active r.phase ∙ home))
 
-claim_of_holds : (m : MachineDef) (rows : ℕ → RowDef) (k h : ℕ) → Shows m rows
+pub claim_of_holds : (m : MachineDef) (rows : ℕ → RowDef) (k h : ℕ) → Shows m rows
     → holds_at (under m rows) m.tick k h ≡ true → holder_claim m (holder_in (rows m.tick)) h ≡ Some k
 claim_of_holds m rows k h shows holds =
     let at : HolderAt (under m rows) m.tick k h = holds_at_is (under m rows) m.tick k h holds in
@@ -265,7 +266,7 @@ claim_of_holds m rows k h shows holds =
 pub some_same : (a b : ℕ) → Some a ≡ Some b → a ≡ b
 some_same a b h = cc
 
-holds_of_claim : (m : MachineDef) (rows : ℕ → RowDef) (k h : ℕ) → Shows m rows
+pub holds_of_claim : (m : MachineDef) (rows : ℕ → RowDef) (k h : ℕ) → Shows m rows
     → is_active (under m rows) m.tick h ≡ true → holder_claim m (holder_in (rows m.tick)) h ≡ Some k
     → holds_at (under m rows) m.tick k h ≡ true
 holds_of_claim m rows k h shows a claim = go (phase_of (under m rows) m.tick h) refl where
@@ -459,7 +460,7 @@ holder_runs m rows first bars k made at = go (made.running.before k) refl where
     ];
   }
 
-claim_of_local : (m : MachineDef) (rows : ℕ → RowDef) (k i : ℕ) → Shows m rows → ActiveLocal (under m rows) m.tick i
+pub claim_of_local : (m : MachineDef) (rows : ℕ → RowDef) (k i : ℕ) → Shows m rows → ActiveLocal (under m rows) m.tick i
     → processor_of (under m rows) i ≡ k → local_claim m i ≡ Some k
 claim_of_local m rows k i shows l own =
     cond_from (is_local_now m i) (Some (column_now m i)) k

@@ -1,23 +1,24 @@
 -- Tables of least keys, while things are noted in them.
-use Rattle.std.proofs.Common.{◌≡◌, ℕ, ◌+◌, ◌<◌, ◌≤◌, ◌==◌, ◌&&◌, ◌||◌, Bool, true, false, List, length, refl, sym, ap}
+use Rattle.std.proofs.Common.{◌≡◌, ℕ, ◌+◌, ◌<◌, ◌≤◌, ◌==◌, ◌&&◌, ◌||◌, Bool, true, false, List, refl, sym, ap}
 use Rattle.std.proofs.Common.{◌∙◌, arith, inl, inr, leb, add-one, min, replicate}
 use Rattle.std.proofs.lemmas.List.{get_or-replicate}
 use Rattle.std.proofs.lemmas.Bool.{cases_Bool, false_from_ne_true, leb-true, le-leb, eqb-true, eqb-false, ne_eqb}
 use Rattle.std.proofs.lemmas.Bool.{leb-false, or_left, or_right, or_cases}
 use Rattle.bounded_sums.specs.Tests.{any_below}
 use Rattle.shared_rules.proofs.Blocked.{same_bool}
+use Rattle.dpcp_rules.specs.declared.tables.TheConstants.{PLACES}
 use Rattle.dpcp_rules.specs.Homes.{entry_at, IsLeast}
 
 -- Before anything is noted.
-pub least_first : (place key : ℕ → ℕ) (most : ℕ) (table : List ℕ) → table ≡ replicate 65 most → IsLeast place key most 0 table
+pub least_first : (place key : ℕ → ℕ) (most : ℕ) (table : List ℕ) → table ≡ replicate PLACES most → IsLeast place key most 0 table
 least_first place key most table e k y l h =
-    ap (λ t. leb (entry_at t k) y) e ∙ false_from_ne_true (leb (entry_at (replicate 65 most) k) y) (λ e. high e)
+    ap (λ t. leb (entry_at t k) y) e ∙ false_from_ne_true (leb (entry_at (replicate PLACES most) k) y) (λ e. high e)
   where
-    high : leb (entry_at (replicate 65 most) k) y ≡ true → ⊥
-    high e = absurd (omega (arith, leb-true (entry_at (replicate 65 most) k) y e, get_or-replicate 65 k most 0 (omega (arith, l))))
+    high : leb (entry_at (replicate PLACES most) k) y ≡ true → ⊥
+    high e = absurd (omega (arith, leb-true (entry_at (replicate PLACES most) k) y e, get_or-replicate PLACES k most 0 (omega (arith, l))))
 
-pub fresh_table : (table : List ℕ) (n most : ℕ) → length table ≡ 65 → n ≡ most → replicate (length table) n ≡ replicate 65 most
-fresh_table table n most size e = rw (size, e) refl
+pub fresh_table : (n most : ℕ) → n ≡ most → replicate PLACES n ≡ replicate PLACES most
+fresh_table n most e = ap (replicate PLACES) e
 
 -- The less of two is at most y where one of them is.
 min_at_most : (a b y : ℕ) → leb (min a b) y ≡ (leb a y || leb b y)
@@ -65,7 +66,7 @@ least_next place key most n k old new own least here others r y l h = elim (case
     or_false false = refl
 
 -- A thing whose place no table has changes nothing.
-pub least_skip : (place key : ℕ → ℕ) (most n : ℕ) (table : List ℕ) → IsLeast place key most n table → 65 ≤ place n
+pub least_skip : (place key : ℕ → ℕ) (most n : ℕ) (table : List ℕ) → IsLeast place key most n table → PLACES ≤ place n
     → IsLeast place key most (n + 1) table
 least_skip place key most n table least past r y l h =
     least r y l h ∙ rw (add-one, ne_eqb (place n) r (λ e. far e)) (sym (or_none (any_below n (λ i. (place i == r) && leb (key i) y)))) where

@@ -7,7 +7,6 @@ pub mod GrantTest
 pub mod ReadyTests
 pub mod Verdict
 pub mod Blocked
-pub mod Filling
 pub mod Chosen
 pub mod Written
 pub mod NextRow

@@ -19,7 +19,7 @@ use Rattle.schedule_laws.proofs.TakenRows.{sound_taken}
 use Rattle.schedule_laws.proofs.DpcpLaws.{dpcp_sound_row}
 use Rattle.schedule_model.specs.BlockedTicks.{is_dpcp_interference}
 use Rattle.sporadic_model.proofs.Laws.{numbers_of_accepted}
-use Rattle.phase_machine.specs.MachineDef.{MachineDef, IsMachine, under}
+use Rattle.phase_machine.specs.MachineDef.{MachineDef, under}
 use Rattle.phase_machine.specs.Now.{active_now, current_now, holder_now, requester_now}
 use Rattle.phase_machine.specs.Shows.{Shows, Shown}
 use Rattle.phase_machine.proofs.Existence.{shown}
@@ -30,28 +30,29 @@ use Rattle.shared_rules.specs.NextRow.{with_row}
 use Rattle.shared_rules.proofs.HolderTests.{held_within}
 use Rattle.shared_rules.proofs.NextRow.{places_of, place_of_list, places_length, same_before, row_there}
 use Rattle.dpcp_rules.specs.Homes.{ceiling_now, column_now, waiting_place, kept_place, entry_at, IsLeast}
-use Rattle.dpcp_rules.specs.Choosing.{filled_by, Filled, grant_claim, holder_claim, local_claim, AreHolders, IsRunning}
+use Rattle.dpcp_rules.specs.declared.tables.TheConstants.{PLACES}
+use Rattle.dpcp_rules.specs.Choosing.{grant_claim, holder_claim, local_claim, AreHolders, IsRunning}
 use Rattle.dpcp_rules.specs.NextRow.{HasChoice}
 use Rattle.dpcp_rules.proofs.Shown.{column_within}
 use Rattle.dpcp_rules.proofs.Least.{least_first, least_next, least_skip}
-use Rattle.dpcp_rules.proofs.Filling.{filled_first, fills_go_on, filled_same}
+use Rattle.shared_rules.proofs.Filling.{filled_at, all_filled, filled_same, running_read}
 use Rattle.dpcp_rules.proofs.Chosen.{stays_is, cond_some, some_same, active_of, Due, due_of}
 use Rattle.dpcp_rules.proofs.Written.{choice_made}
 
 -- Each table can be made.
 record Table (place key : ℕ → ℕ) (most n : ℕ) : Type 0 where
   entries : List ℕ
-  size : length entries ≡ 65
+  size : length entries ≡ PLACES
   least : IsLeast place key most n entries
 
 table_of : (place key : ℕ → ℕ) (most n : ℕ) → Table place key most n
 table_of place key most zero = record {
-  entries = replicate 65 most;
-  size = length-replicate 65 most;
-  least = least_first place key most (replicate 65 most) refl;
+  entries = replicate PLACES most;
+  size = length-replicate PLACES most;
+  least = least_first place key most (replicate PLACES most) refl;
 }
-table_of place key most (suc n) = go (table_of place key most n) (cases_lt (place n) 65) where
-  go : Table place key most n → (place n < 65) ⊎ (65 ≤ place n) → Table place key most (suc n)
+table_of place key most (suc n) = go (table_of place key most n) (cases_lt (place n) PLACES) where
+  go : Table place key most n → (place n < PLACES) ⊎ (PLACES ≤ place n) → Table place key most (suc n)
   go t (inl here) = record {
     entries = set t.entries (place n) (min (entry_at t.entries (place n)) (key n));
     size = length-set t.entries (place n) (min (entry_at t.entries (place n)) (key n)) ∙ t.size;
@@ -65,21 +66,6 @@ table_of place key most (suc n) = go (table_of place key most n) (cases_lt (plac
     size = t.size;
     least = subst (λ c. IsLeast place key most c t.entries) (add-one n) (least_skip place key most n t.entries t.least past);
   }
-
--- The places once the tasks below x have come.
-filled_at : (claim start current : ℕ → Option ℕ) → ℕ → ℕ → Option ℕ
-filled_at claim start current zero k = start k
-filled_at claim start current (suc x) k = filled_by claim (current x) (filled_at claim start current x) k
-
-all_filled : (m : MachineDef) (claim start : ℕ → Option ℕ) (x : ℕ) → IsMachine m → x ≤ length m.list.set.tasks
-    → Filled m claim start x (filled_at claim start (current_now m) x)
-unfolding filled_at
-all_filled m claim start zero machine l = filled_first m claim start (filled_at claim start (current_now m) zero) (λ k. refl)
-all_filled m claim start (suc x) machine l =
-    subst (λ n. Filled m claim start n (filled_at claim start (current_now m) (suc x))) (add-one x)
-    (fills_go_on m claim start x (filled_at claim start (current_now m) x)
-    (filled_at claim start (current_now m) (suc x)) machine (omega arith)
-    (all_filled m claim start x machine (omega arith)) (λ k. refl))
 
 -- What holds is a resource of the set, and what runs is on a processor of the set.
 resource_within : (m : MachineDef) (rows : ℕ → RowDef) (first bars : List ℕ) (held : ℕ → Option ℕ) (q j : ℕ)
@@ -110,14 +96,6 @@ processor_within m rows held running k j shows accepted homes p e = elim (p.loca
       let same : column_now m j ≡ k = some_same (column_now m j) k f in
       (omega (arith, w.0, same), omega (arith, w.1, same))
 
-running_read : (m : MachineDef) (held running more : ℕ → Option ℕ) → IsRunning m held running
-    → ((k : ℕ) → more k ≡ running k) → IsRunning m held more
-running_read m held running more r same = record {
-  before = r.before;
-  holders = r.holders;
-  locals = filled_same m (local_claim m) r.before (length m.list.set.tasks) running more r.locals same;
-}
-
 -- The row that a machine's value leads to.
 record Row (m : MachineDef) (first bars : List ℕ) : Type 0 where
   row : RowDef
@@ -136,7 +114,7 @@ row_of m rows first bars shows accepted homes = record {
   holders = filled_same m (grant_claim m first bars) (λ q. stays (requester_now m q) (holder_now m q))
       (length m.list.set.tasks) held (place_in holders) all_held
       (λ q. place_of_list held (length m.list.set.resources) q (λ j e. resource_within m rows first bars held q j shows all_held e));
-  running = running_read m (place_in holders) runs (running_in (places_of (λ c. runs (suc c)) m.list.set.processors)) all_running there;
+  running = running_read m (holder_claim m (place_in holders)) (local_claim m) runs (running_in (places_of (λ c. runs (suc c)) m.list.set.processors)) all_running there;
 } where
   held : ℕ → Option ℕ
   held = filled_at (grant_claim m first bars) (λ q. stays (requester_now m q) (holder_now m q)) (current_now m) (length m.list.set.tasks)

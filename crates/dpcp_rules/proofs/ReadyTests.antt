@@ -86,20 +86,20 @@ idle_from m rows shows idle = each_from m rows (idle_passes m (rows m.tick)) sho
     at_job j a (Some r) e = ap is_some e
 
 -- What the test of Priority says where a job runs, by whether the job that is asked about is Local.
-by_local : (l a b : Bool) → cond l a b ≡ true → l ≡ true → a ≡ true
+pub by_local : (l a b : Bool) → cond l a b ≡ true → l ≡ true → a ≡ true
 by_local true a b h e = h
 by_local false a b h e = absurd (cc)
 
-by_request : (l a b : Bool) → cond l a b ≡ true → l ≡ false → b ≡ true
+pub by_request : (l a b : Bool) → cond l a b ≡ true → l ≡ false → b ≡ true
 by_request true a b h e = absurd (cc)
 by_request false a b h e = h
 
-local_now : (m : MachineDef) (rows : ℕ → RowDef) (j : ℕ) (p : Phase) → Shows m rows
+pub local_now : (m : MachineDef) (rows : ℕ → RowDef) (j : ℕ) (p : Phase) → Shows m rows
     → is_active (under m rows) m.tick j ≡ true → phase_of (under m rows) m.tick j ≡ p → is_local_now m j ≡ is_local p
 local_now m rows j p shows a e = ap is_local (phase_is m rows j p shows a e)
 
 -- A holder at a processor holds, as the machine says, and one that holds and runs there is one.
-holds_of : (m : MachineDef) (rows : ℕ → RowDef) (k j : ℕ) → Shows m rows → HolderAt (under m rows) m.tick k j
+pub holds_of : (m : MachineDef) (rows : ℕ → RowDef) (k j : ℕ) → Shows m rows → HolderAt (under m rows) m.tick k j
     → holds_now m (holder_in (rows m.tick)) j ≡ true
 holds_of m rows k j shows h =
     ap (holds_by (holder_in (rows m.tick)) j)
@@ -107,7 +107,7 @@ holds_of m rows k j shows h =
     ∙ named_job j (holder_in (rows m.tick) h.request.resource) h.holds
 
 -- What a job that runs is, in a row that keeps Run.
-runner_phase : (m : MachineDef) (rows : ℕ → RowDef) (k r n q : ℕ) → KeepsRun (under m rows) m.tick
+pub runner_phase : (m : MachineDef) (rows : ℕ → RowDef) (k r n q : ℕ) → KeepsRun (under m rows) m.tick
     → running_on (rows m.tick) k ≡ Some r → phase_of (under m rows) m.tick r ≡ Asking n q
     → holds_at (under m rows) m.tick k r ≡ true
 runner_phase m rows k r n q run e f =
@@ -115,7 +115,7 @@ runner_phase m rows k r n q run e f =
     run.request k r q e (ap (is_asking q) f ∙ eq-eqb q q refl) in
     holds_at_from (under m rows) m.tick k r n q (run.active k r e) f (sym here.0) here.1
 
-runner_holds : (m : MachineDef) (rows : ℕ → RowDef) (k r : ℕ) (p : Phase) → Shows m rows
+pub runner_holds : (m : MachineDef) (rows : ℕ → RowDef) (k r : ℕ) (p : Phase) → Shows m rows
     → KeepsRun (under m rows) m.tick → running_on (rows m.tick) k ≡ Some r → phase_of (under m rows) m.tick r ≡ p
     → holds_now m (holder_in (rows m.tick)) r ≡ true → holds_at (under m rows) m.tick k r ≡ true
 runner_holds m rows k r Local shows run e f h =

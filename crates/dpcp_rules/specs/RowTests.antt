@@ -1,26 +1,18 @@
 -- The rules of a row under DPCP as tests: what they look at is a machine's value, the row that comes next, and two tables:
 -- for each processor the first task that waits there, and the least ceiling that is kept there.
-use Rattle.std.specs.Prelude.{ℕ, ◌+◌, ◌==◌, ◌&&◌, ◌||◌, not, Bool, true, nat_le, nat_lt, if◌then◌else◌, List, length}
-use Rattle.std.specs.Prelude.{Option, None, Some, is_some, slice_index_or}
-use Rattle.std.specs.Option.{option_map_or}
+use Rattle.std.specs.Prelude.{ℕ, ◌&&◌, ◌||◌, not, Bool, nat_le, nat_lt, if◌then◌else◌, List, length}
+use Rattle.std.specs.Prelude.{Option, None, Some, is_some}
 use Rattle.bounded_sums.specs.Tests.{all_below}
 use Rattle.schedule_model.specs.RowDef.{RowDef, running_on, holder_in}
 use Rattle.schedule_model.specs.declared.rule.Rule.{Rule}
-use Rattle.schedule_model.specs.declared.rule.Rule.TheVariants as rule
 use Rattle.phase_machine.specs.MachineDef.{MachineDef, task_in}
-use Rattle.phase_machine.specs.Now.{active_now, waiting_now}
-use Rattle.shared_rules.specs.RowTests.{each_current, is_local_now, holds_now, may_run_now, passes_keep, holder_passes}
+use Rattle.phase_machine.specs.Now.{waiting_now}
+use Rattle.shared_rules.specs.RowTests.{each_stands, each_current, is_local_now, holds_now, passes_keep, holder_passes, first_of}
 use Rattle.dpcp_rules.specs.Homes.{column_now, entry_at}
 
--- Run: is what runs in column c, counted from 0, active, Local or the holder of what it requests, and in its column?
-abbrev pub may_stand : MachineDef → RowDef → ℕ → ℕ → Bool
-may_stand m row c j = active_now m j && (may_run_now m (holder_in row) j && (column_now m j == c + 1))
-
-abbrev pub column_passes : MachineDef → RowDef → ℕ → Bool
-column_passes m row c = option_map_or (may_stand m row c) (slice_index_or row.running c None) true
-
-unfoldable pub passes_run : MachineDef → RowDef → Bool
-passes_run m row = all_below (length row.running) (column_passes m row)
+-- Run: is what runs in each column active, Local or the holder of what it requests, and in its column?
+abbrev pub passes_run : MachineDef → RowDef → Bool
+passes_run m row = each_stands m (column_now m) row
 
 -- Grant: is job j's task, which waits, the first of those that wait at its processor, and higher than what is kept there?
 abbrev pub is_due : MachineDef → List ℕ → List ℕ → ℕ → Bool
@@ -63,8 +55,4 @@ passes_priority m row = each_current m (priority_passes m row)
 -- The first rule whose test fails.
 abbrev pub first_failed : MachineDef → List ℕ → List ℕ → RowDef → Option Rule
 first_failed m first bars row =
-    if not (passes_run m row) then Some rule.Run
-    else (if not (passes_keep m row) then Some rule.Keep
-    else (if not (passes_grant m first bars row) then Some rule.Grant
-    else (if not (passes_idle m row) then Some rule.Idle
-    else (if not (passes_priority m row) then Some rule.Priority else None))))
+    first_of (passes_run m row) (passes_keep m row) (passes_grant m first bars row) (passes_idle m row) (passes_priority m row)

@@ -9,9 +9,10 @@ ghost use Rattle.phase_machine.specs.Shows.{Shows};
 ghost use Rattle.phase_machine.specs.Taking.{IsRowFor};
 ghost use Rattle.dpcp_rules.specs.Blocked.{is_interfered, blocked_now};
 
-use crate::lookup::running_instead;
+use crate::lookup::AtHomes;
 use phase_machine::Machine;
 use schedule_model::{JobId, Row};
+use shared_rules::columns::running_instead;
 use shared_rules::lookup::{is_local, running_beside, task_of};
 
 /// Is what runs on the job's processor a Local job of a higher task of it?
@@ -41,12 +42,12 @@ fn is_blocked(machine: &Machine, row: &Row, j: JobId) -> bool
     ensures { result ≡ blocked_now machine.now (row_seen row.now) j.0 }
 {
     machine.active(j)
-        && running_instead(machine, row, j) != Some(j)
+        && running_instead(&AtHomes, machine, row, j) != Some(j)
         && !is_interfered(machine, j, running_beside(machine, row, j))
 }
 
 /// In a row that keeps Run: is this tick blocked for the job?
-pub(crate) fn blocked(machine: &Machine, row: &Row, j: JobId) -> bool
+pub fn blocked(machine: &Machine, row: &Row, j: JobId) -> bool
     requires suits { EachHasHome machine.now.list.set }
     requires fits { IsRowFor machine.now.list (row_seen row.now) }
     requires listed { j.0 < length machine.now.list.jobs }

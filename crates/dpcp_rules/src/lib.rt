@@ -2,11 +2,12 @@
 //! ceiling of all that is kept there, and holders run by base priority.
 #![tactic(auto)]
 
-mod blocking;
+pub mod blocking;
 mod choosing;
-mod judging;
+pub mod judging;
 mod laws;
-mod lookup;
+pub mod lookup;
+mod programs;
 mod tables;
 
 ghost use Rattle.sporadic_model.specs.Homes.{EachHasHome};

@@ -1,15 +1,13 @@
-ghost use Rattle.std.specs.Prelude.{◌≡◌, ◌<◌, ◌≤◌, length, IfSome};
+ghost use Rattle.std.specs.Prelude.{◌≡◌, ◌<◌, ◌≤◌, length};
 ghost use Rattle.sporadic_model.specs.Accepted.{IsAccepted, SetSizes};
 ghost use Rattle.sporadic_model.specs.Homes.{EachHasHome};
-ghost use Rattle.schedule_model.specs.RowDef.{running_on};
-ghost use Rattle.schedule_model.specs.Seen.{place_seen, row_seen};
 ghost use Rattle.phase_machine.specs.MachineDef.{IsMachine};
-ghost use Rattle.phase_machine.specs.Taking.{IsRowFor};
 ghost use Rattle.dpcp_rules.specs.Homes.{home_now, ceiling_now, column_now};
 
 use phase_machine::{Machine, Phase};
-use schedule_model::{JobId, Row};
-use shared_rules::lookup::{column_at, processor_of};
+use schedule_model::JobId;
+use shared_rules::columns::Columns;
+use shared_rules::lookup::processor_of;
 use sporadic_model::ResourceId;
 
 /// How many tasks the machine's set has; and what is true of its set.
@@ -25,7 +23,7 @@ pub(crate) fn tasks_of(machine: &Machine) -> u32
 }
 
 /// The processor at which requests of the resource run, counted from 1.
-pub(crate) fn home_of(machine: &Machine, q: ResourceId) -> u32
+pub fn home_of(machine: &Machine, q: ResourceId) -> u32
     requires suits { EachHasHome machine.now.list.set }
     requires resource { q.0 < length machine.now.list.set.resources }
     ensures value { result ≡ home_now machine.now q.0 }
@@ -50,7 +48,7 @@ pub(crate) fn ceiling_of(machine: &Machine, q: ResourceId) -> u32
 }
 
 /// The processor at which the job runs: in a request the home of the resource, else its task's.
-pub(crate) fn column_of(machine: &Machine, j: JobId) -> u32
+pub fn column_of(machine: &Machine, j: JobId) -> u32
     requires suits { EachHasHome machine.now.list.set }
     requires listed { j.0 < length machine.now.list.jobs }
     ensures value { result ≡ column_now machine.now j.0 }
@@ -63,13 +61,15 @@ pub(crate) fn column_of(machine: &Machine, j: JobId) -> u32
     }
 }
 
-/// What runs where the job would?
-pub(crate) fn running_instead(machine: &Machine, row: &Row, j: JobId) -> Option<JobId>
-    requires suits { EachHasHome machine.now.list.set }
-    requires fits { IsRowFor machine.now.list (row_seen row.now) }
-    requires listed { j.0 < length machine.now.list.jobs }
-    ensures value { place_seen result ≡ running_on (row_seen row.now) (column_now machine.now j.0) }
-    ensures within { IfSome result (λ r. r.0 < length machine.now.list.jobs) }
-{
-    column_at(machine, row, column_of(machine, j) as usize - 1)
+/// Where DPCP runs jobs.
+pub struct AtHomes;
+
+impl Columns for AtHomes {
+    ghost suits = { λ p. EachHasHome };
+
+    ghost column = { λ p. column_now };
+
+    fn column_of(&self, machine: &Machine, j: JobId) -> u32 {
+        column_of(machine, j)
+    }
 }

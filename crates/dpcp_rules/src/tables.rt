@@ -1,7 +1,8 @@
-ghost use Rattle.std.specs.Prelude.{◌≡◌, ℕ, ◌<◌, ◌≤◌, length, min};
+ghost use Rattle.std.specs.Prelude.{◌≡◌, ℕ, ◌<◌, ◌≤◌, length, min, replicate};
 ghost use Rattle.sporadic_model.specs.Accepted.{IsAccepted, SetSizes};
 ghost use Rattle.sporadic_model.specs.Homes.{EachHasHome};
 ghost use Rattle.dpcp_rules.specs.Homes.{ceiling_now, waiting_place, kept_place, entry_at, IsLeast};
+ghost use Rattle.dpcp_rules.specs.declared.tables.TheConstants.{PLACES};
 
 use crate::lookup::{ceiling_of, column_of, home_of, tasks_of};
 use phase_machine::Machine;
@@ -10,18 +11,51 @@ use shared_rules::lookup::resources_of;
 use sporadic_model::{ResourceId, TaskId};
 
 /// One place for each of the at most 64 processors, which count from 1, and one for none.
-pub(crate) const PLACES: usize = 65;
+pub const PLACES: usize = 65;
 
-/// Lowers the entry for a processor to the key, where the key is less.
-fn note(table: &mut [u32], k: u32, key: u32)
-    requires { k < length table.old }
-    ensures len { length table.new ≡ length table.old }
-    ensures here { entry_at table.new k ≡ min (entry_at table.old k) key }
-    ensures others { (r : ℕ) → (r ≡ k → ⊥) → entry_at table.new r ≡ entry_at table.old r }
-{
-    if key < table[k as usize] {
-        table[k as usize] = key;
+/// A number for each processor: the least of the keys that were noted for it.
+#[derive(Drop)]
+pub struct Table {
+    pub(crate) keys: [u32; PLACES],
+}
+
+impl Table {
+    /// A table in which each processor has the same key.
+    fn new(key: u32) -> Table
+        ensures { result.keys ≡ replicate PLACES key }
+    {
+        Table {
+            keys: [key; PLACES],
+        }
     }
+
+    /// Lowers the entry for a processor to the key, where the key is less.
+    fn note(&mut self, k: u32, key: u32)
+        requires { k < PLACES }
+        ensures here { entry_at self.new.keys k ≡ min (entry_at self.old.keys k) key }
+        ensures others { (r : ℕ) → (r ≡ k → ⊥) → entry_at self.new.keys r ≡ entry_at self.old.keys r }
+    {
+        if key < self.keys[k as usize] {
+            self.keys[k as usize] = key;
+        }
+    }
+
+    /// The entry for a processor.
+    pub(crate) fn at(&self, k: u32) -> u32
+        requires { k < PLACES }
+        ensures { result ≡ entry_at self.now.keys k }
+    {
+        self.keys[k as usize]
+    }
+}
+
+/// What waits and what is kept, by the processor.
+#[derive(Drop)]
+pub struct Tables {
+    /// The first task that waits there; the number of tasks where none does.
+    pub(crate) first: Table,
+    /// The least ceiling of a resource that is kept there; the number of tasks where none is.
+    pub(crate) bars: Table,
 }
 
 /// The processor at which the task's active job waits for what it requests; 0 where it doesn't.
@@ -51,35 +85,46 @@ fn kept_place(machine: &Machine, q: ResourceId) -> u32
 }
 
 /// For each processor the first task that waits there; the number of tasks where none does.
-pub(crate) fn note_waiting(machine: &Machine, first: &mut [u32])
+fn waiting_table(machine: &Machine) -> Table
     requires suits { EachHasHome machine.now.list.set }
-    requires len { length first.old ≡ 65 }
-    ensures len { length first.new ≡ 65 }
     ensures least { IsLeast (waiting_place machine.now) (λ x. x)
-        (length machine.now.list.set.tasks) (length machine.now.list.set.tasks) first.new }
-    ensures accepted { IsAccepted machine.now.list.set }
-    ensures sizes { SetSizes machine.now.list.set }
+        (length machine.now.list.set.tasks) (length machine.now.list.set.tasks) result.keys }
 {
-    first.fill(tasks_of(machine));
+    let mut table = Table::new(tasks_of(machine));
     for x in 0..tasks_of(machine) {
-        note(first, waiting_place(machine, TaskId(x)), x);
+        table.note(waiting_place(machine, TaskId(x)), x);
     }
+    table
 }
 
 /// For each processor the least ceiling of a resource that is kept there; the number of tasks where none is.
-pub(crate) fn note_kept(machine: &Machine, bars: &mut [u32])
+fn kept_table(machine: &Machine) -> Table
     requires suits { EachHasHome machine.now.list.set }
-    requires len { length bars.old ≡ 65 }
-    ensures len { length bars.new ≡ 65 }
     ensures least { IsLeast (kept_place machine.now) (ceiling_now machine.now)
-        (length machine.now.list.set.tasks) (length machine.now.list.set.resources) bars.new }
+        (length machine.now.list.set.tasks) (length machine.now.list.set.resources) result.keys }
 {
-    bars.fill(tasks_of(machine));
+    let mut table = Table::new(tasks_of(machine));
     for q in 0..resources_of(machine) {
-        note(
-            bars,
+        table.note(
             kept_place(machine, ResourceId(q)),
             ceiling_of(machine, ResourceId(q)),
         );
+    }
+    table
+}
+
+/// What waits and what is kept at the tick that the machine stands at.
+pub(crate) fn tables_of(machine: &Machine) -> Tables
+    requires suits { EachHasHome machine.now.list.set }
+    ensures first { IsLeast (waiting_place machine.now) (λ x. x)
+        (length machine.now.list.set.tasks) (length machine.now.list.set.tasks) result.first.keys }
+    ensures bars { IsLeast (kept_place machine.now) (ceiling_now machine.now)
+        (length machine.now.list.set.tasks) (length machine.now.list.set.resources) result.bars.keys }
+    ensures accepted { IsAccepted machine.now.list.set }
+{
+    let _tasks = tasks_of(machine);
+    Tables {
+        first: waiting_table(machine),
+        bars: kept_table(machine),
     }
 }

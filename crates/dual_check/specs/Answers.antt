@@ -5,7 +5,6 @@ use Rattle.std.specs.declared.vec.Vec.{Vec}
 use Rattle.program_form.specs.Certificate.{DualDef, CertificateDef}
 use Rattle.program_form.specs.Program.{ProgramDef, columns}
 use Rattle.program_form.specs.Duals.{dual_value}
-use Rattle.sporadic_model.specs.SetDef.{SetDef}
 use Rattle.program_sources.specs.Recurrence.{SourceDef}
 use Rattle.program_sources.specs.Fitting.{tasks_of}
 use Rattle.program_sources.specs.Valid.{IsValid, dual_at, value_at}
@@ -17,10 +16,6 @@ use Rattle.dual_check.specs.declared.answer.Invalid.{Invalid}
 use Rattle.dual_check.specs.declared.answer.Invalid.TheVariants as invalid
 use Rattle.dual_check.specs.declared.duals.DualWorth.{DualWorth}
 use Rattle.dual_check.specs.declared.duals.DualWorth.TheVariants as worth
-
--- The programs and interfering costs of a source, for a set.
-abbrev pub source_for : (SetDef → ℕ → List ℕ → ProgramDef) → (SetDef → ℕ → ℕ) → SetDef → SourceDef
-source_for program interfering set = record { set = set; program = program set; interfering = interfering set }
 
 -- Has each dual a denominator of at least 1?
 abbrev pub HasDenominators : CertificateDef → Type 0

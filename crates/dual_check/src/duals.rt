@@ -4,9 +4,10 @@ ghost use Rattle.std.specs.Prelude.{◌≡◌, ◌<◌, ◌≤◌, ◌^◌, Opti
 ghost use Rattle.program_form.specs.Certificate.{dual_seen, certificate_seen};
 ghost use Rattle.program_form.specs.Program.{columns, height};
 ghost use Rattle.program_sources.specs.Bounds.{AreWithinDeadlines};
+ghost use Rattle.program_sources.specs.Recurrence.{source_at};
 ghost use Rattle.dual_check.specs.Tests.{HoldsColumn};
 ghost use Rattle.dual_check.specs.Failures.{Finds};
-ghost use Rattle.dual_check.specs.Answers.{source_for, HasDenominators, IsWorth, Weighs, FindsUncovered};
+ghost use Rattle.dual_check.specs.Answers.{HasDenominators, IsWorth, Weighs, FindsUncovered};
 
 use crate::answer::Invalid;
 use crate::sums::{holds_column, value_to};
@@ -55,8 +56,7 @@ pub(crate) fn weigh_duals<P: ChargedProtocol>(
     requires within { AreWithinDeadlines set.now certificate.now.bounds.items }
     requires dual_each { vec_len certificate.now.duals ≡ length set.now.tasks }
     requires denominators { HasDenominators (certificate_seen certificate.now) }
-    ensures { Weighs result (source_for (P.program_of protocol.now) (P.interfering protocol.now) set.now)
-        (certificate_seen certificate.now) }
+    ensures { Weighs result (source_at (P.source protocol.now) set.now) (certificate_seen certificate.now) }
 {
     let mut worths = Vec::new(alloc);
     for i in 0..set.tasks() {

@@ -2,13 +2,13 @@ ghost use Rattle.std.specs.Prelude.{◌≡◌, ℕ, ◌<◌, ◌≤◌, List, ma
 ghost use Rattle.program_form.specs.Certificate.{certificate_seen};
 ghost use Rattle.sporadic_model.specs.Homes.{HasHomesFor};
 ghost use Rattle.program_sources.specs.Bounds.{AreWithinDeadlines, AreFromCostsAbove};
-ghost use Rattle.program_sources.specs.Recurrence.{response_with};
+ghost use Rattle.program_sources.specs.Recurrence.{response_with, source_at};
 ghost use Rattle.sporadic_model.specs.SetDef.{task_at, latest_bound};
 ghost use Rattle.program_sources.specs.Valid.{IsValid};
-ghost use Rattle.soundness_laws.specs.Analyses.{source_of};
+ghost use Rattle.program_laws.specs.Programs.{source_of};
 ghost use Rattle.soundness_laws.specs.Sound.{Sound};
 ghost use Rattle.dual_check.specs.Failures.{Finds};
-ghost use Rattle.dual_check.specs.Answers.{source_for, HasDenominators, worth_at, IsCovering, counted, AreWorths, Judges, Sums};
+ghost use Rattle.dual_check.specs.Answers.{HasDenominators, worth_at, IsCovering, counted, AreWorths, Judges, Sums};
 ghost use Rattle.dual_check.specs.Soundness.{SoundUnder};
 
 use crate::answer::{Invalid, Valid};
@@ -19,6 +19,7 @@ use dpcp_rules::Dpcp;
 use fmlp_rules::FmlpPlus;
 use mpcp_rules::Mpcp;
 use program_form::Certificate;
+use program_sources::response;
 use sporadic_model::{Protocol, TaskId, TaskSet};
 use std::alloc::Global;
 
@@ -55,25 +56,6 @@ fn value_of(worth: DualWorth) -> u64
     }
 }
 
-/// The response time of task `i` with this blocking, in ticks.
-fn response<P: ChargedProtocol>(
-    set: &TaskSet,
-    protocol: &P,
-    i: TaskId,
-    bounds: &[u64],
-    blocking: u64,
-) -> u64
-    requires suits { P.suits protocol.now set.now }
-    requires task { i.0 < length set.now.tasks }
-    requires within { AreWithinDeadlines set.now bounds.now }
-    requires from_costs { AreFromCostsAbove set.now bounds.now i.0 }
-    requires most { blocking < 2 ^ 63 }
-    ensures { result ≡ response_with (source_for (P.program_of protocol.now) (P.interfering protocol.now) set.now) bounds.now i.0 blocking }
-{
-    set.keeps_the_model();
-    set.cost(i) + blocking + protocol.interference(set, i, bounds)
-}
-
 /// The values of the duals, or the first task for which its dual's is too great. A task's interference is formed only once
 /// the bounds of the higher tasks are enough, and so at least their costs.
 fn add_up<P: ChargedProtocol>(
@@ -85,10 +67,10 @@ fn add_up<P: ChargedProtocol>(
 ) -> Result<Vec<u64>, Invalid>
     requires suits { P.suits protocol.now set.now }
     requires within { AreWithinDeadlines set.now certificate.now.bounds.items }
-    requires worths { AreWorths (source_for (P.program_of protocol.now) (P.interfering protocol.now) set.now)
+    requires worths { AreWorths (source_at (P.source protocol.now) set.now)
         (certificate_seen certificate.now) (length set.now.tasks) worths.now }
     requires covering { (i : ℕ) → i < length set.now.tasks → IsCovering (worth_at worths.now i) }
-    ensures { Sums result (source_for (P.program_of protocol.now) (P.interfering protocol.now) set.now) (certificate_seen certificate.now) }
+    ensures { Sums result (source_at (P.source protocol.now) set.now) (certificate_seen certificate.now) }
 {
     let mut values = Vec::new(alloc);
     for i in 0..set.tasks() {
@@ -112,9 +94,8 @@ fn judged<P: ChargedProtocol>(
 ) -> Result<Valid, Invalid>
     requires suits { P.suits protocol.now set.now }
     requires denominators { HasDenominators (certificate_seen certificate.now) }
-    ensures judges { Judges result (source_for (P.program_of protocol.now) (P.interfering protocol.now) set.now)
-        (certificate_seen certificate.now) }
-    ensures accepts { IsValid (source_for (P.program_of protocol.now) (P.interfering protocol.now) set.now)
+    ensures judges { Judges result (source_at (P.source protocol.now) set.now) (certificate_seen certificate.now) }
+    ensures accepts { IsValid (source_at (P.source protocol.now) set.now)
         (certificate_seen certificate.now) → IfErr result (λ e. e ≡ Invalid.Memory) }
 {
     let count = set.tasks() as usize;
@@ -146,11 +127,10 @@ pub fn check_with<P: ChargedProtocol>(
     requires denominators { HasDenominators (certificate_seen certificate.now) }
 
     // Valid with the duals' values, or the first failure.
-    ensures judges { Judges result (source_for (P.program_of protocol.now) (P.interfering protocol.now) set.now)
-        (certificate_seen certificate.now) }
+    ensures judges { Judges result (source_at (P.source protocol.now) set.now) (certificate_seen certificate.now) }
 
     // Only want of memory keeps a valid one from being Ok.
-    ensures accepts { IsValid (source_for (P.program_of protocol.now) (P.interfering protocol.now) set.now)
+    ensures accepts { IsValid (source_at (P.source protocol.now) set.now)
         (certificate_seen certificate.now) → IfErr result (λ e. e ≡ Invalid.Memory) }
 
     // What is Ok holds in every schedule that keeps the protocol's rules, of whatever lawful jobs.

@@ -1,6 +1,8 @@
 //! FMLP+: requests are granted, and holders run, in the order of issue.
 #![tactic(auto)]
 
+mod programs;
+
 ghost use Rattle.std.specs.Prelude.{◌≡◌, ◌<◌, length};
 ghost use Rattle.schedule_model.specs.Ranks.{fmlp_plus};
 ghost use Rattle.schedule_model.specs.Protocols.{shared_rule, EachSetSuits};

@@ -1,5 +1,5 @@
--- The columns of a task stand in order of the task, then the resource.
-use Rattle.std.proofs.Common.{◌≡◌, ℕ, zero, suc, ◌-◌, ◌<◌, ◌≤◌, List, [], ◌∷◌, ◌++◌, map, length, refl, subst, sym, arith, inl, inr}
+-- Columns that pass a test stand in order of the task, then the resource.
+use Rattle.std.proofs.Common.{◌≡◌, ℕ, zero, suc, ◌-◌, ◌<◌, ◌≤◌, Bool, List, [], ◌∷◌, ◌++◌, map, length, refl, subst, sym, arith, inl, inr}
 use Rattle.std.proofs.Math.ListN.{get_or, get_or-append}
 use Rattle.std.proofs.Math.Seq.{get_or-append_right}
 use Rattle.std.proofs.lemmas.Bool.{cases_lt}
@@ -10,13 +10,12 @@ use Rattle.std.specs.List.{All}
 use Rattle.std.specs.List.Sorted.{IsNonDecreasingBy}
 use Rattle.bounded_sums.specs.Sums.{collect_below}
 use Rattle.sporadic_model.specs.SetDef.{SetDef}
-use Rattle.sporadic_model.specs.declared.ids.Protocol.{Protocol}
-use Rattle.fragments.specs.ColumnDef.{ColumnDef, column_seen, classes_of, all_columns}
-use Rattle.fragments.specs.Columns.{is_column, columns_of}
+use Rattle.fragments.specs.ColumnDef.{ColumnDef, column_seen, classes_of, all_columns, IsKnown}
+use Rattle.fragments.specs.Columns.{columns_where}
 use Rattle.fragments.specs.declared.columns.Class.TheVariants as class
 use Rattle.fragments.specs.declared.columns.Fragment.{Fragment}
 use Rattle.fragments.specs.Stretches.{slot, AreInOrder}
-use Rattle.fragments.proofs.KnownColumns.{IsKnown, all_collected, all_known}
+use Rattle.fragments.proofs.KnownColumns.{all_collected, all_known}
 
 -- Lists in order, of which the first holds nothing above b and the second nothing below, are in order one behind the other.
 in_order_append : {X : Type 0} (n : X → ℕ) (b : ℕ) (xs ys : List X) → IsNonDecreasingBy n xs → IsNonDecreasingBy n ys
@@ -91,8 +90,8 @@ seen_in_order cs h i j d l m =
     h i j (column_seen d) l (omega (arith, m, length-map cs column_seen)) in
     rw (first, second) at order
 
-pub fragments_in_order : (p : Protocol) (set : SetDef) (i : ℕ) (cs : List Fragment) → length set.resources ≤ 4294967296
-    → map column_seen cs ≡ columns_of p set i → AreInOrder cs
-fragments_in_order p set i cs few same = seen_in_order cs (subst (IsNonDecreasingBy slot_seen) (sym same)
-    (IsNonDecreasingBy-filter slot_seen (is_column p set i) (all_columns (length set.tasks) (length set.resources))
+pub given_in_order : (test : ColumnDef → Bool) (set : SetDef) (cs : List Fragment) → length set.resources ≤ 4294967296
+    → map column_seen cs ≡ columns_where test set → AreInOrder cs
+given_in_order test set cs few same = seen_in_order cs (subst (IsNonDecreasingBy slot_seen) (sym same)
+    (IsNonDecreasingBy-filter slot_seen test (all_columns (length set.tasks) (length set.resources))
     (all_in_order (length set.tasks) (length set.resources) few)))

@@ -39,6 +39,10 @@ classes_of x q = record { task = x; resource = q; class = class.Direct }
 abbrev pub all_columns : ℕ → ℕ → List ColumnDef
 all_columns n m = collect_below n (λ x. collect_below m (λ q. classes_of x q))
 
+-- Is the column of a task below n and a resource below m?
+abbrev pub IsKnown : ℕ → ℕ → ColumnDef → Type 0
+IsKnown n m c = (c.task < n) × (c.resource < m)
+
 -- Are the columns' tasks and resources ones of the set, which has n tasks and m resources?
 abbrev pub AreKnown : ℕ → ℕ → List Fragment → Type 0
 AreKnown n m columns = All (λ c. (c.task.0 < n) × (c.resource.0 < m)) columns

@@ -1,5 +1,5 @@
 -- The columns of a task's blocking program: which requests of other tasks may block a job of it, and how.
-use Rattle.std.specs.Prelude.{ℕ, ◌==◌, ◌&&◌, ◌||◌, not, Bool, true, false, nat_lt, nat_le, List, length}
+use Rattle.std.specs.Prelude.{◌≡◌, ℕ, ◌==◌, ◌&&◌, ◌||◌, not, Bool, true, false, nat_lt, nat_le, List, length}
 use Rattle.std.specs.List.{filter}
 use Rattle.bounded_sums.specs.Tests.{any_below}
 use Rattle.sporadic_model.specs.SetDef.{SetDef, task_at, is_higher_local}
@@ -65,6 +65,18 @@ may_block protocol.Dpcp set i x q c = blocks_at_home set i x q c
 abbrev pub is_column : Protocol → SetDef → ℕ → ColumnDef → Bool
 is_column p set i c = (not (c.task == i) && is_user set c.resource c.task) && may_block p set i c.task c.resource c.class
 
--- The columns of task i, in order of the task, then the resource, then the class. They do not depend on any bounds.
+-- The columns of a set that pass a test, in order of the task, then the resource, then the class.
+abbrev pub columns_where : (ColumnDef → Bool) → SetDef → List ColumnDef
+columns_where test set = filter test (all_columns (length set.tasks) (length set.resources))
+
+-- The columns of task i. They do not depend on any bounds.
 abbrev pub columns_of : Protocol → SetDef → ℕ → List ColumnDef
-columns_of p set i = filter (is_column p set i) (all_columns (length set.tasks) (length set.resources))
+columns_of p set i = columns_where (is_column p set i) set
+
+-- Are the columns that pass requests of resources that their tasks use?
+abbrev pub AreRequests : (ColumnDef → Bool) → SetDef → Type 0
+AreRequests test set = (c : ColumnDef) → test c ≡ true → is_user set c.resource c.task ≡ true
+
+-- And are they requests of other tasks than i?
+abbrev pub AreOfOthers : (ColumnDef → Bool) → ℕ → Type 0
+AreOfOthers test i = (c : ColumnDef) → test c ≡ true → (c.task == i) ≡ false

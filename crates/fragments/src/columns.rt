@@ -9,6 +9,7 @@ ghost use Rattle.fragments.specs.Columns.{have_one_processor, may_run_before, ha
 ghost use Rattle.fragments.specs.Columns.{blocks_by_sharing, blocks_at_home, may_block, is_column, columns_of};
 ghost use Rattle.fragments.specs.Links.{is_used_beside, is_link, AreLinks};
 
+use crate::passing::{ColumnTest, add_task};
 use crate::places::{boost_place, ceiling_place, home, lower_local, share_processor, uses};
 use sporadic_model::{Protocol, ResourceId, TaskId, TaskSet};
 use std::alloc::{AllocError, Global};
@@ -316,90 +317,25 @@ fn is_fragment(
     c.task.0 != i.0 && uses(set, c.task, c.resource) && blocks(set, protocol, i, c, links)
 }
 
-// Adds the column, if it is one.
-fn add_column(
-    columns: &mut Vec<Fragment>,
-    set: &TaskSet,
+// The columns of a protocol that are requests of one task: a test that has the resources by which they can block indirectly.
+#[derive(Drop)]
+struct LinkedTest {
     protocol: Protocol,
-    i: TaskId,
-    c: Fragment,
-    links: &[ResourceId],
-) -> Result<(), AllocError>
-    requires task { i.0 < length set.now.tasks }
-    requires column { c.task.0 < length set.now.tasks }
-    requires resource { c.resource.0 < length set.now.resources }
-    requires links { AreLinks protocol set.now i.0 c.task.0 links.now }
-    requires known { All (λ r. r.0 < length set.now.resources) links.now }
-    ensures { OnOk result (map column_seen columns.new.items
-        ≡ map column_seen columns.old.items ++ filter (is_column protocol set.now i.0) (column_seen c ∷ [])) }
-{
-    if is_fragment(set, protocol, i, c, links) {
-        columns.push(c)?;
-    }
-    Ok(())
+    links: Vec<ResourceId>,
 }
 
-// Adds the columns of the requests of `resource` by `task`.
-fn add_classes(
-    columns: &mut Vec<Fragment>,
-    set: &TaskSet,
-    protocol: Protocol,
-    i: TaskId,
-    of: (TaskId, ResourceId),
-    links: &[ResourceId],
-) -> Result<(), AllocError>
-    requires task { i.0 < length set.now.tasks }
-    requires other { of.0.0 < length set.now.tasks }
-    requires resource { of.1.0 < length set.now.resources }
-    requires links { AreLinks protocol set.now i.0 of.0.0 links.now }
-    requires known { All (λ r. r.0 < length set.now.resources) links.now }
-    ensures { OnOk result (map column_seen columns.new.items
-        ≡ map column_seen columns.old.items ++ filter (is_column protocol set.now i.0) (classes_of of.0.0 of.1.0)) }
-{
-    let (task, resource) = of;
-    let class = Class::Direct;
-    add_column(
-        columns,
-        set,
-        protocol,
-        i,
-        Fragment {
-            task,
-            resource,
-            class,
-        },
-        links,
-    )?;
-    let class = Class::Indirect;
-    add_column(
-        columns,
-        set,
-        protocol,
-        i,
-        Fragment {
-            task,
-            resource,
-            class,
-        },
-        links,
-    )?;
-    let class = Class::Preemption;
-    add_column(
-        columns,
-        set,
-        protocol,
-        i,
-        Fragment {
-            task,
-            resource,
-            class,
-        },
-        links,
-    )
+impl ColumnTest for LinkedTest {
+    ghost passes = { λ k set i c. is_column k.protocol set i c };
+
+    ghost fits = { λ k set i x. (AreLinks k.protocol set i x k.links.items) × All (λ r. r.0 < length set.resources) k.links.items };
+
+    fn test(&self, set: &TaskSet, i: TaskId, column: Fragment) -> bool {
+        is_fragment(set, self.protocol, i, column, &self.links)
+    }
 }
 
 // Adds the columns of the requests by task `x`.
-fn add_task(
+fn add_requests_by(
     alloc: Global,
     columns: &mut Vec<Fragment>,
     set: &TaskSet,
@@ -413,10 +349,8 @@ fn add_task(
         ++ filter (is_column protocol set.now i.0) (collect_below (length set.now.resources) (λ q. classes_of x.0 q))) }
 {
     let links = links_of(alloc, set, protocol, i, x)?;
-    for q in 0..set.resources() {
-        add_classes(columns, set, protocol, i, (x, ResourceId(q)), &links)?;
-    }
-    Ok(())
+    let test = LinkedTest { protocol, links };
+    add_task(columns, &test, set, i, x)
 }
 
 /// The columns of task `i`'s blocking program: requests of other tasks, by resource and by how they block. They stand in
@@ -433,7 +367,7 @@ pub fn fragments(
 {
     let mut columns = Vec::new(alloc);
     for x in 0..set.tasks() {
-        add_task(alloc, &mut columns, set, protocol, i, TaskId(x))?;
+        add_requests_by(alloc, &mut columns, set, protocol, i, TaskId(x))?;
     }
     Ok(columns)
 }

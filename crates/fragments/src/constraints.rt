@@ -12,8 +12,8 @@ use program_form::RowBlock;
 use sporadic_model::{TaskId, TaskSet};
 use std::alloc::{AllocError, Global};
 
-/// A row of the blocking program of a task `i`: a coefficient for each column, and a limit that the bounds give.
-pub trait Constraint {
+/// A row of the blocking program of a task `i`, as far as its coefficients go: one for each column.
+pub trait RowKind {
     /// The row, for a set and the analysed task.
     ghost row_of: { Self → SetDef → ℕ → ConstraintDef };
 
@@ -27,17 +27,20 @@ pub trait Constraint {
         requires column { column.task.0 < length set.now.tasks }
         requires resource { column.resource.0 < length set.now.resources }
         ensures { result ≡ (row_of self.now set.now i.0).coefficient (column_seen column) };
+}
 
+/// A row whose limit is computed from the bounds too.
+pub trait Constraint: RowKind {
     /// What the row's sum may be at most, where these are the bounds.
     fn limit(&self, set: &TaskSet, i: TaskId, bounds: &[u64]) -> u64
-        requires fits { fits self.now set.now }
+        requires fits { Self.fits self.now set.now }
         requires task { i.0 < length set.now.tasks }
         requires within { AreWithinDeadlines set.now bounds.now }
-        ensures { result ≡ (row_of self.now set.now i.0).limit (slice_index bounds.now) };
+        ensures { result ≡ (Self.row_of self.now set.now i.0).limit (slice_index bounds.now) };
 }
 
 // Has some column a coefficient above zero in the row, where none outside the stretch has one?
-fn holds<K: Constraint>(
+fn holds<K: RowKind>(
     kind: &K,
     set: &TaskSet,
     i: TaskId,
@@ -60,7 +63,7 @@ fn holds<K: Constraint>(
 }
 
 // The coefficients of the columns, where those outside the stretch are zero.
-fn coefficients<K: Constraint>(
+fn coefficients<K: RowKind>(
     alloc: Global,
     kind: &K,
     set: &TaskSet,
@@ -91,6 +94,57 @@ fn push_row(block: &mut RowBlock, list: Vec<u64>, limit: u64) -> Result<(), Allo
     Ok(())
 }
 
+// Adds the row with this limit, where the columns outside the stretch have no coefficient in it.
+fn push_kind<K: RowKind>(
+    alloc: Global,
+    block: &mut RowBlock,
+    kind: &K,
+    set: &TaskSet,
+    i: TaskId,
+    columns: &[Fragment],
+    stretch: (usize, usize),
+    limit: u64,
+) -> Result<(), AllocError>
+    requires fits { K.fits kind.now set.now }
+    requires task { i.0 < length set.now.tasks }
+    requires known { AreKnown (length set.now.tasks) (length set.now.resources) columns.now }
+    requires stretch { IsStretch (K.row_of kind.now set.now i.0) columns.now stretch.0 stretch.1 }
+    ensures { OnOk result (block_seen block.new ≡ pushed_row (block_seen block.old)
+        (map (K.row_of kind.now set.now i.0).coefficient (map column_seen columns.now)) limit) }
+{
+    let list = coefficients(alloc, kind, set, i, columns, stretch)?;
+    push_row(block, list, limit)
+}
+
+/// Adds the row to the block, if some column has a coefficient above zero in it, where its limit at the bounds is known. It looks at
+/// the columns of the stretch alone, as `add_row_within`.
+pub fn add_row_limited<K: RowKind>(
+    alloc: Global,
+    block: &mut RowBlock,
+    kind: &K,
+    set: &TaskSet,
+    i: TaskId,
+    bounds: &[u64],
+    columns: &[Fragment],
+    stretch: (usize, usize),
+    limit: u64,
+) -> Result<(), AllocError>
+    requires fits { K.fits kind.now set.now }
+    requires task { i.0 < length set.now.tasks }
+    requires known { AreKnown (length set.now.tasks) (length set.now.resources) columns.now }
+    requires stretch { IsStretch (K.row_of kind.now set.now i.0) columns.now stretch.0 stretch.1 }
+    requires limit { limit ≡ (K.row_of kind.now set.now i.0).limit (slice_index bounds.now) }
+    ensures { OnOk result (block_seen block.new ≡ with_rows (block_seen block.old) (map column_seen columns.now)
+        (K.row_of kind.now set.now i.0 ∷ []) bounds.now) }
+{
+    // the bounds only say what the limit is
+    let _bounds = bounds;
+    if holds(kind, set, i, columns, stretch) {
+        push_kind(alloc, block, kind, set, i, columns, stretch, limit)?;
+    }
+    Ok(())
+}
+
 /// Adds the row to the block, if some column has a coefficient above zero in it. It looks at the columns of the stretch alone, from
 /// its first place to below its second, since none outside has one.
 pub fn add_row_within<K: Constraint>(
@@ -112,8 +166,8 @@ pub fn add_row_within<K: Constraint>(
         (K.row_of kind.now set.now i.0 ∷ []) bounds.now) }
 {
     if holds(kind, set, i, columns, stretch) {
-        let list = coefficients(alloc, kind, set, i, columns, stretch)?;
-        push_row(block, list, kind.limit(set, i, bounds))?;
+        let limit = kind.limit(set, i, bounds);
+        push_kind(alloc, block, kind, set, i, columns, stretch, limit)?;
     }
     Ok(())
 }

@@ -3,12 +3,14 @@
 
 mod columns;
 mod constraints;
+mod passing;
 mod places;
 mod stretches;
 mod windows;
 
 pub use columns::{Class, Fragment, fragments};
-pub use constraints::{Constraint, add_row, add_row_within};
-pub use places::{home, lower_local, share_processor, uses};
-pub use stretches::{columns_stand_in_order, requests_end, task_end};
+pub use constraints::{Constraint, RowKind, add_row, add_row_limited, add_row_within};
+pub use passing::{ColumnTest, fragments_where};
+pub use places::{ceiling_place, home, lower_local, share_processor, uses};
+pub use stretches::{columns_stand_in_order, passing_stand_in_order, requests_end, task_end};
 pub use windows::{cnt, jobs, requests_of};

@@ -45,7 +45,7 @@ pub fn home(set: &TaskSet, q: ResourceId) -> u32
 }
 
 /// The position of the resource's highest user; the number of tasks where it has none.
-pub(crate) fn ceiling_place(set: &TaskSet, q: ResourceId) -> u32
+pub fn ceiling_place(set: &TaskSet, q: ResourceId) -> u32
     requires { q.0 < length set.now.resources }
     ensures { result ≡ ceiling_rank set.now q.0 }
 {

@@ -1,10 +1,26 @@
 ghost use Rattle.std.specs.Prelude.{◌≡◌, ◌+◌, ◌<◌, ◌≤◌, map, length};
 ghost use Rattle.fragments.specs.ColumnDef.{column_seen, AreKnown};
-ghost use Rattle.fragments.specs.Columns.{columns_of};
+ghost use Rattle.fragments.specs.Columns.{columns_where, columns_of};
 ghost use Rattle.fragments.specs.Stretches.{slot, AreInOrder, BeginsAt};
 
 use crate::columns::Fragment;
+use crate::passing::ColumnTest;
 use sporadic_model::{Protocol, ResourceId, TaskId, TaskSet};
+
+/// The columns that pass a test are of tasks and resources of the set, and stand in order. This says so, and does nothing.
+pub fn passing_stand_in_order<T: ColumnTest>(
+    set: &TaskSet,
+    test: &T,
+    i: TaskId,
+    columns: &[Fragment],
+)
+    requires columns { map column_seen columns.now ≡ columns_where (T.passes test.now set.now i.0) set.now }
+    ensures known { AreKnown (length set.now.tasks) (length set.now.resources) columns.now }
+    ensures order { AreInOrder columns.now }
+{
+    // a set has at most 32 resources, so the slots of a task end before those of the next one
+    let _resources = set.resources();
+}
 
 /// The columns of a task are of tasks and resources of the set, and stand in order. This says so, and does nothing.
 pub fn columns_stand_in_order(set: &TaskSet, protocol: Protocol, i: TaskId, columns: &[Fragment])

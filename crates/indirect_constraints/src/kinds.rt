@@ -2,7 +2,7 @@ ghost use Rattle.std.specs.Prelude.{◌<◌, ◌≤◌, length};
 ghost use Rattle.indirect_constraints.specs.Rows.{queue_row, holding_row, home_row};
 
 use crate::holdings::{holding_count, home_count};
-use fragments::{Constraint, Fragment, home, requests_of};
+use fragments::{Constraint, Fragment, RowKind, home, requests_of};
 use sporadic_model::{TaskId, TaskSet};
 
 /// Of a task: each request of the analysed task waits for at most one of the task's.
@@ -11,7 +11,7 @@ pub(crate) struct QueueRow {
     pub task: TaskId,
 }
 
-impl Constraint for QueueRow {
+impl RowKind for QueueRow {
     ghost row_of = { λ k set i. queue_row set i k.task.0 };
 
     ghost fits = { λ k set. k.task.0 < length set.tasks };
@@ -23,7 +23,9 @@ impl Constraint for QueueRow {
             0
         }
     }
+}
 
+impl Constraint for QueueRow {
     fn limit(&self, set: &TaskSet, i: TaskId, _bounds: &[u64]) -> u64 {
         requests_of(set, i)
     }
@@ -35,7 +37,7 @@ pub(crate) struct HoldingRow {
     pub task: TaskId,
 }
 
-impl Constraint for HoldingRow {
+impl RowKind for HoldingRow {
     ghost row_of = { λ k set i. holding_row set i k.task.0 };
 
     ghost fits = { λ k set. k.task.0 < length set.tasks };
@@ -47,7 +49,9 @@ impl Constraint for HoldingRow {
             0
         }
     }
+}
 
+impl Constraint for HoldingRow {
     fn limit(&self, set: &TaskSet, i: TaskId, bounds: &[u64]) -> u64 {
         holding_count(set, i, self.task, bounds)
     }
@@ -59,7 +63,7 @@ pub(crate) struct HomeRow {
     pub processor: u32,
 }
 
-impl Constraint for HomeRow {
+impl RowKind for HomeRow {
     ghost row_of = { λ k set i. home_row set i k.processor };
 
     ghost fits = { λ k set. k.processor ≤ set.processors };
@@ -74,7 +78,9 @@ impl Constraint for HomeRow {
             0
         }
     }
+}
 
+impl Constraint for HomeRow {
     fn limit(&self, set: &TaskSet, i: TaskId, _bounds: &[u64]) -> u64 {
         home_count(set, i, self.processor)
     }

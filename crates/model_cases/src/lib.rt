@@ -17,3 +17,5 @@ mod set_tests;
 mod simplex_tests;
 #[cfg(test)]
 mod threads;
+#[cfg(test)]
+mod window_tests;

@@ -11,7 +11,7 @@ use std::alloc::{AllocError, Global};
 use std::test::Fail;
 use worked_sets::{SetRow, set_of, suits};
 
-fn are_within(set: &TaskSet, bounds: &[u64]) -> bool
+pub(crate) fn are_within(set: &TaskSet, bounds: &[u64]) -> bool
     ensures { IsTrue result → AreWithinDeadlines set.now bounds.now }
 {
     if bounds.len() != set.tasks() as usize {

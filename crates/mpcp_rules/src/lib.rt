@@ -1,6 +1,8 @@
 //! MPCP: requests are granted to the highest task, and holders run by the ceilings of what they hold.
 #![tactic(auto)]
 
+mod programs;
+
 ghost use Rattle.std.specs.Prelude.{◌≡◌, ◌<◌, length, unwrap_or};
 ghost use Rattle.sporadic_model.specs.Users.{remote_ceiling_of};
 ghost use Rattle.schedule_model.specs.Ranks.{mpcp};

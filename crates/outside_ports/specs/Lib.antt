@@ -1,5 +1,6 @@
 pub mod Counts
 pub mod Names
+pub mod Ports
 pub mod Prefix
 pub mod Answers
 pub mod MemoryShelf

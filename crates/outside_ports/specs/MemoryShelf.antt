@@ -1,5 +1,5 @@
 -- A shelf in memory: inputs, and a list of the calls that fail.
-use Rattle.std.specs.Prelude.{◌≡◌, ℕ, ◌==◌, Bool, List, Option, Some, None, Result, Ok, Err, if◌then◌else◌}
+use Rattle.std.specs.Prelude.{◌≡◌, ℕ, ◌==◌, Bool, List, length, Option, Some, None, Result, Ok, Err, if◌then◌else◌}
 use Rattle.std.specs.List.{list_any}
 use Rattle.outside_ports.specs.Counts.{counted}
 use Rattle.outside_ports.specs.Names.{Inputs, bytes_of}
@@ -20,6 +20,10 @@ pub record MemoryShelf : Type 0 where
 -- Is the number of the next call listed?
 abbrev pub fails_next : MemoryShelf → Bool
 fails_next shelf = list_any (λ number. number == counted shelf.calls) shelf.failing
+
+-- Will no call fail?
+abbrev pub never_fails : MemoryShelf → Bool
+never_fails shelf = length shelf.failing == 0
 
 -- Is there an input?
 abbrev pub found : Option (List ℕ) → Result (Unit {0}) ShelfFault

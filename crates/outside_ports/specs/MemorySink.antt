@@ -17,6 +17,10 @@ pub record MemorySink : Type 0 where
 abbrev pub faults_next : MemorySink → Bool
 faults_next sink = list_any (λ number. number == counted sink.calls) sink.failing || (sink.room - length sink.bytes == 0)
 
+-- How many more bytes will it take with no fault? None where some write may fail.
+abbrev pub room_left : MemorySink → ℕ
+room_left sink = if length sink.failing == 0 then sink.room - length sink.bytes else 0
+
 -- What does every write do to the sink's counts? It is counted, and so is its fault; what was given to `new` stays.
 pub record CountsWrite (old new : MemorySink) : Type 0 where
   pub room : new.room ≡ old.room

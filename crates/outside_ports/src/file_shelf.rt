@@ -1,4 +1,4 @@
-ghost use Rattle.std.specs.Prelude.{◌≡◌, ℕ, ◌+◌, ◌^◌, ◌-◌, ◌<◌, ◌≤◌, min, length, IfOk, IfErr, OnOk, OnErr, MatchResult, None};
+ghost use Rattle.std.specs.Prelude.{◌≡◌, ℕ, ◌+◌, ◌^◌, ◌-◌, ◌<◌, ◌≤◌, min, length, IfOk, IfErr, OnOk, OnErr, MatchResult, None, false};
 ghost use Rattle.std.specs.Io.{ReadsAtMost};
 ghost use Rattle.std.specs.IoError.{error_kind};
 ghost use Rattle.outside_ports.specs.Counts.{Rose};
@@ -26,7 +26,7 @@ pub struct FileShelf<R: Files + Drop> {
 impl<R: Files + Clone + Drop> FileShelf<R> {
     /// A shelf on which nothing is started.
     pub fn new(runtime: &R) -> Result<FileShelf<R>, AllocError>
-        ensures { IfOk result (λ shelf. ⟦<FileShelf<R> as Shelf>⟧.faults shelf ≡ 0) }
+        ensures { IfOk result (λ shelf. (⟦<FileShelf<R> as Shelf>⟧.seen shelf).faults ≡ 0) }
     {
         Ok(FileShelf {
             runtime: runtime.clone()?,
@@ -38,17 +38,7 @@ impl<R: Files + Clone + Drop> FileShelf<R> {
 }
 
 impl<R: Files + Drop> Shelf for FileShelf<R> {
-    ghost names = { λ s. None };
-
-    ghost rest = { λ s. None };
-
-    ghost given = { λ s. s.given };
-
-    ghost faults = { λ s. s.faults };
-
-    ghost calls = { λ s. 0 };
-
-    ghost steady = { λ s. ⊥ };
+    ghost seen = { λ s. record { names = None; rest = None; given = s.given; faults = s.faults; calls = 0; steady = false } };
 
     ghost start_gives = { λ s name answer t. FollowsOpening s.faults answer t.file t.faults };
 

@@ -1,11 +1,11 @@
-ghost use Rattle.std.specs.Prelude.{◌≡◌, ℕ, ◌+◌, ◌-◌, ◌^◌, ◌<◌, ◌≤◌, ◌↔◌, ◌++◌, [], min, length, take, drop, Some};
+ghost use Rattle.std.specs.Prelude.{◌≡◌, ℕ, ◌+◌, ◌-◌, ◌^◌, ◌<◌, ◌≤◌, ◌↔◌, ◌++◌, [], true, min, length, take, drop, Some};
 ghost use Rattle.std.specs.Prelude.{None, is_some, IsTrue, IfErr, IsOk, IfOk, IsErr, IsErrOf, OnOk, OnErr, MatchResult};
 ghost use Rattle.std.specs.Prelude.{MatchOption};
 ghost use Rattle.std.specs.Io.{ReadsAtMost};
 ghost use Rattle.std.specs.Io.KnownBytes.{ReadConsumes, IsAtEnd};
 ghost use Rattle.outside_ports.specs.Counts.{Rose};
 ghost use Rattle.outside_ports.specs.Names.{bytes_of, Opens, IsAbsent};
-ghost use Rattle.outside_ports.specs.MemoryShelf.{fails_next, start_answer, CountsCall};
+ghost use Rattle.outside_ports.specs.MemoryShelf.{never_fails, fails_next, start_answer, CountsCall};
 ghost use Rattle.outside_ports.specs.MemoryShelfView.{inputs_of, rest_at};
 
 use crate::shelf::{Shelf, ShelfFault};
@@ -69,17 +69,14 @@ impl MemShelf {
 }
 
 impl Shelf for MemShelf {
-    ghost names = { λ s. Some s.inputs };
-
-    ghost rest = { λ s. Some s.rest };
-
-    ghost given = { λ s. s.given };
-
-    ghost faults = { λ s. s.faults };
-
-    ghost calls = { λ s. s.calls };
-
-    ghost steady = { λ s. s.failing ≡ [] };
+    ghost seen = { λ s. record {
+      names = Some s.inputs;
+      rest = Some s.rest;
+      given = s.given;
+      faults = s.faults;
+      calls = s.calls;
+      steady = never_fails s;
+    } };
 
     ghost start_gives = { λ s name answer t. answer ≡ start_answer s name };
 
@@ -102,8 +99,8 @@ impl Shelf for MemShelf {
         ensures failed { IsErrOf result ShelfFault.Failed → Rose self.old.faults self.new.faults }
         ensures gives { Unit {0} }
         ensures one_call { self.new.calls ≤ self.old.calls + 1 }
-        ensures steady { self.old.failing ≡ []
-            → (self.new.failing ≡ []) × (self.new.faults ≡ self.old.faults) × (IsErrOf result ShelfFault.Failed → ⊥) }
+        ensures steady { never_fails self.old ≡ true
+            → (never_fails self.new ≡ true) × (self.new.faults ≡ self.old.faults) × (IsErrOf result ShelfFault.Failed → ⊥) }
     {
         self.calls = self.calls.saturating_add(1);
         self.given = 0;
@@ -140,7 +137,7 @@ impl Shelf for MemShelf {
         ensures failed { OnErr result (Rose self.old.faults self.new.faults) }
         ensures only { IfErr result (λ e. e ≡ ShelfFault.Failed) }
         ensures one_call { self.new.calls ≤ self.old.calls + 1 }
-        ensures steady { self.old.failing ≡ [] → (self.new.failing ≡ []) × (self.new.faults ≡ self.old.faults) × IsOk result }
+        ensures steady { never_fails self.old ≡ true → (never_fails self.new ≡ true) × (self.new.faults ≡ self.old.faults) × IsOk result }
     {
         self.calls = self.calls.saturating_add(1);
         if self.failing.contains(&self.calls) {

@@ -3,7 +3,7 @@ ghost use Rattle.std.specs.Prelude.{IsErr, OnErr, MatchResult, ◌==◌, ◌||�
 ghost use Rattle.std.specs.List.{list_any};
 ghost use Rattle.std.specs.Io.KnownBytes.{WriteAppends};
 ghost use Rattle.outside_ports.specs.Counts.{Rose};
-ghost use Rattle.outside_ports.specs.MemorySink.{faults_next, CountsWrite};
+ghost use Rattle.outside_ports.specs.MemorySink.{room_left, faults_next, CountsWrite};
 
 use crate::sink::{Sink, SinkFault};
 use std::alloc::{AllocError, Global};
@@ -65,13 +65,12 @@ impl MemSink {
 }
 
 impl Sink for MemSink {
-    ghost written = { λ s. Some s.bytes };
-
-    ghost faults = { λ s. s.faults };
-
-    ghost calls = { λ s. s.calls };
-
-    ghost takes = { λ s room. (s.failing ≡ []) × (length s.bytes + room ≤ s.room) };
+    ghost seen = { λ s. record {
+      written = Some s.bytes;
+      faults = s.faults;
+      calls = s.calls;
+      room = room_left s;
+    } };
 
     /// A fault exactly where the number of this write is in `failing` or the room is full. Any other write takes the
     /// least of `piece`, the length of the given bytes and the room that is left.
@@ -87,10 +86,8 @@ impl Sink for MemSink {
         ensures later { self.old.faults ≤ self.new.faults }
         ensures failed { OnErr result (Rose self.old.faults self.new.faults) }
         ensures one_call { self.new.calls ≤ self.old.calls + 1 }
-        ensures takes { (room : ℕ) → length piece.now ≤ room
-            → (self.old.failing ≡ []) × (length self.old.bytes + room ≤ self.old.room) → MatchResult result
-            (λ n. ((self.new.failing ≡ []) × (length self.new.bytes + (room - n) ≤ self.new.room))
-            × (self.new.faults ≡ self.old.faults)) (λ _. ⊥) }
+        ensures takes { length piece.now ≤ room_left self.old → MatchResult result
+            (λ n. (room_left self.old ≤ room_left self.new + n) × (self.new.faults ≡ self.old.faults)) (λ _. ⊥) }
     {
         self.calls = self.calls.saturating_add(1);
         let left = self.room - self.bytes.len();

@@ -19,7 +19,7 @@ pub struct OutSink<R: Print + Drop> {
 impl<R: Print + Clone + Drop> OutSink<R> {
     /// The standard output of this runtime.
     pub fn new(runtime: &R) -> Result<OutSink<R>, AllocError>
-        ensures { IfOk result (λ sink. ⟦<OutSink<R> as Sink>⟧.faults sink ≡ 0) }
+        ensures { IfOk result (λ sink. (⟦<OutSink<R> as Sink>⟧.seen sink).faults ≡ 0) }
     {
         Ok(OutSink {
             runtime: runtime.clone()?,
@@ -29,13 +29,7 @@ impl<R: Print + Clone + Drop> OutSink<R> {
 }
 
 impl<R: Print + Drop> Sink for OutSink<R> {
-    ghost written = { λ s. None };
-
-    ghost faults = { λ s. s.faults };
-
-    ghost calls = { λ s. 0 };
-
-    ghost takes = { λ s room. ⊥ };
+    ghost seen = { λ s. record { written = None; faults = s.faults; calls = 0; room = 0 } };
 
     /// Each write is one write of the system. A write that took no byte is a fault, and each fault is counted.
     fn write(&mut self, piece: &[u8]) -> Result<usize, SinkFault>

@@ -1,6 +1,7 @@
 ghost use Rattle.std.specs.Prelude.{◌≡◌, ℕ, ◌+◌, ◌-◌, ◌<◌, ◌≤◌, List, length, Option, is_some, IfOk, OnErr, MatchResult};
 ghost use Rattle.std.specs.Io.KnownBytes.{WriteAppends};
 ghost use Rattle.outside_ports.specs.Counts.{Rose};
+ghost use Rattle.outside_ports.specs.Ports.{SinkDef};
 
 use thiserror::Error;
 
@@ -11,19 +12,13 @@ pub struct SinkFault;
 
 /// A place to which text is written, piece after piece.
 ///
-/// To a contract a sink is the bytes written, where it tells them (`written`), and a count of faults that never
-/// falls and stays at 2^64 - 1 (`faults`). Whether it tells the bytes never changes.
+/// What a contract sees of it (`seen`) are the bytes written, where it tells them (`written`), and a count of faults
+/// that never falls and stays at 2^64 - 1 (`faults`). Whether it tells the bytes never changes.
 ///
-/// A sink may also count its writes (`calls`), and promise to take so many more bytes with no fault (`takes`). For a
+/// A sink may also count its writes (`calls`), and promise to take so many more bytes with no fault (`room`). For a
 /// sink that counts none `calls` stays 0, and a bound on writes says nothing of it.
 pub trait Sink {
-    ghost written: { Self → Option (List ℕ) };
-
-    ghost faults: { Self → ℕ };
-
-    ghost calls: { Self → ℕ };
-
-    ghost takes: { Self → ℕ → Type 0 };
+    ghost seen: { Self → SinkDef };
 
     /// Appends 1 byte or more from the front of the piece, and says how many. An error comes only where the count of
     /// faults rose, and nothing was appended.
@@ -31,11 +26,11 @@ pub trait Sink {
         requires { 0 < length piece.now }
         ensures some { IfOk result (λ n. 0 < n) }
         ensures bound { IfOk result (λ n. n ≤ length piece.now) }
-        ensures tells { is_some (written self.new) ≡ is_some (written self.old) }
-        ensures appends { WriteAppends (written self.old) (written self.new) result piece.now }
-        ensures later { faults self.old ≤ faults self.new }
-        ensures failed { OnErr result (Rose (faults self.old) (faults self.new)) }
-        ensures one_call { calls self.new ≤ calls self.old + 1 }
-        ensures takes { (room : ℕ) → length piece.now ≤ room → takes self.old room
-            → MatchResult result (λ n. takes self.new (room - n) × (faults self.new ≡ faults self.old)) (λ _. ⊥) };
+        ensures tells { is_some (seen self.new).written ≡ is_some (seen self.old).written }
+        ensures appends { WriteAppends (seen self.old).written (seen self.new).written result piece.now }
+        ensures later { (seen self.old).faults ≤ (seen self.new).faults }
+        ensures failed { OnErr result (Rose (seen self.old).faults (seen self.new).faults) }
+        ensures one_call { (seen self.new).calls ≤ (seen self.old).calls + 1 }
+        ensures takes { length piece.now ≤ (seen self.old).room → MatchResult result
+            (λ n. ((seen self.old).room ≤ (seen self.new).room + n) × ((seen self.new).faults ≡ (seen self.old).faults)) (λ _. ⊥) };
 }

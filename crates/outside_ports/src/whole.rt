@@ -1,4 +1,4 @@
-ghost use Rattle.std.specs.Prelude.{◌≡◌, ℕ, ◌+◌, ◌-◌, ◌<◌, ◌≤◌, ◌↔◌, length, vec_len, Result, is_some, IfOk, IsOk, OnOk, OnErr, IsErrOf};
+ghost use Rattle.std.specs.Prelude.{◌≡◌, ℕ, ◌+◌, ◌-◌, ◌<◌, ◌≤◌, ◌↔◌, true, length, vec_len, Result, is_some, IfOk, IsOk, OnOk, OnErr, IsErrOf};
 ghost use Rattle.std.specs.Io.KnownBytes.{Appends, Consumes, IsAtEnd};
 ghost use Rattle.outside_ports.specs.Counts.{Rose};
 ghost use Rattle.outside_ports.specs.Names.{IsNamed, IsLonger, IsAbsent};
@@ -50,23 +50,23 @@ impl From<AllocError> for LoadFault {
 /// shelf stands where its last call left it. A shelf that counts its calls shows that there are at most two more of
 /// them than an input may have bytes.
 pub fn load<S: Shelf>(alloc: Global, shelf: &mut S, name: &str) -> Result<Vec<u8>, LoadFault>
-    ensures whole { IfOk result (λ bytes. IsNamed (S.names shelf.old) name.now bytes.items) }
-    ensures ended { OnOk result (IsAtEnd (S.rest shelf.new)) }
-    ensures size { IfOk result (λ bytes. (vec_len bytes ≡ S.given shelf.new) × (vec_len bytes ≤ GREATEST_INPUT_BYTES)) }
-    ensures absent { IsErrOf result LoadFault.Absent → IsAbsent (S.names shelf.old) name.now (S.faults shelf.old) (S.faults shelf.new) }
+    ensures whole { IfOk result (λ bytes. IsNamed (S.seen shelf.old).names name.now bytes.items) }
+    ensures ended { OnOk result (IsAtEnd (S.seen shelf.new).rest) }
+    ensures size { IfOk result (λ bytes. (vec_len bytes ≡ (S.seen shelf.new).given) × (vec_len bytes ≤ GREATEST_INPUT_BYTES)) }
+    ensures absent { IsErrOf result LoadFault.Absent → IsAbsent (S.seen shelf.old).names name.now (S.seen shelf.old).faults (S.seen shelf.new).faults }
     ensures started { (answer : Result (Unit {0}) ShelfFault) × (mid : S) × S.start_gives shelf.old name.now answer mid
         × FollowsStart answer result }
-    ensures read { IsErrOf result LoadFault.Read → Rose (S.faults shelf.old) (S.faults shelf.new) }
-    ensures too_long { (IsErrOf result LoadFault.TooLong) ↔ (GREATEST_INPUT_BYTES < S.given shelf.new) }
-    ensures longer { IsErrOf result LoadFault.TooLong → IsLonger (S.names shelf.old) name.now GREATEST_INPUT_BYTES }
-    ensures same { S.names shelf.new ≡ S.names shelf.old }
-    ensures tells { is_some (S.rest shelf.new) ≡ is_some (S.rest shelf.old) }
-    ensures later { S.faults shelf.old ≤ S.faults shelf.new }
-    ensures calm { OnOk result (S.faults shelf.new ≡ S.faults shelf.old) }
-    ensures want { IsErrOf result LoadFault.Memory → S.faults shelf.new ≡ S.faults shelf.old }
-    ensures few_calls { S.calls shelf.new ≤ S.calls shelf.old + (GREATEST_INPUT_BYTES + 2) }
-    ensures steady { S.steady shelf.old
-        → S.steady shelf.new × (S.faults shelf.new ≡ S.faults shelf.old) × (IsErrOf result LoadFault.Read → ⊥) }
+    ensures read { IsErrOf result LoadFault.Read → Rose (S.seen shelf.old).faults (S.seen shelf.new).faults }
+    ensures too_long { (IsErrOf result LoadFault.TooLong) ↔ (GREATEST_INPUT_BYTES < (S.seen shelf.new).given) }
+    ensures longer { IsErrOf result LoadFault.TooLong → IsLonger (S.seen shelf.old).names name.now GREATEST_INPUT_BYTES }
+    ensures same { (S.seen shelf.new).names ≡ (S.seen shelf.old).names }
+    ensures tells { is_some (S.seen shelf.new).rest ≡ is_some (S.seen shelf.old).rest }
+    ensures later { (S.seen shelf.old).faults ≤ (S.seen shelf.new).faults }
+    ensures calm { OnOk result ((S.seen shelf.new).faults ≡ (S.seen shelf.old).faults) }
+    ensures want { IsErrOf result LoadFault.Memory → (S.seen shelf.new).faults ≡ (S.seen shelf.old).faults }
+    ensures few_calls { (S.seen shelf.new).calls ≤ (S.seen shelf.old).calls + (GREATEST_INPUT_BYTES + 2) }
+    ensures steady { (S.seen shelf.old).steady ≡ true
+        → ((S.seen shelf.new).steady ≡ true) × ((S.seen shelf.new).faults ≡ (S.seen shelf.old).faults) × (IsErrOf result LoadFault.Read → ⊥) }
 {
     match shelf.start(name) {
         Ok(()) => read_all(alloc, shelf),
@@ -78,22 +78,22 @@ pub fn load<S: Shelf>(alloc: Global, shelf: &mut S, name: &str) -> Result<Vec<u8
 
 /// The rest of the started input, from a shelf that has given none of it yet.
 fn read_all<S: Shelf>(alloc: Global, shelf: &mut S) -> Result<Vec<u8>, LoadFault>
-    requires { S.given shelf.old ≡ 0 }
-    ensures whole { IfOk result (λ bytes. Consumes (S.rest shelf.old) (S.rest shelf.new) bytes.items) }
-    ensures ended { OnOk result (IsAtEnd (S.rest shelf.new)) }
-    ensures size { IfOk result (λ bytes. (vec_len bytes ≡ S.given shelf.new) × (vec_len bytes ≤ GREATEST_INPUT_BYTES)) }
+    requires { (S.seen shelf.old).given ≡ 0 }
+    ensures whole { IfOk result (λ bytes. Consumes (S.seen shelf.old).rest (S.seen shelf.new).rest bytes.items) }
+    ensures ended { OnOk result (IsAtEnd (S.seen shelf.new).rest) }
+    ensures size { IfOk result (λ bytes. (vec_len bytes ≡ (S.seen shelf.new).given) × (vec_len bytes ≤ GREATEST_INPUT_BYTES)) }
     ensures present { IsErrOf result LoadFault.Absent → ⊥ }
-    ensures read { IsErrOf result LoadFault.Read → Rose (S.faults shelf.old) (S.faults shelf.new) }
-    ensures too_long { (IsErrOf result LoadFault.TooLong) ↔ (GREATEST_INPUT_BYTES < S.given shelf.new) }
-    ensures longer { IsErrOf result LoadFault.TooLong → HasMore (S.rest shelf.old) GREATEST_INPUT_BYTES }
-    ensures same { S.names shelf.new ≡ S.names shelf.old }
-    ensures tells { is_some (S.rest shelf.new) ≡ is_some (S.rest shelf.old) }
-    ensures later { S.faults shelf.old ≤ S.faults shelf.new }
-    ensures calm { OnOk result (S.faults shelf.new ≡ S.faults shelf.old) }
-    ensures want { IsErrOf result LoadFault.Memory → S.faults shelf.new ≡ S.faults shelf.old }
-    ensures few_calls { S.calls shelf.new ≤ S.calls shelf.old + (GREATEST_INPUT_BYTES + 1) }
-    ensures steady { S.steady shelf.old
-        → S.steady shelf.new × (S.faults shelf.new ≡ S.faults shelf.old) × (IsErrOf result LoadFault.Read → ⊥) }
+    ensures read { IsErrOf result LoadFault.Read → Rose (S.seen shelf.old).faults (S.seen shelf.new).faults }
+    ensures too_long { (IsErrOf result LoadFault.TooLong) ↔ (GREATEST_INPUT_BYTES < (S.seen shelf.new).given) }
+    ensures longer { IsErrOf result LoadFault.TooLong → HasMore (S.seen shelf.old).rest GREATEST_INPUT_BYTES }
+    ensures same { (S.seen shelf.new).names ≡ (S.seen shelf.old).names }
+    ensures tells { is_some (S.seen shelf.new).rest ≡ is_some (S.seen shelf.old).rest }
+    ensures later { (S.seen shelf.old).faults ≤ (S.seen shelf.new).faults }
+    ensures calm { OnOk result ((S.seen shelf.new).faults ≡ (S.seen shelf.old).faults) }
+    ensures want { IsErrOf result LoadFault.Memory → (S.seen shelf.new).faults ≡ (S.seen shelf.old).faults }
+    ensures few_calls { (S.seen shelf.new).calls ≤ (S.seen shelf.old).calls + (GREATEST_INPUT_BYTES + 1) }
+    ensures steady { (S.seen shelf.old).steady ≡ true
+        → ((S.seen shelf.new).steady ≡ true) × ((S.seen shelf.new).faults ≡ (S.seen shelf.old).faults) × (IsErrOf result LoadFault.Read → ⊥) }
 {
     let mut bytes = Vec::new(alloc);
     let mut buffer = [0u8; 4096];
@@ -117,14 +117,15 @@ fn read_all<S: Shelf>(alloc: Global, shelf: &mut S) -> Result<Vec<u8>, LoadFault
 /// An error comes only where the sink's count of faults rose in this call; the sink has then taken a proper prefix
 /// of the text. A sink that counts its writes shows that there is at most one for each byte.
 pub fn put_all<K: Sink>(sink: &mut K, text: &[u8]) -> Result<(), SinkFault>
-    ensures whole { OnOk result (Appends (K.written sink.old) (K.written sink.new) text.now) }
-    ensures part { OnErr result (AppendsPart (K.written sink.old) (K.written sink.new) text.now) }
-    ensures failed { OnErr result (Rose (K.faults sink.old) (K.faults sink.new)) }
-    ensures tells { is_some (K.written sink.new) ≡ is_some (K.written sink.old) }
-    ensures later { K.faults sink.old ≤ K.faults sink.new }
-    ensures few_calls { K.calls sink.new ≤ K.calls sink.old + length text.now }
-    ensures takes { (room : ℕ) → length text.now ≤ room → K.takes sink.old room
-        → IsOk result × (K.takes sink.new (room - length text.now)) × (K.faults sink.new ≡ K.faults sink.old) }
+    ensures whole { OnOk result (Appends (K.seen sink.old).written (K.seen sink.new).written text.now) }
+    ensures part { OnErr result (AppendsPart (K.seen sink.old).written (K.seen sink.new).written text.now) }
+    ensures failed { OnErr result (Rose (K.seen sink.old).faults (K.seen sink.new).faults) }
+    ensures tells { is_some (K.seen sink.new).written ≡ is_some (K.seen sink.old).written }
+    ensures later { (K.seen sink.old).faults ≤ (K.seen sink.new).faults }
+    ensures few_calls { (K.seen sink.new).calls ≤ (K.seen sink.old).calls + length text.now }
+    ensures takes { length text.now ≤ (K.seen sink.old).room
+        → IsOk result × ((K.seen sink.old).room ≤ (K.seen sink.new).room + length text.now)
+        × ((K.seen sink.new).faults ≡ (K.seen sink.old).faults) }
 {
     let mut sent = 0;
     while sent < text.len() {

@@ -12,8 +12,8 @@ ghost use Rattle.fragments.specs.Stretches.{slot, AreInOrder, BeginsAt};
 ghost use Rattle.preempt_constraints.specs.Rows.{interval_row, preemption_rows};
 
 use fragments::{
-    Constraint, Fragment, add_row_within, columns_stand_in_order, lower_local, requests_of,
-    task_end,
+    Constraint, Fragment, RowKind, add_row_within, columns_stand_in_order, lower_local,
+    requests_of, task_end,
 };
 use program_form::RowBlock;
 use sporadic_model::{Protocol, TaskId, TaskSet};
@@ -25,7 +25,7 @@ struct IntervalRow {
     task: TaskId,
 }
 
-impl Constraint for IntervalRow {
+impl RowKind for IntervalRow {
     ghost row_of = { λ k set i. interval_row set i k.task.0 };
 
     ghost fits = { λ k set. k.task.0 < length set.tasks };
@@ -37,7 +37,9 @@ impl Constraint for IntervalRow {
             0
         }
     }
+}
 
+impl Constraint for IntervalRow {
     fn limit(&self, set: &TaskSet, i: TaskId, _bounds: &[u64]) -> u64 {
         1 + requests_of(set, i)
     }
@@ -75,8 +77,31 @@ fn add_interval_row(
     Ok(to)
 }
 
-/// The rows of preemption blocking, the same under every protocol: one for each lower task on `i`'s processor that has a
-/// column of preemption. Its limit is one more than the requests that a job of `i` can make.
+/// Adds the rows of preemption blocking behind those of the block, over any columns that stand in order: one for each lower task on
+/// `i`'s processor that has a column of preemption. Its limit is one more than the requests that a job of `i` can make.
+pub fn add_interval_rows(
+    alloc: Global,
+    block: &mut RowBlock,
+    set: &TaskSet,
+    i: TaskId,
+    bounds: &[u64],
+    columns: &[Fragment],
+) -> Result<(), AllocError>
+    requires task { i.0 < length set.now.tasks }
+    requires within { AreWithinDeadlines set.now bounds.now }
+    requires known { AreKnown (length set.now.tasks) (length set.now.resources) columns.now }
+    requires order { AreInOrder columns.now }
+    ensures { OnOk result (block_seen block.new
+        ≡ with_rows (block_seen block.old) (map column_seen columns.now) (preemption_rows set.now i.0) bounds.now) }
+{
+    let mut place = 0;
+    for x in 0..set.tasks() {
+        place = add_interval_row(alloc, block, set, i, TaskId(x), bounds, columns, place)?;
+    }
+    Ok(())
+}
+
+/// The rows of preemption blocking, the same under every protocol.
 pub fn rows(
     alloc: Global,
     set: &TaskSet,
@@ -96,9 +121,6 @@ pub fn rows(
         limits: Vec::new(alloc),
     };
     columns_stand_in_order(set, protocol, i, columns);
-    let mut place = 0;
-    for x in 0..set.tasks() {
-        place = add_interval_row(alloc, &mut block, set, i, TaskId(x), bounds, columns, place)?;
-    }
+    add_interval_rows(alloc, &mut block, set, i, bounds, columns)?;
     Ok(block)
 }

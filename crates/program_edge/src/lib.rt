@@ -5,10 +5,12 @@ ghost use Rattle.std.specs.Prelude.{◌≡◌, drop, IfOk};
 ghost use Rattle.std.specs.Vec.Iter.{into_iter_items};
 ghost use Rattle.std.specs.Process.{exit_status};
 ghost use Rattle.command_words.specs.Words.{words_seen};
-ghost use Rattle.program_edge.specs.Edge.{GivesWords, IsStatusOf, number_of};
+ghost use Rattle.run_plans.specs.Statuses.{number_of};
+ghost use Rattle.run_plans.specs.Run.{IsRun};
+ghost use Rattle.program_edge.specs.Edge.{GivesWords, number_ended};
 
 use block_top::{Status, run};
-use outside_ports::{FileShelf, OutSink};
+use outside_ports::{Shelf, Sink};
 use std::alloc::{AllocError, Global};
 use std::env::Args;
 use std::io::{self, ErrorKind};
@@ -40,25 +42,31 @@ pub fn words_of(alloc: Global, given: io::Result<Args>) -> Result<Vec<String>, A
     }
 }
 
-/// Answers the words over the system's files and standard output. An error is want of memory before anything was tried.
-pub fn status_of<R: Runtime + AllocGlobal + Threads + Sync>(
+/// Answers the words over this shelf and this sink, with this runtime's memory and threads.
+pub fn status_of<R: Runtime + AllocGlobal + Threads + Sync, S: Shelf, K: Sink>(
     rt: &R,
     words: &[String],
-) -> Result<Status, AllocError>
-    ensures { IfOk result (λ status. IsStatusOf (words_seen words.now) status.0) }
+    shelf: &mut S,
+    sink: &mut K,
+) -> Status
+    ensures { IsRun (record {
+      words = words_seen words.now;
+      shelf_before = S.seen shelf.old;
+      shelf_now = S.seen shelf.new;
+      sink_before = K.seen sink.old;
+      sink_now = K.seen sink.new;
+      status = number_of result;
+    }) }
 {
-    let mut shelf = FileShelf::new(rt)?;
-    let mut sink = OutSink::new(rt)?;
-    let alloc: Global = rt.alloc();
-    Ok(run(rt, alloc, words, &mut shelf, &mut sink))
+    run(rt, rt.alloc(), words, shelf, sink)
 }
 
 /// How the process ends.
 pub fn ended(answer: Result<Status, AllocError>) -> ExitCode
-    ensures { exit_status result ≡ number_of answer }
+    ensures { exit_status result ≡ number_ended answer }
 {
     match answer {
-        Ok(Status(status)) => ExitCode::from(status),
-        Err(AllocError) => ExitCode::from(7),
+        Ok(status) => ExitCode::from(status.number()),
+        Err(AllocError) => ExitCode::from(Status::Memory.number()),
     }
 }

@@ -4,5 +4,7 @@ pub mod RisingLimits
 pub mod SmallNumbers
 pub mod CoveredColumns
 pub mod ListLengths
+pub mod GivenPrograms
 pub mod WrittenPrograms
 pub mod UsedResources
+pub mod FewRows

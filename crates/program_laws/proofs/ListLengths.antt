@@ -8,9 +8,9 @@ use Rattle.sporadic_model.specs.declared.ids.Protocol.{Protocol}
 use Rattle.sporadic_model.specs.declared.ids.Protocol.TheVariants as protocol
 use Rattle.sporadic_model.proofs.Laws.{sizes_of_accepted}
 use Rattle.bounded_sums.specs.Sums.{collect_below}
-use Rattle.fragments.specs.ColumnDef.{all_columns, classes_of}
-use Rattle.fragments.specs.Columns.{is_column, columns_of, is_lower_local}
-use Rattle.fragments.specs.Constraints.{ConstraintDef, per, per_pair, per_where, holds_some, rows_there}
+use Rattle.fragments.specs.ColumnDef.{ColumnDef, all_columns, classes_of}
+use Rattle.fragments.specs.Columns.{columns_where, is_lower_local}
+use Rattle.fragments.specs.Constraints.{ConstraintDef, per, per_pair, per_where}
 use Rattle.direct_constraints.specs.Rows.{request_row, time_row, turn_row, lower_holder_row, common_rows, own_rows}
 use Rattle.preempt_constraints.specs.Rows.{interval_row, preemption_rows}
 use Rattle.indirect_constraints.specs.Rows.{queue_row, holding_row, home_row, indirect_rows}
@@ -18,13 +18,13 @@ use Rattle.program_laws.specs.Programs.{rows_of}
 use Rattle.program_laws.proofs.Lists.{filter_shorter, collected_at_most}
 
 -- The tasks, resources and processors of an accepted set, and pairs of the first two.
-record Few (set : SetDef) : Type 0 where
-  tasks : length set.tasks ≤ 64
-  resources : length set.resources ≤ 32
-  processors : set.processors ≤ 64
-  pairs : length set.tasks * length set.resources ≤ 2048
+pub record Few (set : SetDef) : Type 0 where
+  pub tasks : length set.tasks ≤ 64
+  pub resources : length set.resources ≤ 32
+  pub processors : set.processors ≤ 64
+  pub pairs : length set.tasks * length set.resources ≤ 2048
 
-few : (set : SetDef) → IsAccepted set → Few set
+pub few : (set : SetDef) → IsAccepted set → Few set
 few set accepted =
     let sizes = sizes_of_accepted set accepted in
     let left : length set.tasks * length set.resources ≤ 64 * length set.resources =
@@ -36,7 +36,7 @@ few set accepted =
       pairs = omega (arith, left, sizes.resources_to);
     }
 
-all_columns_at_most : (n m : ℕ) → length (all_columns n m) ≤ n * (m * 3)
+pub all_columns_at_most : (n m : ℕ) → length (all_columns n m) ≤ n * (m * 3)
 all_columns_at_most n m = collected_at_most n (m * 3) (λ x. collect_below m (λ q. classes_of x q)) (λ x l.
     collected_at_most m 3 (λ q. classes_of x q) (λ q k. omega arith))
 
@@ -47,23 +47,24 @@ triple_times (suc n) m = omega (arith, triple_times n m)
 triples : (n m : ℕ) → n * m ≤ 2048 → n * (m * 3) ≤ 6144
 triples n m h = omega (arith, h, triple_times n m)
 
-pub columns_few : (p : Protocol) (set : SetDef) (i : ℕ) → IsAccepted set → length (columns_of p set i) ≤ 6144
-columns_few p set i accepted =
+-- So it is with the columns that pass a test.
+pub passing_few : (test : ColumnDef → Bool) (set : SetDef) → IsAccepted set → length (columns_where test set) ≤ 6144
+passing_few test set accepted =
     let n = length set.tasks in
     let m = length set.resources in
-    omega (arith, filter_shorter (is_column p set i) (all_columns n m), all_columns_at_most n m, triples n m (few set accepted).pairs)
+    omega (arith, filter_shorter test (all_columns n m), all_columns_at_most n m, triples n m (few set accepted).pairs)
 
-per_at_most : (n : ℕ) (row : ℕ → ConstraintDef) → length (per n row) ≤ n
+pub per_at_most : (n : ℕ) (row : ℕ → ConstraintDef) → length (per n row) ≤ n
 per_at_most n row = omega (arith, collected_at_most n 1 (λ k. row k ∷ []) (λ k l. omega arith))
 
-pair_at_most : (m n : ℕ) (row : ℕ → ℕ → ConstraintDef) → length (per_pair m n row) ≤ m * n
+pub pair_at_most : (m n : ℕ) (row : ℕ → ℕ → ConstraintDef) → length (per_pair m n row) ≤ m * n
 pair_at_most m n row = collected_at_most m n (λ x. per n (row x)) (λ x l. per_at_most n (row x))
 
 if_at_most : (b : Bool) (row : ConstraintDef) → length (if b then row ∷ [] else []) ≤ 1
 if_at_most true row = omega arith
 if_at_most false row = omega arith
 
-where_at_most : (test : ℕ → Bool) (n : ℕ) (row : ℕ → ConstraintDef) → length (per_where test n row) ≤ n
+pub where_at_most : (test : ℕ → Bool) (n : ℕ) (row : ℕ → ConstraintDef) → length (per_where test n row) ≤ n
 where_at_most test n row =
     omega (arith, collected_at_most n 1 (λ k. if test k then row k ∷ [] else []) (λ k l. if_at_most (test k) (row k)))
 
@@ -77,7 +78,7 @@ indirect_few protocol.FmlpPlus set i f = omega (arith, per_at_most (length set.t
 indirect_few protocol.Mpcp set i f = omega (arith, per_at_most (length set.tasks) (holding_row set i), f.tasks)
 indirect_few protocol.Dpcp set i f = omega (arith, per_at_most set.processors (λ k. home_row set i (k + 1)), f.processors)
 
-common_few : (set : SetDef) (i : ℕ) → Few set → length (common_rows set i) ≤ 2112
+pub common_few : (set : SetDef) (i : ℕ) → Few set → length (common_rows set i) ≤ 2112
 common_few set i f =
     let pairs = per_pair (length set.tasks) (length set.resources) (request_row set i) in
     let times = per (length set.tasks) (time_row set i) in
@@ -89,7 +90,7 @@ common_few set i f =
       f.tasks,
     ))
 
-pub rows_few : (p : Protocol) (set : SetDef) (i : ℕ) → IsAccepted set → length (rows_there (columns_of p set i) (rows_of p set i)) ≤ 4288
+pub rows_few : (p : Protocol) (set : SetDef) (i : ℕ) → IsAccepted set → length (rows_of p set i) ≤ 4288
 rows_few p set i accepted =
     let f = few set accepted in
     let own = own_rows p set i in
@@ -97,7 +98,6 @@ rows_few p set i accepted =
     let preemption = preemption_rows set i in
     omega (
       arith,
-      filter_shorter (holds_some (columns_of p set i)) (rows_of p set i),
       length-append (common_rows set i) (preemption ++ (own ++ indirect)),
       length-append preemption (own ++ indirect),
       length-append own indirect,

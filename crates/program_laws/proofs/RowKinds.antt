@@ -28,6 +28,20 @@ pub all_per_where : (P : ConstraintDef → Type 0) (test : ℕ → Bool) (n : �
     → ((k : ℕ) → k < n → test k ≡ true → P (row k)) → All P (per_where test n row)
 all_per_where P test n row each = all_collected P n (λ k. if test k then row k ∷ [] else []) (λ k l. all_if P (test k) (row k) (each k l))
 
+-- What is true of each row of requests and of each row of time is true of the rows that every protocol has.
+pub common_each : (P : ConstraintDef → Type 0) (set : SetDef) (i : ℕ)
+    → ((x q : ℕ) → x < length set.tasks → q < length set.resources → P (request_row set i x q))
+    → ((x : ℕ) → x < length set.tasks → P (time_row set i x)) → All P (common_rows set i)
+common_each P set i request time =
+    All-append P (per_pair (length set.tasks) (length set.resources) (request_row set i)) (per (length set.tasks) (time_row set i))
+    (all_per_pair P (length set.tasks) (length set.resources) (request_row set i) request)
+    (all_per P (length set.tasks) (time_row set i) time)
+
+-- And what is true of each row of intervals, of the rows of preemption.
+pub preemption_each : (P : ConstraintDef → Type 0) (set : SetDef) (i : ℕ)
+    → ((x : ℕ) → x < length set.tasks → is_lower_local set i x ≡ true → P (interval_row set i x)) → All P (preemption_rows set i)
+preemption_each P set i interval = all_per_where P (is_lower_local set i) (length set.tasks) (interval_row set i) interval
+
 -- Does P hold of each kind of row that the protocol has, for the analysed task i?
 pub record EachKind (P : ConstraintDef → Type 0) (p : Protocol) (set : SetDef) (i : ℕ) : Type 0 where
   pub request : (x q : ℕ) → x < length set.tasks → q < length set.resources → P (request_row set i x q)
@@ -52,9 +66,6 @@ indirect_each P protocol.Dpcp set i each = all_per P set.processors (λ k. home_
 pub each_row : (P : ConstraintDef → Type 0) (p : Protocol) (set : SetDef) (i : ℕ) → EachKind P p set i → All P (rows_of p set i)
 each_row P p set i each =
     All-append P (common_rows set i) (preemption_rows set i ++ (own_rows p set i ++ indirect_rows p set i))
-    (All-append P (per_pair (length set.tasks) (length set.resources) (request_row set i)) (per (length set.tasks) (time_row set i))
-    (all_per_pair P (length set.tasks) (length set.resources) (request_row set i) each.request)
-    (all_per P (length set.tasks) (time_row set i) each.time))
-    (All-append P (preemption_rows set i) (own_rows p set i ++ indirect_rows p set i)
-    (all_per_where P (is_lower_local set i) (length set.tasks) (interval_row set i) each.interval)
+    (common_each P set i each.request each.time)
+    (All-append P (preemption_rows set i) (own_rows p set i ++ indirect_rows p set i) (preemption_each P set i each.interval)
     (All-append P (own_rows p set i) (indirect_rows p set i) (own_each P p set i each) (indirect_each P p set i each)))

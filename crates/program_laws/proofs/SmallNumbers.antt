@@ -2,6 +2,7 @@
 use Rattle.std.proofs.Common.{◌≡◌, ℕ, zero, suc, ◌+◌, ◌*◌, ◌<◌, ◌≤◌, Bool, List, length, refl, arith, ◌==◌, ◌&&◌}
 use Rattle.std.proofs.Common.{nat_lt, Option, Some, None, inl, inr}
 use Rattle.std.specs.Prelude.{slice_index}
+use Rattle.std.specs.List.{All}
 use Rattle.std.specs.Int.{div_ceil}
 use Rattle.std.specs.Option.{option_map_or}
 use Rattle.std.specs.Str.{bytes_eq}
@@ -21,12 +22,14 @@ use Rattle.sporadic_model.proofs.Laws.{numbers_of_accepted, sizes_of_accepted, e
 use Rattle.program_sources.specs.Bounds.{AreWithinDeadlines}
 use Rattle.fragments.specs.ColumnDef.{ColumnDef}
 use Rattle.fragments.specs.Windows.{jobs_in, requests_in, all_requests}
-use Rattle.fragments.specs.Constraints.{ConstraintDef}
+use Rattle.direct_constraints.specs.Rows.{request_row, time_row, turn_row, common_rows}
+use Rattle.preempt_constraints.specs.Rows.{interval_row, preemption_rows}
 use Rattle.indirect_constraints.specs.Rows.{is_beside, higher_holdings, lower_holdings, holdings}
 use Rattle.program_laws.proofs.Lists.{sum_at_most}
-use Rattle.program_laws.proofs.RowKinds.{EachKind}
+use Rattle.program_laws.specs.Written.{IsSmallRow}
+use Rattle.program_laws.proofs.RowKinds.{EachKind, common_each, preemption_each}
 
-div_ceil_at_most : (a n : ℕ) → 0 < n → div_ceil a n ≤ a
+pub div_ceil_at_most : (a n : ℕ) → 0 < n → div_ceil a n ≤ a
 div_ceil_at_most a zero h = absurd (omega arith)
 div_ceil_at_most a (suc n) h =
     let times = div_ceil_times a (suc n) (omega arith) in
@@ -38,7 +41,7 @@ div_ceil_at_most a (suc n) h =
       | inr fits ↦ fits
     ]
 
-option_at_most : (o : Option RequestDef) (f : RequestDef → ℕ) (m : ℕ) → ((e : RequestDef) → o ≡ Some e → f e ≤ m) → option_map_or f o 0 ≤ m
+pub option_at_most : (o : Option RequestDef) (f : RequestDef → ℕ) (m : ℕ) → ((e : RequestDef) → o ≡ Some e → f e ≤ m) → option_map_or f o 0 ≤ m
 option_at_most None f m h = omega arith
 option_at_most (Some e) f m h = h e refl
 
@@ -53,20 +56,20 @@ length_small set x q accepted here = option_at_most (entry_of set x q) (λ e. e.
     omega (arith, below, numbers.cost_to, numbers.deadline_to, numbers.period_to))
 
 -- A bound within the deadlines is at most the greatest number of ticks.
-bound_small : (set : SetDef) (r : List ℕ) (x : ℕ) → IsAccepted set → AreWithinDeadlines set r → x < length set.tasks
+pub bound_small : (set : SetDef) (r : List ℕ) (x : ℕ) → IsAccepted set → AreWithinDeadlines set r → x < length set.tasks
     → slice_index r x ≤ 1000000000
 bound_small set r x accepted within here =
     let numbers = numbers_of_accepted set x accepted here in
     omega (arith, within.to_latest x here, numbers.deadline_to, numbers.period_to)
 
 -- And so are a bound and the task's jitter together.
-late_bound_small : (set : SetDef) (r : List ℕ) (x : ℕ) → IsAccepted set → AreWithinDeadlines set r → x < length set.tasks
+pub late_bound_small : (set : SetDef) (r : List ℕ) (x : ℕ) → IsAccepted set → AreWithinDeadlines set r → x < length set.tasks
     → slice_index r x + (task_at set x).jitter ≤ 1000000000
 late_bound_small set r x accepted within here =
     let numbers = numbers_of_accepted set x accepted here in
     omega (arith, within.to_latest x here, numbers.jitter_to, numbers.deadline_to, numbers.period_to)
 
-jobs_small : (set : SetDef) (r : List ℕ) (i x : ℕ) → IsAccepted set → AreWithinDeadlines set r → i < length set.tasks → x < length set.tasks
+pub jobs_small : (set : SetDef) (r : List ℕ) (i x : ℕ) → IsAccepted set → AreWithinDeadlines set r → i < length set.tasks → x < length set.tasks
     → jobs_in set (slice_index r) i x ≤ 2000000000
 jobs_small set r i x accepted within here there =
     let numbers = numbers_of_accepted set x accepted there in
@@ -74,20 +77,20 @@ jobs_small set r i x accepted within here there =
     (omega (arith, numbers.cost_from, numbers.cost_to, numbers.deadline_to)) in
     omega (arith, jobs, bound_small set r i accepted within here, late_bound_small set r x accepted within there)
 
-times_at_most : (a b m n : ℕ) → a ≤ m → b ≤ n → a * b ≤ m * n
+pub times_at_most : (a b m n : ℕ) → a ≤ m → b ≤ n → a * b ≤ m * n
 times_at_most a b m n h k =
     let left : a * b ≤ m * b = mul-le-mul_right b h in
     let right : m * b ≤ m * n = mul-le-mul_left m k in
     omega (arith, left, right)
 
-requests_small : (set : SetDef) (r : List ℕ) (i x q : ℕ) → IsAccepted set → AreWithinDeadlines set r
+pub requests_small : (set : SetDef) (r : List ℕ) (i x q : ℕ) → IsAccepted set → AreWithinDeadlines set r
     → i < length set.tasks → x < length set.tasks
     → requests_in set (slice_index r) i x q ≤ 2000000000000
 requests_small set r i x q accepted within here there =
     times_at_most (count_of set x q) (jobs_in set (slice_index r) i x) 1000 2000000000
     (count_small set x q accepted there) (jobs_small set r i x accepted within here there)
 
-time_small : (set : SetDef) (r : List ℕ) (i x : ℕ) → IsAccepted set → AreWithinDeadlines set r → i < length set.tasks → x < length set.tasks
+pub time_small : (set : SetDef) (r : List ℕ) (i x : ℕ) → IsAccepted set → AreWithinDeadlines set r → i < length set.tasks → x < length set.tasks
     → (task_at set x).cost * jobs_in set (slice_index r) i x ≤ 2000000000000000000
 time_small set r i x accepted within here there =
     let numbers = numbers_of_accepted set x accepted there in
@@ -95,13 +98,13 @@ time_small set r i x accepted within here there =
     (omega (arith, numbers.cost_to, numbers.deadline_to, numbers.period_to))
     (jobs_small set r i x accepted within here there)
 
-all_small : (set : SetDef) (i : ℕ) → IsAccepted set → i < length set.tasks → all_requests set i ≤ 32000
+pub all_small : (set : SetDef) (i : ℕ) → IsAccepted set → i < length set.tasks → all_requests set i ≤ 32000
 all_small set i accepted here =
     let sizes = sizes_of_accepted set accepted in
     let sum = sum_at_most (length set.resources) 1000 (λ q. count_of set i q) (λ q l. count_small set i q accepted here) in
     omega (arith, sum, sizes.resources_to)
 
-home_small : (set : SetDef) (i : ℕ) (at : ℕ → Bool) → IsAccepted set → i < length set.tasks
+pub home_small : (set : SetDef) (i : ℕ) (at : ℕ → Bool) → IsAccepted set → i < length set.tasks
     → sum_below (length set.resources) (λ q. only_if (at q) (count_of set i q)) ≤ 32000
 home_small set i at accepted here =
     let sizes = sizes_of_accepted set accepted in
@@ -109,7 +112,7 @@ home_small set i at accepted here =
     omega (arith, only_if-at_most (at q) (count_of set i q), count_small set i q accepted here)) in
     omega (arith, sum, sizes.resources_to)
 
-higher_small : (set : SetDef) (r : List ℕ) (i x q : ℕ) → IsAccepted set → AreWithinDeadlines set r → i < length set.tasks
+pub higher_small : (set : SetDef) (r : List ℕ) (i x q : ℕ) → IsAccepted set → AreWithinDeadlines set r → i < length set.tasks
     → higher_holdings set (slice_index r) i x q ≤ 128000000000000
 higher_small set r i x q accepted within here =
     let sizes = sizes_of_accepted set accepted in
@@ -121,15 +124,15 @@ higher_small set r i x q accepted within here =
     )) in
     omega (arith, sum, sizes.tasks_to)
 
-only_if_small : (b : Bool) (n m : ℕ) → n ≤ m → only_if b n ≤ m
+pub only_if_small : (b : Bool) (n m : ℕ) → n ≤ m → only_if b n ≤ m
 only_if_small b n m h = omega (arith, only_if-at_most b n)
 
-lower_small : (set : SetDef) (i x q : ℕ) → IsAccepted set → i < length set.tasks → lower_holdings set i x q ≤ 1000
+pub lower_small : (set : SetDef) (i x q : ℕ) → IsAccepted set → i < length set.tasks → lower_holdings set i x q ≤ 1000
 lower_small set i x q accepted here =
     only_if_small (any_below (length set.tasks) (λ y. nat_lt i y && (is_beside set x y && is_user set q y)))
     (count_of set i q) 1000 (count_small set i q accepted here)
 
-holdings_small : (set : SetDef) (r : List ℕ) (i x : ℕ) → IsAccepted set → AreWithinDeadlines set r → i < length set.tasks
+pub holdings_small : (set : SetDef) (r : List ℕ) (i x : ℕ) → IsAccepted set → AreWithinDeadlines set r → i < length set.tasks
     → holdings set (slice_index r) i x ≤ 4096000000032000
 holdings_small set r i x accepted within here =
     let sizes = sizes_of_accepted set accepted in
@@ -143,27 +146,56 @@ holdings_small set r i x accepted within here =
     )) in
     omega (arith, sum, sizes.resources_to)
 
--- Are the row's coefficients and its limit at these bounds small?
-pub record IsSmallRow (r : List ℕ) (row : ConstraintDef) : Type 0 where
-  pub coefficients : (c : ColumnDef) → row.coefficient c ≤ 9223372036854775807
-  pub limit : row.limit (slice_index r) ≤ 9223372036854775807
-
-flag_small : (b : Bool) → flag b ≤ 9223372036854775807
+pub flag_small : (b : Bool) → flag b ≤ 9223372036854775807
 flag_small b = omega (arith, flag-at_most b)
+
+-- A row of flags is small where its limit is.
+pub small_flags : (r : List ℕ) (test : ColumnDef → Bool) (limit : (ℕ → ℕ) → ℕ) → limit (slice_index r) ≤ 9223372036854775807
+    → IsSmallRow r (record { coefficient = λ c. flag (test c); limit = limit })
+small_flags r test limit few = record { coefficients = λ c. flag_small (test c); limit = few }
+
+pub request_row_small : (set : SetDef) (i x q : ℕ) (r : List ℕ) → IsAccepted set → AreWithinDeadlines set r → i < length set.tasks
+    → x < length set.tasks → IsSmallRow r (request_row set i x q)
+request_row_small set i x q r accepted within here there =
+    record { coefficients = λ c. flag_small _; limit = omega (arith, requests_small set r i x q accepted within here there) }
+
+pub time_row_small : (set : SetDef) (i x : ℕ) (r : List ℕ) → IsAccepted set → AreWithinDeadlines set r → i < length set.tasks
+    → x < length set.tasks → IsSmallRow r (time_row set i x)
+time_row_small set i x r accepted within here there = record {
+  coefficients = λ c. omega (
+    arith,
+    only_if-at_most (c.task == x) (length_of set x c.resource),
+    length_small set x c.resource accepted there,
+  );
+  limit = omega (arith, time_small set r i x accepted within here there);
+}
+
+pub interval_row_small : (set : SetDef) (i x : ℕ) (r : List ℕ) → IsAccepted set → i < length set.tasks → IsSmallRow r (interval_row set i x)
+interval_row_small set i x r accepted here =
+    record { coefficients = λ c. flag_small _; limit = omega (arith, all_small set i accepted here) }
+
+pub turn_row_small : (set : SetDef) (i x q : ℕ) (r : List ℕ) → IsAccepted set → i < length set.tasks → IsSmallRow r (turn_row set i x q)
+turn_row_small set i x q r accepted here =
+    record { coefficients = λ c. flag_small _; limit = omega (arith, count_small set i q accepted here) }
+
+-- The rows that every protocol has are small.
+pub common_small : (set : SetDef) (i : ℕ) (r : List ℕ) → IsAccepted set → AreWithinDeadlines set r → i < length set.tasks
+    → All (IsSmallRow r) (common_rows set i)
+common_small set i r accepted within here =
+    common_each (IsSmallRow r) set i (λ x q a b. request_row_small set i x q r accepted within here a)
+    (λ x a. time_row_small set i x r accepted within here a)
+
+pub preemption_small : (set : SetDef) (i : ℕ) (r : List ℕ) → IsAccepted set → i < length set.tasks
+    → All (IsSmallRow r) (preemption_rows set i)
+preemption_small set i r accepted here = preemption_each (IsSmallRow r) set i (λ x a local. interval_row_small set i x r accepted here)
 
 pub rows_small : (p : Protocol) (set : SetDef) (i : ℕ) (r : List ℕ) → IsAccepted set → AreWithinDeadlines set r
     → i < length set.tasks → EachKind (IsSmallRow r) p set i
 rows_small p set i r accepted within here = record {
-  request = λ x q a b. record {
-    coefficients = λ c. flag_small _;
-    limit = omega (arith, requests_small set r i x q accepted within here a);
-  };
-  time = λ x a. record {
-    coefficients = λ c. omega (arith, only_if-at_most (c.task == x) (length_of set x c.resource), length_small set x c.resource accepted a);
-    limit = omega (arith, time_small set r i x accepted within here a);
-  };
-  interval = λ x a local. record { coefficients = λ c. flag_small _; limit = omega (arith, all_small set i accepted here) };
-  turn = λ e x q a b. record { coefficients = λ c. flag_small _; limit = omega (arith, count_small set i q accepted here) };
+  request = λ x q a b. request_row_small set i x q r accepted within here a;
+  time = λ x a. time_row_small set i x r accepted within here a;
+  interval = λ x a local. interval_row_small set i x r accepted here;
+  turn = λ e x q a b. turn_row_small set i x q r accepted here;
   queue = λ e x a. record { coefficients = λ c. flag_small _; limit = omega (arith, all_small set i accepted here) };
   lower_holder = λ e q b. record { coefficients = λ c. flag_small _; limit = omega (arith, count_small set i q accepted here) };
   holding = λ e x a. record { coefficients = λ c. flag_small _; limit = omega (arith, holdings_small set r i x accepted within here) };

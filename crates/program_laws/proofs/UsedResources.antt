@@ -1,11 +1,11 @@
 -- A task uses at most as many resources as it has request entries, so a program has at most three columns for each entry.
-use Rattle.std.proofs.Common.{◌≡◌, ℕ, zero, suc, ◌*◌, ◌<◌, ◌≤◌, ◌==◌, ◌&&◌, ◌||◌, not, Bool, true, false, nat_lt, List}
+use Rattle.std.proofs.Common.{◌≡◌, ℕ, zero, suc, ◌*◌, ◌<◌, ◌≤◌, ◌||◌, Bool, true, false, nat_lt, List}
 use Rattle.std.proofs.Common.{[], ◌∷◌, length, refl, sym, ◌∙◌, arith, inl, inr, cond, Option, Some}
 use Rattle.std.specs.Prelude.{find}
 use Rattle.std.specs.List.{All, filter}
 use Rattle.std.specs.Option.{option_map_or}
 use Rattle.std.specs.Str.{bytes_eq}
-use Rattle.std.proofs.lemmas.Bool.{cases_lt}
+use Rattle.std.proofs.lemmas.Bool.{cases_lt, cases_Bool, both_ways}
 use Rattle.std.proofs.lemmas.List.{length-append}
 use Rattle.std.proofs.lemmas.List.Elements.{filter-append, All-nil, All-cons, All-head, All-tail}
 use Rattle.std.proofs.lemmas.Slice.Eq.{bytes_eq-Decides}
@@ -20,7 +20,8 @@ use Rattle.sporadic_model.specs.declared.ids.Protocol.{Protocol}
 use Rattle.sporadic_model.proofs.Laws.{sizes_of_accepted, names_of_accepted}
 use Rattle.fragments.specs.declared.columns.Class.TheVariants as class
 use Rattle.fragments.specs.ColumnDef.{ColumnDef, classes_of}
-use Rattle.fragments.specs.Columns.{is_column, columns_of, may_block}
+use Rattle.fragments.specs.Columns.{is_column, columns_where, columns_of, AreRequests}
+use Rattle.fragments.proofs.KnownColumns.{columns_are_requests}
 use Rattle.program_laws.proofs.Lists.{filter_shorter}
 
 -- Is the entry one of a resource of this name?
@@ -73,7 +74,7 @@ used_few set x accepted =
     (λ q. named entries (resource_at set q).name) (λ q l user. found_named entries (resource_at set q).name user) in
     omega (arith, named_all, used)
 
-filtered_sum : {X : Type 0} (p : X → Bool) (n : ℕ) (f : ℕ → List X)
+pub filtered_sum : {X : Type 0} (p : X → Bool) (n : ℕ) (f : ℕ → List X)
     → length (filter p (collect_below n f)) ≡ sum_below n (λ k. length (filter p (f k)))
 filtered_sum p zero f = refl
 filtered_sum p (suc n) f = rw (
@@ -86,52 +87,69 @@ filtered_none : {X : Type 0} (p : X → Bool) (xs : List X) → All (λ x. p x �
 filtered_none p [] h = refl
 filtered_none p (x ∷ xs) h = rw (All-head (λ x. p x ≡ false) x xs h) (filtered_none p xs (All-tail (λ x. p x ≡ false) x xs h))
 
-middle_false : (a b c : Bool) → b ≡ false → ((a && b) && c) ≡ false
-middle_false true true c h = absurd cc
-middle_false true false c h = refl
-middle_false false b c h = refl
+column_apart : (test : ColumnDef → Bool) (set : SetDef) (x q : ℕ) → AreRequests test set → is_user set q x ≡ false → (c : ColumnDef)
+    → c.task ≡ x → c.resource ≡ q → test c ≡ false
+column_apart test set x q users none c task resource = elim (cases_Bool (test c)) [
+  | inr fails ↦ fails
+  | inl passes ↦
+      let used : is_user set c.resource c.task ≡ true = users c passes in
+      let unused : is_user set c.resource c.task ≡ false = rw (task, resource) none in
+      absurd (both_ways _ unused used)
+]
 
-column_apart : (p : Protocol) (set : SetDef) (i x q : ℕ) → is_user set q x ≡ false → (c : ColumnDef) → c.task ≡ x
-    → c.resource ≡ q → is_column p set i c ≡ false
-column_apart p set i x q none c task resource =
-    let unused : is_user set c.resource c.task ≡ false = rw (task, resource) none in
-    middle_false (not (c.task == i)) (is_user set c.resource c.task) (may_block p set i c.task c.resource c.class) unused
-
-class_apart : (p : Protocol) (set : SetDef) (i x q : ℕ) → is_user set q x ≡ false → All (λ c. is_column p set i c ≡ false) (classes_of x q)
-class_apart p set i x q none =
-    let P : ColumnDef → Type 0 = λ c. is_column p set i c ≡ false in
+class_apart : (test : ColumnDef → Bool) (set : SetDef) (x q : ℕ) → AreRequests test set → is_user set q x ≡ false
+    → All (λ c. test c ≡ false) (classes_of x q)
+class_apart test set x q users none =
+    let P : ColumnDef → Type 0 = λ c. test c ≡ false in
     let direct : ColumnDef = record { task = x; resource = q; class = class.Direct } in
     let indirect : ColumnDef = record { task = x; resource = q; class = class.Indirect } in
     let preemption : ColumnDef = record { task = x; resource = q; class = class.Preemption } in
-    All-cons P direct (indirect ∷ preemption ∷ []) (column_apart p set i x q none direct refl refl)
-    (All-cons P indirect (preemption ∷ []) (column_apart p set i x q none indirect refl refl)
-    (All-cons P preemption [] (column_apart p set i x q none preemption refl refl) (All-nil P)))
+    All-cons P direct (indirect ∷ preemption ∷ []) (column_apart test set x q users none direct refl refl)
+    (All-cons P indirect (preemption ∷ []) (column_apart test set x q users none indirect refl refl)
+    (All-cons P preemption [] (column_apart test set x q users none preemption refl refl) (All-nil P)))
 
-by_user : (p : Protocol) (set : SetDef) (i x q : ℕ) (b : Bool) → is_user set q x ≡ b
-    → length (filter (is_column p set i) (classes_of x q)) ≤ 3 * flag b
-by_user p set i x q true user = omega (arith, filter_shorter (is_column p set i) (classes_of x q))
-by_user p set i x q false none = omega (arith, filtered_none (is_column p set i) (classes_of x q) (class_apart p set i x q none))
+by_user : (test : ColumnDef → Bool) (set : SetDef) (x q : ℕ) (b : Bool) → AreRequests test set → is_user set q x ≡ b
+    → length (filter test (classes_of x q)) ≤ 3 * flag b
+by_user test set x q true users user = omega (arith, filter_shorter test (classes_of x q))
+by_user test set x q false users none = omega (arith, filtered_none test (classes_of x q) (class_apart test set x q users none))
 
-task_columns : (p : Protocol) (set : SetDef) (i x : ℕ) → IsAccepted set
-    → length (filter (is_column p set i) (collect_below (length set.resources) (λ q. classes_of x q))) ≤ 3 * length (task_at set x).requests
-task_columns p set i x accepted =
+task_columns : (test : ColumnDef → Bool) (set : SetDef) (x : ℕ) → IsAccepted set → AreRequests test set
+    → length (filter test (collect_below (length set.resources) (λ q. classes_of x q))) ≤ 3 * length (task_at set x).requests
+task_columns test set x accepted users =
     let m = length set.resources in
-    let parts = filtered_sum (is_column p set i) m (λ q. classes_of x q) in
-    let each = sum_below-monotone m (λ q. length (filter (is_column p set i) (classes_of x q)))
-    (λ q. 3 * flag (is_user set q x)) (λ q l. by_user p set i x q (is_user set q x) refl) in
+    let parts = filtered_sum test m (λ q. classes_of x q) in
+    let each = sum_below-monotone m (λ q. length (filter test (classes_of x q)))
+    (λ q. 3 * flag (is_user set q x)) (λ q l. by_user test set x q (is_user set q x) users refl) in
     let thrice = sum_below-times m 3 (λ q. flag (is_user set q x)) in
     omega (arith, parts, each, thrice, used_few set x accepted)
 
--- A program has at most three columns for each entry, so at most 768.
-pub columns_at_most : (p : Protocol) (set : SetDef) (i : ℕ) → IsAccepted set → length (columns_of p set i) ≤ 768
-columns_at_most p set i accepted =
-    let n = length set.tasks in
-    let m = length set.resources in
-    let parts = filtered_sum (is_column p set i) n (λ x. collect_below m (λ q. classes_of x q)) in
-    let each = sum_below-monotone n (λ x. length (filter (is_column p set i) (collect_below m (λ q. classes_of x q))))
-    (λ x. 3 * length (task_at set x).requests) (λ x l. task_columns p set i x accepted) in
-    let thrice = sum_below-times n 3 (λ x. length (task_at set x).requests) in
-    let all : sum_below n (λ x. length (task_at set x).requests) ≡ request_count set =
+-- A set has at most 256 entries.
+entries_few : (set : SetDef) → IsAccepted set → sum_below (length set.tasks) (λ x. length (task_at set x).requests) ≤ 256
+entries_few set accepted =
+    let all : sum_below (length set.tasks) (λ x. length (task_at set x).requests) ≡ request_count set =
     sum_below-list_by (λ (t : TaskDef). length t.requests) no_task set.tasks in
     let sizes = sizes_of_accepted set accepted in
-    omega (arith, parts, each, thrice, all, sizes.requests_to)
+    omega (arith, all, sizes.requests_to)
+
+-- So at most 256 pairs of a task and a resource that it uses.
+pub pairs_few : (set : SetDef) → IsAccepted set
+    → sum_below (length set.tasks) (λ x. count_below (length set.resources) (λ q. is_user set q x)) ≤ 256
+pairs_few set accepted =
+    let each = sum_below-monotone (length set.tasks) (λ x. count_below (length set.resources) (λ q. is_user set q x))
+    (λ x. length (task_at set x).requests) (λ x l. used_few set x accepted) in
+    omega (arith, each, entries_few set accepted)
+
+-- And at most three columns for each entry that are requests of a user, so at most 768.
+pub requests_at_most : (test : ColumnDef → Bool) (set : SetDef) → IsAccepted set → AreRequests test set
+    → length (columns_where test set) ≤ 768
+requests_at_most test set accepted users =
+    let n = length set.tasks in
+    let m = length set.resources in
+    let parts = filtered_sum test n (λ x. collect_below m (λ q. classes_of x q)) in
+    let each = sum_below-monotone n (λ x. length (filter test (collect_below m (λ q. classes_of x q))))
+    (λ x. 3 * length (task_at set x).requests) (λ x l. task_columns test set x accepted users) in
+    let thrice = sum_below-times n 3 (λ x. length (task_at set x).requests) in
+    omega (arith, parts, each, thrice, entries_few set accepted)
+
+pub columns_at_most : (p : Protocol) (set : SetDef) (i : ℕ) → IsAccepted set → length (columns_of p set i) ≤ 768
+columns_at_most p set i accepted = requests_at_most (is_column p set i) set accepted (columns_are_requests p set i)

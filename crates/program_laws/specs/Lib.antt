@@ -1,2 +1,3 @@
 pub mod Programs
+pub mod Written
 pub mod Worked

@@ -1,6 +1,7 @@
 -- A worked set: three tasks on three processors, and two resources that the first two request and the first of which the
 -- third requests.
 use Rattle.std.specs.Prelude.{ℕ, ◌+◌, List, [], ◌∷◌, None}
+use Rattle.program_form.specs.Program.{ProgramDef, columns, height}
 use Rattle.sporadic_model.specs.SetDef.{SetDef, TaskDef, RequestDef}
 
 -- A name of one letter.
@@ -32,3 +33,7 @@ three_tasks = record {
       ∷ task_on 2 4 (one_request 0 3 ∷ one_request 1 2 ∷ [])
       ∷ task_on 3 3 (one_request 0 2 ∷ []) ∷ [];
 }
+
+-- How many columns and rows has a program?
+abbrev pub sizes : ProgramDef → ℕ × ℕ
+sizes p = (columns p, height p)

@@ -13,6 +13,10 @@ pub record SourceDef : Type 0 where
   pub program : ℕ → List ℕ → ProgramDef
   pub interfering : ℕ → ℕ
 
+-- What a source gives for a set, as the programs of just that set: what every contract says of a set's programs and bounds.
+abbrev pub source_at : (SetDef → SourceDef) → SetDef → SourceDef
+source_at source set = record { set = set; program = (source set).program; interfering = (source set).interfering }
+
 -- What does the recurrence count, in ticks, for jobs of task h within the bound of a job of task i, where r are the bounds
 -- and g are the interfering costs? After its arrival a job of h may start as late as its jitter and its bound together less its
 -- interfering cost.

@@ -1,10 +1,10 @@
 //! What follows from the laws of sources alone. Each function is a law: it does nothing, and what it ensures holds for every
-//! source and every set that suits it.
+//! source and every set that it serves.
 
 ghost use Rattle.std.specs.Prelude.{◌≡◌, ℕ, ◌<◌, ◌≤◌, List, slice_index};
 ghost use Rattle.program_form.specs.Certificate.{CertificateDef};
 ghost use Rattle.sporadic_model.specs.SetDef.{SetDef, task_at};
-ghost use Rattle.program_sources.specs.Recurrence.{SourceDef, ComesUp, IsResponse};
+ghost use Rattle.program_sources.specs.Recurrence.{SourceDef, source_at, ComesUp, IsResponse};
 ghost use Rattle.program_sources.specs.Fitting.{AreFitting, NeverFalls, ComesUpAbove, tasks_of};
 ghost use Rattle.program_sources.specs.Valid.{IsValid};
 
@@ -13,10 +13,10 @@ use crate::source::ProgramSource;
 /// The recurrence never falls where its bounds rise, and with each response time that comes up at some bounds one that is
 /// no less comes up at greater bounds.
 pub fn recurrence_is_monotone<P: ProgramSource>()
-    ensures value { (p : P) (set : SetDef) → P.suits p set
-        → NeverFalls (record { set = set; program = P.program_of p set; interfering = P.interfering p set }) }
-    ensures reached { (p : P) (set : SetDef) → P.suits p set
-        → ComesUpAbove (record { set = set; program = P.program_of p set; interfering = P.interfering p set }) }
+    ensures value { (p : P) (set : SetDef) → P.serves p set
+        → NeverFalls (source_at (P.source p) set) }
+    ensures reached { (p : P) (set : SetDef) → P.serves p set
+        → ComesUpAbove (source_at (P.source p) set) }
 {}
 
 /// The recurrence has one value, which comes up, and no other value that comes up passes it.

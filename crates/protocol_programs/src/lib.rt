@@ -7,5 +7,5 @@ mod written;
 
 pub use counting::interference;
 pub use program_sources::ProgramSource;
-pub use programs::program;
+pub use programs::{accepted, append, costs, program, program_over, rows};
 pub use written::Written;

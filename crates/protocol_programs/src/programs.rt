@@ -9,7 +9,7 @@ ghost use Rattle.fragments.specs.Constraints.{block_of};
 ghost use Rattle.program_laws.specs.Programs.{cost_of, rows_of, program_of};
 ghost use Rattle.protocol_programs.specs.Joined.{joined, lists_of};
 
-use fragments::Fragment;
+use fragments::{Fragment, columns_stand_in_order};
 use program_form::{Program, RowBlock, refusals_are_exact};
 use sporadic_model::{Protocol, TaskId, TaskSet};
 use std::alloc::{AllocError, Global};
@@ -26,22 +26,16 @@ fn lengths(alloc: Global, set: &TaskSet, columns: &[Fragment]) -> Result<Vec<u64
     Ok(costs)
 }
 
-// What the columns of task `i` are worth.
-fn costs(
-    alloc: Global,
-    set: &TaskSet,
-    protocol: Protocol,
-    i: TaskId,
-    columns: &[Fragment],
-) -> Result<Vec<u64>, AllocError>
-    requires columns { map column_seen columns.now ≡ columns_of protocol set.now i.0 }
-    ensures { IfOk result (λ v. v.items ≡ map (cost_of set.now) (columns_of protocol set.now i.0)) }
+/// What any columns of the set are worth: the lengths of their requests, in ticks.
+pub fn costs(alloc: Global, set: &TaskSet, columns: &[Fragment]) -> Result<Vec<u64>, AllocError>
+    requires { AreKnown (length set.now.tasks) (length set.now.resources) columns.now }
+    ensures { IfOk result (λ v. v.items ≡ map (cost_of set.now) (map column_seen columns.now)) }
 {
     lengths(alloc, set, columns)
 }
 
-// Puts the rows of another block behind those of this one.
-fn append(block: &mut RowBlock, more: RowBlock) -> Result<(), AllocError>
+/// Puts the rows of another block behind those of this one.
+pub fn append(block: &mut RowBlock, more: RowBlock) -> Result<(), AllocError>
     ensures { OnOk result (block_seen block.new ≡ joined (block_seen block.old) (block_seen more)) }
 {
     let RowBlock {
@@ -52,8 +46,8 @@ fn append(block: &mut RowBlock, more: RowBlock) -> Result<(), AllocError>
     block.limits.append(&mut limits)
 }
 
-// All rows, in their order.
-fn rows(
+/// All rows of the protocol, in their order: a block behind which a further protocol may add its own.
+pub fn rows(
     alloc: Global,
     set: &TaskSet,
     protocol: Protocol,
@@ -77,8 +71,8 @@ fn rows(
     Ok(block)
 }
 
-// The program of these lists, which are one.
-fn accepted(costs: Vec<u64>, block: RowBlock) -> Program
+/// The program of these lists, which are one.
+pub fn accepted(costs: Vec<u64>, block: RowBlock) -> Program
     requires { IsProgram (lists_of costs.items (block_seen block)) }
     ensures { result ≡ lists_of costs.items (block_seen block) }
 {
@@ -87,6 +81,21 @@ fn accepted(costs: Vec<u64>, block: RowBlock) -> Program
         Ok(program) => program,
         Err(_) => unreachable!(),
     }
+}
+
+/// The program over these columns and the rows of this block, which are one. It refuses for want of memory alone.
+pub fn program_over(
+    alloc: Global,
+    set: &TaskSet,
+    columns: &[Fragment],
+    block: RowBlock,
+) -> Result<Program, AllocError>
+    requires known { AreKnown (length set.now.tasks) (length set.now.resources) columns.now }
+    requires program { IsProgram (lists_of (map (cost_of set.now) (map column_seen columns.now)) (block_seen block)) }
+    ensures { IfOk result (λ p. p ≡ lists_of (map (cost_of set.now) (map column_seen columns.now)) (block_seen block)) }
+{
+    let costs = costs(alloc, set, columns)?;
+    Ok(accepted(costs, block))
 }
 
 /// The blocking program of task `i` under the protocol, where these are the bounds, in ticks. It refuses for want of memory
@@ -106,7 +115,7 @@ pub fn program(
     // every set is lawful, so its columns and rows make a program
     let _tasks = set.tasks();
     let columns = fragments::fragments(alloc, set, protocol, i)?;
-    let costs = costs(alloc, set, protocol, i, &columns)?;
+    columns_stand_in_order(set, protocol, i, &columns);
     let block = rows(alloc, set, protocol, i, bounds, &columns)?;
-    Ok(accepted(costs, block))
+    program_over(alloc, set, &columns, block)
 }

@@ -8,7 +8,6 @@ use Rattle.std.specs.Prelude.{Option, None, Result, IfOk, replicate, slice_get, 
 use Rattle.program_form.specs.Program.{ProgramDef}
 use Rattle.program_sources.specs.Recurrence.{SourceDef}
 use Rattle.simplex.specs.declared.SolveStop.{SolveStop}
-use Rattle.simplex.specs.declared.SolveStop.TheVariants as solve_stop
 use Rattle.response_fixpoint.specs.Solutions.{GivesSolution, AreFound, AreAhead, outcomes_with}
 use Rattle.response_fixpoint.specs.declared.task_run.Solution.{Solution}
 use Rattle.response_fixpoint.specs.declared.ahead.Ahead.{Ahead}

@@ -6,15 +6,14 @@ use Rattle.std.proofs.lemmas.List.Elements.{All-head, filter_passes}
 use Rattle.sporadic_model.specs.SetDef.{SetDef}
 use Rattle.sporadic_model.specs.Users.{is_user, count_of}
 use Rattle.sporadic_model.specs.declared.ids.Protocol.{Protocol}
-use Rattle.fragments.specs.ColumnDef.{ColumnDef, all_columns}
+use Rattle.fragments.specs.ColumnDef.{ColumnDef, all_columns, IsKnown}
 use Rattle.fragments.specs.Columns.{columns_of, is_column, may_block}
-use Rattle.fragments.proofs.KnownColumns.{IsKnown, columns_known}
-use Rattle.program_laws.specs.Programs.{cost_of}
+use Rattle.fragments.proofs.KnownColumns.{columns_known}
+use Rattle.program_laws.specs.Programs.{cost_of, source_of}
 use Rattle.program_laws.proofs.WrittenPrograms.{programs_rise}
 use Rattle.program_sources.specs.Fitting.{NeverFalls, ComesUpAbove}
 use Rattle.program_sources.proofs.RecurrenceLaws.{comes_up_above, never_falls}
-use Rattle.response_fixpoint.specs.Runs.{HasNoColumns}
-use Rattle.response_fixpoint.specs.Written.{written, RequestsNothing}
+use Rattle.response_fixpoint.specs.Runs.{HasNoColumns, RequestsNothing}
 
 middle : (a b c : Bool) → ((a && b) && c) ≡ true → b ≡ true
 middle true true c h = refl
@@ -33,15 +32,15 @@ none_kept p set i (c ∷ cs) nothing known kept =
     let none : is_user set c.resource c.task ≡ false = ap (λ k. nat_lt 0 k) zero in
     cc
 
-pub no_columns : (p : Protocol) (set : SetDef) → RequestsNothing set → HasNoColumns (written p set)
+pub no_columns : (p : Protocol) (set : SetDef) → RequestsNothing set → HasNoColumns (source_of p set)
 no_columns p set nothing i r here =
     length-map (columns_of p set i) (cost_of set)
     ∙ none_kept p set i (columns_of p set i) nothing (columns_known p set i)
     (filter_passes (is_column p set i) (all_columns (length set.tasks) (length set.resources)))
 
 -- What comes up at some bounds, no less comes up at greater ones.
-pub written_above : (p : Protocol) (set : SetDef) → ComesUpAbove (written p set)
-written_above p set = comes_up_above (written p set) (λ i r s here most. programs_rise p set i r s here most)
+pub written_above : (p : Protocol) (set : SetDef) → ComesUpAbove (source_of p set)
+written_above p set = comes_up_above (source_of p set) (λ i r s here most. programs_rise p set i r s here most)
 
-pub written_falls : (p : Protocol) (set : SetDef) → NeverFalls (written p set)
-written_falls p set = never_falls (written p set) (λ i r s here most. programs_rise p set i r s here most)
+pub written_falls : (p : Protocol) (set : SetDef) → NeverFalls (source_of p set)
+written_falls p set = never_falls (source_of p set) (λ i r s here most. programs_rise p set i r s here most)

@@ -1,6 +1,5 @@
 pub mod Rounds
 pub mod Runs
-pub mod Written
 pub mod Solutions
 pub mod Answers
 pub mod Worked

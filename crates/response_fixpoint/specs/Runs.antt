@@ -1,11 +1,12 @@
 -- The rounds of a source of programs: how the exchange run of each task's program ends, and what rounds of such runs are.
-use Rattle.std.specs.Prelude.{◌≡◌, ℕ, ◌+◌, ◌-◌, ◌<◌, List, map}
+use Rattle.std.specs.Prelude.{◌≡◌, ℕ, ◌+◌, ◌-◌, ◌<◌, List, map, length}
 use Rattle.bounded_sums.specs.Sums.{sum_below}
 use Rattle.fraction128.specs.Fraction.{Fraction}
 use Rattle.program_form.specs.Certificate.{DualDef}
 use Rattle.program_form.specs.Program.{IsProgram, columns}
 use Rattle.exchange_runs.specs.Outcomes.{EndsWithin, IsWideWithin, NeedsMoreThan}
-use Rattle.sporadic_model.specs.SetDef.{task_at}
+use Rattle.sporadic_model.specs.SetDef.{SetDef, task_at}
+use Rattle.sporadic_model.specs.Users.{count_of}
 use Rattle.program_sources.specs.Recurrence.{SourceDef, IsResponse}
 use Rattle.program_sources.specs.Fitting.{tasks_of, latest_of}
 use Rattle.response_fixpoint.specs.Rounds.{RunEnd, Valued, TooWide, OutOfUnits, RoundsOf}
@@ -42,3 +43,7 @@ HasNoColumns f = (i : ℕ) (r : List ℕ) → i < tasks_of f → columns (f.prog
 -- How far the latest bounds are above the costs, in all.
 abbrev pub slack_of : SourceDef → ℕ
 slack_of f = sum_below (tasks_of f) (λ i. latest_of f i - (task_at f.set i).cost)
+
+-- Does no task of the set request a resource?
+abbrev pub RequestsNothing : SetDef → Type 0
+RequestsNothing set = (x q : ℕ) → x < length set.tasks → q < length set.resources → count_of set x q ≡ 0

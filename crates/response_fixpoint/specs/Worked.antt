@@ -4,7 +4,7 @@ use Rattle.program_form.specs.Certificate.{DualDef}
 use Rattle.sporadic_model.specs.SetDef.{SetDef, TaskDef}
 use Rattle.sporadic_model.specs.declared.ids.Protocol.TheVariants.{FmlpPlus}
 use Rattle.program_sources.specs.Recurrence.{SourceDef}
-use Rattle.response_fixpoint.specs.Written.{written}
+use Rattle.program_laws.specs.Programs.{source_of}
 
 -- A task of this name (one byte), period and cost, without requests.
 abbrev pub task_alone : ℕ → ℕ → ℕ → TaskDef
@@ -23,7 +23,7 @@ abbrev pub three_alone : SetDef
 three_alone = record { processors = 1; resources = []; tasks = task_alone 97 4 1 ∷ task_alone 98 6 2 ∷ task_alone 99 20 3 ∷ [] }
 
 abbrev pub source_alone : SourceDef
-source_alone = written FmlpPlus three_alone
+source_alone = source_of FmlpPlus three_alone
 
 abbrev pub bounds_alone : List ℕ
 bounds_alone = 1 ∷ 3 ∷ 10 ∷ []

@@ -1,9 +1,10 @@
 ghost use Rattle.std.specs.Prelude.{◌≡◌, ℕ, ◌<◌, ◌^◌, length, replicate, slice_get, slice_set, None, Some, IfOk, IfSome};
 ghost use Rattle.program_sources.specs.Bounds.{IsInRange};
+ghost use Rattle.program_sources.specs.Recurrence.{source_at};
 ghost use Rattle.response_fixpoint.specs.Solutions.{GivesSolution, AreEarlier, AreFound, AreAhead, outcomes_with};
 
-use crate::task_run::{Solution, response, solve_task};
-use program_sources::ProgramSource;
+use crate::task_run::{Solution, solve_task};
+use program_sources::{ProgramSource, response};
 use simplex::SolveStop;
 use sporadic_model::{ResourceId, TaskId, TaskSet};
 use std::alloc::{AllocError, Global};
@@ -105,7 +106,7 @@ fn goes_on<P: ProgramSource>(
     bounds: &[u64],
     outcome: &Result<Solution, SolveStop>,
 ) -> bool
-    requires suits { P.suits protocol.now set.now }
+    requires serves { P.serves protocol.now set.now }
     requires range { IsInRange set.now bounds.now }
     requires task { task.0 < length set.now.tasks }
     requires blocking { IfOk outcome.now (λ s. s.blocking < 2 ^ 63) }
@@ -128,18 +129,10 @@ pub fn solve_some<P: ProgramSource>(
     earlier: &[Solution],
     queue: &Queue,
 ) -> Result<Vec<Ahead>, AllocError>
-    requires suits { P.suits protocol.now set.now }
+    requires serves { P.serves protocol.now set.now }
     requires range { IsInRange set.now bounds.now }
-    requires earlier { AreEarlier (record {
-      set = set.now;
-      program = P.program_of protocol.now set.now;
-      interfering = P.interfering protocol.now set.now;
-    }) earlier.now }
-    ensures { IfOk result (λ v. AreFound (record {
-      set = set.now;
-      program = P.program_of protocol.now set.now;
-      interfering = P.interfering protocol.now set.now;
-    }) bounds.now left v.items) }
+    requires earlier { AreEarlier (source_at (P.source protocol.now) set.now) earlier.now }
+    ensures { IfOk result (λ v. AreFound (source_at (P.source protocol.now) set.now) bounds.now left v.items) }
 {
     let mut found = Vec::new(alloc);
     for _ in 0..set.tasks() {
@@ -167,19 +160,11 @@ fn solve_beside<R: Threads + Sync, P: ProgramSource + Sync>(
     earlier: &[Solution],
     threads: usize,
 ) -> Result<Vec<Result<Vec<Ahead>, AllocError>>, AllocError>
-    requires suits { P.suits protocol.now set.now }
+    requires serves { P.serves protocol.now set.now }
     requires range { IsInRange set.now bounds.now }
-    requires earlier { AreEarlier (record {
-      set = set.now;
-      program = P.program_of protocol.now set.now;
-      interfering = P.interfering protocol.now set.now;
-    }) earlier.now }
+    requires earlier { AreEarlier (source_at (P.source protocol.now) set.now) earlier.now }
     ensures { IfOk result (λ v. (k : ℕ) (part : _) → slice_get v.items k ≡ Some part
-        → IfOk part (λ found. AreFound (record {
-          set = set.now;
-          program = P.program_of protocol.now set.now;
-          interfering = P.interfering protocol.now set.now;
-        }) bounds.now left found.items)) }
+        → IfOk part (λ found. AreFound (source_at (P.source protocol.now) set.now) bounds.now left found.items)) }
 {
     let queue = Queue {
         next: AtomicU32::new(0),
@@ -239,18 +224,10 @@ pub fn solve_ahead<R: Threads + Sync, P: ProgramSource + Sync>(
     earlier: &[Solution],
     threads: usize,
 ) -> Result<Vec<Option<Result<Solution, SolveStop>>>, AllocError>
-    requires suits { P.suits protocol.now set.now }
+    requires serves { P.serves protocol.now set.now }
     requires range { IsInRange set.now bounds.now }
-    requires earlier { AreEarlier (record {
-      set = set.now;
-      program = P.program_of protocol.now set.now;
-      interfering = P.interfering protocol.now set.now;
-    }) earlier.now }
-    ensures { IfOk result (λ v. AreAhead (record {
-      set = set.now;
-      program = P.program_of protocol.now set.now;
-      interfering = P.interfering protocol.now set.now;
-    }) bounds.now 0 left v.items) }
+    requires earlier { AreEarlier (source_at (P.source protocol.now) set.now) earlier.now }
+    ensures { IfOk result (λ v. AreAhead (source_at (P.source protocol.now) set.now) bounds.now 0 left v.items) }
 {
     let mut outcomes = no_outcomes(alloc, set)?;
     for part in solve_beside(rt, alloc, set, protocol, bounds, left, earlier, threads)? {

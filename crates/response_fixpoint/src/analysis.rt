@@ -3,9 +3,10 @@ ghost use Rattle.program_form.specs.Certificate.{dual_seen};
 ghost use Rattle.sporadic_model.specs.Homes.{HasHomesFor};
 ghost use Rattle.program_sources.specs.Bounds.{IsInRange};
 ghost use Rattle.program_sources.specs.Fitting.{AreFitting};
+ghost use Rattle.program_sources.specs.Recurrence.{source_at};
+ghost use Rattle.program_laws.specs.Programs.{source_of};
 ghost use Rattle.response_fixpoint.specs.Rounds.{Ending, EndsIn};
-ghost use Rattle.response_fixpoint.specs.Runs.{rounds_of, slack_of, HasNoColumns};
-ghost use Rattle.response_fixpoint.specs.Written.{written, RequestsNothing};
+ghost use Rattle.response_fixpoint.specs.Runs.{rounds_of, slack_of, HasNoColumns, RequestsNothing};
 ghost use Rattle.response_fixpoint.specs.Answers.{Answers, IsAnswerOf, IsRight, IsSchedulable, IsSettled, answer_at};
 
 use crate::laws::no_requests_no_columns;
@@ -70,12 +71,8 @@ fn take_rounds<R: Threads + Sync, P: ProgramSource + Sync>(
     protocol: &P,
     allowance: u64,
 ) -> Result<Verdict, Stop>
-    requires { P.suits protocol.now set.now }
-    ensures { Answers result (record {
-      set = set.now;
-      program = P.program_of protocol.now set.now;
-      interfering = P.interfering protocol.now set.now;
-    }) allowance }
+    requires { P.serves protocol.now set.now }
+    ensures { Answers result (source_at (P.source protocol.now) set.now) allowance }
 {
     let mut bounds = costs(alloc, set)?;
     // a set has a task, so each round takes a unit, and the rounds end
@@ -119,52 +116,25 @@ pub fn analyse_with<R: Threads + Sync, P: ProgramSource + Sync>(
     protocol: &P,
     allowance: u64,
 ) -> Result<Verdict, Stop>
-    requires suits { P.suits protocol.now set.now }
+    requires serves { P.serves protocol.now set.now }
 
     // The answer, its stops among them, is how the rounds end.
-    ensures rounds { Answers result (record {
-      set = set.now;
-      program = P.program_of protocol.now set.now;
-      interfering = P.interfering protocol.now set.now;
-    }) allowance }
+    ensures rounds { Answers result (source_at (P.source protocol.now) set.now) allowance }
 
     // And each end of the rounds gives just that answer: each verdict and each stop comes exactly where they end so.
     ensures only { (e : Ending)
-        → EndsIn (rounds_of (record {
-          set = set.now;
-          program = P.program_of protocol.now set.now;
-          interfering = P.interfering protocol.now set.now;
-        })) allowance e → IsAnswerOf result e }
+        → EndsIn (rounds_of (source_at (P.source protocol.now) set.now)) allowance e → IsAnswerOf result e }
 
     // Schedulable: the least fitting bounds, with optimal duals. Not shown: nothing fits. So each comes exactly there.
-    ensures right { IfOk result (λ verdict. IsRight verdict (record {
-      set = set.now;
-      program = P.program_of protocol.now set.now;
-      interfering = P.interfering protocol.now set.now;
-    })) }
-    ensures exactly { IfOk result (λ verdict. IsSchedulable verdict ↔ ((s : List ℕ) × AreFitting (record {
-      set = set.now;
-      program = P.program_of protocol.now set.now;
-      interfering = P.interfering protocol.now set.now;
-    }) s)) }
+    ensures right { IfOk result (λ verdict. IsRight verdict (source_at (P.source protocol.now) set.now)) }
+    ensures exactly { IfOk result (λ verdict. IsSchedulable verdict
+        ↔ ((s : List ℕ) × AreFitting (source_at (P.source protocol.now) set.now) s)) }
 
     // The stops that don't come where no program has a column.
-    ensures never_wide { HasNoColumns (record {
-      set = set.now;
-      program = P.program_of protocol.now set.now;
-      interfering = P.interfering protocol.now set.now;
-    })
+    ensures never_wide { HasNoColumns (source_at (P.source protocol.now) set.now)
         → (task : ℕ) → IsErrOf result (Stop.Wide (record { 0 = task })) → ⊥ }
-    ensures enough { HasNoColumns (record {
-      set = set.now;
-      program = P.program_of protocol.now set.now;
-      interfering = P.interfering protocol.now set.now;
-    })
-        → length set.now.tasks * (1 + slack_of (record {
-          set = set.now;
-          program = P.program_of protocol.now set.now;
-          interfering = P.interfering protocol.now set.now;
-        })) ≤ allowance
+    ensures enough { HasNoColumns (source_at (P.source protocol.now) set.now)
+        → length set.now.tasks * (1 + slack_of (source_at (P.source protocol.now) set.now)) ≤ allowance
         → IsErrOf result Stop.Allowance → ⊥ }
 {
     // the costs of a set are within its latest bounds
@@ -182,14 +152,14 @@ pub fn analyse<R: Threads + Sync>(
     allowance: u64,
 ) -> Result<Verdict, Stop>
     requires suits { HasHomesFor protocol set.now }
-    ensures rounds { Answers result (written protocol set.now) allowance }
-    ensures only { (e : Ending) → EndsIn (rounds_of (written protocol set.now)) allowance e → IsAnswerOf result e }
-    ensures right { IfOk result (λ verdict. IsRight verdict (written protocol set.now)) }
-    ensures exactly { IfOk result (λ verdict. IsSchedulable verdict ↔ ((s : List ℕ) × AreFitting (written protocol set.now) s)) }
+    ensures rounds { Answers result (source_of protocol set.now) allowance }
+    ensures only { (e : Ending) → EndsIn (rounds_of (source_of protocol set.now)) allowance e → IsAnswerOf result e }
+    ensures right { IfOk result (λ verdict. IsRight verdict (source_of protocol set.now)) }
+    ensures exactly { IfOk result (λ verdict. IsSchedulable verdict ↔ ((s : List ℕ) × AreFitting (source_of protocol set.now) s)) }
 
     // The stops that don't come for a set that requests nothing.
     ensures never_wide { RequestsNothing set.now → (task : ℕ) → IsErrOf result (Stop.Wide (record { 0 = task })) → ⊥ }
-    ensures enough { RequestsNothing set.now → length set.now.tasks * (1 + slack_of (written protocol set.now)) ≤ allowance
+    ensures enough { RequestsNothing set.now → length set.now.tasks * (1 + slack_of (source_of protocol set.now)) ≤ allowance
         → IsErrOf result Stop.Allowance → ⊥ }
 {
     no_requests_no_columns();

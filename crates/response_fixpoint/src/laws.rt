@@ -3,20 +3,20 @@
 ghost use Rattle.std.specs.Prelude.{◌≡◌, ℕ, List};
 ghost use Rattle.sporadic_model.specs.SetDef.{SetDef};
 ghost use Rattle.sporadic_model.specs.declared.ids.Protocol.{Protocol};
-ghost use Rattle.program_sources.specs.Recurrence.{SourceDef};
+ghost use Rattle.program_sources.specs.Recurrence.{SourceDef, source_at};
 ghost use Rattle.program_sources.specs.Fitting.{AreFitting, AreLeastFitting};
+ghost use Rattle.program_laws.specs.Programs.{source_of};
 ghost use Rattle.response_fixpoint.specs.Rounds.{Ending, Schedulable, Allowance, Reaches, EndsIn};
-ghost use Rattle.response_fixpoint.specs.Runs.{rounds_of, HasNoColumns};
+ghost use Rattle.response_fixpoint.specs.Runs.{rounds_of, HasNoColumns, RequestsNothing};
 ghost use Rattle.response_fixpoint.specs.Worked.{source_alone, bounds_alone, duals_alone};
-ghost use Rattle.response_fixpoint.specs.Written.{written, RequestsNothing};
 
 use program_sources::{ProgramSource, recurrence_is_monotone};
 
-/// Where some bounds fit, the least that fit are there: for every source, with no premise but that the set suits it.
+/// Where some bounds fit, the least that fit are there: for every source, with no premise but that it serves the set.
 pub fn a_least_fitting_vector_exists<P: ProgramSource>()
-    ensures { (p : P) (set : SetDef) (s : List ℕ) → P.suits p set
-        → AreFitting (record { set = set; program = P.program_of p set; interfering = P.interfering p set }) s
-        → (b : List ℕ) × AreLeastFitting (record { set = set; program = P.program_of p set; interfering = P.interfering p set }) b }
+    ensures { (p : P) (set : SetDef) (s : List ℕ) → P.serves p set
+        → AreFitting (source_at (P.source p) set) s
+        → (b : List ℕ) × AreLeastFitting (source_at (P.source p) set) b }
 {
     recurrence_is_monotone::<P>();
 }
@@ -28,7 +28,7 @@ pub fn the_rounds_have_one_ending()
 
 /// Where no task requests a resource, no program has a column, under any protocol.
 pub fn no_requests_no_columns()
-    ensures { (protocol : Protocol) (set : SetDef) → RequestsNothing set → HasNoColumns (written protocol set) }
+    ensures { (protocol : Protocol) (set : SetDef) → RequestsNothing set → HasNoColumns (source_of protocol set) }
 {}
 
 /// A worked set of three tasks: three rounds come to new bounds, the last time to 1, 3 and 10, and a fourth keeps these. Each takes

@@ -40,25 +40,23 @@ fn meet(one: Side<'_>, other: Side<'_>) {
 
 impl<'a> ProgramSource for Meeting<'a> {
     ghost use Rattle.sporadic_model.specs.Homes.{HasHomesFor};
-    ghost use Rattle.program_laws.specs.Programs.{program_of as written_program_of, interfering_cost};
+    ghost use Rattle.program_laws.specs.Programs.{source_of};
     ghost use Rattle.program_laws.proofs.WrittenPrograms.{written_program, programs_rise, interfering_least, interfering_most};
     ghost use Rattle.program_laws.proofs.CoveredColumns.{covered};
 
-    ghost suits = { λ p set. HasHomesFor p.written.0 set };
+    ghost serves = { λ p set. HasHomesFor p.written.0 set };
 
-    ghost program_of = { λ p set i r. written_program_of p.written.0 set i r };
+    ghost source = { λ p. source_of p.written.0 };
 
-    ghost interfering = { λ p set h. interfering_cost p.written.0 set h };
+    ghost covers = { λ p set i r c served here within. covered p.written.0 set i r c within };
 
-    ghost covers = { λ p set i r c suits here within. covered p.written.0 set i r c within };
+    ghost rises = { λ p set i r s served here most. programs_rise p.written.0 set i r s here most };
 
-    ghost rises = { λ p set i r s suits here most. programs_rise p.written.0 set i r s here most };
+    ghost is_program = { λ p set i r served accepted here within. written_program p.written.0 set i r accepted here within };
 
-    ghost is_program = { λ p set i r suits accepted here within. written_program p.written.0 set i r accepted here within };
+    ghost least = { λ p set h served here numbers. interfering_least p.written.0 set h numbers };
 
-    ghost least = { λ p set h suits here numbers. interfering_least p.written.0 set h numbers };
-
-    ghost most = { λ p set h suits here numbers. interfering_most p.written.0 set h numbers };
+    ghost most = { λ p set h served here numbers. interfering_most p.written.0 set h numbers };
 
     fn program(
         &self,

@@ -1,5 +1,6 @@
 ghost use Rattle.std.specs.Prelude.{◌≡◌, ◌<◌, ◌^◌, ◌+◌};
 ghost use Rattle.program_sources.specs.Bounds.{IsInRange};
+ghost use Rattle.program_sources.specs.Recurrence.{source_at};
 ghost use Rattle.response_fixpoint.specs.Solutions.{AreEarlier};
 ghost use Rattle.response_fixpoint.specs.Answers.{GivesRound, TakesRun, stop_at};
 
@@ -91,18 +92,10 @@ pub fn take_round<R: Threads + Sync, P: ProgramSource + Sync>(
     left: u64,
     earlier: &[Solution],
 ) -> Result<Round, RoundStop>
-    requires suits { P.suits protocol.now set.now }
+    requires serves { P.serves protocol.now set.now }
     requires range { IsInRange set.now bounds.now }
-    requires earlier { AreEarlier (record {
-      set = set.now;
-      program = P.program_of protocol.now set.now;
-      interfering = P.interfering protocol.now set.now;
-    }) earlier.now }
-    ensures { GivesRound result (record {
-      set = set.now;
-      program = P.program_of protocol.now set.now;
-      interfering = P.interfering protocol.now set.now;
-    }) bounds.now left }
+    requires earlier { AreEarlier (source_at (P.source protocol.now) set.now) earlier.now }
+    ensures { GivesRound result (source_at (P.source protocol.now) set.now) bounds.now left }
 {
     let mut round = Round {
         used: 0,

@@ -1,13 +1,13 @@
 ghost use Rattle.std.specs.Prelude.{◌≡◌, ◌<◌, ◌/◌, ◌^◌, ◌*◌, ◌+◌, length, unsigned_abs, IfOk, IfSome};
 ghost use Rattle.program_form.specs.Certificate.{dual_seen};
 ghost use Rattle.program_sources.specs.Bounds.{IsInRange};
-ghost use Rattle.program_sources.specs.Recurrence.{response_with};
+ghost use Rattle.program_sources.specs.Recurrence.{response_with, source_at};
 ghost use Rattle.response_fixpoint.specs.Solutions.{IsSolution, GivesSolution, IsEarlier, IsAhead};
 ghost use Rattle.response_fixpoint.specs.Answers.{GivesRun};
 
 use fraction128::Frac;
 use program_form::{Dual, Program};
-use program_sources::ProgramSource;
+use program_sources::{ProgramSource, response};
 use simplex::{SolveStop, solve};
 use sporadic_model::{TaskId, TaskSet};
 use std::alloc::{AllocError, Global};
@@ -103,15 +103,11 @@ pub fn solve_task<P: ProgramSource>(
     units: u64,
     earlier: Option<&Solution>,
 ) -> Result<Solution, SolveStop>
-    requires suits { P.suits protocol.now set.now }
+    requires serves { P.serves protocol.now set.now }
     requires range { IsInRange set.now bounds.now }
     requires task { i.0 < length set.now.tasks }
-    requires earlier { IfSome earlier (λ s. IsEarlier (record {
-      set = set.now;
-      program = P.program_of protocol.now set.now;
-      interfering = P.interfering protocol.now set.now;
-    }) i.0 s.now) }
-    ensures { GivesSolution result (P.program_of protocol.now set.now i.0 bounds.now) units }
+    requires earlier { IfSome earlier (λ s. IsEarlier (source_at (P.source protocol.now) set.now) i.0 s.now) }
+    ensures { GivesSolution result ((P.source protocol.now set.now).program i.0 bounds.now) units }
 {
     let program = protocol.program(alloc, set, i, bounds)?;
     let limits = limits_of(alloc, &program)?;
@@ -121,29 +117,6 @@ pub fn solve_task<P: ProgramSource>(
     };
     let taken = taken_over(solution, limits)?;
     Ok(taken)
-}
-
-/// The response time of task `i` at these bounds where its job is blocked for so long, all in ticks.
-pub fn response<P: ProgramSource>(
-    set: &TaskSet,
-    protocol: &P,
-    i: TaskId,
-    bounds: &[u64],
-    blocking: u64,
-) -> u64
-    requires suits { P.suits protocol.now set.now }
-    requires range { IsInRange set.now bounds.now }
-    requires task { i.0 < length set.now.tasks }
-    requires most { blocking < 2 ^ 63 }
-    ensures { result ≡ response_with (record {
-      set = set.now;
-      program = P.program_of protocol.now set.now;
-      interfering = P.interfering protocol.now set.now;
-    }) bounds.now i.0 blocking }
-{
-    // a set has at most 64 tasks and no cost is large, so the sum fits
-    let _tasks = set.tasks();
-    set.cost(i) + blocking + protocol.interference(set, i, bounds)
 }
 
 /// What task `i`'s program gives in its place of a round, with the units that are left there.
@@ -160,20 +133,12 @@ fn solve_here<P: ProgramSource>(
     earlier: Option<&Solution>,
     ahead: Option<Result<Solution, SolveStop>>,
 ) -> Result<Solution, SolveStop>
-    requires suits { P.suits protocol.now set.now }
+    requires serves { P.serves protocol.now set.now }
     requires range { IsInRange set.now bounds.now }
     requires task { i.0 < length set.now.tasks }
-    requires earlier { IfSome earlier (λ s. IsEarlier (record {
-      set = set.now;
-      program = P.program_of protocol.now set.now;
-      interfering = P.interfering protocol.now set.now;
-    }) i.0 s.now) }
-    requires ahead { IfSome ahead (λ o. IsAhead (record {
-      set = set.now;
-      program = P.program_of protocol.now set.now;
-      interfering = P.interfering protocol.now set.now;
-    }) bounds.now i.0 left o) }
-    ensures { GivesSolution result (P.program_of protocol.now set.now i.0 bounds.now) left }
+    requires earlier { IfSome earlier (λ s. IsEarlier (source_at (P.source protocol.now) set.now) i.0 s.now) }
+    requires ahead { IfSome ahead (λ o. IsAhead (source_at (P.source protocol.now) set.now) bounds.now i.0 left o) }
+    ensures { GivesSolution result ((P.source protocol.now set.now).program i.0 bounds.now) left }
 {
     match ahead {
         Some(Ok(solution)) => Ok(solution),
@@ -197,24 +162,12 @@ pub fn run_task<P: ProgramSource>(
     earlier: Option<&Solution>,
     ahead: Option<Result<Solution, SolveStop>>,
 ) -> Result<TaskRun, SolveStop>
-    requires suits { P.suits protocol.now set.now }
+    requires serves { P.serves protocol.now set.now }
     requires range { IsInRange set.now bounds.now }
     requires task { i.0 < length set.now.tasks }
-    requires earlier { IfSome earlier (λ s. IsEarlier (record {
-      set = set.now;
-      program = P.program_of protocol.now set.now;
-      interfering = P.interfering protocol.now set.now;
-    }) i.0 s.now) }
-    requires ahead { IfSome ahead (λ o. IsAhead (record {
-      set = set.now;
-      program = P.program_of protocol.now set.now;
-      interfering = P.interfering protocol.now set.now;
-    }) bounds.now i.0 left o) }
-    ensures { GivesRun result (record {
-      set = set.now;
-      program = P.program_of protocol.now set.now;
-      interfering = P.interfering protocol.now set.now;
-    }) bounds.now i.0 left }
+    requires earlier { IfSome earlier (λ s. IsEarlier (source_at (P.source protocol.now) set.now) i.0 s.now) }
+    requires ahead { IfSome ahead (λ o. IsAhead (source_at (P.source protocol.now) set.now) bounds.now i.0 left o) }
+    ensures { GivesRun result (source_at (P.source protocol.now) set.now) bounds.now i.0 left }
 {
     let solution = match solve_here(alloc, set, protocol, i, bounds, left, earlier, ahead) {
         Ok(solution) => solution,

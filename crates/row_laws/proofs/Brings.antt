@@ -7,7 +7,6 @@ use Rattle.bounded_sums.specs.Tests.{count_below}
 use Rattle.bounded_sums.proofs.SumLaws.{sum_below-zero}
 use Rattle.bounded_sums.proofs.SlotLaws.{sum_below-by_slot}
 use Rattle.sporadic_model.specs.SetDef.{task_at}
-use Rattle.sporadic_model.specs.Users.{length_of}
 use Rattle.schedule_model.specs.JobDef.{job_of}
 use Rattle.schedule_model.specs.LawfulJobs.{AreLawfulJobs}
 use Rattle.schedule_model.specs.RowDef.{Trace, jobs_of}
@@ -16,14 +15,10 @@ use Rattle.schedule_model.specs.Phase.Phase.{Local, Asking, Finished}
 use Rattle.schedule_model.specs.Activity.{task_of, is_active}
 use Rattle.schedule_laws.specs.Agreement.{RunsActiveBefore}
 use Rattle.fragments.specs.ColumnDef.{ColumnDef}
-use Rattle.fragments.specs.Constraints.{ConstraintDef}
 use Rattle.charge_model.specs.Charges.{Charge, Executes}
-use Rattle.charge_model.specs.Windows.{window_end, EndedBy}
-use Rattle.charge_model.specs.Fractions.{column_in, charged_column}
-
--- How ticks are charged.
-abbrev pub Charges : Type 0
-Charges = Trace → ℕ → ℕ → Option Charge
+use Rattle.charge_model.specs.Windows.{EndedBy}
+use Rattle.charge_model.specs.Fractions.{column_in}
+use Rattle.row_laws.specs.Meeting.{Charges, brought, brings}
 
 -- What is known of a schedule of n rows and of job j in it, whatever the protocol.
 pub record Window (charges : Charges) (w : Trace) (bound : ℕ → ℕ) (n j : ℕ) : Type 0 where
@@ -34,13 +29,6 @@ pub record Window (charges : Charges) (w : Trace) (bound : ℕ → ℕ) (n j : �
   pub periods : (x : ℕ) → x < length w.set.tasks → 0 < (task_at w.set x).period
   pub executes : (t : ℕ) (c : Charge) → t < n → charges w t j ≡ Some c → Executes w t c
   pub own : (t : ℕ) (c : Charge) → t < n → charges w t j ≡ Some c → is_active w t j ≡ true
-
--- What comes from the column, where there is one.
-abbrev pub brought : (ColumnDef → ℕ) → Option ColumnDef → ℕ
-brought f named = option_map_or f named 0
-
-abbrev pub brings : Charges → Trace → (ColumnDef → ℕ) → ℕ → ℕ → ℕ
-brings charges w f j t = brought f (charged_column charges w t j)
 
 -- A request of resource q by the charged job, with the charge's class.
 abbrev pub column_with : Trace → Charge → ℕ → ColumnDef
@@ -79,13 +67,6 @@ blocker charges w j t = option_map_or (λ c. c.job) (charges w t j) 0
 pub blocker_is : (charges : Charges) (w : Trace) (f : ColumnDef → ℕ) (j t : ℕ) → (h : Hit charges w f j t)
     → blocker charges w j t ≡ h.charge.job
 blocker_is charges w f j t h = rw h.is_it refl
-
--- Do the ticks of job j's window meet a row: is what they bring at most s times its limit, however s is shared out over the
--- requests' lengths?
-abbrev pub TicksMeet : Charges → Trace → (ℕ → ℕ) → ℕ → ℕ → ConstraintDef → Type 0
-TicksMeet charges w bound n j k =
-    (s : ℕ) (share : ℕ → ℕ → ℕ) → ((x q : ℕ) → share x q * length_of w.set x q ≤ s)
-    → sum_below (window_end w bound n j) (λ t. brings charges w (λ c. k.coefficient c * share c.task c.resource) j t) ≤ s * k.limit bound
 
 -- A flag times a number is the number at most, and something only where the test passes.
 pub flag_times-at_most : (b : Bool) (n : ℕ) → flag b * n ≤ n

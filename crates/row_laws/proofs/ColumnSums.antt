@@ -14,7 +14,7 @@ use Rattle.fragments.specs.declared.columns.Class.{Class}
 use Rattle.fragments.specs.declared.columns.Class.TheVariants.{Direct, Indirect, Preemption}
 use Rattle.fragments.specs.ColumnDef.{ColumnDef, classes_of, all_columns}
 use Rattle.charge_model.specs.Fractions.{is_same_class, is_same_column, is_in}
-use Rattle.row_laws.proofs.Brings.{brought}
+use Rattle.row_laws.specs.Meeting.{brought}
 use Rattle.row_laws.proofs.Numbers.{sum_below-only}
 
 -- What a filter keeps sums to no more.

@@ -27,11 +27,11 @@ use Rattle.row_laws.proofs.HomeRow.{low_runner}
 use Rattle.row_laws.proofs.Ordered.{LowRunner, low_ceiling}
 
 -- The resource whose request runs is the one that is named.
-runner_resource : (w : Trace) (t k r m q : ℕ) → (a : RunsRequest w t k r) → phase_of w t r ≡ Asking m q → a.resource ≡ q
+pub runner_resource : (w : Trace) (t k r m q : ℕ) → (a : RunsRequest w t k r) → phase_of w t r ≡ Asking m q → a.resource ≡ q
 runner_resource w t k r m q a e = let x : Asking a.number a.resource ≡ Asking m q = sym a.request ∙ e in cc
 
 -- Job j requests another resource of the home at which the request runs.
-beside_there : (w : Trace) (t j r m q : ℕ) → AreLawfulJobs (jobs_of w) → j < length w.jobs → phase_of w t r ≡ Asking m q
+pub beside_there : (w : Trace) (t j r m q : ℕ) → AreLawfulJobs (jobs_of w) → j < length w.jobs → phase_of w t r ≡ Asking m q
     → (b : HomeBlocked w t j r) → ((b.runner.resource ≡ b.resource) → ⊥)
     → requests_beside w.set (task_of w j) q ≡ true
 beside_there w t j r m q lawful listed e b other =
@@ -45,7 +45,7 @@ beside_there w t j r m q lawful listed e b other =
       same = runner_resource w t (home_of w b.resource) r m q b.runner e
 
 -- A lower request runs only where its resource's ceiling is no lower than j.
-lower_only : (w : Trace) (n t j r m q : ℕ) → AreLawfulJobs (jobs_of w) → KeepsBefore dpcp_rule w n → t < n → phase_of w t r ≡ Asking m q
+pub lower_only : (w : Trace) (n t j r m q : ℕ) → AreLawfulJobs (jobs_of w) → KeepsBefore dpcp_rule w n → t < n → phase_of w t r ≡ Asking m q
     → HomeBlocked w t j r
     → (not (nat_lt (task_of w j) (task_of w r)) || nat_le (ceiling_rank w.set q) (task_of w j)) ≡ true
 lower_only w n t j r m q lawful keeps l e b = elim (cases_lt (task_of w j) (task_of w r)) [
@@ -58,7 +58,7 @@ lower_only w n t j r m q lawful keeps l e b = elim (cases_lt (task_of w j) (task
       or_right _ _ (le-leb _ _ here)
 ]
 
-blocks_there : (w : Trace) (n t j r m q : ℕ) (c : Class) → AreLawfulJobs (jobs_of w) → KeepsBefore dpcp_rule w n → t < n
+pub blocks_there : (w : Trace) (n t j r m q : ℕ) (c : Class) → AreLawfulJobs (jobs_of w) → KeepsBefore dpcp_rule w n → t < n
     → j < length w.jobs → phase_of w t r ≡ Asking m q → DpcpReason w t j c r
     → blocks_at_home w.set (task_of w j) (task_of w r) q c ≡ true
 blocks_there w n t j r m q Direct lawful keeps l listed e why =
@@ -72,7 +72,7 @@ blocks_there w n t j r m q Preemption lawful keeps l listed e why =
     eq-eqb (home_of w q) (processor_of w j)
     (ap (home_of w) (sym (runner_resource w t (processor_of w j) r m q why.runner e)) ∙ why.runner.home)
 
-runner_active : (w : Trace) (t j r : ℕ) (c : Class) → DpcpReason w t j c r → is_active w t r ≡ true
+pub runner_active : (w : Trace) (t j r : ℕ) (c : Class) → DpcpReason w t j c r → is_active w t r ≡ true
 runner_active w t j r Direct why = why.blocked.runner.active
 runner_active w t j r Indirect why = why.blocked.runner.active
 runner_active w t j r Preemption why = why.runner.active

@@ -8,7 +8,8 @@ use Rattle.schedule_model.specs.Protocols.{shared_rule, dpcp_rule}
 use Rattle.schedule_model.specs.Keeping.{KeepsBefore}
 use Rattle.charge_model.specs.Charges.{shared_charge, dpcp_charge}
 use Rattle.program_laws.proofs.RowKinds.{EachKind}
-use Rattle.row_laws.proofs.Brings.{Window, TicksMeet}
+use Rattle.row_laws.specs.Meeting.{TicksMeet}
+use Rattle.row_laws.proofs.Brings.{Window}
 use Rattle.row_laws.proofs.JobRows.{request_row_met, time_row_met}
 use Rattle.row_laws.proofs.Intervals.{shared_interval_row_met, dpcp_interval_row_met}
 use Rattle.row_laws.proofs.Fifo.{turn_row_met, queue_row_met}

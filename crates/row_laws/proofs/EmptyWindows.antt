@@ -1,12 +1,12 @@
 -- The fractions of each job's window meet its rows, also where the window has no tick within the rows: these are all 0.
-use Rattle.std.proofs.Common.{◌≡◌, ℕ, ◌*◌, ◌<◌, ◌≤◌, true, false, List, length, get_or, refl, arith, inl, inr, Option, Some, None}
+use Rattle.std.proofs.Common.{◌≡◌, ℕ, ◌*◌, ◌<◌, ◌≤◌, false, List, length, get_or, refl, arith, inl, inr, Option, Some, None}
 use Rattle.std.specs.Prelude.{slice_index}
 use Rattle.std.proofs.Math.Nat.{zero-div}
 use Rattle.std.proofs.lemmas.Bool.{cases_lt}
 use Rattle.bounded_sums.specs.Sums.{sum_below}
 use Rattle.bounded_sums.proofs.SumLaws.{sum_below-zero}
 use Rattle.bounded_sums.proofs.CountLaws.{count_below-none}
-use Rattle.program_form.specs.Program.{columns, entry}
+use Rattle.program_form.specs.Program.{ProgramDef, columns, entry}
 use Rattle.sporadic_model.specs.Users.{length_of}
 use Rattle.sporadic_model.specs.Accepted.{IsAccepted}
 use Rattle.sporadic_model.specs.declared.ids.Protocol.{Protocol}
@@ -14,7 +14,7 @@ use Rattle.sporadic_model.specs.declared.ids.Protocol.TheVariants as protocol
 use Rattle.schedule_model.specs.JobDef.{job_of}
 use Rattle.schedule_model.specs.LawfulJobs.{AreLawfulJobs}
 use Rattle.schedule_model.specs.RowDef.{Trace, jobs_of}
-use Rattle.schedule_model.specs.Activity.{task_of, is_active}
+use Rattle.schedule_model.specs.Activity.{task_of}
 use Rattle.schedule_model.specs.Ranks.{mpcp, fmlp_plus}
 use Rattle.schedule_model.specs.Protocols.{shared_rule, dpcp_rule}
 use Rattle.schedule_model.specs.Keeping.{KeepsBefore}
@@ -23,19 +23,16 @@ use Rattle.schedule_laws.proofs.ActiveJobs.{Active, active_is}
 use Rattle.schedule_laws.proofs.KindsOfTicks.{Blocked, blocked_is}
 use Rattle.fragments.specs.ColumnDef.{ColumnDef}
 use Rattle.fragments.specs.Columns.{columns_of}
-use Rattle.program_laws.specs.Programs.{program_of}
+use Rattle.fragments.specs.Constraints.{ConstraintDef}
+use Rattle.program_laws.specs.Programs.{rows_of, program_with}
 use Rattle.charge_model.specs.Charges.{Charge, shared_charge, dpcp_charge}
 use Rattle.charge_model.specs.Windows.{bound_end, window_end, EndedBy, EndedWithin}
 use Rattle.charge_model.specs.Fractions.{charged_column, is_in, ticks_in, product_of_lengths, fraction_of, fractions_of, no_column}
 use Rattle.charge_laws.proofs.SharedCharging.{shared_charge_blocked}
 use Rattle.charge_laws.proofs.DpcpCharging.{dpcp_charge_blocked}
-use Rattle.row_laws.proofs.Brings.{Charges}
-use Rattle.row_laws.proofs.Fractions.{product_positive}
-use Rattle.row_laws.proofs.Joined.{ArePoint, columns_have_lengths, mpcp_point, fmlp_point, dpcp_point}
-
--- Ticks are charged for job j only where it is active.
-abbrev pub ChargesActive : Charges → Trace → ℕ → Type 0
-ChargesActive charges w j = (t : ℕ) (charge : Charge) → charges w t j ≡ Some charge → is_active w t j ≡ true
+use Rattle.row_laws.specs.Meeting.{Charges, ChargesActive}
+use Rattle.row_laws.proofs.Fractions.{HaveLengths, product_positive}
+use Rattle.row_laws.proofs.Joined.{ArePointOf, ArePoint, columns_have_lengths, mpcp_point, fmlp_point, dpcp_point}
 
 -- Where its window has no tick from its release on, a job is charged nothing.
 empty_fraction : (charges : Charges) (w : Trace) (bound : ℕ → ℕ) (n j : ℕ) (cs : List ColumnDef) (c : ColumnDef)
@@ -54,40 +51,47 @@ empty_fraction charges w bound n j cs c only empty =
             let active : Active w t j = active_is w t j (only t charge e) in
             absurd (omega (arith, active.released, l, empty))
 
-empty_point : (charges : Charges) (p : Protocol) (w : Trace) (bounds : List ℕ) (n j : ℕ) → IsAccepted w.set
-    → ChargesActive charges w j → window_end w (slice_index bounds) n j ≤ (job_of w.jobs j).release
-    → ArePoint charges p w bounds n j
-empty_point charges p w bounds n j accepted only empty = record {
-  positive = product_positive w.set cs (columns_have_lengths p w.set (task_of w j) accepted);
+empty_point : (charges : Charges) (cs : List ColumnDef) (rows : List ConstraintDef) (w : Trace) (bounds : List ℕ) (n j : ℕ)
+    → HaveLengths w.set cs → ChargesActive charges w j → window_end w (slice_index bounds) n j ≤ (job_of w.jobs j).release
+    → ArePointOf charges cs rows w bounds n j
+empty_point charges cs rows w bounds n j have only empty = record {
+  positive = product_positive w.set cs have;
   kept = λ r l.
-      let none : sum_below (columns (program_of p w.set (task_of w j) bounds))
-      (λ c. entry (program_of p w.set (task_of w j) bounds) r c * fractions_of charges w (slice_index bounds) n j cs c) ≡ 0 =
-      sum_below-zero (columns (program_of p w.set (task_of w j) bounds))
-      (λ c. entry (program_of p w.set (task_of w j) bounds) r c * fractions_of charges w (slice_index bounds) n j cs c)
-      (λ c b. let no : fractions_of charges w (slice_index bounds) n j cs c ≡ 0 =
+      let none : sum_below (columns program) (λ c. entry program r c * fractions_of charges w (slice_index bounds) n j cs c) ≡ 0 =
+      sum_below-zero (columns program) (λ c. entry program r c * fractions_of charges w (slice_index bounds) n j cs c) (λ c b.
+      let no : fractions_of charges w (slice_index bounds) n j cs c ≡ 0 =
       empty_fraction charges w (slice_index bounds) n j cs (get_or cs c no_column) only empty in rw no (omega arith)) in
       omega (arith, none);
 } where
-  cs : List ColumnDef
-  cs = columns_of p w.set (task_of w j)
+  program : ProgramDef
+  program = program_with w.set cs rows bounds
 
 -- Where the window has a tick from the release on, the release is a tick within the rows before the bound's end, so each job whose
 -- bound has passed by then has ended.
+pub point_within : (charges : Charges) (cs : List ColumnDef) (rows : List ConstraintDef) (w : Trace) (bounds : List ℕ) (n j : ℕ)
+    → HaveLengths w.set cs → ChargesActive charges w j
+    → EndedWithin w (slice_index bounds) (bound_end w (slice_index bounds) j) n
+    → (EndedBy w (slice_index bounds) (job_of w.jobs j).release → ArePointOf charges cs rows w bounds n j)
+    → ArePointOf charges cs rows w bounds n j
+point_within charges cs rows w bounds n j have only ended point =
+    elim (cases_lt (job_of w.jobs j).release (window_end w (slice_index bounds) n j)) [
+      | inl some ↦ point (λ l listed passed. ended l listed (omega (arith, passed, some)) (omega (arith, passed, some)))
+      | inr empty ↦ empty_point charges cs rows w bounds n j have only empty
+    ]
+
 point_anyway : (charges : Charges) (p : Protocol) (w : Trace) (bounds : List ℕ) (n j : ℕ) → IsAccepted w.set
     → ChargesActive charges w j → EndedWithin w (slice_index bounds) (bound_end w (slice_index bounds) j) n
     → (EndedBy w (slice_index bounds) (job_of w.jobs j).release → ArePoint charges p w bounds n j)
     → ArePoint charges p w bounds n j
 point_anyway charges p w bounds n j accepted only ended point =
-    elim (cases_lt (job_of w.jobs j).release (window_end w (slice_index bounds) n j)) [
-      | inl some ↦ point (λ l listed passed. ended l listed (omega (arith, passed, some)) (omega (arith, passed, some)))
-      | inr empty ↦ empty_point charges p w bounds n j accepted only empty
-    ]
+    point_within charges (columns_of p w.set (task_of w j)) (rows_of p w.set (task_of w j)) w bounds n j
+    (columns_have_lengths p w.set (task_of w j) accepted) only ended point
 
-shared_active : (w : Trace) (j : ℕ) → ChargesActive shared_charge w j
+pub shared_active : (w : Trace) (j : ℕ) → ChargesActive shared_charge w j
 shared_active w j t charge e = let b : Blocked is_shared_interference w t j =
     blocked_is is_shared_interference w t j (shared_charge_blocked w t j charge e) in b.active
 
-dpcp_active : (w : Trace) (j : ℕ) → ChargesActive dpcp_charge w j
+pub dpcp_active : (w : Trace) (j : ℕ) → ChargesActive dpcp_charge w j
 dpcp_active w j t charge e = let b : Blocked is_dpcp_interference w t j =
     blocked_is is_dpcp_interference w t j (dpcp_charge_blocked w t j charge e) in b.active
 

@@ -17,13 +17,13 @@ use Rattle.sporadic_model.specs.declared.ids.Protocol.{Protocol}
 use Rattle.schedule_model.specs.RowDef.{Trace}
 use Rattle.schedule_model.specs.Activity.{task_of}
 use Rattle.fragments.specs.ColumnDef.{ColumnDef}
-use Rattle.fragments.specs.Columns.{is_column, columns_of}
+use Rattle.fragments.specs.Columns.{is_column, columns_where, columns_of}
 use Rattle.fragments.specs.Constraints.{ConstraintDef, holds_some, rows_there}
-use Rattle.program_laws.specs.Programs.{cost_of, rows_of, program_of}
+use Rattle.program_laws.specs.Programs.{cost_of, rows_of, program_with, program_of}
 use Rattle.program_laws.proofs.RowKinds.{EachKind, each_row}
 use Rattle.charge_model.specs.Windows.{window_end}
 use Rattle.charge_model.specs.Fractions.{charged_column, is_in, ticks_in, product_of_lengths, fractions_of, no_column}
-use Rattle.row_laws.proofs.Brings.{Charges, brings, TicksMeet}
+use Rattle.row_laws.specs.Meeting.{Charges, brings, TicksMeet}
 use Rattle.row_laws.proofs.ColumnSums.{columns_bring, columns_hold}
 
 -- Has each of these columns requests of some length?
@@ -96,9 +96,9 @@ whole_share set s ticks c m some e =
       whole : (l : ℕ) → 0 < l → s ≡ l * m → l * (s / l) ≡ s
       whole l b f = ap (λ z. l * z) (quotient l s m b f) ∙ sym f
 
--- What is known of the columns, the scale and the ticks of a job's program.
-abbrev scale_of : Protocol → SetDef → ℕ → ℕ
-scale_of p set i = product_of_lengths set (columns_of p set i)
+-- The scale of the columns that pass a test.
+abbrev scale_of : (ColumnDef → Bool) → SetDef → ℕ
+scale_of test set = product_of_lengths set (columns_where test set)
 
 whole_in : (set : SetDef) (cs : List ColumnDef) (k ticks : ℕ) → HaveLengths set cs → k < length cs
     → WholeShare set (product_of_lengths set cs) ticks (get_or cs k no_column)
@@ -113,15 +113,14 @@ no_row : ConstraintDef
 no_row = record { coefficient = λ c. 0; limit = λ b. 0 }
 
 -- The fractions' sum in a row, as the columns' ticks.
-row_ticks : (charges : Charges) (p : Protocol) (w : Trace) (bound : ℕ → ℕ) (n j : ℕ) (k : ConstraintDef)
-    → HaveLengths w.set (columns_of p w.set (task_of w j))
-    → sum_below (length (columns_of p w.set (task_of w j)))
-    (λ c. k.coefficient (get_or (columns_of p w.set (task_of w j)) c no_column) * fractions_of charges w bound n j
-    (columns_of p w.set (task_of w j)) c)
+row_ticks : (charges : Charges) (test : ColumnDef → Bool) (w : Trace) (bound : ℕ → ℕ) (n j : ℕ) (k : ConstraintDef)
+    → HaveLengths w.set (columns_where test w.set)
+    → sum_below (length (columns_where test w.set))
+    (λ c. k.coefficient (get_or (columns_where test w.set) c no_column) * fractions_of charges w bound n j (columns_where test w.set) c)
     ≤ sum_below (window_end w bound n j)
-    (λ t. brings charges w (λ c. k.coefficient c * share_of w.set (scale_of p w.set (task_of w j)) c.task c.resource) j t)
+    (λ t. brings charges w (λ c. k.coefficient c * share_of w.set (scale_of test w.set) c.task c.resource) j t)
 unfolding ticks_in
-row_ticks charges p w bound n j k have =
+row_ticks charges test w bound n j k have =
     let parts : sum_below (length cs) (λ c. k.coefficient (get_or cs c no_column) * fractions_of charges w bound n j cs c)
     ≡ sum_below (length cs) (λ c. part (get_or cs c no_column)) =
     sum_below-agree (length cs) (λ c. k.coefficient (get_or cs c no_column) * fractions_of charges w bound n j cs c)
@@ -131,13 +130,13 @@ row_ticks charges p w bound n j k have =
       parts,
       sum_below-list_by part no_column cs,
       columns_bring (λ c. k.coefficient c * share c) (λ t. charged_column charges w t j) (window_end w bound n j) (length w.set.tasks)
-          (length w.set.resources) (is_column p w.set (task_of w j)),
+          (length w.set.resources) test,
     ) where
       cs : List ColumnDef
-      cs = columns_of p w.set (task_of w j)
+      cs = columns_where test w.set
 
       share : ColumnDef → ℕ
-      share = λ c. share_of w.set (scale_of p w.set (task_of w j)) c.task c.resource
+      share = λ c. share_of w.set (scale_of test w.set) c.task c.resource
 
       ticks : ColumnDef → ℕ
       ticks = λ c. count_below (window_end w bound n j) (λ t. is_in c (charged_column charges w t j))
@@ -149,64 +148,72 @@ row_ticks charges p w bound n j k have =
           → k.coefficient (get_or cs c no_column) * fractions_of charges w bound n j cs c ≡ part (get_or cs c no_column)
       of_column c l =
           let d : ColumnDef = get_or cs c no_column in
-          let a : WholeShare w.set (scale_of p w.set (task_of w j)) (ticks d) d = whole_in w.set cs c (ticks d) have l in
+          let a : WholeShare w.set (scale_of test w.set) (ticks d) d = whole_in w.set cs c (ticks d) have l in
           ap (λ z. k.coefficient d * z) a.fraction ∙ turned (k.coefficient d) (ticks d) (share d)
 
--- So where the ticks meet each kind of row, the fractions are a scaled point.
-pub fractions_are_point : (charges : Charges) (p : Protocol) (w : Trace) (bounds : List ℕ) (n j : ℕ)
-    → HaveLengths w.set (columns_of p w.set (task_of w j))
-    → EachKind (TicksMeet charges w (slice_index bounds) n j) p w.set (task_of w j)
-    → IsScaledPoint (program_of p w.set (task_of w j) bounds) (product_of_lengths w.set (columns_of p w.set (task_of w j)))
-    (fractions_of charges w (slice_index bounds) n j (columns_of p w.set (task_of w j)))
-fractions_are_point charges p w bounds n j have each = record { positive = product_positive w.set cs have; kept = kept } where
-  i : ℕ
-  i = task_of w j
-
+-- So where the ticks meet each row of a list, the fractions are a scaled point of the program over these rows and the columns that
+-- pass a test.
+pub rows_are_point : (charges : Charges) (test : ColumnDef → Bool) (rows : List ConstraintDef) (w : Trace) (bounds : List ℕ) (n j : ℕ)
+    → HaveLengths w.set (columns_where test w.set) → All (TicksMeet charges w (slice_index bounds) n j) rows
+    → IsScaledPoint (program_with w.set (columns_where test w.set) rows bounds) (product_of_lengths w.set (columns_where test w.set))
+    (fractions_of charges w (slice_index bounds) n j (columns_where test w.set))
+rows_are_point charges test rows w bounds n j have each = record { positive = product_positive w.set cs have; kept = kept } where
   cs : List ColumnDef
-  cs = columns_of p w.set i
+  cs = columns_where test w.set
+
+  program : ProgramDef
+  program = program_with w.set cs rows bounds
 
   there : List ConstraintDef
-  there = rows_there cs (rows_of p w.set i)
+  there = rows_there cs rows
 
   met : All (TicksMeet charges w (slice_index bounds) n j) there
-  met = All-filter (holds_some cs) (TicksMeet charges w (slice_index bounds) n j) (rows_of p w.set i)
-      (each_row (TicksMeet charges w (slice_index bounds) n j) p w.set i each)
+  met = All-filter (holds_some cs) (TicksMeet charges w (slice_index bounds) n j) rows each
 
   term : ℕ → ℕ → ℕ
-  term r c = entry (program_of p w.set i bounds) r c * fractions_of charges w (slice_index bounds) n j cs c
+  term r c = entry program r c * fractions_of charges w (slice_index bounds) n j cs c
 
   coefficient : (r c : ℕ) → r < length there → c < length cs
-      → entry (program_of p w.set i bounds) r c ≡ (get_or there r no_row).coefficient (get_or cs c no_column)
+      → entry program r c ≡ (get_or there r no_row).coefficient (get_or cs c no_column)
   coefficient r c here b =
       ap (λ (row : List ℕ). slice_index row c) (get_or-map (λ (k : ConstraintDef). map k.coefficient cs) there r no_row [] here)
       ∙ get_or-map (get_or there r no_row).coefficient cs c no_column 0 b
 
-  kept : (r : ℕ) → r < height (program_of p w.set i bounds)
-      → sum_below (columns (program_of p w.set i bounds))
-      (λ c. entry (program_of p w.set i bounds) r c * fractions_of charges w (slice_index bounds) n j cs c)
-      ≤ product_of_lengths w.set cs * limit (program_of p w.set i bounds) r
+  kept : (r : ℕ) → r < height program
+      → sum_below (columns program) (λ c. entry program r c * fractions_of charges w (slice_index bounds) n j cs c)
+      ≤ product_of_lengths w.set cs * limit program r
   kept r l =
       let here : r < length there = rw (← length-map there (λ (k : ConstraintDef). map k.coefficient cs)) l in
       let k : ConstraintDef = get_or there r no_row in
       let meets : TicksMeet charges w (slice_index bounds) n j k =
       All-get_or (TicksMeet charges w (slice_index bounds) n j) there r no_row here met in
       let ticks : sum_below (window_end w (slice_index bounds) n j)
-      (λ t. brings charges w (λ c. k.coefficient c * share_of w.set (scale_of p w.set i) c.task c.resource) j t)
-      ≤ scale_of p w.set i * k.limit (slice_index bounds) =
-      meets (scale_of p w.set i) (share_of w.set (scale_of p w.set i))
-      (λ x q. div-mul-le_self (scale_of p w.set i) (length_of w.set x q)) in
-      let number : sum_below (columns (program_of p w.set i bounds)) (term r) ≡ sum_below (length cs) (term r) =
+      (λ t. brings charges w (λ c. k.coefficient c * share_of w.set (scale_of test w.set) c.task c.resource) j t)
+      ≤ scale_of test w.set * k.limit (slice_index bounds) =
+      meets (scale_of test w.set) (share_of w.set (scale_of test w.set))
+      (λ x q. div-mul-le_self (scale_of test w.set) (length_of w.set x q)) in
+      let number : sum_below (columns program) (term r) ≡ sum_below (length cs) (term r) =
       ap (λ z. sum_below z (term r)) (length-map cs (cost_of w.set)) in
       let same : sum_below (length cs) (term r)
       ≡ sum_below (length cs) (λ c. k.coefficient (get_or cs c no_column) * fractions_of charges w (slice_index bounds) n j cs c) =
       sum_below-agree (length cs) (term r)
       (λ c. k.coefficient (get_or cs c no_column) * fractions_of charges w (slice_index bounds) n j cs c)
       (λ c b. ap (λ z. z * fractions_of charges w (slice_index bounds) n j cs c) (coefficient r c here b)) in
-      let limits : limit (program_of p w.set i bounds) r ≡ k.limit (slice_index bounds) =
+      let limits : limit program r ≡ k.limit (slice_index bounds) =
       get_or-map (λ (row : ConstraintDef). row.limit (slice_index bounds)) there r no_row 0 here in
-      let whole : scale_of p w.set i * limit (program_of p w.set i bounds) r ≡ scale_of p w.set i * k.limit (slice_index bounds) =
-      ap (λ z. scale_of p w.set i * z) limits in
-      omega (arith, number, same, row_ticks charges p w (slice_index bounds) n j k have, ticks, whole)
+      let whole : scale_of test w.set * limit program r ≡ scale_of test w.set * k.limit (slice_index bounds) =
+      ap (λ z. scale_of test w.set * z) limits in
+      omega (arith, number, same, row_ticks charges test w (slice_index bounds) n j k have, ticks, whole)
+
+-- So it is for a protocol's programs, where the ticks meet each kind of its rows.
+pub fractions_are_point : (charges : Charges) (p : Protocol) (w : Trace) (bounds : List ℕ) (n j : ℕ)
+    → HaveLengths w.set (columns_of p w.set (task_of w j))
+    → EachKind (TicksMeet charges w (slice_index bounds) n j) p w.set (task_of w j)
+    → IsScaledPoint (program_of p w.set (task_of w j) bounds) (product_of_lengths w.set (columns_of p w.set (task_of w j)))
+    (fractions_of charges w (slice_index bounds) n j (columns_of p w.set (task_of w j)))
+fractions_are_point charges p w bounds n j have each =
+    rows_are_point charges (is_column p w.set (task_of w j)) (rows_of p w.set (task_of w j)) w bounds n j have
+    (each_row (TicksMeet charges w (slice_index bounds) n j) p w.set (task_of w j) each)
 
 -- The fractions are worth at least the blocked ticks, where each of these lies in one of the columns, and the program's columns
 -- are these.
@@ -250,14 +257,3 @@ columns_worth charges w bound n j program cs counts costs have placed =
           ap (λ z. z * fractions_of charges w bound n j cs c) cost_is
           ∙ ap (λ z. length_of w.set d.task d.resource * z) a.fraction
           ∙ turned (length_of w.set d.task d.resource) (ticks d) (share_of w.set scale d.task d.resource) ∙ ap (λ z. ticks d * z) a.whole
-
--- So it is for the written programs.
-pub fractions_worth : (charges : Charges) (p : Protocol) (w : Trace) (bounds : List ℕ) (n j : ℕ) (counts : ℕ → Bool)
-    → HaveLengths w.set (columns_of p w.set (task_of w j))
-    → ((t : ℕ) → t < window_end w (slice_index bounds) n j → counts t ≡ true
-    → (d : ColumnDef) × (charged_column charges w t j ≡ Some d) × Contains (columns_of p w.set (task_of w j)) d)
-    → count_below (window_end w (slice_index bounds) n j) counts * product_of_lengths w.set (columns_of p w.set (task_of w j))
-    ≤ worth (program_of p w.set (task_of w j) bounds) (fractions_of charges w (slice_index bounds) n j (columns_of p w.set (task_of w j)))
-fractions_worth charges p w bounds n j counts have placed =
-    columns_worth charges w (slice_index bounds) n j (program_of p w.set (task_of w j) bounds) (columns_of p w.set (task_of w j)) counts
-    refl have placed

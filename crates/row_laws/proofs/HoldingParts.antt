@@ -23,7 +23,8 @@ use Rattle.schedule_laws.proofs.OwnRequests.{own_requests}
 use Rattle.fragments.specs.ColumnDef.{is_indirect}
 use Rattle.charge_model.specs.Charges.{shared_charge}
 use Rattle.charge_model.specs.Windows.{window_end}
-use Rattle.row_laws.proofs.Brings.{Window, Hit, hit, brings, flag_times-at_most, only_if-parts}
+use Rattle.row_laws.specs.Meeting.{brings}
+use Rattle.row_laws.proofs.Brings.{Window, Hit, hit, flag_times-at_most, only_if-parts}
 use Rattle.row_laws.proofs.SlotRow.{OneRequest, Shares, parts_paid}
 use Rattle.row_laws.proofs.Numbers.{number_of}
 use Rattle.row_laws.proofs.LowerHolders.{Asks, asks_between, held_since}

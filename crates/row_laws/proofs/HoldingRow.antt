@@ -22,7 +22,8 @@ use Rattle.fragments.specs.Windows.{jobs_in, requests_in}
 use Rattle.indirect_constraints.specs.Rows.{is_beside, higher_holdings, lower_holdings, holding_row}
 use Rattle.charge_model.specs.Charges.{shared_charge}
 use Rattle.charge_model.specs.Windows.{window_end}
-use Rattle.row_laws.proofs.Brings.{Window, TicksMeet, only_if-parts, sum_below-passing}
+use Rattle.row_laws.specs.Meeting.{TicksMeet}
+use Rattle.row_laws.proofs.Brings.{Window, only_if-parts, sum_below-passing}
 use Rattle.row_laws.proofs.JobRows.{product_turned, is_near, Near, near_is, active_near, near_jobs}
 use Rattle.row_laws.proofs.Holdings.{own_resource, first_holder}
 use Rattle.row_laws.proofs.HoldingParts.{Holding, amount, for_resource, is_low, low_part, high_part, task_part}

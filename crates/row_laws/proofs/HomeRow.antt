@@ -25,7 +25,8 @@ use Rattle.indirect_constraints.specs.Rows.{home_row}
 use Rattle.charge_model.specs.Charges.{dpcp_charge}
 use Rattle.charge_model.specs.Windows.{window_end}
 use Rattle.charge_laws.proofs.DpcpCharging.{HomeBlocked, DpcpReason, dpcp_reason, request_at_from}
-use Rattle.row_laws.proofs.Brings.{Window, Hit, TicksMeet, flag_times-at_most, flag_times-passes}
+use Rattle.row_laws.specs.Meeting.{TicksMeet}
+use Rattle.row_laws.proofs.Brings.{Window, Hit, flag_times-at_most, flag_times-passes}
 use Rattle.row_laws.proofs.JobRows.{HitJob, hit_job}
 use Rattle.row_laws.proofs.SlotRow.{OneRequest}
 use Rattle.row_laws.proofs.Requests.{one_request}
@@ -35,7 +36,7 @@ use Rattle.row_laws.proofs.Ordered.{HoldsAt, requester_facts, holder_facts, Gran
 use Rattle.row_laws.proofs.Ordered.{low_ceiling, ordered, kept_from}
 
 -- Where job j is in a request at a processor, no lower job is granted one there.
-no_low_grant : (w : Trace) (t k q y j : ℕ) → AreLawfulJobs (jobs_of w) → Granted w t k y → is_requester w t q j ≡ true → home_of w q ≡ k
+pub no_low_grant : (w : Trace) (t k q y j : ℕ) → AreLawfulJobs (jobs_of w) → Granted w t k y → is_requester w t q j ≡ true → home_of w q ≡ k
     → task_of w j < task_of w y → ⊥
 unfolding waits_at
 no_low_grant w t k q y j lawful granted asks home lower = elim (cases_Bool (is_job j (held_before w t q))) [
@@ -51,7 +52,7 @@ no_low_grant w t k q y j lawful granted asks home lower = elim (cases_Bool (is_j
       and_from _ _ (rw (← home) (request_at_from w t j a.number q a.active a.request)) (not_from_false _ off)
 
 -- A lower job that holds a resource there at v held it since u, where j was in its request since then.
-held_since : (w : Trace) (n u v q r y j : ℕ) → AreLawfulJobs (jobs_of w) → KeepsBefore dpcp_rule w n → v < n → Asks w u v q j
+pub held_since : (w : Trace) (n u v q r y j : ℕ) → AreLawfulJobs (jobs_of w) → KeepsBefore dpcp_rule w n → v < n → Asks w u v q j
     → home_of w q ≡ home_of w r → task_of w j < task_of w y → holder_in (w.row v) r ≡ Some y
     → (t : ℕ) → u ≤ t → t ≤ v → holder_in (w.row t) r ≡ Some y
 held_since w n u zero q r y j lawful keeps l asks home lower holds t a b = let e : t ≡ 0 = omega arith in rw e holds
@@ -68,7 +69,7 @@ held_since w n u (suc v) q r y j lawful keeps l asks home lower holds t a b = el
 ]
 
 -- Why a tick that isn't charged by preemption is.
-home_blocked : (w : Trace) (t j r : ℕ) (c : Class) → is_preemption c ≡ false → DpcpReason w t j c r → HomeBlocked w t j r
+pub home_blocked : (w : Trace) (t j r : ℕ) (c : Class) → is_preemption c ≡ false → DpcpReason w t j c r → HomeBlocked w t j r
 home_blocked w t j r Direct e why = why.blocked
 home_blocked w t j r Indirect e why = why.blocked
 home_blocked w t j r Preemption e why = absurd (cc)
@@ -88,11 +89,11 @@ low_runner w t j r b lower =
     }
 
 -- Two lower jobs that run there while j is in one request are one, which holds one request throughout.
-record OneHolder (w : Trace) (u v r i k : ℕ) : Type 0 where
-  job : i ≡ k
-  holds : (t : ℕ) → u ≤ t → t ≤ v → holder_in (w.row t) r ≡ Some k
+pub record OneHolder (w : Trace) (u v r i k : ℕ) : Type 0 where
+  pub job : i ≡ k
+  pub holds : (t : ℕ) → u ≤ t → t ≤ v → holder_in (w.row t) r ≡ Some k
 
-one_holder : (w : Trace) (n u v q j i k : ℕ) → AreLawfulJobs (jobs_of w) → KeepsBefore dpcp_rule w n → v < n → Asks w u v q j
+pub one_holder : (w : Trace) (n u v q j i k : ℕ) → AreLawfulJobs (jobs_of w) → KeepsBefore dpcp_rule w n → v < n → Asks w u v q j
     → LowRunner w u (home_of w q) j i → (late : LowRunner w v (home_of w q) j k)
     → OneHolder w u v late.runner.resource i k
 one_holder w n u v q j i k lawful keeps l asks early late = record { job = job; holds = since } where
@@ -126,10 +127,10 @@ one_holder w n u v q j i k lawful keeps l asks early late = record { job = job; 
   ]
 
 -- A charge whose column is of a lower task, at home k, and not by preemption.
-record HomeColumn (w : Trace) (i k y r : ℕ) (c : Class) : Type 0 where
-  class : is_preemption c ≡ false
-  lower : i < task_of w y
-  home : home_of w r ≡ k
+pub record HomeColumn (w : Trace) (i k y r : ℕ) (c : Class) : Type 0 where
+  pub class : is_preemption c ≡ false
+  pub lower : i < task_of w y
+  pub home : home_of w r ≡ k
 
 -- The row of homes.
 pub home_row_met : (w : Trace) (bound : ℕ → ℕ) (n j k : ℕ) → Window dpcp_charge w bound n j → KeepsBefore dpcp_rule w n

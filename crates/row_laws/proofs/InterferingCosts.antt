@@ -1,11 +1,7 @@
--- The interfering cost of each protocol: from 1 to the task's cost, and no job interferes at more ticks than that.
-use Rattle.std.proofs.Common.{ℕ, ◌<◌, ◌≤◌, length}
+-- The interfering cost of each protocol: no job interferes at more ticks than that.
+use Rattle.std.proofs.Common.{ℕ, ◌≤◌}
 use Rattle.bounded_sums.specs.Tests.{count_below}
-use Rattle.sporadic_model.specs.SetDef.{SetDef, task_at}
-use Rattle.sporadic_model.specs.Accepted.{IsAccepted}
-use Rattle.sporadic_model.specs.declared.ids.Protocol.{Protocol}
 use Rattle.sporadic_model.specs.declared.ids.Protocol.TheVariants as protocol
-use Rattle.sporadic_model.proofs.Laws.{numbers_of_accepted}
 use Rattle.schedule_model.specs.JobDef.{job_of}
 use Rattle.schedule_model.specs.LawfulJobs.{IsLawfulJob}
 use Rattle.schedule_model.specs.RowDef.{Trace}
@@ -16,16 +12,8 @@ use Rattle.schedule_model.specs.Keeping.{KeepsBefore}
 use Rattle.schedule_model.specs.BlockedTicks.{is_shared_interference, is_dpcp_interference}
 use Rattle.schedule_laws.proofs.SharedLaws.{shared_runs_active}
 use Rattle.program_laws.specs.Programs.{interfering_cost}
-use Rattle.program_laws.proofs.WrittenPrograms as written
 use Rattle.charge_model.specs.Interferers.{interferes_with_some}
 use Rattle.charge_laws.proofs.Interference.{interferes_within_cost, interferes_within_local}
-
-pub interfering_least : (p : Protocol) (set : SetDef) (h : ℕ) → IsAccepted set → h < length set.tasks → 1 ≤ interfering_cost p set h
-interfering_least p set h accepted l = written.interfering_least p set h (numbers_of_accepted set h accepted l)
-
-pub interfering_most : (p : Protocol) (set : SetDef) (h : ℕ) → IsAccepted set → h < length set.tasks
-    → interfering_cost p set h ≤ (task_at set h).cost
-interfering_most p set h accepted l = written.interfering_most p set h (numbers_of_accepted set h accepted l)
 
 pub mpcp_interferes_within : (w : Trace) (n y : ℕ) → KeepsBefore (shared_rule mpcp) w n → IsLawfulJob w.set (job_of w.jobs y)
     → count_below n (λ t. interferes_with_some is_shared_interference w t y) ≤ interfering_cost protocol.Mpcp w.set (task_of w y)

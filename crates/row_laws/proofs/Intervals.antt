@@ -21,7 +21,7 @@ use Rattle.schedule_model.specs.SharedRules.{Ranks}
 use Rattle.schedule_model.specs.DpcpRules as distributed
 use Rattle.schedule_model.specs.DpcpRules.{has_requests}
 use Rattle.schedule_model.specs.Protocols.{shared_rule, dpcp_rule}
-use Rattle.schedule_model.specs.Keeping.{KeepsRow, KeepsBefore}
+use Rattle.schedule_model.specs.Keeping.{KeepsBefore}
 use Rattle.schedule_laws.specs.Counting.{requests_in, requests_begun}
 use Rattle.schedule_laws.proofs.Ticks.{finished_true, finished_stays}
 use Rattle.schedule_laws.proofs.ActiveJobs.{Active, active_is, active_listed, active_stays, active_local_from, active_local_is, ActiveLocal}
@@ -38,8 +38,10 @@ use Rattle.preempt_constraints.specs.Rows.{interval_row}
 use Rattle.charge_model.specs.Charges.{shared_charge, dpcp_charge}
 use Rattle.charge_model.specs.Windows.{window_end}
 use Rattle.charge_laws.proofs.SharedCharging.{PreemptedBy, SharedReason, shared_reason, runner_holds}
-use Rattle.charge_laws.proofs.DpcpCharging.{LocalBlocked, RunsRequest, DpcpReason, dpcp_reason, requests_run}
-use Rattle.row_laws.proofs.Brings.{Charges, Window, brings, Hit, TicksMeet, flag_times-at_most, flag_times-passes}
+use Rattle.charge_laws.proofs.DpcpCharging.{LocalBlocked, RunsRequest, RunsAtHomes, RunsAtHomesBefore, DpcpReason}
+use Rattle.charge_laws.proofs.DpcpCharging.{dpcp_at_homes, home_reason, requests_run_home}
+use Rattle.row_laws.specs.Meeting.{Charges, brings, TicksMeet}
+use Rattle.row_laws.proofs.Brings.{Window, Hit, flag_times-at_most, flag_times-passes}
 use Rattle.row_laws.proofs.SlotRow.{OneRequest, slot_row}
 use Rattle.row_laws.proofs.Requests.{preemption_is, one_request}
 
@@ -53,7 +55,7 @@ lower_local_is w i x h = let parts : _ × (have_one_processor w.set x i ≡ true
     record { lower = ltb-true _ _ parts.0; processor = eqb-true _ _ parts.1 }
 
 -- A job is active between two ticks at which it is, and isn't finished.
-unfinished_between : (w : Trace) (u t v j : ℕ) → is_active w u j ≡ true → is_active w v j ≡ true → u ≤ t → t ≤ v
+pub unfinished_between : (w : Trace) (u t v j : ℕ) → is_active w u j ≡ true → is_active w v j ≡ true → u ≤ t → t ≤ v
     → (is_finished (phase_of w t j) ≡ false) × (is_active w t j ≡ true)
 unfinished_between w u t v j early late a b = elim (cases_Bool (is_finished (phase_of w t j))) [
   | inr more ↦ (more, active_stays w u t j early a more)
@@ -65,7 +67,7 @@ unfinished_between w u t v j early late a b = elim (cases_Bool (is_finished (pha
 ]
 
 -- As many requests begun at t as at u, where as many are begun at v.
-begun_between : (w : Trace) (u t v j : ℕ) → u ≤ t → t ≤ v → requests_begun w u j ≡ requests_begun w v j
+pub begun_between : (w : Trace) (u t v j : ℕ) → u ≤ t → t ≤ v → requests_begun w u j ≡ requests_begun w v j
     → requests_begun w u j ≡ requests_begun w t j
 begun_between w u t v j a b same = omega (arith, requests_begun_up w u t j a, requests_begun_up w t v j b)
 
@@ -95,7 +97,7 @@ ready_between o w n u t v j keeps a b l early late same = go (phase_of w t j) re
       ]
 
 -- Under shared memory a job of a lower local task runs no Local tick while job j is ready.
-no_lower_local : (o : Ranks) (w : Trace) (t j y : ℕ) → shared.KeepsRun w t → shared.KeepsPriority o w t → is_ready w t j ≡ true
+pub no_lower_local : (o : Ranks) (w : Trace) (t j y : ℕ) → shared.KeepsRun w t → shared.KeepsPriority o w t → is_ready w t j ≡ true
     → task_of w j < task_of w y → processor_of w y ≡ processor_of w j
     → phase_of w t y ≡ Local → runs_in (w.row t) y ≡ true → ⊥
 no_lower_local o w t j y run priority ready lower processor local runs =
@@ -107,10 +109,10 @@ no_lower_local o w t j y run priority ready lower processor local runs =
     cc
 
 -- Why a tick of class Preemption is charged, under shared memory and under DPCP.
-preempted_by : (o : Ranks) (w : Trace) (t j y : ℕ) (c : Class) → c ≡ Preemption → SharedReason o w t j c y → PreemptedBy w t j y
+pub preempted_by : (o : Ranks) (w : Trace) (t j y : ℕ) (c : Class) → c ≡ Preemption → SharedReason o w t j c y → PreemptedBy w t j y
 preempted_by o w t j y c e why = subst (λ (d : Class). SharedReason o w t j d y) e why
 
-blocked_by : (w : Trace) (t j y : ℕ) (c : Class) → c ≡ Preemption → DpcpReason w t j c y → LocalBlocked w t j y
+pub blocked_by : (w : Trace) (t j y : ℕ) (c : Class) → c ≡ Preemption → DpcpReason w t j c y → LocalBlocked w t j y
 blocked_by w t j y c e why = subst (λ (d : Class). DpcpReason w t j d y) e why
 
 -- What the row counts of a column.
@@ -118,7 +120,7 @@ abbrev interval_share : ℕ → (ℕ → ℕ → ℕ) → ColumnDef → ℕ
 interval_share x share c = flag ((c.task == x) && is_preemption c.class) * share c.task c.resource
 
 -- What counts is of x, and of class Preemption.
-interval_hit : (charges : Charges) (w : Trace) (x j t : ℕ) (share : ℕ → ℕ → ℕ) → (h : Hit charges w (interval_share x share) j t)
+pub interval_hit : (charges : Charges) (w : Trace) (x j t : ℕ) (share : ℕ → ℕ → ℕ) → (h : Hit charges w (interval_share x share) j t)
     → (task_of w h.charge.job ≡ x) × (h.charge.class ≡ Preemption)
 interval_hit charges w x j t share h =
     let both : ((task_of w h.charge.job == x) ≡ true) × (is_preemption h.charge.class ≡ true) =
@@ -127,7 +129,7 @@ interval_hit charges w x j t share h =
     (eqb-true _ _ both.0, preemption_is h.charge.class both.1)
 
 -- Each interval, told by the number of requests begun, is paid for once.
-interval_limit : (charges : Charges) (w : Trace) (bound : ℕ → ℕ) (n j x s : ℕ) (share : ℕ → ℕ → ℕ) → Window charges w bound n j
+pub interval_limit : (charges : Charges) (w : Trace) (bound : ℕ → ℕ) (n j x s : ℕ) (share : ℕ → ℕ → ℕ) → Window charges w bound n j
     → ((x q : ℕ) → share x q * length_of w.set x q ≤ s)
     → ((u v : ℕ) → u ≤ v → v < window_end w bound n j → (a : Hit charges w (interval_share x share) j u)
     → (b : Hit charges w (interval_share x share) j v) → requests_begun w u j ≡ requests_begun w v j
@@ -192,8 +194,8 @@ shared_interval_row_met o w bound n j x window keeps lower s share fair =
           (ready_between o w n u t v j keeps from (omega arith) (omega arith) early.ready
           (ready_active w v j late.ready) same) late.lower processor local runs)
 
--- Under DPCP a job that is Local at u, and begins no request up to v, is Local in between.
-local_between : (w : Trace) (u t v j : ℕ) → u ≤ t → t ≤ v → is_active w u j ≡ true → is_active w v j ≡ true → phase_of w u j ≡ Local
+-- A job that is Local at u, and begins no request up to v, is Local in between.
+pub local_between : (w : Trace) (u t v j : ℕ) → u ≤ t → t ≤ v → is_active w u j ≡ true → is_active w v j ≡ true → phase_of w u j ≡ Local
     → requests_begun w u j ≡ requests_begun w v j → phase_of w t j ≡ Local
 local_between w u t v j a b early late local same = go (phase_of w t j) refl where
   rest : (is_finished (phase_of w t j) ≡ false) × (is_active w t j ≡ true)
@@ -207,26 +209,23 @@ local_between w u t v j a b early late local same = go (phase_of w t j) refl whe
       let x : Local ≡ Asking m q = sym local ∙ opened in
       absurd (cc)
 
--- Under DPCP a job of a lower local task runs no Local tick while job j is Local.
-no_lower_local_dpcp : (w : Trace) (t j y : ℕ) → KeepsRow dpcp_rule w t → is_active w t j ≡ true → phase_of w t j ≡ Local
+-- Where requests run at homes, a job of a lower local task runs no Local tick while job j is Local.
+pub no_lower_local_home : (w : Trace) (t j y : ℕ) → RunsAtHomes w t → is_active w t j ≡ true → phase_of w t j ≡ Local
     → task_of w j < task_of w y → processor_of w y ≡ processor_of w j
     → phase_of w t y ≡ Local → runs_in (w.row t) y ≡ true → ⊥
-no_lower_local_dpcp w t j y keeps active waits lower processor local runs = elim (cases_Bool (has_requests w t (processor_of w j))) [
+no_lower_local_home w t j y homes active waits lower processor local runs = elim (cases_Bool (has_requests w t (processor_of w j))) [
   | inl some ↦
-      let r : RunsRequest w t (processor_of w j) y = requests_run w t (processor_of w j) y keeps some here in
+      let r : RunsRequest w t (processor_of w j) y = requests_run_home w t (processor_of w j) y homes some here in
       let x : Local ≡ Asking r.number r.resource = sym local ∙ r.request in
       cc
   | inr none ↦ omega (
     arith,
-    priority.locals (processor_of w j) y here none j (active_listed w t j active) refl
+    homes.locals (processor_of w j) y here none j (active_listed w t j active) refl
         (active_local_from w t j active waits),
   )
 ] where
   run : distributed.KeepsRun w t
-  run = keeps rule.Run
-
-  priority : distributed.KeepsPriority w t
-  priority = keeps rule.Priority
+  run = homes.run
 
   here : running_on (w.row t) (processor_of w j) ≡ Some y
   here =
@@ -235,11 +234,11 @@ no_lower_local_dpcp w t j y keeps active waits lower processor local runs = elim
       let place : at.0 ≡ processor_of w j = run.local at.0 y at.1 is ∙ processor in
       rw (← place) at.1
 
--- The row of intervals under DPCP.
-pub dpcp_interval_row_met : (w : Trace) (bound : ℕ → ℕ) (n j x : ℕ) → Window dpcp_charge w bound n j → KeepsBefore dpcp_rule w n
+-- The row of intervals where requests run at homes.
+pub home_interval_row_met : (w : Trace) (bound : ℕ → ℕ) (n j x : ℕ) → Window dpcp_charge w bound n j → RunsAtHomesBefore w n
     → is_lower_local w.set (task_of w j) x ≡ true
     → TicksMeet dpcp_charge w bound n j (interval_row w.set (task_of w j) x)
-dpcp_interval_row_met w bound n j x window keeps lower s share fair =
+home_interval_row_met w bound n j x window homes lower s share fair =
     interval_limit dpcp_charge w bound n j x s share window fair one where
       f : ColumnDef → ℕ
       f = interval_share x share
@@ -249,7 +248,7 @@ dpcp_interval_row_met w bound n j x window keeps lower s share fair =
 
       by : (t : ℕ) → t < n → (h : Hit dpcp_charge w f j t) → LocalBlocked w t j h.charge.job
       by t l h = blocked_by w t j h.charge.job h.charge.class (interval_hit dpcp_charge w x j t share h).1
-          (dpcp_reason w t j h.charge (keeps t l) h.is_it)
+          (home_reason w t j h.charge (homes t l) h.is_it)
 
       one : (u v : ℕ) → u ≤ v → v < window_end w bound n j → (a : Hit dpcp_charge w f j u) → (b : Hit dpcp_charge w f j v)
           → requests_begun w u j ≡ requests_begun w v j → OneRequest w u v a.charge.job b.charge.job
@@ -263,7 +262,14 @@ dpcp_interval_row_met w bound n j x window keeps lower s share fair =
           window.lawful.each b.charge.job (active_listed w v b.charge.job late.runner.active) in
           one_request w n u v a.charge.job b.charge.job b.number b.resource window.active
           (omega arith) order lawful.script early.runner.active (task_a ∙ sym task_b) b.request
-          (λ t from before local runs. no_lower_local_dpcp w t j b.charge.job (keeps t (omega arith))
+          (λ t from before local runs. no_lower_local_home w t j b.charge.job (homes t (omega arith))
           (unfinished_between w u t v j early.active late.active from (omega arith)).1
           (local_between w u t v j from (omega arith) early.active late.active early.local same)
           (omega (arith, low.lower, task_b)) processor local runs)
+
+-- The row under DPCP.
+pub dpcp_interval_row_met : (w : Trace) (bound : ℕ → ℕ) (n j x : ℕ) → Window dpcp_charge w bound n j → KeepsBefore dpcp_rule w n
+    → is_lower_local w.set (task_of w j) x ≡ true
+    → TicksMeet dpcp_charge w bound n j (interval_row w.set (task_of w j) x)
+dpcp_interval_row_met w bound n j x window keeps lower =
+    home_interval_row_met w bound n j x window (λ t l. dpcp_at_homes w t (keeps t l)) lower

@@ -25,7 +25,8 @@ use Rattle.direct_constraints.specs.Rows.{request_row, time_row}
 use Rattle.charge_model.specs.Charges.{Executes}
 use Rattle.charge_model.specs.Windows.{bound_end, window_end}
 use Rattle.charge_laws.proofs.Windows.{active_after}
-use Rattle.row_laws.proofs.Brings.{Charges, Window, brings, Hit, hit, column_with, blocker, blocker_is, TicksMeet}
+use Rattle.row_laws.specs.Meeting.{Charges, brings, TicksMeet}
+use Rattle.row_laws.proofs.Brings.{Window, Hit, hit, column_with, blocker, blocker_is}
 use Rattle.row_laws.proofs.Brings.{flag_times-at_most, flag_times-passes, only_if-parts, sum_below-passing}
 
 -- Is y a listed job of x that is released less than its bound before job j's window, or in it?
@@ -119,7 +120,7 @@ by_job charges w bound n j x c f window l of most =
           (a.listed, active_near charges w bound n j x h.charge.job t window a.active (of t b h) a.from b)
 
 -- The ticks of a slot are those of one job that runs in requests of q, each bringing at most c.
-asking_term : (charges : Charges) (w : Trace) (bound : ℕ → ℕ) (n j q y c t : ℕ) (f : ColumnDef → ℕ) → Window charges w bound n j
+pub asking_term : (charges : Charges) (w : Trace) (bound : ℕ → ℕ) (n j q y c t : ℕ) (f : ColumnDef → ℕ) → Window charges w bound n j
     → t < window_end w bound n j
     → ((h : Hit charges w f j t) → (h.resource ≡ q) × (f (column_with w h.charge h.resource) ≤ c))
     → only_if (blocker charges w j t == y) (brings charges w f j t) ≤ flag (runs_in (w.row t) y && is_asking q (phase_of w t y)) * c
@@ -140,7 +141,7 @@ asking_term charges w bound n j q y c t f window l fits =
     ]
 
 -- The ticks of a slot are those of one job that runs, each bringing at most c.
-running_term : (charges : Charges) (w : Trace) (bound : ℕ → ℕ) (n j y c t : ℕ) (f : ColumnDef → ℕ) → Window charges w bound n j
+pub running_term : (charges : Charges) (w : Trace) (bound : ℕ → ℕ) (n j y c t : ℕ) (f : ColumnDef → ℕ) → Window charges w bound n j
     → t < window_end w bound n j
     → ((h : Hit charges w f j t) → f (column_with w h.charge h.resource) ≤ c)
     → only_if (blocker charges w j t == y) (brings charges w f j t) ≤ flag (runs_in (w.row t) y) * c
@@ -158,13 +159,13 @@ running_term charges w bound n j y c t f window l fits =
     ]
 
 -- e ticks of m requests, each at most l long and each tick worth c, where l times c is at most s.
-requests_share : (e m k l c s b : ℕ) → b ≤ e * c → e ≤ m * l → m ≤ k → c * l ≤ s → b ≤ k * s
+pub requests_share : (e m k l c s b : ℕ) → b ≤ e * c → e ≤ m * l → m ≤ k → c * l ≤ s → b ≤ k * s
 requests_share e m k l c s b ticks most count fair =
     let turned : m * l * c ≡ m * (c * l) = mul_assoc m l c ∙ ap (λ z. m * z) (mul_comm l c) in
     omega (arith, ticks, mul-le-mul_right c most, turned, mul-le-mul count fair)
 
 -- Requests of q by one job bring at most s for each request that its task may make.
-job_requests : (charges : Charges) (w : Trace) (bound : ℕ → ℕ) (n j x q y s c : ℕ) (f : ColumnDef → ℕ) → Window charges w bound n j
+pub job_requests : (charges : Charges) (w : Trace) (bound : ℕ → ℕ) (n j x q y s c : ℕ) (f : ColumnDef → ℕ) → Window charges w bound n j
     → y < length w.jobs → task_of w y ≡ x → c * length_of w.set x q ≤ s
     → ((t : ℕ) → t < window_end w bound n j → (h : Hit charges w f j t) → (h.resource ≡ q) × (f (column_with w h.charge h.resource) ≤ c))
     → sum_below (window_end w bound n j) (λ t. only_if (blocker charges w j t == y) (brings charges w f j t)) ≤ count_of w.set x q * s
@@ -186,7 +187,7 @@ job_requests charges w bound n j x q y s c f window listed task fair fits =
     (count_of w.set x q) (length_of w.set x q) c s _ ticks here count fair
 
 -- All its ticks bring at most s for each tick of its task's cost.
-job_time : (charges : Charges) (w : Trace) (bound : ℕ → ℕ) (n j x y s : ℕ) (f : ColumnDef → ℕ) → Window charges w bound n j
+pub job_time : (charges : Charges) (w : Trace) (bound : ℕ → ℕ) (n j x y s : ℕ) (f : ColumnDef → ℕ) → Window charges w bound n j
     → y < length w.jobs → task_of w y ≡ x
     → ((t : ℕ) → t < window_end w bound n j → (h : Hit charges w f j t) → f (column_with w h.charge h.resource) ≤ s)
     → sum_below (window_end w bound n j) (λ t. only_if (blocker charges w j t == y) (brings charges w f j t)) ≤ (task_at w.set x).cost * s

@@ -1,13 +1,14 @@
 -- The laws of each protocol's programs, joined: the columns are there, the fractions are a point, and a dual bounds the blocked ticks.
-use Rattle.std.proofs.Common.{◌≡◌, ℕ, ◌<◌, ◌≤◌, Bool, true, List, length, get_or, refl, arith, Option, Some, None}
+use Rattle.std.proofs.Common.{◌≡◌, ℕ, ◌<◌, ◌≤◌, Bool, true, List, length, get_or, refl, arith, Option, Some, None, map}
 use Rattle.std.specs.Prelude.{slice_index}
 use Rattle.std.specs.Option.{option_map_or}
 use Rattle.std.specs.List.{Contains}
-use Rattle.std.proofs.lemmas.Bool.{and_parts, ltb-true}
+use Rattle.std.proofs.lemmas.Bool.{ltb-true}
 use Rattle.std.proofs.lemmas.List.Elements.{All-get_or, All-from_get_or}
 use Rattle.std.specs.Str.{bytes_eq}
 use Rattle.bounded_sums.specs.Sums.{collect_below}
 use Rattle.bounded_sums.specs.Tests.{count_below}
+use Rattle.program_form.specs.Program.{ProgramDef}
 use Rattle.program_form.specs.Points.{IsScaledPoint}
 use Rattle.program_form.specs.Duals.{Covers, dual_value}
 use Rattle.program_form.proofs.Duality.{dual_bounds}
@@ -30,67 +31,82 @@ use Rattle.schedule_model.specs.Keeping.{KeepsBefore}
 use Rattle.schedule_model.specs.BlockedTicks.{is_shared_interference, is_dpcp_interference, is_blocked}
 use Rattle.schedule_laws.proofs.KindsOfTicks.{Blocked, blocked_is}
 use Rattle.schedule_laws.proofs.SharedLaws.{shared_runs_active}
-use Rattle.schedule_laws.proofs.DpcpLaws.{dpcp_runs_active}
 use Rattle.fragments.specs.declared.columns.Class.{Class}
 use Rattle.fragments.specs.declared.columns.Class.TheVariants.{Direct, Indirect, Preemption}
-use Rattle.fragments.specs.ColumnDef.{ColumnDef, classes_of, all_columns}
-use Rattle.fragments.specs.Columns.{is_column, columns_of}
-use Rattle.fragments.proofs.KnownColumns.{IsKnown, columns_known, columns_pass}
-use Rattle.program_laws.specs.Programs.{program_of}
+use Rattle.fragments.specs.ColumnDef.{ColumnDef, classes_of, all_columns, IsKnown}
+use Rattle.fragments.specs.Columns.{is_column, columns_where, columns_of, AreRequests}
+use Rattle.fragments.specs.Constraints.{ConstraintDef}
+use Rattle.fragments.proofs.KnownColumns.{passing_known, passing_pass, columns_are_requests}
+use Rattle.program_laws.specs.Programs.{cost_of, rows_of, program_with, program_of}
 use Rattle.program_laws.proofs.Lists.{contains_filter, contains_collected}
 use Rattle.charge_model.specs.Charges.{Charge, shared_charge, dpcp_charge, Executes}
 use Rattle.charge_model.specs.Windows.{window_end, EndedBy}
 use Rattle.charge_model.specs.Fractions.{charged_column, product_of_lengths, fractions_of, no_column}
 use Rattle.charge_laws.proofs.SharedCharging.{SharedCharged, shared_charged, shared_charge_blocked, shared_executes}
 use Rattle.charge_laws.proofs.DpcpCharging.{DpcpCharged, dpcp_charged, dpcp_charge_blocked, dpcp_executes}
-use Rattle.row_laws.proofs.Brings.{Charges, Window, column_with}
+use Rattle.charge_laws.proofs.DpcpCharging.{RunsAtHomes, RunsAtHomesBefore, dpcp_at_homes, home_executes}
+use Rattle.row_laws.specs.Meeting.{Charges}
+use Rattle.row_laws.proofs.Brings.{Window, column_with}
 use Rattle.row_laws.proofs.SharedPlacement.{IsPlaced, Sharing, shared_placed}
 use Rattle.row_laws.proofs.DpcpPlacement.{dpcp_placed}
-use Rattle.row_laws.proofs.Fractions.{HaveLengths, fractions_are_point, fractions_worth}
+use Rattle.row_laws.proofs.Fractions.{HaveLengths, lengths_positive, fractions_are_point, columns_worth}
 use Rattle.row_laws.proofs.EachRow.{mpcp_rows_met, fmlp_rows_met, dpcp_rows_met}
 
 -- A user's requests of a resource have a length, in an accepted set.
-user_length : (set : SetDef) (x q : ℕ) → IsAccepted set → x < length set.tasks → is_user set q x ≡ true → 0 < length_of set x q
+pub user_length : (set : SetDef) (x q : ℕ) → IsAccepted set → x < length set.tasks → is_user set q x ≡ true → 0 < length_of set x q
 user_length set x q accepted l user = go (entry_of set x q) refl (ltb-true 0 _ user) where
   go : (o : Option RequestDef) → entry_of set x q ≡ o → 0 < option_map_or (λ e. e.count) o 0 → 0 < option_map_or (λ e. e.length) o 0
   go None e some = absurd (omega arith)
   go (Some entry) e some = let numbers : EntryNumbers set x entry =
       entry_of_accepted set x (λ r. bytes_eq r.resource (resource_at set q).name) entry accepted l e in numbers.length_from
 
--- So the columns of a program have lengths.
-pub columns_have_lengths : (p : Protocol) (set : SetDef) (i : ℕ) → IsAccepted set → HaveLengths set (columns_of p set i)
-columns_have_lengths p set i accepted =
-    All-from_get_or (λ (c : ColumnDef). 0 < length_of set c.task c.resource) (columns_of p set i) no_column
-    (λ k l. let known : IsKnown (length set.tasks) (length set.resources) (get_or (columns_of p set i) k no_column) =
-    All-get_or (IsKnown (length set.tasks) (length set.resources)) (columns_of p set i) k no_column l (columns_known p set i) in
-    let passes : is_column p set i (get_or (columns_of p set i) k no_column) ≡ true =
-    All-get_or (λ c. is_column p set i c ≡ true) (columns_of p set i) k no_column l (columns_pass p set i) in
-    user_length set (get_or (columns_of p set i) k no_column).task (get_or (columns_of p set i) k no_column).resource accepted known.0
-    (and_parts _ _ (and_parts _ _ passes).0).1)
+-- So columns that are requests of users have lengths.
+pub users_have_lengths : (test : ColumnDef → Bool) (set : SetDef) → IsAccepted set → AreRequests test set
+    → HaveLengths set (columns_where test set)
+users_have_lengths test set accepted users =
+    All-from_get_or (λ (c : ColumnDef). 0 < length_of set c.task c.resource) (columns_where test set) no_column (λ k l.
+    let known : IsKnown (length set.tasks) (length set.resources) (get_or (columns_where test set) k no_column) =
+    All-get_or (IsKnown (length set.tasks) (length set.resources)) (columns_where test set) k no_column l (passing_known test set) in
+    let passes : test (get_or (columns_where test set) k no_column) ≡ true =
+    All-get_or (λ c. test c ≡ true) (columns_where test set) k no_column l (passing_pass test set) in
+    user_length set (get_or (columns_where test set) k no_column).task (get_or (columns_where test set) k no_column).resource accepted
+    known.0 (users (get_or (columns_where test set) k no_column) passes))
 
-class_among : (x q : ℕ) (c : Class) → Contains (classes_of x q) (record { task = x; resource = q; class = c })
+pub columns_have_lengths : (p : Protocol) (set : SetDef) (i : ℕ) → IsAccepted set → HaveLengths set (columns_of p set i)
+columns_have_lengths p set i accepted = users_have_lengths (is_column p set i) set accepted (columns_are_requests p set i)
+
+pub class_among : (x q : ℕ) (c : Class) → Contains (classes_of x q) (record { task = x; resource = q; class = c })
 class_among x q Direct = (0, omega arith, refl)
 class_among x q Indirect = (1, omega arith, refl)
 class_among x q Preemption = (2, omega arith, refl)
 
--- A column that is one of task i's stands in their list.
+-- A column of the set that passes the test stands among those that do.
+pub passing_among : (test : ColumnDef → Bool) (set : SetDef) (x q : ℕ) (c : Class) → x < length set.tasks → q < length set.resources
+    → test (record { task = x; resource = q; class = c }) ≡ true
+    → Contains (columns_where test set) (record { task = x; resource = q; class = c })
+passing_among test set x q c a b passes =
+    contains_filter test (all_columns (length set.tasks) (length set.resources)) (record { task = x; resource = q; class = c })
+    (contains_collected (length set.tasks) x (λ y. collect_below (length set.resources) (λ r. classes_of y r))
+    (record { task = x; resource = q; class = c }) a
+    (contains_collected (length set.resources) q (λ r. classes_of x r) (record { task = x; resource = q; class = c }) b
+    (class_among x q c))) passes
+
+-- So does one that is one of task i's.
 pub placed_among : (p : Protocol) (w : Trace) (i x q : ℕ) (c : Class) → IsPlaced p w i x q c
     → Contains (columns_of p w.set i) (record { task = x; resource = q; class = c })
-placed_among p w i x q c a =
-    contains_filter (is_column p w.set i) (all_columns (length w.set.tasks) (length w.set.resources))
-    (record { task = x; resource = q; class = c })
-    (contains_collected (length w.set.tasks) x (λ y. collect_below (length w.set.resources) (λ r. classes_of y r))
-    (record { task = x; resource = q; class = c }) a.task
-    (contains_collected (length w.set.resources) q (λ r. classes_of x r) (record { task = x; resource = q; class = c }) a.resource
-    (class_among x q c))) a.column
+placed_among p w i x q c a = passing_among (is_column p w.set i) w.set x q c a.task a.resource a.column
 
--- A tick lies in a column of the program.
-pub record InColumn (charges : Charges) (p : Protocol) (w : Trace) (t j : ℕ) : Type 0 where
+-- A tick lies in one of these columns.
+pub record LiesIn (charges : Charges) (cs : List ColumnDef) (w : Trace) (t j : ℕ) : Type 0 where
   pub column : ColumnDef
   pub is_it : charged_column charges w t j ≡ Some column
-  pub there : Contains (columns_of p w.set (task_of w j)) column
+  pub there : Contains cs column
 
-column_from : (charges : Charges) (w : Trace) (t j m q : ℕ) (c : Charge) → charges w t j ≡ Some c → phase_of w t c.job ≡ Asking m q
+-- A tick lies in a column of the program.
+abbrev pub InColumn : Charges → Protocol → Trace → ℕ → ℕ → Type 0
+InColumn charges p w t j = LiesIn charges (columns_of p w.set (task_of w j)) w t j
+
+pub column_from : (charges : Charges) (w : Trace) (t j m q : ℕ) (c : Charge) → charges w t j ≡ Some c → phase_of w t c.job ≡ Asking m q
     → charged_column charges w t j ≡ Some (column_with w c q)
 column_from charges w t j m q c e h = rw (e, h) refl
 
@@ -127,7 +143,7 @@ pub record Premises (w : Trace) (bounds : List ℕ) (j : ℕ) : Type 0 where
   pub listed : j < length w.jobs
   pub ended : EndedBy w (slice_index bounds) (job_of w.jobs j).release
 
-periods_from : (set : SetDef) (x : ℕ) → IsAccepted set → x < length set.tasks → 0 < (task_at set x).period
+pub periods_from : (set : SetDef) (x : ℕ) → IsAccepted set → x < length set.tasks → 0 < (task_at set x).period
 periods_from set x accepted l = let numbers : TaskNumbers set x = numbers_of_accepted set x accepted l in
     omega (arith, numbers.cost_from, numbers.cost_to, numbers.deadline_to)
 
@@ -144,24 +160,31 @@ shared_window o w bounds n j premises keeps = record {
       blocked_is is_shared_interference w t j (shared_charge_blocked w t j c e) in b.active;
 }
 
-pub dpcp_window : (w : Trace) (bounds : List ℕ) (n j : ℕ) → Premises w bounds j → KeepsBefore dpcp_rule w n
+pub home_window : (w : Trace) (bounds : List ℕ) (n j : ℕ) → Premises w bounds j → RunsAtHomesBefore w n
     → Window dpcp_charge w (slice_index bounds) n j
-dpcp_window w bounds n j premises keeps = record {
+home_window w bounds n j premises homes = record {
   lawful = premises.lawful;
-  active = dpcp_runs_active w n keeps;
+  active = λ t k i l e. let at : RunsAtHomes w t = homes t l in at.run.active k i e;
   listed = premises.listed;
   ended = premises.ended;
   periods = λ x l. periods_from w.set x premises.accepted l;
-  executes = λ t c l e. dpcp_executes w t j c (keeps t l) e;
+  executes = λ t c l e. home_executes w t j c (homes t l) e;
   own = λ t c l e. let b : Blocked is_dpcp_interference w t j = blocked_is is_dpcp_interference w t j (dpcp_charge_blocked w t j c e) in
       b.active;
 }
 
--- The fractions of a job's window are a scaled point of its program.
+pub dpcp_window : (w : Trace) (bounds : List ℕ) (n j : ℕ) → Premises w bounds j → KeepsBefore dpcp_rule w n
+    → Window dpcp_charge w (slice_index bounds) n j
+dpcp_window w bounds n j premises keeps = home_window w bounds n j premises (λ t l. dpcp_at_homes w t (keeps t l))
+
+-- The fractions of a job's window are a scaled point of the program over these columns and rows.
+abbrev pub ArePointOf : Charges → List ColumnDef → List ConstraintDef → Trace → List ℕ → ℕ → ℕ → Type 0
+ArePointOf charges cs rows w bounds n j =
+    IsScaledPoint (program_with w.set cs rows bounds) (product_of_lengths w.set cs) (fractions_of charges w (slice_index bounds) n j cs)
+
+-- And of its task's program.
 abbrev pub ArePoint : Charges → Protocol → Trace → List ℕ → ℕ → ℕ → Type 0
-ArePoint charges p w bounds n j =
-    IsScaledPoint (program_of p w.set (task_of w j) bounds) (product_of_lengths w.set (columns_of p w.set (task_of w j)))
-    (fractions_of charges w (slice_index bounds) n j (columns_of p w.set (task_of w j)))
+ArePoint charges p w bounds n j = ArePointOf charges (columns_of p w.set (task_of w j)) (rows_of p w.set (task_of w j)) w bounds n j
 
 pub mpcp_point : (w : Trace) (bounds : List ℕ) (n j : ℕ) → Premises w bounds j → KeepsBefore (shared_rule mpcp) w n
     → ArePoint shared_charge protocol.Mpcp w bounds n j
@@ -183,7 +206,34 @@ dpcp_point w bounds n j premises keeps =
     fractions_are_point dpcp_charge protocol.Dpcp w bounds n j (columns_have_lengths protocol.Dpcp w.set (task_of w j) premises.accepted)
     (dpcp_rows_met w (slice_index bounds) n j (dpcp_window w bounds n j premises keeps) keeps)
 
--- Where the fractions are a point, and each blocked tick lies in a column, a dual bounds the blocked ticks.
+-- Where the fractions are a point of a program with these columns, and each blocked tick lies in one of them, a dual bounds the blocked
+-- ticks.
+pub point_bounds : (charges : Charges) (interferes : Trace → ℕ → ℕ → Bool) (w : Trace) (bounds : List ℕ) (n j den : ℕ) (num : ℕ → ℕ)
+    (program : ProgramDef) (cs : List ColumnDef) → program.costs ≡ map (cost_of w.set) cs
+    → IsScaledPoint program (product_of_lengths w.set cs) (fractions_of charges w (slice_index bounds) n j cs)
+    → ((t : ℕ) → t < n → is_blocked interferes w t j ≡ true → LiesIn charges cs w t j) → Covers program den num
+    → count_below (window_end w (slice_index bounds) n j) (λ t. is_blocked interferes w t j) ≤ dual_value program den num
+point_bounds charges interferes w bounds n j den num program cs costs point placed covers =
+    dual_bounds program den num (count_below (window_end w (slice_index bounds) n j) (λ t. is_blocked interferes w t j)) covers
+    (record {
+      scale = product_of_lengths w.set cs;
+      point = fractions_of charges w (slice_index bounds) n j cs;
+      is_point = point;
+      reached = columns_worth charges w (slice_index bounds) n j program cs (λ t. is_blocked interferes w t j) costs
+          (lengths_positive w.set cs point.positive)
+          (λ t l blocked. let a : LiesIn charges cs w t j = placed t (omega arith) blocked in (a.column, a.is_it, a.there));
+    })
+
+-- So it is for the program over these columns and any rows.
+pub ticks_bounded : (charges : Charges) (cs : List ColumnDef) (rows : List ConstraintDef) (interferes : Trace → ℕ → ℕ → Bool) (w : Trace)
+    (bounds : List ℕ) (n j den : ℕ) (num : ℕ → ℕ) → ArePointOf charges cs rows w bounds n j
+    → ((t : ℕ) → t < n → is_blocked interferes w t j ≡ true → LiesIn charges cs w t j)
+    → Covers (program_with w.set cs rows bounds) den num
+    → count_below (window_end w (slice_index bounds) n j) (λ t. is_blocked interferes w t j)
+    ≤ dual_value (program_with w.set cs rows bounds) den num
+ticks_bounded charges cs rows interferes w bounds n j den num point placed covers =
+    point_bounds charges interferes w bounds n j den num (program_with w.set cs rows bounds) cs refl point placed covers
+
 pub blocked_bounded : (charges : Charges) (p : Protocol) (interferes : Trace → ℕ → ℕ → Bool) (w : Trace) (bounds : List ℕ) (n j den : ℕ)
     (num : ℕ → ℕ) → IsAccepted w.set → ArePoint charges p w bounds n j
     → ((t : ℕ) → t < n → is_blocked interferes w t j ≡ true → InColumn charges p w t j)
@@ -191,13 +241,5 @@ pub blocked_bounded : (charges : Charges) (p : Protocol) (interferes : Trace →
     → count_below (window_end w (slice_index bounds) n j) (λ t. is_blocked interferes w t j)
     ≤ dual_value (program_of p w.set (task_of w j) bounds) den num
 blocked_bounded charges p interferes w bounds n j den num accepted point placed covers =
-    dual_bounds (program_of p w.set (task_of w j) bounds) den num
-    (count_below (window_end w (slice_index bounds) n j) (λ t. is_blocked interferes w t j)) covers
-    (record {
-      scale = product_of_lengths w.set (columns_of p w.set (task_of w j));
-      point = fractions_of charges w (slice_index bounds) n j (columns_of p w.set (task_of w j));
-      is_point = point;
-      reached = fractions_worth charges p w bounds n j (λ t. is_blocked interferes w t j)
-          (columns_have_lengths p w.set (task_of w j) accepted)
-          (λ t l blocked. let a : InColumn charges p w t j = placed t (omega arith) blocked in (a.column, a.is_it, a.there));
-    })
+    ticks_bounded charges (columns_of p w.set (task_of w j)) (rows_of p w.set (task_of w j)) interferes w bounds n j den num point placed
+    covers

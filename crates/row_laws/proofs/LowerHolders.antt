@@ -22,7 +22,8 @@ use Rattle.direct_constraints.specs.Rows.{lower_holder_row}
 use Rattle.charge_model.specs.Charges.{shared_charge}
 use Rattle.charge_model.specs.Windows.{window_end}
 use Rattle.charge_laws.proofs.SharedCharging.{WaitsFor, DirectBy, shared_reason}
-use Rattle.row_laws.proofs.Brings.{Window, Hit, TicksMeet, flag_times-at_most, flag_times-passes}
+use Rattle.row_laws.specs.Meeting.{TicksMeet}
+use Rattle.row_laws.proofs.Brings.{Window, Hit, flag_times-at_most, flag_times-passes}
 use Rattle.row_laws.proofs.JobRows.{HitJob, hit_job}
 use Rattle.row_laws.proofs.SlotRow.{OneRequest}
 use Rattle.row_laws.proofs.Requests.{direct_is, direct_by, held_resource, one_request}

@@ -21,7 +21,8 @@ use Rattle.schedule_laws.specs.Counting.{no_segment}
 use Rattle.schedule_laws.proofs.Segments.{RequestAt, open_segment, asks_some}
 use Rattle.fragments.specs.ColumnDef.{ColumnDef}
 use Rattle.charge_model.specs.Windows.{window_end}
-use Rattle.row_laws.proofs.Brings.{Charges, Window, brings, Hit}
+use Rattle.row_laws.specs.Meeting.{Charges, brings}
+use Rattle.row_laws.proofs.Brings.{Window, Hit}
 use Rattle.row_laws.proofs.SlotRow.{OneRequest, Shares, slot_row}
 
 -- Which number has the request? 0 where there is none.

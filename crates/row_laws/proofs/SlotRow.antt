@@ -17,7 +17,8 @@ use Rattle.schedule_laws.specs.Counting.{executed_in, is_request}
 use Rattle.schedule_laws.proofs.Counts.{request_at_most}
 use Rattle.fragments.specs.ColumnDef.{ColumnDef}
 use Rattle.charge_model.specs.Windows.{window_end}
-use Rattle.row_laws.proofs.Brings.{Charges, Window, brings, Hit, hit, only_if-parts, sum_below-passing}
+use Rattle.row_laws.specs.Meeting.{Charges, brings}
+use Rattle.row_laws.proofs.Brings.{Window, Hit, hit, only_if-parts, sum_below-passing}
 use Rattle.row_laws.proofs.JobRows.{HitJob, hit_job}
 
 -- Are ticks u and v charged to one request: to one job, in one phase?

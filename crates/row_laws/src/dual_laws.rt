@@ -1,4 +1,5 @@
-ghost use Rattle.std.specs.Prelude.{◌≡◌, ℕ, ◌<◌, ◌≤◌, List, length, slice_index};
+ghost use Rattle.std.specs.Prelude.{◌≡◌, ℕ, ◌<◌, ◌≤◌, Bool, true, List, length, slice_index, Some};
+ghost use Rattle.std.specs.List.{All, Contains};
 ghost use Rattle.bounded_sums.specs.Tests.{count_below};
 ghost use Rattle.program_form.specs.Duals.{Covers, dual_value};
 ghost use Rattle.sporadic_model.specs.Accepted.{IsAccepted};
@@ -10,10 +11,29 @@ ghost use Rattle.schedule_model.specs.Ranks.{mpcp, fmlp_plus};
 ghost use Rattle.schedule_model.specs.Protocols.{shared_rule, dpcp_rule};
 ghost use Rattle.schedule_model.specs.Keeping.{KeepsBefore};
 ghost use Rattle.schedule_model.specs.BlockedTicks.{is_shared_interference, is_dpcp_interference, is_blocked};
-ghost use Rattle.program_laws.specs.Programs.{program_of};
+ghost use Rattle.fragments.specs.ColumnDef.{ColumnDef};
+ghost use Rattle.fragments.specs.Columns.{columns_where, AreRequests};
+ghost use Rattle.fragments.specs.Constraints.{ConstraintDef};
+ghost use Rattle.program_laws.specs.Programs.{program_with, program_of};
+ghost use Rattle.charge_model.specs.Fractions.{charged_column};
+ghost use Rattle.row_laws.specs.Meeting.{Charges, TicksMeet};
 ghost use Rattle.charge_model.specs.Windows.{bound_end, window_end, EndedWithin};
 
-/// Under the same premises the blocked ticks of the job's window are at most the value of each dual that covers its
+/// Whatever the protocol: where the ticks of a job's window meet each row of a list, and each tick at which the job is blocked lies in
+/// one of the columns that pass the test, its blocked ticks are at most the value of each dual that covers the columns of the program
+/// over these.
+pub fn duals_bound_charged_ticks()
+    ensures { (charges : Charges) (test : ColumnDef → Bool) (rows : List ConstraintDef) (interferes : Trace → ℕ → ℕ → Bool) (w : Trace)
+        (bounds : List ℕ) (n j den : ℕ) (num : ℕ → ℕ) → IsAccepted w.set → AreRequests test w.set
+        → All (TicksMeet charges w (slice_index bounds) n j) rows
+        → ((t : ℕ) → t < n → is_blocked interferes w t j ≡ true
+        → (c : ColumnDef) × (charged_column charges w t j ≡ Some c) × Contains (columns_where test w.set) c)
+        → Covers (program_with w.set (columns_where test w.set) rows bounds) den num
+        → count_below (window_end w (slice_index bounds) n j) (λ t. is_blocked interferes w t j)
+        ≤ dual_value (program_with w.set (columns_where test w.set) rows bounds) den num }
+{}
+
+/// Under the premises of `fractions_meet_every_row` the blocked ticks of the job's window are at most the value of each dual that covers its
 /// program's columns.
 pub fn duals_bound_blocked_ticks()
     ensures mpcp { (w : Trace) (bounds : List ℕ) (n j den : ℕ) (num : ℕ → ℕ) → IsAccepted w.set → AreLawfulJobs (jobs_of w)

@@ -10,5 +10,5 @@ mod dual_laws;
 mod point_laws;
 
 pub use column_laws::blocked_ticks_lie_in_columns;
-pub use dual_laws::duals_bound_blocked_ticks;
-pub use point_laws::fractions_meet_every_row;
+pub use dual_laws::{duals_bound_blocked_ticks, duals_bound_charged_ticks};
+pub use point_laws::{fractions_meet_every_row, met_rows_make_a_point};

@@ -1,4 +1,5 @@
-ghost use Rattle.std.specs.Prelude.{◌≡◌, ℕ, ◌<◌, List, length, slice_index};
+ghost use Rattle.std.specs.Prelude.{◌≡◌, ℕ, ◌<◌, Bool, List, length, slice_index};
+ghost use Rattle.std.specs.List.{All};
 ghost use Rattle.program_form.specs.Points.{IsScaledPoint};
 ghost use Rattle.sporadic_model.specs.Accepted.{IsAccepted};
 ghost use Rattle.sporadic_model.specs.declared.ids.Protocol.TheVariants as protocol;
@@ -8,11 +9,23 @@ ghost use Rattle.schedule_model.specs.Activity.{task_of};
 ghost use Rattle.schedule_model.specs.Ranks.{mpcp, fmlp_plus};
 ghost use Rattle.schedule_model.specs.Protocols.{shared_rule, dpcp_rule};
 ghost use Rattle.schedule_model.specs.Keeping.{KeepsBefore};
-ghost use Rattle.fragments.specs.Columns.{columns_of};
-ghost use Rattle.program_laws.specs.Programs.{program_of};
+ghost use Rattle.fragments.specs.ColumnDef.{ColumnDef};
+ghost use Rattle.fragments.specs.Columns.{columns_where, columns_of, AreRequests};
+ghost use Rattle.fragments.specs.Constraints.{ConstraintDef};
+ghost use Rattle.program_laws.specs.Programs.{program_with, program_of};
+ghost use Rattle.row_laws.specs.Meeting.{Charges, TicksMeet};
 ghost use Rattle.charge_model.specs.Charges.{shared_charge, dpcp_charge};
 ghost use Rattle.charge_model.specs.Windows.{bound_end, EndedWithin};
 ghost use Rattle.charge_model.specs.Fractions.{product_of_lengths, fractions_of};
+
+/// Whatever the protocol: take columns that pass a test and are requests by users, and rows each of which the ticks of a job's window
+/// meet, as they are charged. Then the fractions of the window meet every row of the program over these columns and rows.
+pub fn met_rows_make_a_point()
+    ensures { (charges : Charges) (test : ColumnDef → Bool) (rows : List ConstraintDef) (w : Trace) (bounds : List ℕ) (n j : ℕ)
+        → IsAccepted w.set → AreRequests test w.set → All (TicksMeet charges w (slice_index bounds) n j) rows
+        → IsScaledPoint (program_with w.set (columns_where test w.set) rows bounds) (product_of_lengths w.set (columns_where test w.set))
+        (fractions_of charges w (slice_index bounds) n j (columns_where test w.set)) }
+{}
 
 /// In a lawful schedule of an accepted set take a job, and let each job whose release plus bound is less than that job's, and lies
 /// within the rows, be finished by its own release plus its bound. Then the fractions of the job's window meet every row of its

@@ -6,6 +6,7 @@ use sporadic_model::{Protocol, TaskId, TaskSet};
 use std::alloc::{AllocError, Global};
 use std::test::Fail;
 use taskset_json::home_check;
+use trace_conform::Breach;
 use worked_files::*;
 
 /// Bounds, and the numerators of each dual, whose denominators are 1.
@@ -151,10 +152,10 @@ const STOPS: [Stop; 3] = [
     (
         PAIR_PROOF,
         PAIR_CROSSED,
-        AuditStop::Broken {
+        AuditStop::Broken(Breach {
             tick: 0,
             rule: Rule::Run,
-        },
+        }),
     ),
 ];
 

@@ -1,11 +1,9 @@
 use crate::tests::{Given, SET_A, SET_A_CERTIFICATE, answer};
-use block_top::{Status, analyse_and_check, analysed_then_checked, run};
+use block_top::{Status, run};
 use outside_ports::{MemShelf, MemSink};
-use sporadic_model::Protocol;
 use std::alloc::{AllocError, Global};
 use std::test::Fail;
 use std::thread::Threads;
-use worked_files::set_from;
 
 /// A shelf with a set and a certificate.
 fn shelf_of(alloc: Global, set: &str, cert: &str) -> Result<MemShelf, AllocError> {
@@ -38,7 +36,7 @@ fn judged<R: Threads + Sync>(
     let words = words_of(alloc, &[command, protocol, "set", "cert"])?;
     let mut shelf = shelf_of(alloc, SET_A, cert)?;
     let mut sink = MemSink::new(alloc, 1_000_000, 4096, Vec::new(alloc))?;
-    let Status(status) = run(rt, alloc, &words, &mut shelf, &mut sink);
+    let status = run(rt, alloc, &words, &mut shelf, &mut sink).number();
     Ok(Given {
         status,
         written: Vec::from_slice(alloc, sink.written())?,
@@ -64,6 +62,33 @@ load 2 400000
 }
 
 #[test]
+fn a_certificate_of_another_set_is_told_apart(rt: HostRuntime) -> Result<(), Fail> {
+    let alloc = rt.alloc();
+    let other = SET_A_CERTIFICATE.replacen(alloc, "5fb1", "5fb2", 1)?;
+    for command in ["check", "report"] {
+        let given = judged(&rt, alloc, command, "fmlp+", other.as_str())?;
+        assert_eq!(rt; given, answer(alloc, 1, "invalid otherset\n")?);
+    }
+    Ok(())
+}
+
+#[test]
+fn a_certificate_of_the_version_before_gets_its_digest(rt: HostRuntime) -> Result<(), Fail> {
+    let alloc = rt.alloc();
+    let old =
+        "{\"bounds\":[5,5],\"duals\":[{\"den\":1,\"num\":[2,0,0,0]},{\"den\":1,\"num\":[1,0,0,0]}],\"protocol\":\"fmlp+\",\"verdict\":\"schedulable\",\"version\":1}\n";
+    for (command, cert, status, text) in [
+        ("upgrade", old, 0, SET_A_CERTIFICATE),
+        ("check", old, 3, "refused cert version\n"),
+        ("upgrade", SET_A_CERTIFICATE, 3, "refused cert version\n"),
+    ] {
+        let given = judged(&rt, alloc, command, "fmlp+", cert)?;
+        assert_eq!(rt; given, answer(alloc, status, text)?);
+    }
+    Ok(())
+}
+
+#[test]
 fn what_is_analysed_is_checked(rt: HostRuntime) -> Result<(), Fail> {
     let alloc = rt.alloc();
     let first = words_of(alloc, &["analyse", "fmlp+", "set"])?;
@@ -72,22 +97,10 @@ fn what_is_analysed_is_checked(rt: HostRuntime) -> Result<(), Fail> {
     let mut other = shelf_of(alloc, SET_A, SET_A_CERTIFICATE)?;
     let mut sink = MemSink::new(alloc, 1000, 4096, Vec::new(alloc))?;
     let mut out = MemSink::new(alloc, 1000, 4096, Vec::new(alloc))?;
-    let statuses = analysed_then_checked(
-        &rt, alloc, &first, &second, &mut shelf, &mut sink, &mut other, &mut out,
-    );
-    assert_eq!(rt; statuses, (Status(0), Status(0)));
+    let wrote = run(&rt, alloc, &first, &mut shelf, &mut sink);
+    let checked = run(&rt, alloc, &second, &mut other, &mut out);
+    assert_eq!(rt; (wrote, checked), (Status::Done, Status::Done));
     assert_eq!(rt; sink.written(), SET_A_CERTIFICATE.as_bytes());
     assert_eq!(rt; out.written(), b"valid\n".as_slice());
-    Ok(())
-}
-
-#[test]
-fn a_set_is_analysed_and_checked(rt: HostRuntime) -> Result<(), Fail> {
-    let alloc = rt.alloc();
-    let set = set_from(alloc, SET_A)?;
-    match analyse_and_check(&rt, alloc, &set, Protocol::FmlpPlus, 8) {
-        Some(Ok(valid)) => assert_eq!(rt; valid.values.as_slice(), [2, 1].as_slice()),
-        _ => assert!(rt; false, "the certificate is valid"),
-    }
     Ok(())
 }

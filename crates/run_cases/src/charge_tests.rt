@@ -5,6 +5,7 @@ use sporadic_model::{Protocol, ResourceId, TaskSet};
 use std::alloc::{AllocError, Global};
 use std::test::Fail;
 use taskset_json::home_check;
+use trace_conform::Breach;
 use worked_files::*;
 
 /// What is answered of the rows, where these are the bounds.
@@ -173,19 +174,19 @@ const STOPS: [Stop; 4] = [
         Protocol::Mpcp,
         [PAIR, PAIR_JOBS, PAIR_LOWER_FIRST],
         &[4, 5],
-        ChargeStop::Unlawful {
+        ChargeStop::Unlawful(Breach {
             tick: 1,
             rule: Rule::Grant,
-        },
+        }),
     ),
     (
         Protocol::Dpcp,
         [HOME, HOME_JOBS, HOME_AT_ONCE],
         &[2, 2],
-        ChargeStop::Unlawful {
+        ChargeStop::Unlawful(Breach {
             tick: 2,
             rule: Rule::Grant,
-        },
+        }),
     ),
 ];
 

@@ -1,14 +1,15 @@
-use block_top::{Status, run};
+use block_top::run;
 use outside_ports::{MemShelf, MemSink};
 use std::alloc::{AllocError, Global};
 use std::test::Fail;
 use std::thread::Threads;
 use worked_files::{PAIR, PAIR_JOBS, PAIR_LOWER_FIRST};
 
-/// The least bounds of `PAIR` under FMLP+: 134 bytes.
+/// The least bounds of `PAIR` under FMLP+: 207 bytes.
 const CERTIFICATE: &str =
     "{\"bounds\":[5,5],\"duals\":[{\"den\":1,\"num\":[2,0,0,0]},{\"den\":1,\"num\":[1,0,0,0]}],\
-    \"protocol\":\"fmlp+\",\"verdict\":\"schedulable\",\"version\":1}\n";
+    \"protocol\":\"fmlp+\",\"set\":\"86f607cdcb5efbf7a110a96e53138e025ae2aa95ca2a8f33559917b61bca2eda\",\
+    \"verdict\":\"schedulable\",\"version\":2}\n";
 
 const AUDITED: &str = "kept 5\nt1 5 5 2 2 2 0 0\nt2 4 5 0 1 0 0 0\n";
 
@@ -70,7 +71,7 @@ fn ran_into<R: Threads + Sync>(
     }
     let failing = Vec::from_slice(alloc, &[out.failing])?;
     let mut sink = MemSink::new(alloc, out.room, out.piece.max(1), failing)?;
-    let Status(status) = run(rt, alloc, &given, shelf, &mut sink);
+    let status = run(rt, alloc, &given, shelf, &mut sink).number();
     answer(alloc, status, sink.written())
 }
 
@@ -136,17 +137,17 @@ fn first(count: usize) -> &'static [u8] {
     &text[..count.min(text.len())]
 }
 
-// Of 134 bytes in pieces of three the last goes out with write 45.
+// Of 207 bytes in pieces of three the last goes out with write 69.
 #[test]
 fn a_failing_write_leaves_the_pieces_before_it(rt: HostRuntime) -> Result<(), Fail> {
     let alloc = rt.alloc();
-    for before in 0..46usize {
+    for before in 0..70usize {
         let out = Out {
             room: 1000,
             piece: 3,
             failing: before as u64 + 1,
         };
-        let status = if before < 45 { 4 } else { 0 };
+        let status = if before < 69 { 4 } else { 0 };
         let want = answer(alloc, status, first(3 * before))?;
         assert_eq!(rt; analysed(&rt, alloc, out)?, want, "after {before} writes");
     }
@@ -156,7 +157,7 @@ fn a_failing_write_leaves_the_pieces_before_it(rt: HostRuntime) -> Result<(), Fa
 #[test]
 fn a_sink_is_full_one_byte_early_or_just_in_time(rt: HostRuntime) -> Result<(), Fail> {
     let alloc = rt.alloc();
-    for (room, status) in [(133, 4), (134, 0)] {
+    for (room, status) in [(206, 4), (207, 0)] {
         let out = Out {
             room,
             piece: 200,

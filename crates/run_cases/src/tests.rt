@@ -1,4 +1,4 @@
-use block_top::{Status, run, two_runs};
+use block_top::{Status, run};
 use outside_ports::{MemShelf, MemSink};
 use std::alloc::{AllocError, Global};
 use std::test::Fail;
@@ -8,14 +8,14 @@ const ONE_TASK: &str =
     r#"{"processors":1,"tasks":[{"name":"t1","processor":1,"period":1,"cost":1}]}"#;
 
 const ONE_TASK_CERTIFICATE: &str =
-    "{\"bounds\":[1],\"duals\":[{\"den\":1,\"num\":[]}],\"protocol\":\"fmlp+\",\"verdict\":\"schedulable\",\"version\":1}\n";
+    "{\"bounds\":[1],\"duals\":[{\"den\":1,\"num\":[]}],\"protocol\":\"fmlp+\",\"set\":\"23a88084f5b8cbda537adeb819df09340406d7688416261d7dac9d4c05a09118\",\"verdict\":\"schedulable\",\"version\":2}\n";
 
 pub(crate) const SET_A: &str =
     r#"{"processors":2,"resources":[{"name":"q","home":2}],"tasks":[{"name":"t1","processor":1,"period":10,"cost":3,"requests":[{"resource":"q","count":1,"length":1}]},{"name":"t2","processor":2,"period":10,"cost":4,"requests":[{"resource":"q","count":1,"length":2}]}]}
 "#;
 
 pub(crate) const SET_A_CERTIFICATE: &str =
-    "{\"bounds\":[5,5],\"duals\":[{\"den\":1,\"num\":[2,0,0,0]},{\"den\":1,\"num\":[1,0,0,0]}],\"protocol\":\"fmlp+\",\"verdict\":\"schedulable\",\"version\":1}\n";
+    "{\"bounds\":[5,5],\"duals\":[{\"den\":1,\"num\":[2,0,0,0]},{\"den\":1,\"num\":[1,0,0,0]}],\"protocol\":\"fmlp+\",\"set\":\"5fb1c51fbdd430c6971fec1191669488e3ef2ae73b0ba959313a10ecc2bab6dc\",\"verdict\":\"schedulable\",\"version\":2}\n";
 
 /// What a run gave: its status, and the bytes that the sink took.
 #[derive(Debug, PartialEq, Drop)]
@@ -53,7 +53,7 @@ fn ran_over<R: Threads + Sync>(
     let mut shelf = MemShelf::new(files, 1000, Vec::from_slice(alloc, outside.failing_reads)?);
     let failing = Vec::from_slice(alloc, outside.failing_writes)?;
     let mut sink = MemSink::new(alloc, outside.room, outside.piece.max(1), failing)?;
-    let Status(status) = run(rt, alloc, &given, &mut shelf, &mut sink);
+    let status = run(rt, alloc, &given, &mut shelf, &mut sink).number();
     Ok(Given {
         status,
         written: Vec::from_slice(alloc, sink.written())?,
@@ -92,7 +92,7 @@ fn analyses_sets(rt: HostRuntime) -> Result<(), Fail> {
     let full =
         r#"{"processors":1,"tasks":[{"name":"t1","processor":1,"period":2,"cost":1},{"name":"t2","processor":1,"period":2,"cost":2}]}"#;
     let three_certificate =
-        "{\"bounds\":[1,3,10],\"duals\":[{\"den\":1,\"num\":[]},{\"den\":1,\"num\":[]},{\"den\":1,\"num\":[]}],\"protocol\":\"fmlp+\",\"verdict\":\"schedulable\",\"version\":1}\n";
+        "{\"bounds\":[1,3,10],\"duals\":[{\"den\":1,\"num\":[]},{\"den\":1,\"num\":[]},{\"den\":1,\"num\":[]}],\"protocol\":\"fmlp+\",\"set\":\"7deea7cb2fc3a36f1a8bf8832dbb40588fd11ae4c56341817b5fa5e746e10bb0\",\"verdict\":\"schedulable\",\"version\":2}\n";
     for (set, status, text) in [
         (ONE_TASK, 0, ONE_TASK_CERTIFICATE),
         (three, 0, three_certificate),
@@ -130,8 +130,9 @@ fn one_shelf_serves_two_runs(rt: HostRuntime) -> Result<(), Fail> {
     ))?;
     let mut shelf = MemShelf::new(files, 1000, Vec::new(alloc));
     let mut sink = MemSink::new(alloc, 1000, 4096, Vec::new(alloc))?;
-    let statuses = two_runs(&rt, alloc, &words, &words, &mut shelf, &mut sink);
-    assert_eq!(rt; statuses, (Status(0), Status(0)));
+    let first = run(&rt, alloc, &words, &mut shelf, &mut sink);
+    let second = run(&rt, alloc, &words, &mut shelf, &mut sink);
+    assert_eq!(rt; (first, second), (Status::Done, Status::Done));
     assert_eq!(rt; sink.written().len(), 2 * ONE_TASK_CERTIFICATE.len());
     Ok(())
 }
@@ -143,7 +144,7 @@ fn a_failing_write_leaves_a_proper_prefix(rt: HostRuntime) -> Result<(), Fail> {
     let without_last = answer(
         alloc,
         4,
-        "{\"bounds\":[1],\"duals\":[{\"den\":1,\"num\":[]}],\"protocol\":\"fmlp+\",\"verdict\":\"schedulable\",\"version\":1}",
+        "{\"bounds\":[1],\"duals\":[{\"den\":1,\"num\":[]}],\"protocol\":\"fmlp+\",\"set\":\"23a88084f5b8cbda537adeb819df09340406d7688416261d7dac9d4c05a09118\",\"verdict\":\"schedulable\",\"version\":2}",
     )?;
     for (room, piece, failing, want) in [
         (1_000_000, 3, [2], answer(alloc, 4, "{\"b")?),
@@ -203,7 +204,7 @@ fn ran_with<R: Threads + Sync>(
     }
     let mut shelf = MemShelf::new(files, 1000, Vec::from_slice(alloc, failing_reads)?);
     let mut sink = MemSink::new(alloc, 1_000_000, 4096, Vec::new(alloc))?;
-    let Status(status) = run(rt, alloc, &given, &mut shelf, &mut sink);
+    let status = run(rt, alloc, &given, &mut shelf, &mut sink).number();
     Ok(Given {
         status,
         written: Vec::from_slice(alloc, sink.written())?,

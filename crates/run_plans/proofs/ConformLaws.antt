@@ -3,7 +3,7 @@ use Rattle.std.proofs.Common.{◌≡◌, ℕ, ◌<◌, ◌++◌, ◌==◌, refl,
 use Rattle.std.proofs.lemmas.Bool.{cases_lt}
 use Rattle.std.specs.Prelude.{Bool, length, codes, decimal, if◌then◌else◌, slice_index_or}
 use Rattle.sporadic_model.specs.SetDef.{SetDef, task_at}
-use Rattle.sporadic_model.specs.declared.ids.Protocol.{Protocol}
+use Rattle.protocol_names.specs.declared.ProtocolName.{ProtocolName}
 use Rattle.schedule_model.specs.JobDef.{JobsDef}
 use Rattle.schedule_model.specs.RowDef.{Trace, trace_in, ticks_of}
 use Rattle.schedule_model.specs.Fitting.{RowsDef}
@@ -11,14 +11,14 @@ use Rattle.schedule_model.specs.Keeping.{rule_number, KeepsBefore, IsFirstUnlawf
 use Rattle.schedule_model.specs.Measures.{MeasuresDef, measures_of}
 use Rattle.schedule_model.specs.declared.rule.Rule.{Rule}
 use Rattle.schedule_model.specs.declared.rule.Rule.TheVariants as rule
-use Rattle.trace_conform.specs.ByProtocol.{rules_of, interference_of}
+use Rattle.named_protocols.specs.Named.{interference_of, rules_of}
 use Rattle.trace_conform.specs.Measured.{measure_seen, no_measure}
 use Rattle.trace_conform.specs.Conforming.{AreMeasures}
 use Rattle.trace_conform.specs.declared.measures.Measured.{Measured}
 use Rattle.run_plans.specs.Plans.{Answer}
-use Rattle.answer_texts.specs.Texts.{measures_line, measures_lines, lawful_text, broken_text}
+use Rattle.reply_texts.specs.Texts.{measures_line, measures_lines, lawful_text, broken_text}
 use Rattle.run_plans.specs.Commands.{IsConformance, conformance_of}
-use Rattle.answer_texts.proofs.Lines.{lines_same}
+use Rattle.reply_texts.proofs.Lines.{lines_same}
 use Rattle.run_plans.proofs.PlanLaws.{IsPlain, IsLawfulWork, plain_at, plain_same}
 
 -- A rule is known by its number.
@@ -99,7 +99,7 @@ conformance_plain keeps interferes w n a (inl (kept, is)) =
 conformance_plain keeps interferes w n a (inr (t, r, first, is)) =
     plain_same a (broken_answer t r) is (plain_at 1 (broken_text t r) (inl (inr refl)))
 
-pub conformance_lawful : (protocol : Protocol) (jobs : JobsDef) (rows : RowsDef) → IsLawfulWork (conformance_of protocol jobs rows)
+pub conformance_lawful : (protocol : ProtocolName) (jobs : JobsDef) (rows : RowsDef) → IsLawfulWork (conformance_of protocol jobs rows)
 conformance_lawful protocol jobs rows =
     let keeps = rules_of protocol in
     let interferes = interference_of protocol in

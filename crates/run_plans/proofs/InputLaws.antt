@@ -5,7 +5,8 @@ use Rattle.serde_json.specs.Data.{Data}
 use Rattle.sporadic_model.specs.SetDef.{SetDef}
 use Rattle.sporadic_model.specs.Refusals.{first_refusal}
 use Rattle.sporadic_model.proofs.Acceptance.{free_from_accepted}
-use Rattle.sporadic_model.specs.declared.ids.Protocol.{Protocol}
+use Rattle.protocol_names.specs.Names.{homes_as}
+use Rattle.protocol_names.specs.declared.ProtocolName.{ProtocolName}
 use Rattle.sporadic_model.specs.declared.refusal.Place.{Place}
 use Rattle.sporadic_model.specs.declared.refusal.ModelRefusal.{ModelRefusal}
 use Rattle.sporadic_model.specs.declared.refusal.ModelRefusal.TheVariants as model
@@ -92,17 +93,17 @@ abbrev pub with_homes : Option ℕ → SetDef → Result SetDef SetRefusal
 with_homes None set = Ok set
 with_homes (Some q) set = Err (refusal.NoHome (record { 0 = q }))
 
-abbrev pub for_protocol : Protocol → Result SetDef SetRefusal → Result SetDef SetRefusal
-for_protocol protocol (Ok set) = with_homes (first_homeless set protocol) set
+abbrev pub for_protocol : ProtocolName → Result SetDef SetRefusal → Result SetDef SetRefusal
+for_protocol protocol (Ok set) = with_homes (first_homeless set (homes_as protocol)) set
 for_protocol protocol (Err r) = Err r
 
-record ReadFor (protocol : Protocol) (bytes : List ℕ) (r : Result SetDef SetRefusal) : Type 0 where
+record ReadFor (protocol : ProtocolName) (bytes : List ℕ) (r : Result SetDef SetRefusal) : Type 0 where
   said : Result SetDef SetRefusal
   reads : Reads said bytes
   tells : Tells said
   is : r ≡ for_protocol protocol said
 
-read_for : (protocol : Protocol) (bytes : List ℕ) (r : Result SetDef SetRefusal) → ReadsSet protocol bytes r → ReadFor protocol bytes r
+read_for : (protocol : ProtocolName) (bytes : List ℕ) (r : Result SetDef SetRefusal) → ReadsSet protocol bytes r → ReadFor protocol bytes r
 read_for protocol bytes (Ok set) (reads, none) =
     record { said = Ok set; reads = reads; tells = tt; is = sym (ap (λ o. with_homes o set) none) }
 read_for protocol bytes (Err (refusal.NoHome q)) (set, reads, some) =
@@ -113,7 +114,7 @@ read_for protocol bytes (Err (refusal.Shape place)) reads =
 read_for protocol bytes (Err (refusal.Model m)) reads = record { said = Err (refusal.Model m); reads = reads; tells = tt; is = refl }
 read_for protocol bytes (Err refusal.Memory) reads = absurd reads
 
-pub set_reads_once : (protocol : Protocol) → ReadsOnce (set_input protocol)
+pub set_reads_once : (protocol : ProtocolName) → ReadsOnce (set_input protocol)
 set_reads_once protocol bytes r s p q =
     let x = read_for protocol bytes r p in
     let y = read_for protocol bytes s q in

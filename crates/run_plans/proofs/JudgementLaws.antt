@@ -4,9 +4,9 @@ use Rattle.std.specs.Prelude.{slice_index}
 use Rattle.program_form.specs.Certificate.{CertificateDef}
 use Rattle.program_sources.specs.Valid.{value_at}
 use Rattle.sporadic_model.specs.SetDef.{SetDef}
-use Rattle.sporadic_model.specs.declared.ids.Protocol.{Protocol}
+use Rattle.protocol_names.specs.declared.ProtocolName.{ProtocolName}
 use Rattle.soundness_laws.specs.Analyses.{AreValues}
-use Rattle.response_fixpoint.specs.Written.{written}
+use Rattle.named_protocols.specs.Named.{source_of}
 use Rattle.dual_check.specs.Failures.{IsFailure}
 use Rattle.dual_check.specs.declared.answer.Invalid.{Invalid}
 use Rattle.dual_check.specs.declared.answer.Invalid.TheVariants as invalid
@@ -14,25 +14,25 @@ use Rattle.dual_check.proofs.FailureLaws.{no_failure, one_failure}
 use Rattle.report.specs.FullTable.{full_text}
 use Rattle.report.proofs.Lines.{full_text-agree}
 use Rattle.run_plans.specs.Plans.{Answer}
-use Rattle.answer_texts.specs.Texts.{invalid_text}
+use Rattle.reply_texts.specs.Texts.{invalid_text}
 use Rattle.run_plans.specs.Commands.{IsJudgement, reported_answer}
-use Rattle.answer_texts.specs.Failing.{FailsTask}
+use Rattle.reply_texts.specs.Failing.{FailsTask}
 use Rattle.run_plans.proofs.PlanLaws.{IsPlain, IsLawfulWork}
 
 invalid_answer : SetDef → Invalid → Answer
 invalid_answer set e = record { status = 1; text = invalid_text set e }
 
-one_judgement : (protocol : Protocol) (set : SetDef) (c : CertificateDef) (valid a b : Answer)
+one_judgement : (protocol : ProtocolName) (set : SetDef) (c : CertificateDef) (valid a b : Answer)
     → IsJudgement protocol set c valid a → IsJudgement protocol set c valid b → a ≡ b
 unfolding invalid_answer
 one_judgement protocol set c valid a b (inl (holds, is)) (inl (holds', is')) = is ∙ sym is'
-one_judgement protocol set c valid a b (inl (holds, is)) (inr (e, fails, is')) = absurd (no_failure e (written protocol set) c fails holds)
-one_judgement protocol set c valid a b (inr (e, fails, is)) (inl (holds, is')) = absurd (no_failure e (written protocol set) c fails holds)
+one_judgement protocol set c valid a b (inl (holds, is)) (inr (e, fails, is')) = absurd (no_failure e (source_of protocol set) c fails holds)
+one_judgement protocol set c valid a b (inr (e, fails, is)) (inl (holds, is')) = absurd (no_failure e (source_of protocol set) c fails holds)
 one_judgement protocol set c valid a b (inr (e, fails, is)) (inr (e', fails', is')) =
-    is ∙ ap (invalid_answer set) (one_failure e e' (written protocol set) c fails fails') ∙ sym is'
+    is ∙ ap (invalid_answer set) (one_failure e e' (source_of protocol set) c fails fails') ∙ sym is'
 
 -- Its status is 0 where that of the answer to a valid one is, or 1.
-judgement_status : (protocol : Protocol) (set : SetDef) (c : CertificateDef) (valid a : Answer) → valid.status ≡ 0
+judgement_status : (protocol : ProtocolName) (set : SetDef) (c : CertificateDef) (valid a : Answer) → valid.status ≡ 0
     → IsJudgement protocol set c valid a → (a.status ≡ 0) ⊎ (a.status ≡ 1)
 judgement_status protocol set c valid a zero (inl (holds, is)) = inl (ap (λ x. x.status) is ∙ zero)
 judgement_status protocol set c valid a zero (inr (e, fails, is)) = inr (ap (λ x. x.status) is)
@@ -49,7 +49,7 @@ plain_of_status a (inr one) = record {
   most = omega (arith, one);
 }
 
-pub judgement_lawful : (protocol : Protocol) (set : SetDef) (c : CertificateDef) (valid : Answer) → valid.status ≡ 0
+pub judgement_lawful : (protocol : ProtocolName) (set : SetDef) (c : CertificateDef) (valid : Answer) → valid.status ≡ 0
     → IsLawfulWork (record { answers = IsJudgement protocol set c valid; ends = Unit {0} })
 judgement_lawful protocol set c valid zero = record {
   one = one_judgement protocol set c valid;
@@ -61,13 +61,13 @@ at_most_one : (a : Answer) → (a.status ≡ 0) ⊎ (a.status ≡ 1) → a.statu
 at_most_one a (inl zero) = omega (arith, zero)
 at_most_one a (inr one) = omega (arith, one)
 
-pub judgement_quiet : (protocol : Protocol) (set : SetDef) (c : CertificateDef) (valid a : Answer) → valid.status ≡ 0
+pub judgement_quiet : (protocol : ProtocolName) (set : SetDef) (c : CertificateDef) (valid a : Answer) → valid.status ≡ 0
     → IsJudgement protocol set c valid a → a.status ≤ 1
 judgement_quiet protocol set c valid a zero judged = at_most_one a (judgement_status protocol set c valid a zero judged)
 
 -- The task that a failure names is one of the set.
-pub fails_task : (protocol : Protocol) (set : SetDef) (c : CertificateDef) (e : Invalid)
-    → IsFailure e (written protocol set) c → FailsTask set e
+pub fails_task : (protocol : ProtocolName) (set : SetDef) (c : CertificateDef) (e : Invalid)
+    → IsFailure e (source_of protocol set) c → FailsTask set e
 fails_task protocol set c invalid.Size fails = tt
 fails_task protocol set c (invalid.Bound i) fails = fails.1.below
 fails_task protocol set c (invalid.DualSize i) fails = fails.1.below
@@ -76,9 +76,9 @@ fails_task protocol set c (invalid.Small i) fails = fails.1.below
 fails_task protocol set c invalid.Memory fails = fails
 
 -- The table of the values that are listed is the one of the duals' values.
-pub listed_table : (protocol : Protocol) (set : SetDef) (c : CertificateDef) (values : List ℕ) (a : Answer)
-    → AreValues (written protocol set) c values
+pub listed_table : (protocol : ProtocolName) (set : SetDef) (c : CertificateDef) (values : List ℕ) (a : Answer)
+    → AreValues (source_of protocol set) c values
     → a ≡ record { status = 0; text = full_text set c.bounds (slice_index values) } → a ≡ reported_answer protocol set c
 listed_table protocol set c values a are is =
     is ∙ ap (λ (t : List ℕ). record { status = 0; text = t })
-    (full_text-agree set c.bounds (slice_index values) (value_at (written protocol set) c) are.each)
+    (full_text-agree set c.bounds (slice_index values) (value_at (source_of protocol set) c) are.each)

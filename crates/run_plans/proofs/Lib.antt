@@ -9,8 +9,11 @@ pub mod ReplyLaws
 pub mod RunLaws
 pub mod TwiceLaws
 pub mod JudgementLaws
+pub mod TiedLaws
 pub mod CertInputLaws
 pub mod SoundLaws
+pub mod ShownLaws
+pub mod BoundLaws
 pub mod CheckedLaws
 pub mod SetTextLaws
 pub mod AuditLaws

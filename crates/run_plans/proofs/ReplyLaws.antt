@@ -1,21 +1,23 @@
 -- What is replied, from what came of inputs and of the work.
-use Rattle.std.proofs.Common.{◌≡◌, ℕ, ◌≤◌, List, length, inl, inr, Ok, Err, map}
-use Rattle.std.specs.Prelude.{Option, Result}
-use Rattle.outside_ports.specs.Names.{Inputs}
+use Rattle.std.proofs.Common.{◌≡◌, ℕ, List, refl, sym, ◌∙◌, subst, inl, inr, Ok, Err, map}
+use Rattle.std.specs.Prelude.{Result}
+use Rattle.outside_ports.specs.Ports.{ShelfDef}
 use Rattle.program_form.specs.Certificate.{dual_seen}
 use Rattle.sporadic_model.specs.SetDef.{SetDef}
-use Rattle.sporadic_model.specs.declared.ids.Protocol.{Protocol}
+use Rattle.protocol_names.specs.declared.ProtocolName.{ProtocolName}
 use Rattle.response_fixpoint.specs.Rounds.{Schedulable, NotShown, Wide, Allowance}
-use Rattle.response_fixpoint.specs.Written.{written}
+use Rattle.named_protocols.specs.Named.{source_of}
 use Rattle.response_fixpoint.specs.Answers.{Answers}
 use Rattle.response_fixpoint.specs.declared.verdict.Verdict.{Verdict}
 use Rattle.response_fixpoint.specs.declared.verdict.Verdict.TheVariants as verdict
 use Rattle.response_fixpoint.specs.declared.verdict.Stop.{Stop}
 use Rattle.response_fixpoint.specs.declared.verdict.Stop.TheVariants as stop
-use Rattle.run_plans.specs.Plans.{Answer, Input, Plan, Reading, IsWorking, IsRead, IsOutcomeOf}
+use Rattle.run_plans.specs.Plans.{Answer, Input, Work, Plan, Working, Reading, IsWorking, IsOutcomeOf}
+use Rattle.sha2.specs.Sha256.{sha256}
+use Rattle.run_plans.specs.Inputs.{set_input}
 use Rattle.run_plans.specs.Commands.{IsAnalysis}
-use Rattle.run_plans.specs.Outcome.{Shown, shown_by, IsReplyOf}
-use Rattle.run_plans.specs.Replies.{reply_seen, HaltsWith, Answered, IsUngot, RepliesTo}
+use Rattle.run_plans.specs.Outcome.{Shown, shown, shown_by, IsReplyOf}
+use Rattle.run_plans.specs.Replies.{reply_seen, HaltsWith, Answered, IsUngot, IsGiven, IsGotTied, AnswersPlan, Keeps, RepliesTo}
 use Rattle.run_plans.specs.Reached.{NamesTask}
 use Rattle.run_plans.specs.declared.halt.Reply.{Reply}
 use Rattle.run_plans.specs.declared.halt.Halt.{Halt}
@@ -44,52 +46,63 @@ replied_ungot shelf input name next h says = halts_also (IsUngot shelf input nam
     (IsReplyOf shelf (Reading input name next)) (ungot_reply shelf input name next) h says
 
 -- What is replied once an input is got is the reply of the plan.
-pub replied_got : (names : Option Inputs) (before mid now given given_now : ℕ) (input : Input) (name : List ℕ)
-    (next : List ℕ → input.Value → Plan) (bytes : List ℕ) (value : input.Value)
-    (r : Result Reply Halt) → before ≤ mid
-    → IsRead (shown_by (record { names = names; before = before; now = mid; given = given })) input name bytes value
-    → (IsWorking (next bytes value) → length bytes ≡ given_now)
-    → Answered r (IsReplyOf (record { names = names; before = mid; now = now; given = given_now }) (next bytes value))
-    → Answered r (IsReplyOf (record { names = names; before = before; now = now; given = given_now }) (Reading input name next))
-replied_got names before mid now given given_now input name next bytes value r later read last says =
-    answered_also (IsReplyOf (record { names = names; before = mid; now = now; given = given_now }) (next bytes value))
-    (IsReplyOf (record { names = names; before = before; now = now; given = given_now }) (Reading input name next))
-    (λ a is. then_reply names before mid now given_now input name next bytes value a later read.0 read.1 last is) r says
+pub replied_got : (old mid new : ShelfDef) (input : Input) (name : List ℕ) (next : List ℕ → input.Value → Plan) (value : input.Value)
+    (r : Result Reply Halt) → Keeps old mid → (given : IsGiven (shown old mid) input name value)
+    → (IsWorking (next given.0 value) → new.given ≡ mid.given)
+    → AnswersPlan r mid new (next given.0 value) → AnswersPlan r old new (Reading input name next)
+replied_got old mid new input name next value r keeps (bytes, read, size) last says =
+    answered_also (IsReplyOf (shown mid new) (next bytes value)) (IsReplyOf (shown old new) (Reading input name next))
+    (λ a is. then_reply old.names old.faults mid.faults new.faults new.given input name next bytes value a keeps.later read.0 read.1
+    (λ works. size ∙ sym (last works)) (rw keeps.names at is)) r says
 
 -- The same where the work comes next, which takes nothing from the shelf.
-pub replied_work : (names : Option Inputs) (before now given : ℕ) (input : Input) (name : List ℕ)
-    (next : List ℕ → input.Value → Plan) (bytes : List ℕ) (value : input.Value)
-    (says : Answer → Type 0) (r : Result Reply Halt) → before ≤ now
-    → IsRead (shown_by (record { names = names; before = before; now = now; given = given })) input name bytes value
-    → length bytes ≡ given → ((a : Answer) → says a
-    → IsOutcomeOf (shown_by (record { names = names; before = now; now = now; given = given })) (next bytes value) a)
-    → Answered r says → Answered r
-    (IsReplyOf (record { names = names; before = before; now = now; given = given }) (Reading input name next))
-replied_work names before now given input name next bytes value says r later read size works answered =
-    replied_got names before now now given given input name next bytes value r later read (λ w. size)
-    (answered_also says
-    (IsReplyOf (record { names = names; before = now; now = now; given = given }) (next bytes value))
-    (λ a is. inr (works a is)) r answered)
+pub replied_work : (old new : ShelfDef) (input : Input) (name : List ℕ) (next : List ℕ → input.Value → Plan) (value : input.Value)
+    (says : Answer → Type 0) (r : Result Reply Halt) → Keeps old new → (given : IsGiven (shown old new) input name value)
+    → ((a : Answer) → says a → IsOutcomeOf (shown_by (shown new new)) (next given.0 value) a)
+    → Answered r says → AnswersPlan r old new (Reading input name next)
+replied_work old new input name next value says r keeps given works answered =
+    replied_got old new new input name next value r keeps given (λ w. refl)
+    (answered_also says (IsReplyOf (shown new new) (next given.0 value)) (λ a is. inr (works a is)) r answered)
+
+-- The same of a set that is got with the digest of its bytes, where the rest of the plan, or the work, is given the digest.
+pub replied_tied : (old mid new : ShelfDef) (protocol : ProtocolName) (name : List ℕ) (next : List ℕ → SetDef → Plan)
+    (got : SetDef × List ℕ) (r : Result Reply Halt) → Keeps old mid → IsGotTied (shown old mid) protocol name (Ok got)
+    → ((digest : List ℕ) (set : SetDef) → IsWorking (next digest set) → ⊥)
+    → AnswersPlan r mid new (next got.1 got.0)
+    → AnswersPlan r old new (Reading (set_input protocol) name (λ bytes set. next (sha256 bytes) set))
+replied_tied old mid new protocol name next got r keeps (given, tied) reads says =
+    replied_got old mid new (set_input protocol) name (λ bytes set. next (sha256 bytes) set) got.0 r keeps given
+    (λ works. absurd (reads (sha256 given.0) got.0 works))
+    (subst (λ (digest : List ℕ). AnswersPlan r mid new (next digest got.0)) tied says)
+
+pub replied_tied_work : (old new : ShelfDef) (protocol : ProtocolName) (name : List ℕ) (work : List ℕ → SetDef → Work)
+    (got : SetDef × List ℕ) (r : Result Reply Halt) → Keeps old new → IsGotTied (shown old new) protocol name (Ok got)
+    → Answered r ((work got.1 got.0).answers)
+    → AnswersPlan r old new (Reading (set_input protocol) name (λ bytes set. Working (work (sha256 bytes) set)))
+replied_tied_work old new protocol name work got r keeps (given, tied) says =
+    replied_work old new (set_input protocol) name (λ bytes set. Working (work (sha256 bytes) set)) got.0
+    ((work (sha256 given.0) got.0).answers) r keeps given (λ (a : Answer) is. is)
+    (subst (λ (digest : List ℕ). Answered r ((work digest got.0).answers)) tied says)
 
 -- The answer to an analysis that ends so is the outcome of the analysis.
-analysis_of_verdict : (protocol : Protocol) (set : SetDef) (allowance : ℕ) (r : Result Verdict Stop) (a : Answer)
-    → Answers r (written protocol set) allowance → RepliesTo protocol set r a
-    → IsAnalysis protocol set allowance a
-analysis_of_verdict protocol set allowance (Ok (verdict.Schedulable certificate)) a ends is =
+analysis_of_verdict : (protocol : ProtocolName) (digest : List ℕ) (set : SetDef) (allowance : ℕ) (r : Result Verdict Stop) (a : Answer)
+    → Answers r (source_of protocol set) allowance → RepliesTo protocol digest set r a
+    → IsAnalysis protocol digest set allowance a
+analysis_of_verdict protocol digest set allowance (Ok (verdict.Schedulable certificate)) a ends is =
     (Schedulable certificate.bounds.items (map dual_seen certificate.duals.items), ends, is)
-analysis_of_verdict protocol set allowance (Ok (verdict.NotShown task bound)) a ends is = (NotShown task.0 bound, ends, is)
-analysis_of_verdict protocol set allowance (Err (stop.Wide task)) a ends is = (Wide task.0, ends, is)
-analysis_of_verdict protocol set allowance (Err stop.Allowance) a ends is = (Allowance, ends, is)
-analysis_of_verdict protocol set allowance (Err stop.Memory) a ends is = absurd is
+analysis_of_verdict protocol digest set allowance (Ok (verdict.NotShown task bound)) a ends is = (NotShown task.0 bound, ends, is)
+analysis_of_verdict protocol digest set allowance (Err (stop.Wide task)) a ends is = (Wide task.0, ends, is)
+analysis_of_verdict protocol digest set allowance (Err stop.Allowance) a ends is = (Allowance, ends, is)
+analysis_of_verdict protocol digest set allowance (Err stop.Memory) a ends is = absurd is
 
-pub analysis_replied : (protocol : Protocol) (set : SetDef) (allowance : ℕ) (r : Result Verdict Stop) (reply : Reply)
-    → Answers r (written protocol set) allowance
-    → RepliesTo protocol set r (reply_seen reply) → IsAnalysis protocol set allowance (reply_seen reply)
-analysis_replied protocol set allowance r reply ends is = analysis_of_verdict protocol set allowance r (reply_seen reply) ends is
+pub analysis_replied : (protocol : ProtocolName) (digest : List ℕ) (set : SetDef) (allowance : ℕ) (r : Result Verdict Stop) (reply : Reply)
+    → Answers r (source_of protocol set) allowance
+    → RepliesTo protocol digest set r (reply_seen reply) → IsAnalysis protocol digest set allowance (reply_seen reply)
+analysis_replied protocol digest set allowance r reply ends is = analysis_of_verdict protocol digest set allowance r (reply_seen reply) ends is
 
 -- The task that an analysis names is one of the set.
-pub names_task : (protocol : Protocol) (set : SetDef) (allowance : ℕ) (r : Result Verdict Stop)
-    → Answers r (written protocol set) allowance → NamesTask set r
+pub names_task : (protocol : ProtocolName) (set : SetDef) (allowance : ℕ) (r : Result Verdict Stop)
+    → Answers r (source_of protocol set) allowance → NamesTask set r
 names_task protocol set allowance (Ok (verdict.Schedulable certificate)) ends = tt
 names_task protocol set allowance (Ok (verdict.NotShown task bound)) ends = ends.5
 names_task protocol set allowance (Err (stop.Wide task)) ends = ends.3

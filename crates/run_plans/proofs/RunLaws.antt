@@ -1,17 +1,19 @@
 -- What is true of a call, from what was replied and what was written.
-use Rattle.std.proofs.Common.{◌≡◌, ◌≢◌, ℕ, ◌-◌, ◌<◌, ◌≤◌, ◌↔◌, List, length, refl, sym, ◌∙◌, ap, subst, arith, inl, inr, ◌⊎◌, Some, None}
+use Rattle.std.proofs.Common.{◌≡◌, ◌≢◌, ℕ, ◌+◌, ◌<◌, ◌≤◌, ◌↔◌, List, length, refl, sym, ◌∙◌, ap, subst, arith, inl, inr, ◌⊎◌, Some, None}
 use Rattle.std.specs.Prelude.{Option, MatchOption, codes}
 use Rattle.outside_ports.specs.Counts.{Rose}
 use Rattle.outside_ports.specs.Names.{Inputs}
 use Rattle.outside_ports.specs.declared.whole.TheConstants.{GREATEST_INPUT_BYTES}
+use Rattle.sha2.specs.Sha256.{sha256}
 use Rattle.program_form.specs.Certificate.{DualDef}
 use Rattle.sporadic_model.specs.SetDef.{SetDef}
-use Rattle.sporadic_model.specs.declared.ids.Protocol.{Protocol}
+use Rattle.sporadic_model.specs.Accepted.{IsAccepted}
+use Rattle.protocol_names.specs.declared.ProtocolName.{ProtocolName}
 use Rattle.response_fixpoint.specs.Rounds.{Ending, Schedulable, NotShown, Wide, Allowance, EndsIn}
-use Rattle.response_fixpoint.specs.Runs.{rounds_of}
-use Rattle.response_fixpoint.specs.Written.{written, RequestsNothing}
+use Rattle.response_fixpoint.specs.Runs.{rounds_of, RequestsNothing}
+use Rattle.named_protocols.specs.Named.{source_of}
 use Rattle.response_fixpoint.proofs.EndLaws.{schedulable_best, not_shown_none}
-use Rattle.response_fixpoint.proofs.WrittenLaws.{no_columns, written_above}
+use Rattle.named_protocols.proofs.EachName.{named_above, named_no_columns}
 use Rattle.response_fixpoint.proofs.RunLaws.{rounds_never_wide}
 use Rattle.program_sources.specs.Fitting.{AreFitting}
 use Rattle.run_plans.specs.Plans.{Answer, Working, refused, IsWorking, IsOutcomeOf}
@@ -19,12 +21,14 @@ use Rattle.command_words.specs.Words.{Form, Analyse, Check, form_of}
 use Rattle.run_plans.specs.Inputs.{set_input}
 use Rattle.run_plans.specs.Commands.{ending_answer, IsAnalysis, analysis_of, plan_of}
 use Rattle.run_plans.specs.Outcome.{Shown, shown_by, told, refused_words, IsOutcome, IsReplyOf, IsReply}
-use Rattle.run_plans.specs.Headline.{Call, RanOut, WritesSchedulable, Analyses, IsHeadline}
+use Rattle.run_plans.specs.Headline.{Call, RanOut, WritesSchedulable, Analyses, IsHeadline, IsProvedAnalysis, IsProvedCheck}
 use Rattle.run_plans.specs.Run.{shelf_of, Gives, FailsToWrite, Replies, GivesOutcome, IsRun, AnalysisEnds, IsWideEnding, IsAllowanceEnding}
 use Rattle.run_plans.proofs.PlanLaws.{told_implied, outcome_implied, rest_of, one_of_plan, plan_plain, plan_well, plan_longer, fault_status}
 use Rattle.run_plans.proofs.InputLaws.{set_reads_once}
 use Rattle.run_plans.proofs.CommandLaws.{lawful, wide_ending, only_wide, only_short}
 use Rattle.run_plans.proofs.SoundLaws.{sound_outcome}
+use Rattle.run_plans.proofs.ShownLaws.{best_writes, proved_analysis, bounded_analysis, proved_check}
+use Rattle.run_plans.proofs.BoundLaws.{check_bounds}
 use Rattle.run_plans.proofs.SetTextLaws.{reads_text}
 
 -- What follows from a reply to words of this form, or of none.
@@ -37,6 +41,7 @@ pub record Replied (shelf : Shown) (o : Option Form) (a : Answer) : Type 0 where
   pub most : a.status ≤ 6
   pub long : (form : Form) → o ≡ Some form → (IsWorking (plan_of form) → ⊥) → GREATEST_INPUT_BYTES < shelf.given
       → (word : List ℕ) × (a ≡ refused word (codes "toolong"))
+  pub shows : (form : Form) → o ≡ Some form → a.status ≡ 0 → IsOutcomeOf (shown_by shelf) (plan_of form) a
   pub outcome : (inputs : Inputs) → shelf.names ≡ Some inputs
       → (MatchOption o (a ≡ refused_words) (λ form. IsOutcomeOf (told inputs) (plan_of form) a))
       ⊎ (Rose shelf.before shelf.now × (a.status ≡ 4))
@@ -59,6 +64,7 @@ replied shelf None a is =
       six = λ e. absurd (omega (arith, two, e));
       most = omega (arith, two);
       long = λ form some more long. absurd (not_none form None some refl);
+      shows = λ form some zero. absurd (not_none form None some refl);
       outcome = λ inputs tells. inl is;
     }
 replied shelf (Some form) a (inl (rose, small, fault)) =
@@ -71,6 +77,7 @@ replied shelf (Some form) a (inl (rose, small, fault)) =
       six = λ e. absurd (omega (arith, four, e));
       most = omega (arith, four);
       long = λ other some more long. absurd (omega (arith, small, long));
+      shows = λ other some zero. absurd (omega (arith, four, zero));
       outcome = λ inputs tells. inr (rose, four);
     }
 replied shelf (Some form) a (inr out) =
@@ -85,6 +92,7 @@ replied shelf (Some form) a (inr out) =
       long = λ other some more long. (
           let same : form ≡ other = same_form form other some in
           plan_longer shelf (plan_of form) (λ w. more (subst (λ (x : Form). IsWorking (plan_of x)) same w)) a out long);
+      shows = λ other some zero. subst (λ (x : Form). IsOutcomeOf (shown_by shelf) (plan_of x) a) (same_form form other some) out;
       outcome = λ inputs tells. inl (outcome_implied (shown_by shelf) (told inputs) (told_implied shelf inputs tells) (plan_of form) a out);
     }
 
@@ -104,83 +112,83 @@ of_form inputs words form a is out =
     subst (λ (o : Option Form). MatchOption o (a ≡ refused_words) (λ f. IsOutcomeOf (told inputs) (plan_of f) a)) is out
 
 -- What a call that analyses a set answers, where it gives its outcome.
-record Ended (protocol : Protocol) (set : SetDef) (allowance : ℕ) (a : Answer) : Type 0 where
+record Ended (protocol : ProtocolName) (digest : List ℕ) (set : SetDef) (allowance : ℕ) (a : Answer) : Type 0 where
   ending : Ending
-  ends : EndsIn (rounds_of (written protocol set)) allowance ending
-  is : a ≡ ending_answer protocol set ending
+  ends : EndsIn (rounds_of (source_of protocol set)) allowance ending
+  is : a ≡ ending_answer protocol digest set ending
 
-ended : (call : Call) (protocol : Protocol) (set : SetDef) (analyses : Analyses call protocol set) (a : Answer)
-    → IsOutcome analyses.inputs call.words a → Ended protocol set analyses.allowance a
+ended : (call : Call) (protocol : ProtocolName) (set : SetDef) (analyses : Analyses call protocol set) (a : Answer)
+    → IsOutcome analyses.inputs call.words a → Ended protocol (sha256 analyses.read.bytes) set analyses.allowance a
 ended call protocol set analyses a out =
     let plan = of_form analyses.inputs call.words (Analyse protocol analyses.name analyses.allowance) a analyses.form_is out in
     let read = analyses.read in
-    let analysis : IsAnalysis protocol set analyses.allowance a =
+    let analysis : IsAnalysis protocol (sha256 read.bytes) set analyses.allowance a =
     rest_of analyses.inputs (set_input protocol) analyses.name
-    (λ bytes x. Working (analysis_of protocol x analyses.allowance)) read.bytes set a (set_reads_once protocol)
+    (λ bytes x. Working (analysis_of protocol (sha256 bytes) x analyses.allowance)) read.bytes set a (set_reads_once protocol)
     ((read.named, read.short), reads_text protocol read.bytes set read.text) plan in
     record { ending = analysis.0; ends = analysis.1; is = analysis.2 }
 
-writes : (call : Call) (protocol : Protocol) (set : SetDef) (allowance : ℕ) (bounds : List ℕ) (duals : List DualDef)
-    (a : Answer) → EndsIn (rounds_of (written protocol set)) allowance (Schedulable bounds duals)
-    → a ≡ ending_answer protocol set (Schedulable bounds duals) → Gives call a → WritesSchedulable call protocol set
-writes call protocol set allowance bounds duals a ends is gives =
-    let right = schedulable_best (written protocol set) allowance bounds duals (written_above protocol set) ends in
-    let moved : Gives call (ending_answer protocol set (Schedulable bounds duals)) = subst (λ (x : Answer). Gives call x) is gives in
-    (record { bounds = bounds; duals = duals }, moved.0, moved.1, right.least, right.optimal)
+writes : (call : Call) (protocol : ProtocolName) (digest : List ℕ) (set : SetDef) (allowance : ℕ) (bounds : List ℕ) (duals : List DualDef)
+    (a : Answer) → IsAccepted set → EndsIn (rounds_of (source_of protocol set)) allowance (Schedulable bounds duals)
+    → a ≡ ending_answer protocol digest set (Schedulable bounds duals) → Gives call a → WritesSchedulable call protocol digest set
+writes call protocol digest set allowance bounds duals a accepted ends is gives =
+    let best = schedulable_best (source_of protocol set) allowance bounds duals (named_above protocol set) ends in
+    let moved : Gives call (ending_answer protocol digest set (Schedulable bounds duals)) = subst (λ (x : Answer). Gives call x) is gives in
+    best_writes call protocol digest set (record { bounds = bounds; duals = duals }) accepted best moved.0 moved.1
 
 -- The headline's two halves without its last premise.
-least_of : (call : Call) (protocol : Protocol) (set : SetDef) (n : ℕ) (e : Ending) (a : Answer)
-    → EndsIn (rounds_of (written protocol set)) n e → a ≡ ending_answer protocol set e → Gives call a → call.status ≡ 0
-    → WritesSchedulable call protocol set
-least_of call protocol set n (Schedulable bounds duals) a ends is gives zero = writes call protocol set n bounds duals a ends is gives
-least_of call protocol set n (NotShown i value) a ends is gives zero =
+least_of : (call : Call) (protocol : ProtocolName) (digest : List ℕ) (set : SetDef) (n : ℕ) (e : Ending) (a : Answer)
+    → IsAccepted set → EndsIn (rounds_of (source_of protocol set)) n e → a ≡ ending_answer protocol digest set e → Gives call a → call.status ≡ 0
+    → WritesSchedulable call protocol digest set
+least_of call protocol digest set n (Schedulable bounds duals) a accepted ends is gives zero = writes call protocol digest set n bounds duals a accepted ends is gives
+least_of call protocol digest set n (NotShown i value) a accepted ends is gives zero =
     let s : a.status ≡ 1 = ap (λ x. x.status) is in absurd (omega (arith, gives.0))
-least_of call protocol set n (Wide i) a ends is gives zero = let s : a.status ≡ 5 = ap (λ x. x.status) is in absurd (omega (arith, gives.0))
-least_of call protocol set n Allowance a ends is gives zero =
+least_of call protocol digest set n (Wide i) a accepted ends is gives zero = let s : a.status ≡ 5 = ap (λ x. x.status) is in absurd (omega (arith, gives.0))
+least_of call protocol digest set n Allowance a accepted ends is gives zero =
     let s : a.status ≡ 6 = ap (λ x. x.status) is in absurd (omega (arith, gives.0))
 
-none_of : (call : Call) (protocol : Protocol) (set : SetDef) (n : ℕ) (e : Ending) (a : Answer)
-    → EndsIn (rounds_of (written protocol set)) n e → a ≡ ending_answer protocol set e → Gives call a → call.status ≡ 1
-    → (s : List ℕ) → AreFitting (written protocol set) s → ⊥
-none_of call protocol set n (Schedulable bounds duals) a ends is gives one =
+none_of : (call : Call) (protocol : ProtocolName) (digest : List ℕ) (set : SetDef) (n : ℕ) (e : Ending) (a : Answer)
+    → EndsIn (rounds_of (source_of protocol set)) n e → a ≡ ending_answer protocol digest set e → Gives call a → call.status ≡ 1
+    → (s : List ℕ) → AreFitting (source_of protocol set) s → ⊥
+none_of call protocol digest set n (Schedulable bounds duals) a ends is gives one =
     let s : a.status ≡ 0 = ap (λ x. x.status) is in absurd (omega (arith, gives.0))
-none_of call protocol set n (NotShown i value) a ends is gives one =
-    not_shown_none (written protocol set) n i value (written_above protocol set) ends
-none_of call protocol set n (Wide i) a ends is gives one = let s : a.status ≡ 5 = ap (λ x. x.status) is in absurd (omega (arith, gives.0))
-none_of call protocol set n Allowance a ends is gives one = let s : a.status ≡ 6 = ap (λ x. x.status) is in absurd (omega (arith, gives.0))
+none_of call protocol digest set n (NotShown i value) a ends is gives one =
+    not_shown_none (source_of protocol set) n i value (named_above protocol set) ends
+none_of call protocol digest set n (Wide i) a ends is gives one = let s : a.status ≡ 5 = ap (λ x. x.status) is in absurd (omega (arith, gives.0))
+none_of call protocol digest set n Allowance a ends is gives one = let s : a.status ≡ 6 = ap (λ x. x.status) is in absurd (omega (arith, gives.0))
 
-exactly_of : (call : Call) (protocol : Protocol) (set : SetDef) (n : ℕ) (e : Ending) (a : Answer)
-    → EndsIn (rounds_of (written protocol set)) n e → a ≡ ending_answer protocol set e → Gives call a
-    → call.status ≢ 5 → call.status ≢ 6 → WritesSchedulable call protocol set ↔ ((s : List ℕ) × AreFitting (written protocol set) s)
-exactly_of call protocol set n (Schedulable bounds duals) a ends is gives no_wide no_allowance =
-    (λ w. (w.0.bounds, w.3.fitting), λ fits. writes call protocol set n bounds duals a ends is gives)
-exactly_of call protocol set n (NotShown i value) a ends is gives no_wide no_allowance = (
-  λ w. (w.0.bounds, w.3.fitting),
-  λ fits. absurd (not_shown_none (written protocol set) n i value (written_above protocol set) ends fits.0 fits.1),
+exactly_of : (call : Call) (protocol : ProtocolName) (digest : List ℕ) (set : SetDef) (n : ℕ) (e : Ending) (a : Answer)
+    → IsAccepted set → EndsIn (rounds_of (source_of protocol set)) n e → a ≡ ending_answer protocol digest set e → Gives call a
+    → call.status ≢ 5 → call.status ≢ 6 → WritesSchedulable call protocol digest set ↔ ((s : List ℕ) × AreFitting (source_of protocol set) s)
+exactly_of call protocol digest set n (Schedulable bounds duals) a accepted ends is gives no_wide no_allowance =
+    (λ w. (w.certificate.bounds, w.least.fitting), λ fits. writes call protocol digest set n bounds duals a accepted ends is gives)
+exactly_of call protocol digest set n (NotShown i value) a accepted ends is gives no_wide no_allowance = (
+  λ w. (w.certificate.bounds, w.least.fitting),
+  λ fits. absurd (not_shown_none (source_of protocol set) n i value (named_above protocol set) ends fits.0 fits.1),
 )
-exactly_of call protocol set n (Wide i) a ends is gives no_wide no_allowance = absurd (no_wide (gives.0 ∙ ap (λ x. x.status) is))
-exactly_of call protocol set n Allowance a ends is gives no_wide no_allowance = absurd (no_allowance (gives.0 ∙ ap (λ x. x.status) is))
+exactly_of call protocol digest set n (Wide i) a accepted ends is gives no_wide no_allowance = absurd (no_wide (gives.0 ∙ ap (λ x. x.status) is))
+exactly_of call protocol digest set n Allowance a accepted ends is gives no_wide no_allowance = absurd (no_allowance (gives.0 ∙ ap (λ x. x.status) is))
 
-headline_of : (call : Call) (protocol : Protocol) (set : SetDef) (n : ℕ) (a : Answer) → Ended protocol set n a
-    → Gives call a → IsHeadline call protocol set
-headline_of call protocol set n a e gives = record {
-  exactly = λ shelf sink ran no_wide no_allowance. exactly_of call protocol set n e.ending a e.ends e.is gives no_wide no_allowance;
-  least = least_of call protocol set n e.ending a e.ends e.is gives;
-  none = none_of call protocol set n e.ending a e.ends e.is gives;
+headline_of : (call : Call) (protocol : ProtocolName) (digest : List ℕ) (set : SetDef) (n : ℕ) (a : Answer) → IsAccepted set → Ended protocol digest set n a
+    → Gives call a → IsHeadline call protocol digest set
+headline_of call protocol digest set n a accepted e gives = record {
+  exactly = λ shelf sink ran no_wide no_allowance. exactly_of call protocol digest set n e.ending a accepted e.ends e.is gives no_wide no_allowance;
+  least = least_of call protocol digest set n e.ending a accepted e.ends e.is gives;
+  none = none_of call protocol digest set n e.ending a e.ends e.is gives;
 }
 
 -- An analysis of a set that requests nothing is never wide.
-never_five : (protocol : Protocol) (set : SetDef) (n : ℕ) (a : Answer) → Ended protocol set n a → RequestsNothing set → a.status ≡ 5 → ⊥
-never_five protocol set n a e nothing five =
-    let wide = wide_ending protocol set e.ending a e.is five in
-    rounds_never_wide (written protocol set) n wide.0 (no_columns protocol set nothing)
-    (subst (λ (x : Ending). EndsIn (rounds_of (written protocol set)) n x) wide.1 e.ends)
+never_five : (protocol : ProtocolName) (digest : List ℕ) (set : SetDef) (n : ℕ) (a : Answer) → Ended protocol digest set n a → RequestsNothing set → a.status ≡ 5 → ⊥
+never_five protocol digest set n a e nothing five =
+    let wide = wide_ending protocol digest set e.ending a e.is five in
+    rounds_never_wide (source_of protocol set) n wide.0 (named_no_columns protocol set nothing)
+    (subst (λ (x : Ending). EndsIn (rounds_of (source_of protocol set)) n x) wide.1 e.ends)
 
 -- What is so of a call whose status is that of a fault or of want of memory, for which there is a cause.
-other_headline : (call : Call) (protocol : Protocol) (set : SetDef) → ((call.status ≡ 4) ⊎ RanOut call)
-    → (Rose call.shelf_before call.shelf_now ⊎ (Rose call.sink_before call.sink_now ⊎ RanOut call))
-    → IsHeadline call protocol set
-other_headline call protocol set status cause = record {
+other_headline : (call : Call) (protocol : ProtocolName) (digest : List ℕ) (set : SetDef) → ((call.status ≡ 4) ⊎ RanOut call)
+    → (Rose call.shelf_before.faults call.shelf_now.faults ⊎ (Rose call.sink_before.faults call.sink_now.faults ⊎ RanOut call))
+    → IsHeadline call protocol digest set
+other_headline call protocol digest set status cause = record {
   exactly = λ no_shelf no_sink no_want no_wide no_allowance. elim cause [
     | inl shelf ↦ absurd (no_shelf shelf)
     | inr other ↦ elim other [ inl sink ↦ absurd (no_sink sink) | inr ran ↦ absurd (no_want ran) ]
@@ -210,7 +218,7 @@ gave_run call replies r gives =
       ];
       wide = λ e. r.five (sym is ∙ e);
       never_wide = λ protocol set analyses nothing e. elim (r.outcome analyses.inputs analyses.told) [
-        | inl mine ↦ never_five protocol set analyses.allowance a (ended call protocol set analyses a mine) nothing (sym is ∙ e)
+        | inl mine ↦ never_five protocol (sha256 analyses.read.bytes) set analyses.allowance a (ended call protocol set analyses a mine) nothing (sym is ∙ e)
         | inr fault ↦ absurd (omega (arith, is, fault.1, e))
       ];
       allowance = λ e. r.six (sym is ∙ e);
@@ -220,8 +228,8 @@ gave_run call replies r gives =
         | inr fault ↦ absurd (premise.shelf fault.0)
       ];
       headline = λ protocol set analyses. elim (r.outcome analyses.inputs analyses.told) [
-        | inl mine ↦ headline_of call protocol set analyses.allowance a (ended call protocol set analyses a mine) gives
-        | inr fault ↦ other_headline call protocol set (inl (is ∙ fault.1)) (inl fault.0)
+        | inl mine ↦ headline_of call protocol (sha256 analyses.read.bytes) set analyses.allowance a analyses.read.text.accepted (ended call protocol set analyses a mine) gives
+        | inr fault ↦ other_headline call protocol (sha256 analyses.read.bytes) set (inl (is ∙ fault.1)) (inl fault.0)
       ];
       sound = λ protocol set c checks zero. elim (r.outcome checks.inputs checks.told) [
         | inl mine ↦ sound_outcome call protocol set c checks a
@@ -229,7 +237,25 @@ gave_run call replies r gives =
             (sym is ∙ zero)
         | inr fault ↦ absurd (omega (arith, is, fault.1, zero))
       ];
+      analysed = analysed;
+      checked = checked;
+      bounding = record {
+        analysed = λ protocol name allowance form zero. bounded_analysis call protocol name allowance a
+            (r.shows (Analyse protocol name allowance) form (sym is ∙ zero)) gives zero;
+        checked = λ protocol name cert form zero. (
+            let p = checked protocol name cert form zero in (p.bytes, p.named, check_bounds call protocol name cert p));
+      };
     } where
+      analysed : (protocol : ProtocolName) (name : List ℕ) (allowance : ℕ) → form_of call.words ≡ Some (Analyse protocol name allowance)
+          → call.status ≡ 0 → IsProvedAnalysis call protocol name
+      analysed protocol name allowance form zero = proved_analysis call protocol name allowance replies.reply
+          (r.shows (Analyse protocol name allowance) form (sym gives.0 ∙ zero)) gives zero
+
+      checked : (protocol : ProtocolName) (name cert : List ℕ) → form_of call.words ≡ Some (Check protocol name cert)
+          → call.status ≡ 0 → IsProvedCheck call protocol name cert
+      checked protocol name cert form zero = proved_check call protocol name cert replies.reply
+          (r.shows (Check protocol name cert) form (sym gives.0 ∙ zero)) gives zero
+
       well : (inputs : Inputs) (form : Form) → form_of call.words ≡ Some form
           → IsOutcome inputs call.words replies.reply → (replies.reply.status ≡ 0) ⊎ (replies.reply.status ≡ 1)
           → ((call.status ≡ 0) ⊎ (call.status ≡ 1)) × GivesOutcome call inputs
@@ -252,8 +278,14 @@ cut_run call replies r fails =
       never_wide = λ protocol set analyses nothing e. absurd (omega (arith, four, e));
       allowance = λ e. absurd (omega (arith, four, e));
       complete = λ inputs form premise. absurd (premise.sink fails.rose);
-      headline = λ protocol set analyses. other_headline call protocol set (inl four) (inr (inl fails.rose));
+      headline = λ protocol set analyses. other_headline call protocol (sha256 analyses.read.bytes) set (inl four) (inr (inl fails.rose));
       sound = λ protocol set c checks zero. absurd (omega (arith, four, zero));
+      analysed = λ protocol name allowance form zero. absurd (omega (arith, four, zero));
+      checked = λ protocol name cert form zero. absurd (omega (arith, four, zero));
+      bounding = record {
+        analysed = λ protocol name allowance form zero. absurd (omega (arith, four, zero));
+        checked = λ protocol name cert form zero. absurd (omega (arith, four, zero));
+      };
     }
 
 -- A call that had no memory.
@@ -271,14 +303,20 @@ run_ran_out call ran =
       never_wide = λ protocol set analyses nothing e. absurd (omega (arith, seven, e));
       allowance = λ e. absurd (omega (arith, seven, e));
       complete = λ inputs form premise. inr ran;
-      headline = λ protocol set analyses. other_headline call protocol set (inr ran) (inr (inr ran));
+      headline = λ protocol set analyses. other_headline call protocol (sha256 analyses.read.bytes) set (inr ran) (inr (inr ran));
       sound = λ protocol set c checks zero. absurd (omega (arith, seven, zero));
+      analysed = λ protocol name allowance form zero. absurd (omega (arith, seven, zero));
+      checked = λ protocol name cert form zero. absurd (omega (arith, seven, zero));
+      bounding = record {
+        analysed = λ protocol name allowance form zero. absurd (omega (arith, seven, zero));
+        checked = λ protocol name cert form zero. absurd (omega (arith, seven, zero));
+      };
     }
 
 -- What the sink promised for a reply that is this long.
 abbrev pub HasRoom : Call → Answer → Type 0
-HasRoom call a = (room : ℕ) → length a.text ≤ room → call.takes room
-    → Gives call a × call.takes_now (room - length a.text) × (call.sink_now ≡ call.sink_before)
+HasRoom call a = length a.text ≤ call.sink_before.room → Gives call a
+    × (call.sink_before.room ≤ call.sink_now.room + length a.text) × (call.sink_now.faults ≡ call.sink_before.faults)
 
 -- What was replied went out whole, or it did not.
 pub run_replied : (call : Call) (a : Answer) → IsReply (shelf_of call) call.words a
@@ -290,11 +328,11 @@ run_replied call a reply out room =
 
 -- The same from what writing the text promises.
 pub run_written : (call : Call) (a : Answer) → IsReply (shelf_of call) call.words a → Gives call a
-    → ((room : ℕ) → length a.text ≤ room → call.takes room
-    → call.takes_now (room - length a.text) × (call.sink_now ≡ call.sink_before)) → IsRun call
+    → (length a.text ≤ call.sink_before.room
+    → (call.sink_before.room ≤ call.sink_now.room + length a.text) × (call.sink_now.faults ≡ call.sink_before.faults)) → IsRun call
 run_written call a reply gives takes = run_replied call a reply (inl gives)
-    (λ room fits held. (let kept = takes room fits held in (gives, kept.0, kept.1)))
+    (λ fits. (let kept = takes fits in (gives, kept.0, kept.1)))
 
 pub run_cut : (call : Call) (a : Answer) → IsReply (shelf_of call) call.words a → FailsToWrite call a
-    → ((room : ℕ) → length a.text ≤ room → call.takes room → ⊥) → IsRun call
-run_cut call a reply fails none = run_replied call a reply (inr fails) (λ room fits held. absurd (none room fits held))
+    → (length a.text ≤ call.sink_before.room → ⊥) → IsRun call
+run_cut call a reply fails none = run_replied call a reply (inr fails) (λ fits. absurd (none fits))

@@ -1,11 +1,11 @@
 -- Laws of studies: there is one answer, with status 0.
-use Rattle.std.proofs.Common.{◌≡◌, ℕ, zero, suc, ◌+◌, ◌<◌, ◌≤◌, List, [], ◌++◌, codes, decimal, refl, sym, ◌∙◌, ap, arith, inl}
+use Rattle.std.proofs.Common.{◌≡◌, ℕ, zero, suc, ◌<◌, ◌≤◌, List, [], ◌++◌, codes, decimal, refl, sym, ◌∙◌, ap, arith, inl}
 use Rattle.std.specs.Prelude.{slice_index, slice_index_or}
 use Rattle.bounded_sums.specs.Sums.{collect_below}
 use Rattle.study_gen.specs.Counts.{IsStudy}
 use Rattle.study_gen.specs.declared.counting.StudyCounts.{StudyCounts}
 use Rattle.study_gen.proofs.OneStudy.{step_once, stopped_is_one}
-use Rattle.answer_texts.specs.Texts.{step_line, study_text}
+use Rattle.reply_texts.specs.Texts.{step_line, study_text}
 use Rattle.run_plans.specs.Plans.{Answer}
 use Rattle.run_plans.specs.Commands.{IsStudyAnswer, study_of}
 use Rattle.run_plans.proofs.PlanLaws.{IsPlain, IsLawfulWork, plain_at, plain_same}

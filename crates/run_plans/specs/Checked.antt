@@ -1,39 +1,75 @@
 -- What a call of `check` makes of what a call of `analyse` wrote.
-use Rattle.std.specs.Prelude.{◌≡◌, ℕ, ◌≤◌, ◌⊎◌, List, length, Some, IsSome}
+use Rattle.std.specs.Prelude.{◌≡◌, ◌≢◌, ℕ, ◌≤◌, ◌⊎◌, List, length, Some, IsSome}
 use Rattle.std.specs.Io.KnownBytes.{Appends}
 use Rattle.outside_ports.specs.Counts.{Rose}
 use Rattle.outside_ports.specs.Names.{Inputs, bytes_of}
 use Rattle.outside_ports.specs.declared.whole.TheConstants.{GREATEST_INPUT_BYTES}
-use Rattle.sporadic_model.specs.declared.ids.Protocol.{Protocol}
+use Rattle.protocol_names.specs.declared.ProtocolName.{ProtocolName}
 use Rattle.command_words.specs.Words.{Analyse, Check, form_of}
-use Rattle.run_plans.specs.Commands.{checked_answer}
-use Rattle.run_plans.specs.Headline.{Call, RanOut}
+use Rattle.sha2.specs.Sha256.{sha256}
+use Rattle.sporadic_model.specs.SetDef.{SetDef}
+use Rattle.run_plans.specs.Plans.{Answer}
+use Rattle.run_plans.specs.Commands.{checked_answer, other_set_answer}
+use Rattle.run_plans.specs.Headline.{Call, RanOut, HasRead}
 use Rattle.run_plans.specs.Run.{Gives}
 
 -- Does the second call check what the first one wrote? The first analyses a set, writes to a sink that tells its bytes, and ends
 -- with status 0. The second checks a certificate for the same protocol, where the set's name has the same bytes, and the
 -- certificate's name those that the first call wrote. Both shelves tell their inputs.
 pub record ChecksWhatWasWritten (first second : Call) : Type 0 where
-  pub protocol : Protocol
+  pub protocol : ProtocolName
   pub set : List ℕ
   pub allowance : ℕ
   pub inputs : Inputs
   pub analyses : form_of first.words ≡ Some (Analyse protocol set allowance)
-  pub told : first.names ≡ Some inputs
-  pub tells : IsSome first.written_before
+  pub told : first.shelf_before.names ≡ Some inputs
+  pub tells : IsSome first.sink_before.written
   pub schedulable : first.status ≡ 0
   pub text : List ℕ
-  pub wrote : Appends first.written_before first.written_now text
+  pub wrote : Appends first.sink_before.written first.sink_now.written text
   pub short : length text ≤ GREATEST_INPUT_BYTES
   pub same_set : List ℕ
   pub certificate : List ℕ
   pub later : Inputs
   pub checks : form_of second.words ≡ Some (Check protocol same_set certificate)
-  pub told_later : second.names ≡ Some later
+  pub told_later : second.shelf_before.names ≡ Some later
   pub set_again : bytes_of later same_set ≡ bytes_of inputs set
   pub text_again : bytes_of later certificate ≡ Some text
 
--- The call writes `valid` with status 0; or a count of faults rose, with status 4; or memory ran out.
+-- Does the second call check what the first one wrote, for a set of other bytes of another digest? All else is as above, and the
+-- second set is accepted too.
+pub record ChecksForAnotherSet (first second : Call) : Type 0 where
+  pub protocol : ProtocolName
+  pub set : List ℕ
+  pub allowance : ℕ
+  pub inputs : Inputs
+  pub analyses : form_of first.words ≡ Some (Analyse protocol set allowance)
+  pub told : first.shelf_before.names ≡ Some inputs
+  pub tells : IsSome first.sink_before.written
+  pub schedulable : first.status ≡ 0
+  pub text : List ℕ
+  pub wrote : Appends first.sink_before.written first.sink_now.written text
+  pub short : length text ≤ GREATEST_INPUT_BYTES
+  pub bytes : List ℕ
+  pub named : bytes_of inputs set ≡ Some bytes
+  pub other_set : List ℕ
+  pub certificate : List ℕ
+  pub later : Inputs
+  pub checks : form_of second.words ≡ Some (Check protocol other_set certificate)
+  pub told_later : second.shelf_before.names ≡ Some later
+  pub tasks : SetDef
+  pub read : HasRead later protocol other_set tasks
+  pub apart : sha256 read.bytes ≢ sha256 bytes
+  pub text_again : bytes_of later certificate ≡ Some text
+
+-- The call gives this answer; or a count of faults rose, with status 4; or memory ran out.
+abbrev pub Finds : Call → Answer → Type 0
+Finds call answer = Gives call answer
+    ⊎ (((call.status ≡ 4) × (Rose call.shelf_before.faults call.shelf_now.faults ⊎ Rose call.sink_before.faults call.sink_now.faults)) ⊎ RanOut call)
+
+-- It finds the certificate valid, or of another set.
 abbrev pub FindsValid : Call → Type 0
-FindsValid call = Gives call checked_answer
-    ⊎ (((call.status ≡ 4) × (Rose call.shelf_before call.shelf_now ⊎ Rose call.sink_before call.sink_now)) ⊎ RanOut call)
+FindsValid call = Finds call checked_answer
+
+abbrev pub FindsOtherSet : Call → Type 0
+FindsOtherSet call = Finds call other_set_answer

@@ -1,13 +1,15 @@
 -- The commands: what each form of words does.
-use Rattle.std.specs.Prelude.{◌≡◌, ℕ, ◌⊎◌, Bool, List, slice_index}
+use Rattle.std.specs.Prelude.{◌≡◌, ◌≢◌, ℕ, ◌⊎◌, Bool, List, slice_index}
 use Rattle.program_form.specs.Certificate.{CertificateDef}
 use Rattle.program_sources.specs.Valid.{IsValid, value_at}
 use Rattle.sporadic_model.specs.SetDef.{SetDef, latest_bound, task_at}
-use Rattle.sporadic_model.specs.declared.ids.Protocol.{Protocol}
+use Rattle.protocol_names.specs.declared.ProtocolName.{ProtocolName}
 use Rattle.response_fixpoint.specs.Rounds.{Ending, Schedulable, NotShown, Wide, Allowance, EndsIn}
 use Rattle.response_fixpoint.specs.Runs.{rounds_of}
-use Rattle.response_fixpoint.specs.Written.{written}
+use Rattle.named_protocols.specs.Named.{charges_of, choice_of, interference_of, rules_of, source_of}
+use Rattle.cert_json.specs.FileDef.{FileDef}
 use Rattle.cert_json.specs.Text.{certificate_text}
+use Rattle.sha2.specs.Sha256.{sha256}
 use Rattle.dual_check.specs.Failures.{IsFailure}
 use Rattle.dual_check.specs.declared.answer.Invalid.{Invalid}
 use Rattle.report.specs.Table.{table_text}
@@ -18,40 +20,38 @@ use Rattle.schedule_model.specs.Fitting.{RowsDef}
 use Rattle.schedule_model.specs.Keeping.{KeepsBefore, IsFirstUnlawful}
 use Rattle.schedule_model.specs.Measures.{measures_of}
 use Rattle.schedule_model.specs.declared.rule.Rule.{Rule}
-use Rattle.trace_conform.specs.ByProtocol.{rules_of, interference_of}
 use Rattle.trace_csv.specs.Written.{rows_text}
-use Rattle.sim_engine.specs.ByProtocol.{choice_of}
 use Rattle.sim_engine.specs.Simulated.{IsSimulated}
 use Rattle.study_gen.specs.Counts.{IsStudy}
 use Rattle.study_gen.specs.declared.counting.StudyCounts.{StudyCounts}
 use Rattle.run_plans.specs.Plans.{Answer, Work, Plan, Working, Reading}
-use Rattle.command_words.specs.Words.{Form, Analyse, Check, Report, FullReport, Conform, Simulate, Study, Audit}
-use Rattle.answer_texts.specs.Texts.{not_shown_text, wide_text, allowance_text, lawful_text, broken_text, valid_text}
-use Rattle.answer_texts.specs.Texts.{invalid_text, study_text, kept_text}
-use Rattle.charge.specs.ByProtocol.{charges_of}
+use Rattle.protocol_names.specs.Names.{word_of}
+use Rattle.command_words.specs.Words.{Form, Analyse, Check, Upgrade, Report, FullReport, Conform, Simulate, Study, Audit}
+use Rattle.reply_texts.specs.Texts.{not_shown_text, wide_text, allowance_text, lawful_text, broken_text, valid_text}
+use Rattle.reply_texts.specs.Texts.{other_set_text, invalid_text, study_text, kept_text}
 use Rattle.audit_figures.specs.Figures.{figures_of}
-use Rattle.run_plans.specs.Inputs.{set_input, cert_input, jobs_input, rows_input}
+use Rattle.run_plans.specs.Inputs.{set_input, cert_input, old_cert_input, jobs_input, rows_input}
 
--- What goes out where the rounds of the set end so.
-abbrev pub ending_answer : Protocol → SetDef → Ending → Answer
-ending_answer protocol set (Schedulable bounds duals) =
-    record { status = 0; text = certificate_text protocol (record { bounds = bounds; duals = duals }) }
-ending_answer protocol set (NotShown i value) =
+-- What goes out where the rounds of the set end so, whose bytes have this digest.
+abbrev pub ending_answer : ProtocolName → List ℕ → SetDef → Ending → Answer
+ending_answer protocol digest set (Schedulable bounds duals) =
+    record { status = 0; text = certificate_text (word_of protocol) digest (record { bounds = bounds; duals = duals }) }
+ending_answer protocol digest set (NotShown i value) =
     record { status = 1; text = not_shown_text (task_at set i).name value (latest_bound (task_at set i)) }
-ending_answer protocol set (Wide i) = record { status = 5; text = wide_text (task_at set i).name }
-ending_answer protocol set Allowance = record { status = 6; text = allowance_text }
+ending_answer protocol digest set (Wide i) = record { status = 5; text = wide_text (task_at set i).name }
+ending_answer protocol digest set Allowance = record { status = 6; text = allowance_text }
 
 -- The answer of an analysis with this allowance.
-abbrev pub IsAnalysis : Protocol → SetDef → ℕ → Answer → Type 0
-IsAnalysis protocol set allowance answer =
-    (e : Ending) × (EndsIn (rounds_of (written protocol set)) allowance e) × (answer ≡ ending_answer protocol set e)
+abbrev pub IsAnalysis : ProtocolName → List ℕ → SetDef → ℕ → Answer → Type 0
+IsAnalysis protocol digest set allowance answer =
+    (e : Ending) × (EndsIn (rounds_of (source_of protocol set)) allowance e) × (answer ≡ ending_answer protocol digest set e)
 
 -- It has status 0 or 1 where the rounds come to a verdict.
-abbrev pub analysis_of : Protocol → SetDef → ℕ → Work
-analysis_of protocol set allowance = record {
-  answers = IsAnalysis protocol set allowance;
-  ends = ((i : ℕ) → EndsIn (rounds_of (written protocol set)) allowance (Wide i) → ⊥)
-      × (EndsIn (rounds_of (written protocol set)) allowance Allowance → ⊥);
+abbrev pub analysis_of : ProtocolName → List ℕ → SetDef → ℕ → Work
+analysis_of protocol digest set allowance = record {
+  answers = IsAnalysis protocol digest set allowance;
+  ends = ((i : ℕ) → EndsIn (rounds_of (source_of protocol set)) allowance (Wide i) → ⊥)
+      × (EndsIn (rounds_of (source_of protocol set)) allowance Allowance → ⊥);
 }
 
 -- The answer of a table, which there is of every set.
@@ -62,27 +62,53 @@ abbrev pub table_of : SetDef → Work
 table_of set = record { answers = IsTable set; ends = Unit {0} }
 
 -- The answer on a certificate: this one where it is valid, else its first failure.
-abbrev pub IsJudgement : Protocol → SetDef → CertificateDef → Answer → Answer → Type 0
+abbrev pub IsJudgement : ProtocolName → SetDef → CertificateDef → Answer → Answer → Type 0
 IsJudgement protocol set c valid answer =
-    (IsValid (written protocol set) c × (answer ≡ valid))
-    ⊎ ((e : Invalid) × (IsFailure e (written protocol set) c) × (answer ≡ record { status = 1; text = invalid_text set e }))
+    (IsValid (source_of protocol set) c × (answer ≡ valid))
+    ⊎ ((e : Invalid) × (IsFailure e (source_of protocol set) c) × (answer ≡ record { status = 1; text = invalid_text set e }))
+
+-- The certificate is of a set of other bytes.
+abbrev pub other_set_answer : Answer
+other_set_answer = record { status = 1; text = other_set_text }
+
+-- The answer on a certificate's file beside a set whose bytes have this digest: the file names another set; or else what is said of
+-- its certificate.
+abbrev pub IfTied : List ℕ → FileDef → (CertificateDef → Answer → Type 0) → Answer → Type 0
+IfTied digest file says answer =
+    ((file.digest ≢ digest) × (answer ≡ other_set_answer)) ⊎ ((file.digest ≡ digest) × says file.certificate answer)
 
 -- Judging a certificate, and the table of a set with what a certificate proves. There always is an answer.
 abbrev pub checked_answer : Answer
 checked_answer = record { status = 0; text = valid_text }
 
-abbrev pub reported_answer : Protocol → SetDef → CertificateDef → Answer
-reported_answer protocol set c = record { status = 0; text = full_text set c.bounds (value_at (written protocol set) c) }
+abbrev pub reported_answer : ProtocolName → SetDef → CertificateDef → Answer
+reported_answer protocol set c = record { status = 0; text = full_text set c.bounds (value_at (source_of protocol set) c) }
 
-abbrev pub check_of : Protocol → SetDef → CertificateDef → Work
-check_of protocol set c = record { answers = IsJudgement protocol set c checked_answer; ends = Unit {0} }
+abbrev pub IsCheck : ProtocolName → SetDef → CertificateDef → Answer → Type 0
+IsCheck protocol set c answer = IsJudgement protocol set c checked_answer answer
 
-abbrev pub full_table_of : Protocol → SetDef → CertificateDef → Work
-full_table_of protocol set c = record { answers = IsJudgement protocol set c (reported_answer protocol set c); ends = Unit {0} }
+abbrev pub check_of : ProtocolName → List ℕ → SetDef → FileDef → Work
+check_of protocol digest set file = record { answers = IfTied digest file (IsCheck protocol set); ends = Unit {0} }
+
+abbrev pub IsFullTable : ProtocolName → SetDef → CertificateDef → Answer → Type 0
+IsFullTable protocol set c answer = IsJudgement protocol set c (reported_answer protocol set c) answer
+
+abbrev pub full_table_of : ProtocolName → List ℕ → SetDef → FileDef → Work
+full_table_of protocol digest set file = record { answers = IfTied digest file (IsFullTable protocol set); ends = Unit {0} }
 
 -- Reading a certificate for the protocol, and working on it.
-abbrev pub with_certificate : Protocol → List ℕ → (CertificateDef → Work) → Plan
-with_certificate protocol name work = Reading (cert_input protocol) name (λ bytes c. Working (work c))
+abbrev pub with_certificate : ProtocolName → List ℕ → (FileDef → Work) → Plan
+with_certificate protocol name work = Reading (cert_input protocol) name (λ bytes file. Working (work file))
+
+-- Judging a certificate of the version before, which is written with the set's digest where it is valid.
+abbrev pub upgraded_answer : ProtocolName → List ℕ → CertificateDef → Answer
+upgraded_answer protocol digest c = record { status = 0; text = certificate_text (word_of protocol) digest c }
+
+abbrev pub upgrade_of : ProtocolName → List ℕ → SetDef → CertificateDef → Work
+upgrade_of protocol digest set c = record { answers = IsJudgement protocol set c (upgraded_answer protocol digest c); ends = Unit {0} }
+
+abbrev pub upgrading : ProtocolName → List ℕ → List ℕ → SetDef → Plan
+upgrading protocol cert digest set = Reading (old_cert_input protocol) cert (λ bytes c. Working (upgrade_of protocol digest set c))
 
 -- The answer on n rows, where these are the rules and the ticks of interference: each row keeps the rules, and here are
 -- the measures of all tasks; or here is the first row that breaks one, with the first rule that it breaks.
@@ -92,31 +118,31 @@ IsConformance keeps interferes w n answer =
     ⊎ ((tick : ℕ) × (r : Rule) × (IsFirstUnlawful keeps w n tick r) × (answer ≡ record { status = 1; text = broken_text tick r }))
 
 -- Judging and measuring these rows of the jobs, which there always is.
-abbrev pub conformance_of : Protocol → JobsDef → RowsDef → Work
+abbrev pub conformance_of : ProtocolName → JobsDef → RowsDef → Work
 conformance_of protocol jobs rows = record {
   answers = IsConformance (rules_of protocol) (interference_of protocol) (trace_in jobs rows.runs) (ticks_of rows.runs);
   ends = Unit {0};
 }
 
 -- Reading the rows of a schedule of these jobs, and judging them.
-abbrev pub judging_rows : Protocol → List ℕ → JobsDef → Plan
+abbrev pub judging_rows : ProtocolName → List ℕ → JobsDef → Plan
 judging_rows protocol rows list = Reading (rows_input list) rows (λ bytes schedule. Working (conformance_of protocol list schedule))
 
 -- Reading jobs of this set and then the rows of a schedule, and judging them.
-abbrev pub judging_jobs : Protocol → List ℕ → List ℕ → SetDef → Plan
+abbrev pub judging_jobs : ProtocolName → List ℕ → List ℕ → SetDef → Plan
 judging_jobs protocol jobs rows set = Reading (jobs_input set) jobs (λ bytes list. judging_rows protocol rows list)
 
 -- The answer of a simulation of these jobs over n ticks: the rows that the protocol chooses.
-abbrev pub IsSimulation : Protocol → JobsDef → ℕ → Answer → Type 0
+abbrev pub IsSimulation : ProtocolName → JobsDef → ℕ → Answer → Type 0
 IsSimulation protocol list n answer = (runs : List RunDef) × IsSimulated (choice_of protocol) list n runs
     × (answer ≡ record { status = 0; text = rows_text list.set runs })
 
 -- Simulating these jobs, which there always is.
-abbrev pub simulation_of : Protocol → JobsDef → ℕ → Work
+abbrev pub simulation_of : ProtocolName → JobsDef → ℕ → Work
 simulation_of protocol list n = record { answers = IsSimulation protocol list n; ends = Unit {0} }
 
 -- Reading jobs of this set, and simulating them.
-abbrev pub simulating_jobs : Protocol → List ℕ → ℕ → SetDef → Plan
+abbrev pub simulating_jobs : ProtocolName → List ℕ → ℕ → SetDef → Plan
 simulating_jobs protocol jobs n set = Reading (jobs_input set) jobs (λ bytes list. Working (simulation_of protocol list n))
 
 -- The answer of a study: what it counts.
@@ -136,42 +162,51 @@ IsKept keeps w n kept answer =
     ⊎ ((tick : ℕ) × (r : Rule) × (IsFirstUnlawful keeps w n tick r) × (answer ≡ record { status = 1; text = broken_text tick r }))
 
 -- The figures of all tasks over n rows.
-abbrev pub kept_answer : Protocol → CertificateDef → Trace → ℕ → Answer
+abbrev pub kept_answer : ProtocolName → CertificateDef → Trace → ℕ → Answer
 kept_answer protocol c w n = record {
   status = 0;
   text = kept_text w.set n (figures_of (charges_of protocol) (interference_of protocol) w (slice_index c.bounds)
-      (value_at (written protocol w.set) c) n);
+      (value_at (source_of protocol w.set) c) n);
 }
 
 -- The answer on a certificate and n rows: where the certificate is valid, that on the rows; else its first failure.
-abbrev pub IsAudit : Protocol → CertificateDef → Trace → ℕ → Answer → Type 0
+abbrev pub IsAudit : ProtocolName → CertificateDef → Trace → ℕ → Answer → Type 0
 IsAudit protocol c w n answer =
-    (IsValid (written protocol w.set) c × IsKept (rules_of protocol) w n (kept_answer protocol c w n) answer)
-    ⊎ ((e : Invalid) × (IsFailure e (written protocol w.set) c) × (answer ≡ record { status = 1; text = invalid_text w.set e }))
+    (IsValid (source_of protocol w.set) c × IsKept (rules_of protocol) w n (kept_answer protocol c w n) answer)
+    ⊎ ((e : Invalid) × (IsFailure e (source_of protocol w.set) c) × (answer ≡ record { status = 1; text = invalid_text w.set e }))
 
 -- Judging both, and setting them beside each other, which there always is.
-abbrev pub audit_of : Protocol → CertificateDef → JobsDef → RowsDef → Work
-audit_of protocol c jobs rows = record { answers = IsAudit protocol c (trace_in jobs rows.runs) (ticks_of rows.runs); ends = Unit {0} }
+abbrev pub IsAuditOf : ProtocolName → JobsDef → RowsDef → CertificateDef → Answer → Type 0
+IsAuditOf protocol jobs rows c answer = IsAudit protocol c (trace_in jobs rows.runs) (ticks_of rows.runs) answer
+
+abbrev pub audit_of : ProtocolName → List ℕ → FileDef → JobsDef → RowsDef → Work
+audit_of protocol digest file jobs rows = record { answers = IfTied digest file (IsAuditOf protocol jobs rows); ends = Unit {0} }
 
 -- Reading the rows of a schedule of these jobs; before them jobs of this set; and before these a certificate.
-abbrev pub auditing_rows : Protocol → CertificateDef → List ℕ → JobsDef → Plan
-auditing_rows protocol c rows list = Reading (rows_input list) rows (λ bytes schedule. Working (audit_of protocol c list schedule))
+abbrev pub auditing_rows : ProtocolName → List ℕ → FileDef → List ℕ → JobsDef → Plan
+auditing_rows protocol digest file rows list =
+    Reading (rows_input list) rows (λ bytes schedule. Working (audit_of protocol digest file list schedule))
 
-abbrev pub auditing_jobs : Protocol → CertificateDef → List ℕ → List ℕ → SetDef → Plan
-auditing_jobs protocol c jobs rows set = Reading (jobs_input set) jobs (λ bytes list. auditing_rows protocol c rows list)
+abbrev pub auditing_jobs : ProtocolName → List ℕ → FileDef → List ℕ → List ℕ → SetDef → Plan
+auditing_jobs protocol digest file jobs rows set =
+    Reading (jobs_input set) jobs (λ bytes list. auditing_rows protocol digest file rows list)
 
-abbrev pub auditing : Protocol → List ℕ → List ℕ → List ℕ → SetDef → Plan
-auditing protocol cert jobs rows set = Reading (cert_input protocol) cert (λ bytes c. auditing_jobs protocol c jobs rows set)
+abbrev pub auditing : ProtocolName → List ℕ → List ℕ → List ℕ → List ℕ → SetDef → Plan
+auditing protocol cert jobs rows digest set =
+    Reading (cert_input protocol) cert (λ bytes file. auditing_jobs protocol digest file jobs rows set)
 
 -- What each form of words does.
 abbrev pub plan_of : Form → Plan
-plan_of (Analyse protocol name allowance) = Reading (set_input protocol) name (λ bytes set. Working (analysis_of protocol set allowance))
+plan_of (Analyse protocol name allowance) =
+    Reading (set_input protocol) name (λ bytes set. Working (analysis_of protocol (sha256 bytes) set allowance))
 plan_of (Check protocol set cert) =
-    Reading (set_input protocol) set (λ bytes tasks. with_certificate protocol cert (check_of protocol tasks))
+    Reading (set_input protocol) set (λ bytes tasks. with_certificate protocol cert (check_of protocol (sha256 bytes) tasks))
+plan_of (Upgrade protocol set cert) = Reading (set_input protocol) set (λ bytes tasks. upgrading protocol cert (sha256 bytes) tasks)
 plan_of (FullReport protocol set cert) =
-    Reading (set_input protocol) set (λ bytes tasks. with_certificate protocol cert (full_table_of protocol tasks))
+    Reading (set_input protocol) set (λ bytes tasks. with_certificate protocol cert (full_table_of protocol (sha256 bytes) tasks))
 plan_of (Report protocol name) = Reading (set_input protocol) name (λ bytes set. Working (table_of set))
 plan_of (Conform protocol set jobs rows) = Reading (set_input protocol) set (λ bytes tasks. judging_jobs protocol jobs rows tasks)
 plan_of (Simulate protocol set jobs ticks) = Reading (set_input protocol) set (λ bytes tasks. simulating_jobs protocol jobs ticks tasks)
 plan_of (Study seed sets) = Working (study_of seed sets)
-plan_of (Audit protocol set cert jobs rows) = Reading (set_input protocol) set (λ bytes tasks. auditing protocol cert jobs rows tasks)
+plan_of (Audit protocol set cert jobs rows) =
+    Reading (set_input protocol) set (λ bytes tasks. auditing protocol cert jobs rows (sha256 bytes) tasks)

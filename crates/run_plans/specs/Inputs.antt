@@ -3,13 +3,17 @@ use Rattle.std.specs.Prelude.{◌≡◌, ℕ, true, List, codes, None, Some, Res
 use Rattle.serde_json.specs.Data.{Data}
 use Rattle.program_form.specs.Certificate.{CertificateDef}
 use Rattle.sporadic_model.specs.SetDef.{SetDef}
-use Rattle.sporadic_model.specs.declared.ids.Protocol.{Protocol}
+use Rattle.protocol_names.specs.declared.ProtocolName.{ProtocolName}
 use Rattle.taskset_json.specs.Answers.{IsValue, Reads, first_homeless}
 use Rattle.taskset_json.specs.declared.refusal.SetRefusal.{SetRefusal}
 use Rattle.taskset_json.specs.declared.refusal.SetRefusal.TheVariants as refusal
-use Rattle.cert_json.specs.Form.{has_certificate_form}
+use Rattle.cert_json.specs.FileDef.{FileDef}
+use Rattle.cert_json.specs.Form.{has_form}
 use Rattle.cert_json.specs.Refusals.{first_refusal}
-use Rattle.cert_json.specs.Written.{certificate_written}
+use Rattle.cert_json.specs.Written.{certificate_written, file_written}
+use Rattle.cert_json.specs.declared.version.Version.{Version}
+use Rattle.cert_json.specs.declared.version.Version.TheVariants as version
+use Rattle.protocol_names.specs.Names.{word_of, homes_as}
 use Rattle.cert_json.specs.declared.refusal.CertRefusal.{CertRefusal}
 use Rattle.cert_json.specs.declared.refusal.CertRefusal.TheVariants as cert
 use Rattle.schedule_model.specs.JobDef.{JobsDef}
@@ -21,32 +25,51 @@ use Rattle.trace_csv.specs.declared.refusal.JobsRefusal.TheVariants as jobs
 use Rattle.trace_csv.specs.declared.refusal.RowsRefusal.{RowsRefusal}
 use Rattle.trace_csv.specs.declared.refusal.RowsRefusal.TheVariants as rows
 use Rattle.run_plans.specs.Plans.{Input}
-use Rattle.refusal_texts.specs.Refusals.{reason_text, cert_reason_text, jobs_reason_text, rows_reason_text}
+use Rattle.reply_texts.specs.Refusals.{reason_text, cert_reason_text, jobs_reason_text, rows_reason_text}
 
 -- A task set for a protocol: an accepted set in which each resource has the home that the protocol asks for.
-abbrev pub ReadsSet : Protocol → List ℕ → Result SetDef SetRefusal → Type 0
-ReadsSet protocol bytes (Ok set) = Reads (Ok set) bytes × (first_homeless set protocol ≡ None)
-ReadsSet protocol bytes (Err (refusal.NoHome q)) = (set : SetDef) × (Reads (Ok set) bytes) × (first_homeless set protocol ≡ Some q.0)
+abbrev pub ReadsSet : ProtocolName → List ℕ → Result SetDef SetRefusal → Type 0
+ReadsSet protocol bytes (Ok set) = Reads (Ok set) bytes × (first_homeless set (homes_as protocol) ≡ None)
+ReadsSet protocol bytes (Err (refusal.NoHome q)) = (set : SetDef) × (Reads (Ok set) bytes) × (first_homeless set (homes_as protocol) ≡ Some q.0)
 ReadsSet protocol bytes (Err refusal.Memory) = ⊥
 ReadsSet protocol bytes (Err r) = Reads (Err r) bytes
 
-abbrev pub set_input : Protocol → Input
+abbrev pub set_input : ProtocolName → Input
 set_input protocol = record { Value = SetDef; Refusal = SetRefusal; word = codes "set"; reads = ReadsSet protocol; reason = reason_text }
 
--- A certificate for a protocol: the value of the bytes has the form of one, or this is why it is refused first. Only want of
--- memory is no reading.
-abbrev pub ReadsCert : Protocol → List ℕ → Result CertificateDef CertRefusal → Type 0
-ReadsCert protocol bytes (Ok c) = (d : Data) × IsValue bytes d × (has_certificate_form protocol d ≡ true) × (c ≡ certificate_written d)
-ReadsCert protocol bytes (Err cert.NotJson) = (d : Data) → IsValue bytes d → ⊥
-ReadsCert protocol bytes (Err cert.Memory) = ⊥
-ReadsCert protocol bytes (Err r) = (d : Data) × IsValue bytes d × (first_refusal protocol d ≡ Some r)
+-- The bytes are the text of a certificate of this version for a protocol, and this is what its value writes.
+abbrev pub IsCertText : {A : Type 0} → Version → (Data → A) → ProtocolName → List ℕ → A → Type 0
+IsCertText v writes protocol bytes c =
+    (d : Data) × IsValue bytes d × (has_form v (word_of protocol) d ≡ true) × (c ≡ writes d)
 
-abbrev pub cert_input : Protocol → Input
+-- A certificate of this version for a protocol: the bytes are the text of one, or this is why their value is refused first. Only
+-- want of memory is no reading.
+abbrev pub ReadsCert : {A : Type 0} → Version → (Data → A) → ProtocolName → List ℕ → Result A CertRefusal → Type 0
+ReadsCert v writes protocol bytes (Ok c) = IsCertText v writes protocol bytes c
+ReadsCert v writes protocol bytes (Err cert.NotJson) = (d : Data) → IsValue bytes d → ⊥
+ReadsCert v writes protocol bytes (Err cert.Memory) = ⊥
+ReadsCert v writes protocol bytes (Err r) = (d : Data) × IsValue bytes d × (first_refusal v (word_of protocol) d ≡ Some r)
+
+-- A certificate with its set's digest.
+abbrev pub IsFileText : ProtocolName → List ℕ → FileDef → Type 0
+IsFileText protocol bytes file = IsCertText version.Second file_written protocol bytes file
+
+abbrev pub cert_input : ProtocolName → Input
 cert_input protocol = record {
+  Value = FileDef;
+  Refusal = CertRefusal;
+  word = codes "cert";
+  reads = ReadsCert version.Second file_written protocol;
+  reason = cert_reason_text;
+}
+
+-- One of the version before, which has no digest.
+abbrev pub old_cert_input : ProtocolName → Input
+old_cert_input protocol = record {
   Value = CertificateDef;
   Refusal = CertRefusal;
   word = codes "cert";
-  reads = ReadsCert protocol;
+  reads = ReadsCert version.First certificate_written protocol;
   reason = cert_reason_text;
 }
 

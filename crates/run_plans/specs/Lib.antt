@@ -1,10 +1,12 @@
 pub mod Plans
+pub mod Statuses
 pub mod Inputs
 pub mod Commands
 pub mod Outcome
 pub mod Replies
 pub mod Reached
 pub mod Headline
+pub mod Bounding
 pub mod Run
 pub mod Twice
 pub mod Checked

@@ -1,8 +1,10 @@
 -- The outcome of words: the status, and the text that goes out.
-use Rattle.std.specs.Prelude.{◌≡◌, ℕ, ◌<◌, ◌≤◌, ◌⊎◌, List, length, codes, Option, None, Some, MatchOption, IsSomeAnd}
+use Rattle.std.specs.Prelude.{◌≡◌, ℕ, ◌<◌, ◌≤◌, ◌⊎◌, List, length, Option, None, Some, MatchOption, IsSomeAnd}
 use Rattle.outside_ports.specs.Counts.{Rose}
 use Rattle.outside_ports.specs.Names.{Inputs, bytes_of, IsNamed, IsLonger, IsAbsent}
+use Rattle.outside_ports.specs.Ports.{ShelfDef}
 use Rattle.outside_ports.specs.declared.whole.TheConstants.{GREATEST_INPUT_BYTES}
+use Rattle.reply_texts.specs.Texts.{no_form_text}
 use Rattle.run_plans.specs.Plans.{Answer, Plan, Known, IsOutcomeOf, IsReadFaultOf}
 use Rattle.command_words.specs.Words.{form_of}
 use Rattle.run_plans.specs.Commands.{plan_of}
@@ -24,6 +26,10 @@ pub record Shown : Type 0 where
   pub now : ℕ
   pub given : ℕ
 
+-- What this shelf shows that became that one.
+abbrev pub shown : ShelfDef → ShelfDef → Shown
+shown old new = record { names = old.names; before = old.faults; now = new.faults; given = new.given }
+
 -- What is known from that: an input is absent where the told names lack it, or, where they aren't told, the count rose;
 -- it is too long where too many bytes were given; and the one that is read last has as many bytes as were given.
 abbrev pub shown_by : Shown → Known
@@ -36,7 +42,7 @@ shown_by shelf = record {
 
 -- The words have none of the forms.
 abbrev pub refused_words : Answer
-refused_words = record { status = 2; text = codes "refused words\n" }
+refused_words = record { status = 2; text = no_form_text }
 
 -- The outcome of words, for what is known of the inputs.
 abbrev pub IsOutcomeBy : Known → List (List ℕ) → Answer → Type 0

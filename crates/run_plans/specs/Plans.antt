@@ -1,6 +1,7 @@
 -- What a command is: inputs that are read in order, and then a work. And what it answers, for whatever is known of the
 -- inputs. All this is said of any command; the commands themselves stand in `Commands`.
-use Rattle.std.specs.Prelude.{◌≡◌, ℕ, ◌++◌, ◌⊎◌, List, codes, Result, Ok, Err}
+use Rattle.std.specs.Prelude.{◌≡◌, ℕ, ◌⊎◌, List, codes, Result, Ok, Err}
+use Rattle.reply_texts.specs.Texts.{refused_text, fault_text}
 
 -- What goes out: a status and a text.
 pub record Answer : Type 0 where
@@ -29,11 +30,11 @@ pub data Plan : Type 1 where
 
 -- An input is refused, for this reason.
 abbrev pub refused : List ℕ → List ℕ → Answer
-refused word reason = record { status = 3; text = codes "refused " ++ (word ++ (codes " " ++ (reason ++ codes "\n"))) }
+refused word reason = record { status = 3; text = refused_text word reason }
 
 -- An input could not be read.
 abbrev pub read_fault : List ℕ → Answer
-read_fault word = record { status = 4; text = codes "fault read " ++ (word ++ codes "\n") }
+read_fault word = record { status = 4; text = fault_text word }
 
 -- What is known of inputs: may the one of this name be absent; may it be too long; may it have these bytes; and may the
 -- one that is read last have these?

@@ -1,14 +1,14 @@
 -- What is replied, as contracts see it, before anything goes out.
-use Rattle.std.specs.Prelude.{◌≡◌, ℕ, ◌≤◌, ◌⊎◌, List, Option, Bool, length, Vec, Result, Ok, Err, map, codes}
+use Rattle.std.specs.Prelude.{◌≡◌, ℕ, ◌≤◌, ◌⊎◌, true, List, length, is_some, Vec, Result, Ok, Err, map, codes}
 use Rattle.std.specs.Global.{Global}
 use Rattle.std.specs.declared.alloc.AllocError.{AllocError}
 use Rattle.outside_ports.specs.Counts.{Rose}
-use Rattle.outside_ports.specs.Names.{Inputs}
+use Rattle.outside_ports.specs.Ports.{ShelfDef}
 use Rattle.outside_ports.specs.declared.whole.TheConstants.{GREATEST_INPUT_BYTES}
 use Rattle.program_form.specs.Certificate.{CertificateDef, dual_seen, certificate_seen}
 use Rattle.program_form.specs.declared.certificate.Certificate.{Certificate}
 use Rattle.sporadic_model.specs.SetDef.{SetDef}
-use Rattle.sporadic_model.specs.declared.ids.Protocol.{Protocol}
+use Rattle.protocol_names.specs.declared.ProtocolName.{ProtocolName}
 use Rattle.response_fixpoint.specs.Rounds.{Schedulable, NotShown, Wide, Allowance}
 use Rattle.response_fixpoint.specs.declared.verdict.Verdict.{Verdict}
 use Rattle.response_fixpoint.specs.declared.verdict.Verdict.TheVariants as verdict
@@ -16,17 +16,22 @@ use Rattle.response_fixpoint.specs.declared.verdict.Stop.{Stop}
 use Rattle.response_fixpoint.specs.declared.verdict.Stop.TheVariants as stop
 use Rattle.taskset_json.specs.declared.refusal.SetRefusal.{SetRefusal}
 use Rattle.taskset_json.specs.declared.refusal.SetRefusal.TheVariants as refusal
-use Rattle.run_plans.specs.Plans.{Answer, Input, refused, read_fault, IsStopped, IsRead}
+use Rattle.cert_json.specs.FileDef.{FileDef}
+use Rattle.cert_json.specs.File.{file_seen}
+use Rattle.cert_json.specs.declared.file.CertFile.{CertFile}
+use Rattle.sha2.specs.Sha256.{sha256}
+use Rattle.run_plans.specs.Statuses.{number_of}
+use Rattle.run_plans.specs.Plans.{Answer, Input, Plan, refused, read_fault, IsStopped, IsRead}
 use Rattle.run_plans.specs.Commands.{ending_answer}
-use Rattle.run_plans.specs.Inputs.{ReadsSet}
-use Rattle.run_plans.specs.Outcome.{Shown, shown_by}
+use Rattle.run_plans.specs.Inputs.{ReadsSet, set_input}
+use Rattle.run_plans.specs.Outcome.{Shown, shown, shown_by, IsReplyOf}
 use Rattle.run_plans.specs.declared.halt.Reply.{Reply}
 use Rattle.run_plans.specs.declared.halt.Halt.{Halt}
 use Rattle.run_plans.specs.declared.halt.Halt.TheVariants as halt
 
 -- What a contract sees of a reply.
 abbrev pub reply_seen : Reply → Answer
-reply_seen r = record { status = r.status; text = r.text.items }
+reply_seen r = record { status = number_of r.status; text = r.text.items }
 
 -- Does the halt reply so? Want of memory says nothing.
 abbrev pub HaltsWith : Halt → (Answer → Type 0) → Type 0
@@ -73,39 +78,51 @@ IsTaken input bytes (Err h) = HaltsWith h (IsRefusal input bytes)
 abbrev pub IsUngot : Shown → Input → List ℕ → Answer → Type 0
 IsUngot shelf input name answer = IsFailed shelf input.word answer ⊎ IsStopped (shown_by shelf) input name answer
 
--- What came of both: the bytes with their value; or the answer that says why there is none.
-abbrev pub IsGot : Shown → (input : Input) → List ℕ → Result (Vec ℕ Global × input.Value) Halt → Type 0
-IsGot shelf input name (Ok got) = IsRead (shown_by shelf) input name got.0.items got.1 × (length got.0.items ≡ shelf.given)
+-- Is this the value of an input that the shelf gave, of some bytes, as many as were given last?
+abbrev pub IsGiven : Shown → (input : Input) → List ℕ → input.Value → Type 0
+IsGiven shelf input name value = (bytes : List ℕ) × IsRead (shown_by shelf) input name bytes value × (length bytes ≡ shelf.given)
+
+-- What came of both: the value; or the answer that says why there is none.
+abbrev pub IsGot : Shown → (input : Input) → List ℕ → Result input.Value Halt → Type 0
+IsGot shelf input name (Ok value) = IsGiven shelf input name value
 IsGot shelf input name (Err h) = HaltsWith h (IsUngot shelf input name)
 
--- What contracts see of a certificate that is taken, or got with its bytes.
-abbrev pub cert_taken : Result Certificate Halt → Result CertificateDef Halt
-cert_taken (Ok c) = Ok (certificate_seen c)
+-- What came of a set that is got with the digest of its bytes.
+abbrev pub IsGotTied : Shown → ProtocolName → List ℕ → Result (SetDef × List ℕ) Halt → Type 0
+IsGotTied shelf protocol name (Ok got) = (given : IsGiven shelf (set_input protocol) name got.0) × (got.1 ≡ sha256 given.0)
+IsGotTied shelf protocol name (Err h) = HaltsWith h (IsUngot shelf (set_input protocol) name)
+
+-- What contracts see of a certificate that is taken, and of one of the version before.
+abbrev pub cert_taken : Result CertFile Halt → Result FileDef Halt
+cert_taken (Ok file) = Ok (file_seen file)
 cert_taken (Err h) = Err h
 
-abbrev pub cert_got : Result (Vec ℕ Global × Certificate) Halt → Result (Vec ℕ Global × CertificateDef) Halt
-cert_got (Ok got) = Ok (got.0, certificate_seen got.1)
-cert_got (Err h) = Err h
+abbrev pub old_cert_taken : Result Certificate Halt → Result CertificateDef Halt
+old_cert_taken (Ok c) = Ok (certificate_seen c)
+old_cert_taken (Err h) = Err h
 
 -- What reading says of a set for a protocol. Only want of memory says nothing.
-abbrev pub ReadsSetFor : Protocol → List ℕ → Result SetDef SetRefusal → Type 0
+abbrev pub ReadsSetFor : ProtocolName → List ℕ → Result SetDef SetRefusal → Type 0
 ReadsSetFor protocol bytes (Err refusal.Memory) = Unit {0}
 ReadsSetFor protocol bytes r = ReadsSet protocol bytes r
 
 -- Is this the answer to an analysis that ends so?
-abbrev pub RepliesTo : Protocol → SetDef → Result Verdict Stop → Answer → Type 0
-RepliesTo protocol set (Ok (verdict.Schedulable certificate)) answer =
-    answer ≡ ending_answer protocol set (Schedulable certificate.bounds.items (map dual_seen certificate.duals.items))
-RepliesTo protocol set (Ok (verdict.NotShown task bound)) answer = answer ≡ ending_answer protocol set (NotShown task.0 bound)
-RepliesTo protocol set (Err (stop.Wide task)) answer = answer ≡ ending_answer protocol set (Wide task.0)
-RepliesTo protocol set (Err stop.Allowance) answer = answer ≡ ending_answer protocol set Allowance
-RepliesTo protocol set (Err stop.Memory) answer = ⊥
+abbrev pub RepliesTo : ProtocolName → List ℕ → SetDef → Result Verdict Stop → Answer → Type 0
+RepliesTo protocol digest set (Ok (verdict.Schedulable certificate)) answer =
+    answer ≡ ending_answer protocol digest set (Schedulable certificate.bounds.items (map dual_seen certificate.duals.items))
+RepliesTo protocol digest set (Ok (verdict.NotShown task bound)) answer = answer ≡ ending_answer protocol digest set (NotShown task.0 bound)
+RepliesTo protocol digest set (Err (stop.Wide task)) answer = answer ≡ ending_answer protocol digest set (Wide task.0)
+RepliesTo protocol digest set (Err stop.Allowance) answer = answer ≡ ending_answer protocol digest set Allowance
+RepliesTo protocol digest set (Err stop.Memory) answer = ⊥
+
+-- Is this a reply of the plan, where the shelf became another? Want of memory says nothing.
+abbrev pub AnswersPlan : Result Reply Halt → ShelfDef → ShelfDef → Plan → Type 0
+AnswersPlan result old new plan = Answered result (IsReplyOf (shown old new) plan)
 
 -- What a shelf keeps over a call: its names, and whether it tells the rest; its count never falls; and a shelf that
 -- promises that no call fails promises it still, and raised no count.
-pub record Keeps (names_before names_now : Option Inputs) (tells_before tells_now : Bool) (before now : ℕ)
-    (steady_before steady_now : Type 0) : Type 0 where
-  pub names : names_now ≡ names_before
-  pub tells : tells_now ≡ tells_before
-  pub later : before ≤ now
-  pub steady : steady_before → steady_now × (now ≡ before)
+pub record Keeps (old new : ShelfDef) : Type 0 where
+  pub names : new.names ≡ old.names
+  pub tells : is_some new.rest ≡ is_some old.rest
+  pub later : old.faults ≤ new.faults
+  pub steady : old.steady ≡ true → (new.steady ≡ true) × (new.faults ≡ old.faults)

@@ -1,5 +1,5 @@
 -- What one call of the program does.
-use Rattle.std.specs.Prelude.{◌≡◌, ◌≢◌, ℕ, ◌-◌, ◌<◌, ◌≤◌, ◌⊎◌, List, length, codes, None, Some, IsSome}
+use Rattle.std.specs.Prelude.{◌≡◌, ◌≢◌, ℕ, ◌+◌, ◌<◌, ◌≤◌, ◌⊎◌, List, length, codes, None, Some, IsSome}
 use Rattle.std.specs.Io.KnownBytes.{Appends}
 use Rattle.outside_ports.specs.Counts.{Rose}
 use Rattle.outside_ports.specs.Names.{Inputs}
@@ -7,29 +7,31 @@ use Rattle.outside_ports.specs.Prefix.{AppendsPart}
 use Rattle.outside_ports.specs.declared.whole.TheConstants.{GREATEST_INPUT_BYTES}
 use Rattle.program_form.specs.Certificate.{CertificateDef}
 use Rattle.sporadic_model.specs.SetDef.{SetDef}
-use Rattle.sporadic_model.specs.declared.ids.Protocol.{Protocol}
+use Rattle.protocol_names.specs.declared.ProtocolName.{ProtocolName}
+use Rattle.sha2.specs.Sha256.{sha256}
 use Rattle.response_fixpoint.specs.Rounds.{Ending, Wide, Allowance, EndsIn}
-use Rattle.response_fixpoint.specs.Runs.{rounds_of}
-use Rattle.response_fixpoint.specs.Written.{written, RequestsNothing}
+use Rattle.response_fixpoint.specs.Runs.{rounds_of, RequestsNothing}
+use Rattle.named_protocols.specs.Named.{source_of}
 use Rattle.run_plans.specs.Plans.{Answer, Known, refused, IsWorking, IsRead, EndsWell}
-use Rattle.command_words.specs.Words.{Form, Analyse, form_of}
+use Rattle.command_words.specs.Words.{Form, Analyse, Check, form_of}
 use Rattle.run_plans.specs.Inputs.{set_input}
 use Rattle.run_plans.specs.Commands.{plan_of}
-use Rattle.run_plans.specs.Outcome.{Shown, shown_by, told, refused_words, IsOutcome, IsReply}
-use Rattle.run_plans.specs.Headline.{Call, RanOut, Analyses, IsHeadline, Checks, IsSoundCheck}
+use Rattle.run_plans.specs.Outcome.{Shown, shown, shown_by, told, refused_words, IsOutcome, IsReply}
+use Rattle.run_plans.specs.Headline.{Call, RanOut, Analyses, IsHeadline, Checks, IsSoundCheck, IsProvedAnalysis, IsProvedCheck}
+use Rattle.run_plans.specs.Bounding.{IsBounding}
 
 -- What the shelf shows of the call.
 abbrev pub shelf_of : Call → Shown
-shelf_of call = record { names = call.names; before = call.shelf_before; now = call.shelf_now; given = call.given }
+shelf_of call = shown call.shelf_before call.shelf_now
 
 -- Has the whole text gone out, with this status?
 abbrev pub Gives : Call → Answer → Type 0
-Gives call answer = (call.status ≡ answer.status) × Appends call.written_before call.written_now answer.text
+Gives call answer = (call.status ≡ answer.status) × Appends call.sink_before.written call.sink_now.written answer.text
 
 -- The text was not written whole, for which the sink's count of faults rose. A proper prefix of it went out.
 pub record FailsToWrite (call : Call) (answer : Answer) : Type 0 where
-  pub rose : Rose call.sink_before call.sink_now
-  pub part : AppendsPart call.written_before call.written_now answer.text
+  pub rose : Rose call.sink_before.faults call.sink_now.faults
+  pub part : AppendsPart call.sink_before.written call.sink_now.written answer.text
   pub status : call.status ≡ 4
 
 -- The answer to words without a form was not written whole.
@@ -43,11 +45,11 @@ pub record Replies (call : Call) : Type 0 where
   pub reply : Answer
   pub is : IsReply (shelf_of call) call.words reply
   pub out : Gives call reply ⊎ FailsToWrite call reply
-  pub room : (room : ℕ) → length reply.text ≤ room → call.takes room
-      → Gives call reply × call.takes_now (room - length reply.text) × (call.sink_now ≡ call.sink_before)
+  pub room : length reply.text ≤ call.sink_before.room → Gives call reply
+      × (call.sink_before.room ≤ call.sink_now.room + length reply.text) × (call.sink_now.faults ≡ call.sink_before.faults)
   -- Where more bytes were given than an input may have, the reply says that an input is too long.
   pub longer : (form : Form) → form_of call.words ≡ Some form → (IsWorking (plan_of form) → ⊥)
-      → GREATEST_INPUT_BYTES < call.given → (word : List ℕ) × (reply ≡ refused word (codes "toolong"))
+      → GREATEST_INPUT_BYTES < call.shelf_now.given → (word : List ℕ) × (reply ≡ refused word (codes "toolong"))
 
 -- The outcome's whole text went out with its status.
 pub record GivesOutcome (call : Call) (inputs : Inputs) : Type 0 where
@@ -59,11 +61,11 @@ pub record GivesOutcome (call : Call) (inputs : Inputs) : Type 0 where
 -- them comes to an end with status 0 or 1, the sink tells its bytes, and neither count of faults rises.
 pub record IsCompletePremise (call : Call) (inputs : Inputs) (form : Form) : Type 0 where
   pub form_is : form_of call.words ≡ Some form
-  pub tells_names : call.names ≡ Some inputs
+  pub tells_names : call.shelf_before.names ≡ Some inputs
   pub ends : EndsWell (told inputs) (plan_of form)
-  pub tells : IsSome call.written_before
-  pub shelf : Rose call.shelf_before call.shelf_now → ⊥
-  pub sink : Rose call.sink_before call.sink_now → ⊥
+  pub tells : IsSome call.sink_before.written
+  pub shelf : Rose call.shelf_before.faults call.shelf_now.faults → ⊥
+  pub sink : Rose call.sink_before.faults call.sink_now.faults → ⊥
 
 -- Then the outcome goes out whole with status 0 or 1, or memory ran out.
 abbrev pub IsComplete : Call → Type 0
@@ -72,7 +74,7 @@ IsComplete call = (inputs : Inputs) (form : Form) → IsCompletePremise call inp
 
 -- The words are those of `analyse`, and the named input may be a set whose rounds end so.
 pub record AnalysisEnds (known : Known) (form : Form) (IsEnding : Ending → Type 0) : Type 0 where
-  pub protocol : Protocol
+  pub protocol : ProtocolName
   pub name : List ℕ
   pub allowance : ℕ
   pub form_is : form ≡ Analyse protocol name allowance
@@ -80,7 +82,7 @@ pub record AnalysisEnds (known : Known) (form : Form) (IsEnding : Ending → Typ
   pub set : SetDef
   pub read : IsRead known (set_input protocol) name bytes set
   pub ending : Ending
-  pub ends : EndsIn (rounds_of (written protocol set)) allowance ending
+  pub ends : EndsIn (rounds_of (source_of protocol set)) allowance ending
   pub is : IsEnding ending
 
 abbrev pub IsWideEnding : Ending → Type 0
@@ -97,19 +99,26 @@ pub record IsRun (call : Call) : Type 0 where
   pub refused_words : call.status ≡ 2 → form_of call.words ≡ None
   pub no_form : form_of call.words ≡ None → (call.status ≡ 2) ⊎ (FailsToRefuse call ⊎ RanOut call)
   -- Status 4 comes only where a count of faults rose, and status 7 only where memory ran out.
-  pub faults : call.status ≡ 4 → Rose call.shelf_before call.shelf_now ⊎ Rose call.sink_before call.sink_now
+  pub faults : call.status ≡ 4 → Rose call.shelf_before.faults call.shelf_now.faults ⊎ Rose call.sink_before.faults call.sink_now.faults
   pub want : call.status ≡ 7 → RanOut call
   -- Where the shelf tells its inputs, each outcome comes exactly where it is the outcome, except where a fault comes or
   -- memory ran out.
-  pub exactly : (inputs : Inputs) (answer : Answer) → call.names ≡ Some inputs → IsOutcome inputs call.words answer
+  pub exactly : (inputs : Inputs) (answer : Answer) → call.shelf_before.names ≡ Some inputs → IsOutcome inputs call.words answer
       → Gives call answer ⊎ ((call.status ≡ 4) ⊎ RanOut call)
   -- Status 5 comes only for words of `analyse` where the rounds end in a run that is too wide, and so not for a set that
   -- requests nothing; status 6 only where they end with the allowance.
   pub wide : call.status ≡ 5 → (form : Form) × (form_of call.words ≡ Some form) × AnalysisEnds (shown_by (shelf_of call)) form IsWideEnding
-  pub never_wide : (protocol : Protocol) (set : SetDef) → Analyses call protocol set → RequestsNothing set → call.status ≢ 5
+  pub never_wide : (protocol : ProtocolName) (set : SetDef) → Analyses call protocol set → RequestsNothing set → call.status ≢ 5
   pub allowance : call.status ≡ 6 → (form : Form) × (form_of call.words ≡ Some form)
       × AnalysisEnds (shown_by (shelf_of call)) form IsAllowanceEnding
   pub complete : IsComplete call
-  pub headline : (protocol : Protocol) (set : SetDef) → Analyses call protocol set → IsHeadline call protocol set
+  pub headline : (protocol : ProtocolName) (set : SetDef) → (a : Analyses call protocol set) → IsHeadline call protocol (sha256 a.read.bytes) set
   -- And what `check` accepts is sound.
-  pub sound : (protocol : Protocol) (set : SetDef) (c : CertificateDef) → Checks call protocol set c → IsSoundCheck call protocol set c
+  pub sound : (protocol : ProtocolName) (set : SetDef) (c : CertificateDef) → Checks call protocol set c → IsSoundCheck call protocol set c
+  -- With status 0 both say of whatever set was read what is proved of it; and `bounding` says of the bounds alone the least that
+  -- matters.
+  pub analysed : (protocol : ProtocolName) (name : List ℕ) (allowance : ℕ) → form_of call.words ≡ Some (Analyse protocol name allowance)
+      → call.status ≡ 0 → IsProvedAnalysis call protocol name
+  pub checked : (protocol : ProtocolName) (name cert : List ℕ) → form_of call.words ≡ Some (Check protocol name cert)
+      → call.status ≡ 0 → IsProvedCheck call protocol name cert
+  pub bounding : IsBounding call

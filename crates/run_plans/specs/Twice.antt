@@ -1,15 +1,28 @@
 -- Completeness over a shelf that promises that no call fails.
-use Rattle.std.specs.Prelude.{◌≡◌, ℕ, ◌⊎◌, List, Option, Some}
+use Rattle.std.specs.Prelude.{◌≡◌, ◌-◌, ◌^◌, ◌<◌, ◌⊎◌, true, Some, IsSome, is_some}
 use Rattle.outside_ports.specs.Counts.{Rose}
 use Rattle.outside_ports.specs.Names.{Inputs}
 use Rattle.run_plans.specs.Plans.{EndsWell}
 use Rattle.command_words.specs.Words.{Form, form_of}
 use Rattle.run_plans.specs.Commands.{plan_of}
 use Rattle.run_plans.specs.Outcome.{told}
+use Rattle.run_plans.specs.Replies.{Keeps}
+use Rattle.run_plans.specs.Headline.{Call}
+
+-- Two calls over one shelf and one sink, the second over what the first left. The shelf promises that no call fails, each call
+-- keeps what a run keeps, and the sink tells its bytes.
+pub record AreSteady (first second : Call) : Type 0 where
+  pub steady : first.shelf_before.steady ≡ true
+  pub count : first.shelf_before.faults < 2 ^ 64 - 1
+  pub tells : IsSome first.sink_before.written
+  pub tells_still : is_some second.sink_before.written ≡ is_some first.sink_before.written
+  pub keeps : Keeps first.shelf_before first.shelf_now
+  pub keeps_still : Keeps second.shelf_before second.shelf_now
+  pub same_shelf : second.shelf_before ≡ first.shelf_now
 
 -- Where the words have a form, each input that it names is there and accepted, the work on them comes to an end with
 -- status 0 or 1, and the sink's count doesn't rise, the status is 0 or 1, or 7 for want of memory.
-abbrev pub IsCompleteOver : Option Inputs → List (List ℕ) → ℕ → ℕ → ℕ → Type 0
-IsCompleteOver names words before now status =
-    (inputs : Inputs) (form : Form) → form_of words ≡ Some form → names ≡ Some inputs → EndsWell (told inputs) (plan_of form)
-    → (Rose before now → ⊥) → (status ≡ 0) ⊎ ((status ≡ 1) ⊎ (status ≡ 7))
+abbrev pub IsCompleteCall : Call → Type 0
+IsCompleteCall call = (inputs : Inputs) (form : Form) → form_of call.words ≡ Some form → call.shelf_before.names ≡ Some inputs
+    → EndsWell (told inputs) (plan_of form) → (Rose call.sink_before.faults call.sink_now.faults → ⊥)
+    → (call.status ≡ 0) ⊎ ((call.status ≡ 1) ⊎ (call.status ≡ 7))

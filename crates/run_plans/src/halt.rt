@@ -2,12 +2,14 @@ ghost use Rattle.std.specs.Prelude.{◌≡◌};
 ghost use Rattle.run_plans.specs.Plans.{refused, read_fault};
 ghost use Rattle.run_plans.specs.Replies.{HaltsWith, IsSettled};
 
+use crate::status::Status;
+use reply_texts::{fault_line, refused_line};
 use std::alloc::{AllocError, Global};
 
 /// What goes out: a status and a text.
 #[derive(Debug, Drop)]
 pub struct Reply {
-    pub status: u8,
+    pub status: Status,
     pub text: Vec<u8>,
 }
 
@@ -34,10 +36,10 @@ impl From<AllocError> for Halt {
 pub fn refusal(alloc: Global, word: &str, reason: &str) -> Halt
     ensures { HaltsWith result (λ answer. answer ≡ refused word.now reason.now) }
 {
-    match format!(in alloc; "refused {word} {reason}\n") {
+    match refused_line(alloc, word, reason) {
         Ok(text) => Halt::Reply(Reply {
-            status: 3,
-            text: text.into_bytes(),
+            status: Status::RefusedInput,
+            text,
         }),
         Err(AllocError) => Halt::Memory,
     }
@@ -47,10 +49,10 @@ pub fn refusal(alloc: Global, word: &str, reason: &str) -> Halt
 pub fn fault(alloc: Global, word: &str) -> Halt
     ensures { HaltsWith result (λ answer. answer ≡ read_fault word.now) }
 {
-    match format!(in alloc; "fault read {word}\n") {
+    match fault_line(alloc, word) {
         Ok(text) => Halt::Reply(Reply {
-            status: 4,
-            text: text.into_bytes(),
+            status: Status::Fault,
+            text,
         }),
         Err(AllocError) => Halt::Memory,
     }

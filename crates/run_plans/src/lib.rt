@@ -2,5 +2,9 @@
 #![tactic(auto)]
 
 mod halt;
+mod laws;
+mod status;
 
 pub use halt::{Halt, Reply, fault, refusal, settled};
+pub use laws::{analysed_then_checked, checked_for_another_set, two_runs};
+pub use status::Status;

@@ -4,7 +4,7 @@ use sporadic_model::{Protocol, TaskSet};
 use std::alloc::{AllocError, Global};
 use std::test::Fail;
 use taskset_json::home_check;
-use trace_conform::{Measured, TaskMeasure, Unlawful, conform};
+use trace_conform::{Breach, Measured, TaskMeasure, Unlawful, conform};
 use worked_files::*;
 
 /// `FINISHED RESPONSE BLOCKING`, where the response may be `-`.
@@ -47,7 +47,7 @@ fn answer_text(alloc: Global, protocol: Protocol, schedule: [&str; 3]) -> Result
     let rows = trace_csv::read_rows(alloc, &jobs, rows.as_bytes())?;
     match answer(alloc, protocol, &jobs, &rows)? {
         Ok(measured) => Ok(measured_text(alloc, rows.ticks(), &measured)?),
-        Err(Unlawful::Broken { tick, rule }) => {
+        Err(Unlawful::Broken(Breach { tick, rule })) => {
             let rule = rule_word(rule);
             Ok(format!(in alloc; "broken {tick} {rule}")?)
         }

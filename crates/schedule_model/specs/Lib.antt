@@ -15,5 +15,6 @@ pub mod Keeping
 pub mod Chosen
 pub mod TakenRows
 pub mod BlockedTicks
+pub mod ByProtocol
 pub mod Measures
 pub mod ProtocolLaws

@@ -29,28 +29,28 @@ same_where_active : (a b c d : Bool) → a ≡ b → (b ≡ true → c ≡ d) �
 same_where_active a true c d e h = rw e (h refl)
 same_where_active a false c d e h = rw e refl
 
-requests_shown : (o : Ranks) (s : Scene) (w : Trace) (t q j : ℕ) → IsSceneOf o s w t → requests s q j ≡ is_requester w t q j
+pub requests_shown : (o : Ranks) (s : Scene) (w : Trace) (t q j : ℕ) → IsSceneOf o s w t → requests s q j ≡ is_requester w t q j
 unfolding is_requester
 requests_shown o s w t q j scene =
     same_where_active (s.active j) (is_active w t j) (is_asking q (s.phase j)) (is_asking q (phase_of w t j))
     (scene.actives j) (λ a. ap (is_asking q) (scene.doing j a))
 
-holds_shown : (o : Ranks) (s : Scene) (w : Trace) (t j : ℕ) → IsSceneOf o s w t → is_active w t j ≡ true
+pub holds_shown : (o : Ranks) (s : Scene) (w : Trace) (t j : ℕ) → IsSceneOf o s w t → is_active w t j ≡ true
     → holds s (holder_in (w.row t)) j ≡ is_ready_holder w t j
 unfolding is_ready_holder
 holds_shown o s w t j scene a = rw (a, scene.doing j a) refl
 
-may_run_shown : (o : Ranks) (s : Scene) (w : Trace) (t j : ℕ) → IsSceneOf o s w t → is_active w t j ≡ true
+pub may_run_shown : (o : Ranks) (s : Scene) (w : Trace) (t j : ℕ) → IsSceneOf o s w t → is_active w t j ≡ true
     → may_run s (holder_in (w.row t)) j ≡ is_ready w t j
 unfolding is_ready is_active_local
 may_run_shown o s w t j scene a = rw (← holds_shown o s w t j scene a, a, scene.doing j a) refl
 
-run_given : (o : Ranks) (s : Scene) (w : Trace) (t j : ℕ) → IsSceneOf o s w t → is_ready_holder w t j ≡ true → s.run j ≡ o.run w t j
+pub run_given : (o : Ranks) (s : Scene) (w : Trace) (t j : ℕ) → IsSceneOf o s w t → is_ready_holder w t j ≡ true → s.run j ≡ o.run w t j
 run_given o s w t j scene h =
     let r : ReadyHolder w t j = ready_holder_is w t j h in
     scene.runs r.resource j (requester_from w t r.resource j r.number r.active r.phase)
 
-asking_within : (o : Ranks) (s : Scene) (w : Trace) (t q i : ℕ) → IsSceneOf o s w t → is_requester w t q i ≡ true → s.task i < s.tasks
+pub asking_within : (o : Ranks) (s : Scene) (w : Trace) (t q i : ℕ) → IsSceneOf o s w t → is_requester w t q i ≡ true → s.task i < s.tasks
 asking_within o s w t q i scene a = let r : Requester w t q i = requester_is w t q i a in scene.within i r.active
 
 holder_leads : (o : Ranks) (s : Scene) (w : Trace) (t q j i : ℕ) → IsSceneOf o s w t
@@ -59,14 +59,14 @@ holder_leads : (o : Ranks) (s : Scene) (w : Trace) (t q j i : ℕ) → IsSceneOf
 holder_leads o s w t q j i scene g e new a =
     g.leads q j e (λ f. new (sym (scene.held q) ∙ f)) i (requests_shown o s w t q i scene ∙ a) (asking_within o s w t q i scene a)
 
-holder_asks : (o : Ranks) (s : Scene) (w : Trace) (t q j : ℕ) → IsSceneOf o s w t
+pub holder_asks : (o : Ranks) (s : Scene) (w : Trace) (t q j : ℕ) → IsSceneOf o s w t
     → Granted s s.tasks (holder_in (w.row t)) → holder_in (w.row t) q ≡ Some j → is_requester w t q j ≡ true
 holder_asks o s w t q j scene g e = sym (requests_shown o s w t q j scene) ∙ g.asks q j e
 
-granted_keep : (o : Ranks) (s : Scene) (w : Trace) (t : ℕ) → IsSceneOf o s w t → Granted s s.tasks (holder_in (w.row t)) → KeepsKeep w t
+pub granted_keep : (o : Ranks) (s : Scene) (w : Trace) (t : ℕ) → IsSceneOf o s w t → Granted s s.tasks (holder_in (w.row t)) → KeepsKeep w t
 granted_keep o s w t scene g q j e h = g.keeps q j (scene.held q ∙ e) (requests_shown o s w t q j scene ∙ h)
 
-granted_grant : (o : Ranks) (s : Scene) (w : Trace) (t : ℕ) → IsSceneOf o s w t → Granted s s.tasks (holder_in (w.row t)) → KeepsGrant o w t
+pub granted_grant : (o : Ranks) (s : Scene) (w : Trace) (t : ℕ) → IsSceneOf o s w t → Granted s s.tasks (holder_in (w.row t)) → KeepsGrant o w t
 granted_grant o s w t scene g = record {
   requests = λ q j e. holder_asks o s w t q j scene g e;
   first = λ q j e new i l a. first q j i e new a;
@@ -79,7 +79,7 @@ granted_grant o s w t scene g = record {
       let leads : Leads s.grant s.task j i = holder_leads o s w t q j i scene g e new a in
       omega (arith, leads.first, scene.grants q j (holder_asks o s w t q j scene g e), scene.grants q i a)
 
-grants_tie : (o : Ranks) (s : Scene) (w : Trace) (t q j i : ℕ) → IsSceneOf o s w t
+pub grants_tie : (o : Ranks) (s : Scene) (w : Trace) (t q j i : ℕ) → IsSceneOf o s w t
     → Granted s s.tasks (holder_in (w.row t)) → holder_in (w.row t) q ≡ Some j → (held_before w t q ≡ Some j → ⊥)
     → is_requester w t q i ≡ true → o.grant w t i ≡ o.grant w t j → task_of w j ≤ task_of w i
 grants_tie o s w t q j i scene g e new a same =

@@ -5,7 +5,8 @@ use Rattle.std.proofs.lemmas.Bool.{cases_Bool, cases_lt, and_parts, and_from, an
 use Rattle.schedule_model.specs.RowDef.{is_job}
 use Rattle.schedule_model.specs.Phase.{is_asking}
 use Rattle.schedule_laws.proofs.Rows.{job_named, named_job}
-use Rattle.shared_rules.specs.Scene.{Scene, requests, IsActiveJob, gives_way, takes, asked, held_after, stays, kept}
+use Rattle.shared_rules.specs.Scene.{Scene, requests, IsActiveJob, gives_way, takes, asked, stays, kept}
+use Rattle.shared_rules.specs.Walks.{come_to}
 use Rattle.shared_rules.specs.Choosing.{Leads, Granted}
 
 -- Who has asked: a job of an earlier task, or the task's active job.
@@ -22,7 +23,7 @@ earlier_only s x i none a l = elim (cases_lt (s.task i) x) [
 ]
 
 -- Before anyone has asked.
-kept_some : (s : Scene) (q j : ℕ) (o : Option ℕ) → stays (requests s q) o ≡ Some j → (o ≡ Some j) × (requests s q j ≡ true)
+pub kept_some : (s : Scene) (q j : ℕ) (o : Option ℕ) → stays (requests s q) o ≡ Some j → (o ≡ Some j) × (requests s q j ≡ true)
 kept_some s q j None h = absurd (cc)
 kept_some s q j (Some i) h = elim (cases_Bool (requests s q i)) [
   | inl asks ↦ let e : Some i ≡ Some j = rw asks at h in let f : i ≡ j = cc in (e, subst (λ k. requests s q k ≡ true) f asks)
@@ -80,14 +81,14 @@ record Left (s : Scene) (held more : ℕ → Option ℕ) (q j : ℕ) : Type 0 wh
   fails : takes s q j (held q) ≡ false
   now : more q ≡ held q
 
-taken_or : (s : Scene) (held more : ℕ → Option ℕ) (q j : ℕ) → more q ≡ asked s j held q → Taken s held more q j ⊎ Left s held more q j
+taken_or : (s : Scene) (held more : ℕ → Option ℕ) (q j : ℕ) → more q ≡ asked s j q (held q) → Taken s held more q j ⊎ Left s held more q j
 taken_or s held more q j same = elim (cases_Bool (takes s q j (held q))) [
   | inl passes ↦ let e : more q ≡ Some j = rw passes at same in inl (record { passes = passes; now = e })
   | inr fails ↦ let e : more q ≡ held q = rw fails at same in inr (record { fails = fails; now = e })
 ]
 
 granted_some : (s : Scene) (x j : ℕ) (held more : ℕ → Option ℕ) → Granted s x held → IsActiveJob s x (Some j)
-    → ((q : ℕ) → more q ≡ asked s j held q) → Granted s (x + 1) more
+    → ((q : ℕ) → more q ≡ asked s j q (held q)) → Granted s (x + 1) more
 granted_some s x j held more g own same = record {
   asks = asks;
   keeps = keeps;
@@ -186,6 +187,6 @@ granted_none s x held more g none same = record {
 
 -- One task more has asked.
 pub granted_next : (s : Scene) (x : ℕ) (o : Option ℕ) (held more : ℕ → Option ℕ) → Granted s x held → IsActiveJob s x o
-    → ((q : ℕ) → more q ≡ held_after s o held q) → Granted s (x + 1) more
+    → ((q : ℕ) → more q ≡ come_to (asked s) o q (held q)) → Granted s (x + 1) more
 granted_next s x None held more g own same = granted_none s x held more g own same
 granted_next s x (Some j) held more g own same = granted_some s x j held more g own same

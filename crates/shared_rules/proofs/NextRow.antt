@@ -1,6 +1,6 @@
 -- After any rows there is a chosen row.
 use Rattle.std.proofs.Common.{◌≡◌, ℕ, ◌<◌, ◌≤◌, ◌==◌, true, false, length, List, zero, suc, refl, sym, ◌∙◌, arith, inl}
-use Rattle.std.proofs.Common.{inr, Option, Some, None, get_or, map, subst, add-one, cond}
+use Rattle.std.proofs.Common.{inr, Option, Some, None, get_or, map, subst, cond}
 use Rattle.std.specs.List.{range_with_len}
 use Rattle.std.proofs.lemmas.Bool.{cases_lt, eq-eqb, ne_eqb}
 use Rattle.std.proofs.lemmas.List.{get_or_past}
@@ -19,41 +19,14 @@ use Rattle.schedule_laws.proofs.ActiveJobs.{active_listed, one_active, active_jo
 use Rattle.schedule_laws.proofs.ActiveJobs.{requester_is, requester_listed}
 use Rattle.schedule_laws.proofs.Segments.{open_resource}
 use Rattle.phase_machine.proofs.Lawful.{task_listed}
-use Rattle.shared_rules.specs.Scene.{Scene, scene_at, IsActiveJob, kept, held_after, running_after, place_in}
+use Rattle.shared_rules.specs.Scene.{Scene, scene_at, IsActiveJob, place_in}
 use Rattle.shared_rules.specs.Choosing.{Granted, Placed}
 use Rattle.shared_rules.specs.NextRow.{with_row, HasChoice}
-use Rattle.shared_rules.proofs.Granting.{granted_first, granted_next}
-use Rattle.shared_rules.proofs.Placing.{placed_first, placed_next}
+use Rattle.shared_rules.proofs.Walks.{held_at, running_at, granted_at, granted_same, placed_at, placed_same}
 use Rattle.shared_rules.proofs.Chosen.{IsSceneOf, chosen_from}
-use Rattle.shared_rules.proofs.Writing.{placed_same}
-
--- The holders, and what runs, once the tasks below x have come.
-held_at : Scene → (ℕ → Option ℕ) → ℕ → ℕ → Option ℕ
-held_at s current zero q = kept s q
-held_at s current (suc x) q = held_after s (current x) (held_at s current x) q
-
-running_at : Scene → (ℕ → Option ℕ) → (ℕ → Option ℕ) → ℕ → ℕ → Option ℕ
-running_at s held current zero k = None
-running_at s held current (suc x) k = running_after s held (current x) (running_at s held current x) k
-
-granted_at : (s : Scene) (current : ℕ → Option ℕ) → ((x : ℕ) → IsActiveJob s x (current x)) → (x : ℕ) → Granted s x (held_at s current x)
-unfolding held_at
-granted_at s current own zero = granted_first s (held_at s current zero) (λ q. refl)
-granted_at s current own (suc x) =
-    subst (λ n. Granted s n (held_at s current (suc x))) (add-one x)
-    (granted_next s x (current x) (held_at s current x) (held_at s current (suc x)) (granted_at s current own x) (own x) (λ q. refl))
-
-placed_at : (s : Scene) (held current : ℕ → Option ℕ) → ((x : ℕ) → IsActiveJob s x (current x)) → (x : ℕ)
-    → Placed s held x (running_at s held current x)
-unfolding running_at
-placed_at s held current own zero = placed_first s held (running_at s held current zero) (λ k. refl)
-placed_at s held current own (suc x) =
-    subst (λ n. Placed s held n (running_at s held current (suc x))) (add-one x)
-    (placed_next s held x (current x) (running_at s held current x) (running_at s held current (suc x))
-    (placed_at s held current own x) (own x) (λ k. refl))
 
 -- The active jobs of the tasks.
-active_job_at : (o : Ranks) (w : Trace) (t x : ℕ) → IsActiveJob (scene_at o w t) x (active_job_of w t x)
+pub active_job_at : (o : Ranks) (w : Trace) (t x : ℕ) → IsActiveJob (scene_at o w t) x (active_job_of w t x)
 active_job_at o w t x = go (active_job_of w t x) refl where
   none : active_job_of w t x ≡ None → (i : ℕ) → is_active w t i ≡ true → task_of w i ≡ x → ⊥
   none e i a own = let f : is_active w t i ≡ false = active_job_none w t x i e own in let two : true ≡ false = sym a ∙ f in cc
@@ -83,15 +56,6 @@ pub places_length : (f : ℕ → Option ℕ) (n : ℕ) → length (places_of f n
 unfolding places_of
 places_length f n = length-map-range_with_len f 0 n
 
-granted_same : (s : Scene) (x : ℕ) (held more : ℕ → Option ℕ) → Granted s x held → ((q : ℕ) → more q ≡ held q) → Granted s x more
-granted_same s x held more g same = record {
-  asks = λ q j e. g.asks q j (sym (same q) ∙ e);
-  keeps = λ q j e h. same q ∙ g.keeps q j e h;
-  early = λ q j e. g.early q j (sym (same q) ∙ e);
-  leads = λ q j e. g.leads q j (sym (same q) ∙ e);
-  free = λ q e. g.free q (sym (same q) ∙ e);
-}
-
 -- A schedule with another row has the same rows before.
 pub same_before : (w : Trace) (t : ℕ) (row : RowDef) → AgreeBefore w (with_row w t row) t
 same_before w t row = record { set = refl; jobs = refl; rows = λ u l. sym (earlier u l) } where
@@ -101,7 +65,7 @@ same_before w t row = record { set = refl; jobs = refl; rows = λ u l. sym (earl
 pub row_there : (w : Trace) (t : ℕ) (row : RowDef) → (with_row w t row).row t ≡ row
 row_there w t row = let e : (t == t) ≡ true = eq-eqb t t refl in rw e refl
 
-scene_stays : (o : Ranks) (w : Trace) (t : ℕ) (row : RowDef) → AreLawfulJobs (jobs_of w)
+pub scene_stays : (o : Ranks) (w : Trace) (t : ℕ) (row : RowDef) → AreLawfulJobs (jobs_of w)
     → RanksAgree o w (with_row w t row) t → IsSceneOf o (scene_at o w t) (with_row w t row) t
 scene_stays o w t row lawful ranks = record {
   within = λ j a. task_listed (jobs_of w) j lawful
@@ -116,7 +80,7 @@ scene_stays o w t row lawful ranks = record {
 }
 
 -- What holds is a resource of the set, and what runs is on a processor of the set.
-resource_within : (o : Ranks) (w : Trace) (t x q j : ℕ) (held : ℕ → Option ℕ) → AreLawfulJobs (jobs_of w)
+pub resource_within : (o : Ranks) (w : Trace) (t x q j : ℕ) (held : ℕ → Option ℕ) → AreLawfulJobs (jobs_of w)
     → Granted (scene_at o w t) x held → held q ≡ Some j → q < length w.set.resources
 unfolding is_requester
 resource_within o w t x q j held lawful g e =
@@ -132,7 +96,7 @@ processor_within o w t x k r held running lawful numbers p e =
     numbers (task_of w r) (task_listed (jobs_of w) r lawful (active_listed w t r (p.active k r e))) in
     (omega (arith, n.processor_from, p.column k r e), omega (arith, n.processor_to, p.column k r e))
 
-numbers_of : (w : Trace) → IsAccepted w.set → (y : ℕ) → y < length w.set.tasks → TaskNumbers w.set y
+pub numbers_of : (w : Trace) → IsAccepted w.set → (y : ℕ) → y < length w.set.tasks → TaskNumbers w.set y
 unfolding IsAccepted
 numbers_of w accepted = accepted.numbers
 
@@ -153,7 +117,7 @@ next_row o w t accepted lawful ranks = record {
   held = held_at s (active_job_of w t) (length w.set.tasks)
 
   all_granted : Granted s (length w.set.tasks) held
-  all_granted = granted_at s (active_job_of w t) (active_job_at o w t) (length w.set.tasks)
+  all_granted = granted_at s (active_job_of w t) (length w.set.tasks) (λ x l. active_job_at o w t x)
 
   holders : List (Option ℕ)
   holders = places_of held (length w.set.resources)
@@ -162,7 +126,7 @@ next_row o w t accepted lawful ranks = record {
   runs = running_at s (place_in holders) (active_job_of w t) (length w.set.tasks)
 
   placed : Placed s (place_in holders) (length w.set.tasks) runs
-  placed = placed_at s (place_in holders) (active_job_of w t) (active_job_at o w t) (length w.set.tasks)
+  placed = placed_at s (place_in holders) (active_job_of w t) (length w.set.tasks) (λ x l. active_job_at o w t x)
 
   row : RowDef
   row = record { running = places_of (λ c. runs (suc c)) w.set.processors; holders = holders }

@@ -4,7 +4,8 @@ use Rattle.std.proofs.Common.{inl, inr, Option, Some, None, ltb, subst}
 use Rattle.std.proofs.lemmas.Bool.{cases_Bool, and_parts, and_cases, or_cases, or_left, or_right, or_parts, both_ways}
 use Rattle.std.proofs.lemmas.Bool.{not-true, not-false, eq-eqb, eqb-true, ltb-true, ltb-false}
 use Rattle.schedule_model.specs.Phase.{is_local}
-use Rattle.shared_rules.specs.Scene.{Scene, holds, may_run, IsActiveJob, is_outrun, enters, entered, running_after}
+use Rattle.shared_rules.specs.Scene.{Scene, holds, may_run, IsActiveJob, is_outrun, enters, entered}
+use Rattle.shared_rules.specs.Walks.{come_to}
 use Rattle.shared_rules.specs.Choosing.{Leads, Placed}
 use Rattle.shared_rules.proofs.Granting.{earlier_or, earlier_only}
 
@@ -53,7 +54,7 @@ record Left (s : Scene) (held running more : ℕ → Option ℕ) (k j : ℕ) : T
   fails : enters s held j k (running k) ≡ false
   now : more k ≡ running k
 
-taken_or : (s : Scene) (held running more : ℕ → Option ℕ) (k j : ℕ) → more k ≡ entered s held j running k
+taken_or : (s : Scene) (held running more : ℕ → Option ℕ) (k j : ℕ) → more k ≡ entered s held j k (running k)
     → Taken s held running more k j ⊎ Left s held running more k j
 taken_or s held running more k j same = elim (cases_Bool (enters s held j k (running k))) [
   | inl passes ↦
@@ -67,7 +68,7 @@ taken_or s held running more k j same = elim (cases_Bool (enters s held j k (run
 ]
 
 placed_some : (s : Scene) (held : ℕ → Option ℕ) (x j : ℕ) (running more : ℕ → Option ℕ) → Placed s held x running
-    → IsActiveJob s x (Some j) → ((k : ℕ) → more k ≡ entered s held j running k)
+    → IsActiveJob s x (Some j) → ((k : ℕ) → more k ≡ entered s held j k (running k))
     → Placed s held (x + 1) more
 placed_some s held x j running more g own same = record {
   active = active;
@@ -212,6 +213,6 @@ placed_none s held x running more g none same = record {
 -- One task more has come.
 pub placed_next : (s : Scene) (held : ℕ → Option ℕ) (x : ℕ) (o : Option ℕ) (running more : ℕ → Option ℕ)
     → Placed s held x running → IsActiveJob s x o
-    → ((k : ℕ) → more k ≡ running_after s held o running k) → Placed s held (x + 1) more
+    → ((k : ℕ) → more k ≡ come_to (entered s held) o k (running k)) → Placed s held (x + 1) more
 placed_next s held x None running more g own same = placed_none s held x running more g own same
 placed_next s held x (Some j) running more g own same = placed_some s held x j running more g own same

@@ -17,7 +17,8 @@ use Rattle.phase_machine.specs.Shows.{Shows}
 use Rattle.phase_machine.proofs.Lawful.{task_listed}
 use Rattle.phase_machine.proofs.Facts.{phase_shown, active_shown, active_current, current_some}
 use Rattle.shared_rules.specs.Order.{GivesRanks}
-use Rattle.shared_rules.specs.Scene.{Scene, scene_now, IsActiveJob, gives_way, asked, stays, kept, may_run, is_outrun}
+use Rattle.shared_rules.specs.RowTests.{processor_now}
+use Rattle.shared_rules.specs.Scene.{Scene, scene_in, scene_now, IsActiveJob, gives_way, asked, stays, kept, may_run, is_outrun}
 use Rattle.shared_rules.specs.Scene.{entered, running_in, resource_in}
 use Rattle.shared_rules.proofs.Chosen.{IsSceneOf}
 
@@ -45,10 +46,10 @@ current_own m x j machine l e =
     let p : IsPlace m.list.jobs x (place_of m x) = machine.place x l in
     subst (λ y. task_in m.list.jobs y ≡ x) parts.0 (p.own parts.1)
 
-pub active_job_now : (m : MachineDef) (grant run : ℕ → ℕ) (x : ℕ) → IsMachine m → x < length m.list.set.tasks
-    → IsActiveJob (scene_now grant run m) x (current_now m x)
+pub active_job_in : (m : MachineDef) (column grant run : ℕ → ℕ) (x : ℕ) → IsMachine m → x < length m.list.set.tasks
+    → IsActiveJob (scene_in column grant run m) x (current_now m x)
 unfolding active_now
-active_job_now m grant run x machine l = go (current_now m x) refl where
+active_job_in m column grant run x machine l = go (current_now m x) refl where
   the_one : (i : ℕ) → active_now m i ≡ true → task_in m.list.jobs i ≡ x → current_now m x ≡ Some i
   the_one i a own = sym (ap (current_now m) own) ∙ active_current m i a
 
@@ -58,12 +59,16 @@ active_job_now m grant run x machine l = go (current_now m x) refl where
   same : (j : ℕ) → current_now m x ≡ Some j → (i : ℕ) → active_now m i ≡ true → task_in m.list.jobs i ≡ x → i ≡ j
   same j e i a own = let two : Some i ≡ Some j = sym (the_one i a own) ∙ e in cc
 
-  go : (o : Option ℕ) → current_now m x ≡ o → IsActiveJob (scene_now grant run m) x (current_now m x)
-  go None e = subst (IsActiveJob (scene_now grant run m) x) (sym e) (none e)
+  go : (o : Option ℕ) → current_now m x ≡ o → IsActiveJob (scene_in column grant run m) x (current_now m x)
+  go None e = subst (IsActiveJob (scene_in column grant run m) x) (sym e) (none e)
   go (Some j) e =
       let own : task_in m.list.jobs j ≡ x = current_own m x j machine l e in
       let active : active_now m j ≡ true = named_job j (current_now m (task_in m.list.jobs j)) (ap (current_now m) own ∙ e) in
-      subst (IsActiveJob (scene_now grant run m) x) (sym e) (active, own, same j e)
+      subst (IsActiveJob (scene_in column grant run m) x) (sym e) (active, own, same j e)
+
+pub active_job_now : (m : MachineDef) (grant run : ℕ → ℕ) (x : ℕ) → IsMachine m → x < length m.list.set.tasks
+    → IsActiveJob (scene_now grant run m) x (current_now m x)
+active_job_now m grant run x machine l = active_job_in m (processor_now m) grant run x machine l
 
 -- The kept holders, by what the machine says of requesters.
 pub kept_now : (m : MachineDef) (grant run : ℕ → ℕ) (q : ℕ) → stays (requester_now m q) (holder_now m q) ≡ kept (scene_now grant run m) q
@@ -78,9 +83,9 @@ place_shown (o ∷ places) (suc k) = place_shown places k
 
 -- What a job's asking does to the holders: where it requests nothing, and where it requests q.
 pub asked_nothing : (s : Scene) (j : ℕ) (held more : ℕ → Option ℕ) → resource_in (s.phase j) ≡ None
-    → ((q : ℕ) → more q ≡ held q) → (q : ℕ) → more q ≡ asked s j held q
+    → ((q : ℕ) → more q ≡ held q) → (q : ℕ) → more q ≡ asked s j q (held q)
 asked_nothing s j held more nothing same q = same q ∙ go (s.phase j) refl where
-  go : (p : Phase) → s.phase j ≡ p → held q ≡ asked s j held q
+  go : (p : Phase) → s.phase j ≡ p → held q ≡ asked s j q (held q)
   go Local e = rw e refl
   go Finished e = rw e refl
   go (Asking n r) e = let two : Some r ≡ None = sym (ap resource_in e) ∙ nothing in absurd (cc)
@@ -92,15 +97,15 @@ asking_of q (Asking n y) e r = let same : y ≡ q = cc in ap (λ z. z == r) same
 
 pub asked_one : (s : Scene) (j q : ℕ) (held more : ℕ → Option ℕ) → resource_in (s.phase j) ≡ Some q
     → more q ≡ cond (gives_way s q j (held q)) (Some j) (held q)
-    → ((r : ℕ) → (r ≡ q → ⊥) → more r ≡ held r) → (r : ℕ) → more r ≡ asked s j held r
+    → ((r : ℕ) → (r ≡ q → ⊥) → more r ≡ held r) → (r : ℕ) → more r ≡ asked s j r (held r)
 asked_one s j q held more asks here others r = elim (cases_Bool (q == r)) [
-  | inl same ↦ let e : q ≡ r = eqb-true q r same in subst (λ y. more y ≡ asked s j held y) e (at_q)
+  | inl same ↦ let e : q ≡ r = eqb-true q r same in subst (λ y. more y ≡ asked s j y (held y)) e (at_q)
   | inr other ↦
       let no_ask : is_asking r (s.phase j) ≡ false = asking_of q (s.phase j) asks r ∙ other in
-      let left : asked s j held r ≡ held r = rw no_ask refl in
+      let left : asked s j r (held r) ≡ held r = rw no_ask refl in
       others r (λ e. differ e other) ∙ sym left
 ] where
-  at_q : more q ≡ asked s j held q
+  at_q : more q ≡ asked s j q (held q)
   at_q = let ask : is_asking q (s.phase j) ≡ true = asking_of q (s.phase j) asks q ∙ eq-eqb q q refl in here ∙ rw ask refl
 
   differ : r ≡ q → (q == r) ≡ false → ⊥
@@ -109,14 +114,14 @@ asked_one s j q held more asks here others r = elim (cases_Bool (q == r)) [
 -- What a job's coming does to what runs, k being its processor.
 pub entered_one : (s : Scene) (held : ℕ → Option ℕ) (j k : ℕ) (running more : ℕ → Option ℕ) → s.processor j ≡ k
     → more k ≡ cond (may_run s held j && is_outrun s held j (running k)) (Some j) (running k)
-    → ((r : ℕ) → (r ≡ k → ⊥) → more r ≡ running r) → (r : ℕ) → more r ≡ entered s held j running r
+    → ((r : ℕ) → (r ≡ k → ⊥) → more r ≡ running r) → (r : ℕ) → more r ≡ entered s held j r (running r)
 entered_one s held j k running more own here others r = elim (cases_Bool (s.processor j == r)) [
-  | inl same ↦ let e : k ≡ r = sym own ∙ eqb-true (s.processor j) r same in subst (λ y. more y ≡ entered s held j running y) e at_k
+  | inl same ↦ let e : k ≡ r = sym own ∙ eqb-true (s.processor j) r same in subst (λ y. more y ≡ entered s held j y (running y)) e at_k
   | inr other ↦
-      let left : entered s held j running r ≡ running r = rw other refl in
+      let left : entered s held j r (running r) ≡ running r = rw other refl in
       others r (λ e. differ e other) ∙ sym left
 ] where
-  at_k : more k ≡ entered s held j running k
+  at_k : more k ≡ entered s held j k (running k)
   at_k = let t : (s.processor j == k) ≡ true = eq-eqb (s.processor j) k own in here ∙ rw t refl
 
   differ : r ≡ k → (s.processor j == r) ≡ false → ⊥

@@ -1,5 +1,5 @@
 -- The first test that fails is that of the first rule that the row breaks.
-use Rattle.std.proofs.Common.{◌≡◌, ℕ, ◌<◌, not, Bool, true, false, length, refl, sym, subst, arith, cond, Option, Some, None}
+use Rattle.std.proofs.Common.{◌≡◌, ℕ, ◌<◌, Bool, true, false, length, refl, sym, subst, arith, Some, None}
 use Rattle.schedule_model.specs.declared.rule.Rule.{Rule}
 use Rattle.schedule_model.specs.declared.rule.Rule.TheVariants as rule
 use Rattle.schedule_model.specs.RowDef.{RowDef, Trace, holder_in}
@@ -10,7 +10,7 @@ use Rattle.phase_machine.specs.MachineDef.{MachineDef, under}
 use Rattle.phase_machine.specs.Shows.{Shows}
 use Rattle.phase_machine.specs.Taking.{IsRowFor}
 use Rattle.shared_rules.specs.Order.{GivesRanks}
-use Rattle.shared_rules.specs.RowTests.{passes_run, passes_keep, passes_grant, passes_idle, passes_priority, first_failed}
+use Rattle.shared_rules.specs.RowTests.{passes_run, passes_keep, passes_grant, passes_idle, passes_priority, first_of, first_failed}
 use Rattle.shared_rules.proofs.RunTest.{some_within, run_is, run_from}
 use Rattle.shared_rules.proofs.HolderTests.{keep_is, keep_from, grant_is, grant_from}
 use Rattle.shared_rules.proofs.ReadyTests.{idle_is, idle_from, priority_is, priority_from}
@@ -27,11 +27,6 @@ pub record Tests (keeps : Rule → Trace → ℕ → Type 0) (w : Trace) (t : �
   pub idle_from : keeps rule.Idle w t → d ≡ true
   pub priority_is : a ≡ true → e ≡ true → keeps rule.Priority w t
   pub priority_from : keeps rule.Run w t → keeps rule.Priority w t → e ≡ true
-
-abbrev pub first_of : Bool → Bool → Bool → Bool → Bool → Option Rule
-first_of a b c d e =
-    cond (not a) (Some rule.Run) (cond (not b) (Some rule.Keep)
-    (cond (not c) (Some rule.Grant) (cond (not d) (Some rule.Idle) (cond (not e) (Some rule.Priority) None))))
 
 pub all_kept : (keeps : Rule → Trace → ℕ → Type 0) (w : Trace) (t : ℕ) (a b c d e : Bool) → Tests keeps w t a b c d e
     → first_of a b c d e ≡ None → KeepsRow keeps w t

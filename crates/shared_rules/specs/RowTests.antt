@@ -35,15 +35,20 @@ current_passes m p x = option_map_or p (current_now m x) true
 unfoldable pub each_current : MachineDef → (ℕ → Bool) → Bool
 each_current m p = all_below (length m.list.set.tasks) (current_passes m p)
 
--- Run: is what runs in column c, counted from 0, active and ready, and is the column its own?
-abbrev pub may_stand : MachineDef → RowDef → ℕ → ℕ → Bool
-may_stand m row c j = active_now m j && (may_run_now m (holder_in row) j && (processor_now m j == c + 1))
+-- Run: is what runs in column c, counted from 0, active and ready, and is the column the one of the processor that the job
+-- runs on?
+abbrev pub may_stand : MachineDef → (ℕ → ℕ) → RowDef → ℕ → ℕ → Bool
+may_stand m column row c j = active_now m j && (may_run_now m (holder_in row) j && (column j == c + 1))
 
-abbrev pub column_passes : MachineDef → RowDef → ℕ → Bool
-column_passes m row c = option_map_or (may_stand m row c) (slice_index_or row.running c None) true
+abbrev pub column_passes : MachineDef → (ℕ → ℕ) → RowDef → ℕ → Bool
+column_passes m column row c = option_map_or (may_stand m column row c) (slice_index_or row.running c None) true
 
-unfoldable pub passes_run : MachineDef → RowDef → Bool
-passes_run m row = all_below (length row.running) (column_passes m row)
+unfoldable pub each_stands : MachineDef → (ℕ → ℕ) → RowDef → Bool
+each_stands m column row = all_below (length row.running) (column_passes m column row)
+
+-- Here each job runs on its task's processor.
+abbrev pub passes_run : MachineDef → RowDef → Bool
+passes_run m row = each_stands m (processor_now m) row
 
 -- Keep: is the last row's holder of q, if it still requests q, the holder?
 abbrev pub stays_holder : MachineDef → RowDef → ℕ → ℕ → Bool
@@ -94,11 +99,15 @@ priority_passes m run row j = runs_before m run row j (running_on row (processor
 unfoldable pub passes_priority : MachineDef → (ℕ → ℕ) → RowDef → Bool
 passes_priority m run row = each_current m (priority_passes m run row)
 
--- The first rule whose test fails.
+-- The first rule whose test fails, by the tests of Run, Keep, Grant, Idle and Priority.
+abbrev pub first_of : Bool → Bool → Bool → Bool → Bool → Option Rule
+first_of run keep grant idle priority =
+    if not run then Some rule.Run
+    else (if not keep then Some rule.Keep
+    else (if not grant then Some rule.Grant
+    else (if not idle then Some rule.Idle
+    else (if not priority then Some rule.Priority else None))))
+
 abbrev pub first_failed : MachineDef → (ℕ → ℕ) → (ℕ → ℕ) → RowDef → Option Rule
 first_failed m grant run row =
-    if not (passes_run m row) then Some rule.Run
-    else (if not (passes_keep m row) then Some rule.Keep
-    else (if not (passes_grant m grant row) then Some rule.Grant
-    else (if not (passes_idle m row) then Some rule.Idle
-    else (if not (passes_priority m run row) then Some rule.Priority else None))))
+    first_of (passes_run m row) (passes_keep m row) (passes_grant m grant row) (passes_idle m row) (passes_priority m run row)

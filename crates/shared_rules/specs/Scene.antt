@@ -21,18 +21,21 @@ pub record Scene : Type 0 where
   pub grant : ℕ → ℕ
   pub run : ℕ → ℕ
 
--- The scene at a machine, and at a tick of a schedule.
-abbrev pub scene_now : (ℕ → ℕ) → (ℕ → ℕ) → MachineDef → Scene
-scene_now grant run m = record {
+-- The scene at a machine, where jobs run on these processors; where each runs on its task's; and at a tick of a schedule.
+abbrev pub scene_in : (ℕ → ℕ) → (ℕ → ℕ) → (ℕ → ℕ) → MachineDef → Scene
+scene_in column grant run m = record {
   tasks = length m.list.set.tasks;
   active = active_now m;
   task = task_in m.list.jobs;
-  processor = processor_now m;
+  processor = column;
   phase = phase_now m;
   before = holder_now m;
   grant = grant;
   run = run;
 }
+
+abbrev pub scene_now : (ℕ → ℕ) → (ℕ → ℕ) → MachineDef → Scene
+scene_now grant run m = scene_in (processor_now m) grant run m
 
 abbrev pub scene_at : Ranks → Trace → ℕ → Scene
 scene_at o w t = record {
@@ -66,16 +69,12 @@ abbrev pub gives_way : Scene → ℕ → ℕ → Option ℕ → Bool
 gives_way s q j None = true
 gives_way s q j (Some h) = not (is_job h (s.before q)) && nat_lt (s.grant j) (s.grant h)
 
--- Who holds q once job j has asked?
+-- Who holds q once job j has asked, where o held it before?
 abbrev pub takes : Scene → ℕ → ℕ → Option ℕ → Bool
 takes s q j o = is_asking q (s.phase j) && gives_way s q j o
 
-abbrev pub asked : Scene → ℕ → (ℕ → Option ℕ) → ℕ → Option ℕ
-asked s j held q = if takes s q j (held q) then Some j else held q
-
-abbrev pub held_after : Scene → Option ℕ → (ℕ → Option ℕ) → ℕ → Option ℕ
-held_after s None held q = held q
-held_after s (Some j) held q = asked s j held q
+abbrev pub asked : Scene → ℕ → ℕ → Option ℕ → Option ℕ
+asked s j q o = if takes s q j o then Some j else o
 
 -- Who holds q before anyone has asked: the last row's holder, where it still requests q.
 abbrev pub stays : (ℕ → Bool) → Option ℕ → Option ℕ
@@ -90,16 +89,12 @@ abbrev pub is_outrun : Scene → (ℕ → Option ℕ) → ℕ → Option ℕ →
 is_outrun s held j None = true
 is_outrun s held j (Some r) = holds s held j && (not (holds s held r) || nat_lt (s.run j) (s.run r))
 
--- What runs on processor k once job j has come?
+-- What runs on processor k once job j has come, where o ran there before?
 abbrev pub enters : Scene → (ℕ → Option ℕ) → ℕ → ℕ → Option ℕ → Bool
 enters s held j k o = (s.processor j == k) && (may_run s held j && is_outrun s held j o)
 
-abbrev pub entered : Scene → (ℕ → Option ℕ) → ℕ → (ℕ → Option ℕ) → ℕ → Option ℕ
-entered s held j running k = if enters s held j k (running k) then Some j else running k
-
-abbrev pub running_after : Scene → (ℕ → Option ℕ) → Option ℕ → (ℕ → Option ℕ) → ℕ → Option ℕ
-running_after s held None running k = running k
-running_after s held (Some j) running k = entered s held j running k
+abbrev pub entered : Scene → (ℕ → Option ℕ) → ℕ → ℕ → Option ℕ → Option ℕ
+entered s held j k o = if enters s held j k o then Some j else o
 
 -- Who is named at a place of a row, and on processor k.
 abbrev pub place_in : List (Option ℕ) → ℕ → Option ℕ

@@ -3,61 +3,73 @@ ghost use Rattle.bounded_sums.specs.Tests.{all_below};
 ghost use Rattle.schedule_model.specs.RowDef.{RowDef, running_on};
 ghost use Rattle.schedule_model.specs.Seen.{row_seen, place_seen};
 ghost use Rattle.schedule_model.specs.Protocols.{shared_rule};
-ghost use Rattle.phase_machine.specs.MachineDef.{under};
+ghost use Rattle.phase_machine.specs.MachineDef.{MachineDef, under};
 ghost use Rattle.phase_machine.specs.Now.{requester_now};
 ghost use Rattle.phase_machine.specs.Shows.{Shows};
 ghost use Rattle.phase_machine.specs.Taking.{IsRowFor};
 ghost use Rattle.phase_machine.specs.Judged.{Judged};
-ghost use Rattle.shared_rules.specs.RowTests.{processor_now, current_passes, each_current, is_local_now, holds_now};
-ghost use Rattle.shared_rules.specs.RowTests.{may_run_now, may_stand, column_passes, stays_holder, kept_passes};
+ghost use Rattle.shared_rules.specs.RowTests.{processor_now, each_current, is_local_now, holds_now};
+ghost use Rattle.shared_rules.specs.RowTests.{may_run_now, may_stand, column_passes, each_stands, stays_holder, kept_passes};
 ghost use Rattle.shared_rules.specs.RowTests.{holder_passes, goes_before, request_passes, idle_passes, runs_before};
 ghost use Rattle.shared_rules.specs.RowTests.{priority_passes, passes_run, passes_keep, passes_grant, passes_idle};
 ghost use Rattle.shared_rules.specs.RowTests.{passes_priority, first_failed};
 
+use crate::columns::{Columns, OwnProcessors};
 use crate::lookup::{
-    column_at, holder_at, holds, is_local, may_run, processor_of, requests, resources_of,
-    running_beside, task_of, tasks_of,
+    column_at, holder_at, holds, is_local, may_run, requests, resources_of, running_beside, task_of,
 };
 use crate::order::Order;
+use crate::walking::{JobTest, each_passes};
 use phase_machine::{Machine, Phase};
 use schedule_model::{JobId, Row, Rule};
-use sporadic_model::{ResourceId, TaskId};
+use sporadic_model::ResourceId;
 
 /// May the job stand in the column, counted from 0?
-fn may_stand(machine: &Machine, row: &Row, c: usize, j: JobId) -> bool
+fn may_stand<C: Columns>(columns: &C, machine: &Machine, row: &Row, c: usize, j: JobId) -> bool
+    requires suits { C.suits columns.now machine.now.list.set }
     requires fits { IsRowFor machine.now.list (row_seen row.now) }
     requires listed { j.0 < length machine.now.list.jobs }
-    ensures { result ≡ may_stand machine.now (row_seen row.now) c j.0 }
+    ensures { result ≡ may_stand machine.now (C.column columns.now machine.now) (row_seen row.now) c j.0 }
 {
     machine.active(j)
         && may_run(machine, &row.holders, j)
-        && processor_of(machine, j) as usize - 1 == c
+        && columns.column_of(machine, j) as usize - 1 == c
 }
 
 /// May what runs in the column stand there?
-fn column_passes(machine: &Machine, row: &Row, c: usize) -> bool
+fn column_passes<C: Columns>(columns: &C, machine: &Machine, row: &Row, c: usize) -> bool
+    requires suits { C.suits columns.now machine.now.list.set }
     requires fits { IsRowFor machine.now.list (row_seen row.now) }
     requires column { c < length (row_seen row.now).running }
-    ensures { result ≡ column_passes machine.now (row_seen row.now) c }
+    ensures { result ≡ column_passes machine.now (C.column columns.now machine.now) (row_seen row.now) c }
 {
     match column_at(machine, row, c) {
-        Some(j) => may_stand(machine, row, c, j),
+        Some(j) => may_stand(columns, machine, row, c, j),
         None => true,
     }
 }
 
 /// Run: may each running job stand in its column?
-#[tactic(auto, unfolding(crate::specs::RowTests::passes_run))]
-fn passes_run(machine: &Machine, row: &Row) -> bool
+#[tactic(auto, unfolding(crate::specs::RowTests::each_stands))]
+pub fn each_stands<C: Columns>(columns: &C, machine: &Machine, row: &Row) -> bool
+    requires suits { C.suits columns.now machine.now.list.set }
     requires fits { IsRowFor machine.now.list (row_seen row.now) }
-    ensures { result ≡ passes_run machine.now (row_seen row.now) }
+    ensures { result ≡ each_stands machine.now (C.column columns.now machine.now) (row_seen row.now) }
 {
     for c in 0..row.running.len() {
-        if !column_passes(machine, row, c) {
+        if !column_passes(columns, machine, row, c) {
             return false;
         }
     }
     true
+}
+
+/// The same where each job runs on its task's processor.
+pub fn passes_run(machine: &Machine, row: &Row) -> bool
+    requires fits { IsRowFor machine.now.list (row_seen row.now) }
+    ensures { result ≡ passes_run machine.now (row_seen row.now) }
+{
+    each_stands(&OwnProcessors, machine, row)
 }
 
 /// Does the last row's holder of the resource, if it still requests it, hold it?
@@ -144,30 +156,29 @@ fn goes_before<O: Order>(
     }
 }
 
-/// The same for the task's active job, where it has one.
-fn request_passes_for<O: Order>(order: &O, machine: &Machine, row: &Row, x: TaskId) -> bool
-    requires fits { IsRowFor machine.now.list (row_seen row.now) }
-    requires task { x.0 < length machine.now.list.set.tasks }
-    ensures { result ≡ current_passes machine.now (request_passes machine.now (O.grant order.now machine.now) (row_seen row.now)) x.0 }
-{
-    match machine.current(x) {
-        Some(j) => request_passes(order, machine, row, j),
-        None => true,
+/// The test of the requests of active jobs.
+#[derive(Drop)]
+struct RequestTest<'a, O> {
+    order: &'a O,
+    row: &'a Row,
+}
+
+impl<'a, O: Order> JobTest for RequestTest<'a, O> {
+    ghost needs = { λ t m. IsRowFor m.list (row_seen t.row.now) };
+
+    ghost passes = { λ t m. request_passes m (O.grant t.order.now m) (row_seen t.row.now) };
+
+    fn test(&self, machine: &Machine, j: JobId) -> bool {
+        request_passes(self.order, machine, self.row, j)
     }
 }
 
 /// Is each request of an active job served?
-#[tactic(auto, unfolding(crate::specs::RowTests::each_current))]
-fn requests_pass<O: Order>(order: &O, machine: &Machine, row: &Row) -> bool
+pub fn requests_pass<O: Order>(order: &O, machine: &Machine, row: &Row) -> bool
     requires fits { IsRowFor machine.now.list (row_seen row.now) }
     ensures { result ≡ each_current machine.now (request_passes machine.now (O.grant order.now machine.now) (row_seen row.now)) }
 {
-    for x in 0..tasks_of(machine) {
-        if !request_passes_for(order, machine, row, TaskId(x)) {
-            return false;
-        }
-    }
-    true
+    each_passes(&RequestTest { order, row }, machine)
 }
 
 /// Idle, for one job: does its processor run something, where the job is ready?
@@ -179,30 +190,29 @@ fn idle_passes(machine: &Machine, row: &Row, j: JobId) -> bool
     !may_run(machine, &row.holders, j) || running_beside(machine, row, j).is_some()
 }
 
-/// The same for the task's active job, where it has one.
-fn idle_passes_for(machine: &Machine, row: &Row, x: TaskId) -> bool
-    requires fits { IsRowFor machine.now.list (row_seen row.now) }
-    requires task { x.0 < length machine.now.list.set.tasks }
-    ensures { result ≡ current_passes machine.now (idle_passes machine.now (row_seen row.now)) x.0 }
-{
-    match machine.current(x) {
-        Some(j) => idle_passes(machine, row, j),
-        None => true,
+/// The test of Idle for active jobs.
+#[derive(Drop)]
+struct IdleTest<'a> {
+    row: &'a Row,
+}
+
+impl<'a> JobTest for IdleTest<'a> {
+    ghost needs = { λ t m. IsRowFor m.list (row_seen t.row.now) };
+
+    ghost passes = { λ t m. idle_passes m (row_seen t.row.now) };
+
+    fn test(&self, machine: &Machine, j: JobId) -> bool {
+        idle_passes(machine, self.row, j)
     }
 }
 
 /// Idle: is no processor idle that has a ready job?
-#[tactic(auto, unfolding(crate::specs::RowTests::passes_idle, crate::specs::RowTests::each_current))]
+#[tactic(auto, unfolding(crate::specs::RowTests::passes_idle))]
 fn passes_idle(machine: &Machine, row: &Row) -> bool
     requires fits { IsRowFor machine.now.list (row_seen row.now) }
     ensures { result ≡ passes_idle machine.now (row_seen row.now) }
 {
-    for x in 0..tasks_of(machine) {
-        if !idle_passes_for(machine, row, TaskId(x)) {
-            return false;
-        }
-    }
-    true
+    each_passes(&IdleTest { row }, machine)
 }
 
 /// Does what runs go no later than the job, on one processor?
@@ -239,30 +249,30 @@ fn priority_passes<O: Order>(order: &O, machine: &Machine, row: &Row, j: JobId) 
     runs_before(order, machine, row, j, running_beside(machine, row, j))
 }
 
-/// The same for the task's active job, where it has one.
-fn priority_passes_for<O: Order>(order: &O, machine: &Machine, row: &Row, x: TaskId) -> bool
-    requires fits { IsRowFor machine.now.list (row_seen row.now) }
-    requires task { x.0 < length machine.now.list.set.tasks }
-    ensures { result ≡ current_passes machine.now (priority_passes machine.now (O.run order.now machine.now) (row_seen row.now)) x.0 }
-{
-    match machine.current(x) {
-        Some(j) => priority_passes(order, machine, row, j),
-        None => true,
+/// The test of Priority for active jobs.
+#[derive(Drop)]
+struct PriorityTest<'a, O> {
+    order: &'a O,
+    row: &'a Row,
+}
+
+impl<'a, O: Order> JobTest for PriorityTest<'a, O> {
+    ghost needs = { λ t m. IsRowFor m.list (row_seen t.row.now) };
+
+    ghost passes = { λ t m. priority_passes m (O.run t.order.now m) (row_seen t.row.now) };
+
+    fn test(&self, machine: &Machine, j: JobId) -> bool {
+        priority_passes(self.order, machine, self.row, j)
     }
 }
 
 /// Priority: does what runs on each processor go first there?
-#[tactic(auto, unfolding(crate::specs::RowTests::passes_priority, crate::specs::RowTests::each_current))]
+#[tactic(auto, unfolding(crate::specs::RowTests::passes_priority))]
 fn passes_priority<O: Order>(order: &O, machine: &Machine, row: &Row) -> bool
     requires fits { IsRowFor machine.now.list (row_seen row.now) }
     ensures { result ≡ passes_priority machine.now (O.run order.now machine.now) (row_seen row.now) }
 {
-    for x in 0..tasks_of(machine) {
-        if !priority_passes_for(order, machine, row, TaskId(x)) {
-            return false;
-        }
-    }
-    true
+    each_passes(&PriorityTest { order, row }, machine)
 }
 
 /// The first rule whose test fails.

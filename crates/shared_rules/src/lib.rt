@@ -5,10 +5,14 @@
 
 mod blocking;
 pub mod choosing;
+pub mod claims;
+pub mod columns;
 pub mod judging;
 mod laws;
 pub mod lookup;
 mod order;
+pub mod row_choice;
+pub mod walking;
 
 pub use blocking::blocked_shared;
 pub use choosing::choose_shared;

@@ -20,7 +20,8 @@ pub fn tasks_of(machine: &Machine) -> u32
 
 /// How many resources it has.
 pub fn resources_of(machine: &Machine) -> u32
-    ensures { result ≡ length machine.now.list.set.resources }
+    ensures value { result ≡ length machine.now.list.set.resources }
+    ensures machine { IsMachine machine.now }
 {
     machine.jobs().set().resources()
 }

@@ -7,7 +7,7 @@ use Rattle.schedule_model.specs.RowDef.{RunDef, Trace, trace_in}
 use Rattle.schedule_laws.specs.Agreement.{AgreeBefore}
 use Rattle.schedule_laws.proofs.SharedChoice.{mpcp_choice_one, fmlp_plus_choice_one, schedules_one}
 use Rattle.schedule_laws.proofs.DpcpChoice.{dpcp_choice_one}
-use Rattle.sim_engine.specs.ByProtocol.{choice_of}
+use Rattle.schedule_model.specs.ByProtocol.{choice_of}
 use Rattle.sim_engine.specs.Simulated.{IsSimulated}
 use Rattle.sim_engine.proofs.JoinedRuns.{joined_once}
 

@@ -7,8 +7,7 @@ ghost use Rattle.schedule_model.specs.RowDef.{RunDef, trace_in, ticks_of};
 ghost use Rattle.schedule_model.specs.Fitting.{is_fitting};
 ghost use Rattle.schedule_model.specs.Keeping.{KeepsBefore, IsFirstUnlawful};
 ghost use Rattle.schedule_model.specs.declared.rule.Rule.{Rule};
-ghost use Rattle.trace_conform.specs.ByProtocol.{rules_of};
-ghost use Rattle.sim_engine.specs.ByProtocol.{choice_of};
+ghost use Rattle.schedule_model.specs.ByProtocol.{rules_of, choice_of};
 ghost use Rattle.sim_engine.specs.Simulated.{IsSimulated};
 
 use crate::simulating::simulate_with;

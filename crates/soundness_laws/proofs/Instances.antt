@@ -16,7 +16,7 @@ use Rattle.schedule_model.specs.Ranks.{mpcp, fmlp_plus}
 use Rattle.schedule_model.specs.Protocols.{shared_rule, dpcp_rule}
 use Rattle.schedule_model.specs.declared.rule.Rule.{Rule}
 use Rattle.schedule_laws.proofs.SharedLaws.{shared_runs_active}
-use Rattle.program_laws.specs.Programs.{program_of}
+use Rattle.program_laws.specs.Programs.{program_of, source_of}
 use Rattle.charge_model.specs.Charges.{shared_charge, dpcp_charge}
 use Rattle.charge_model.specs.Interferers.{interferes_with_some}
 use Rattle.charge_model.specs.Windows.{bound_end, window_end, EndedWithin}
@@ -25,7 +25,7 @@ use Rattle.row_laws.proofs.SharedPlacement.{mpcp_shares, fmlp_shares}
 use Rattle.row_laws.proofs.Joined.{shared_in_column, dpcp_in_column, blocked_bounded}
 use Rattle.row_laws.proofs.EmptyWindows.{WithinRows, mpcp_point_within, fmlp_point_within, dpcp_point_within}
 use Rattle.soundness_laws.specs.Sound.{IsLawfulSchedule}
-use Rattle.soundness_laws.specs.Analyses.{source_of, Analyses}
+use Rattle.soundness_laws.specs.Analyses.{Analyses}
 
 -- The dual of a job's program, at a set, bounds its blocked ticks.
 abbrev DualBounds : Protocol → (Trace → ℕ → ℕ → Bool) → Trace → List ℕ → ℕ → ℕ → ℕ → (ℕ → ℕ) → SetDef → Type 0

@@ -15,8 +15,9 @@ use Rattle.schedule_model.specs.Protocols.{shared_rule}
 use Rattle.schedule_model.proofs.WorkedFiles.{trace_jit}
 use Rattle.schedule_model.proofs.JitterExamples.{jit_lawful, jit_keeps_fmlp}
 use Rattle.program_sources.specs.Valid.{IsValid, IsProvedBound, value_at}
+use Rattle.program_laws.specs.Programs.{source_of}
 use Rattle.soundness_laws.specs.Sound.{IsLawfulSchedule, KeepsBounds, Sound}
-use Rattle.soundness_laws.specs.Analyses.{source_of, AreValues}
+use Rattle.soundness_laws.specs.Analyses.{AreValues}
 use Rattle.soundness_laws.specs.Worked.{late_tasks, bounds_alone}
 use Rattle.soundness_laws.proofs.WorkedSet.{covers_from}
 

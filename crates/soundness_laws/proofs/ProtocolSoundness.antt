@@ -10,8 +10,9 @@ use Rattle.schedule_model.specs.Protocols.{shared_rule, dpcp_rule}
 use Rattle.schedule_laws.proofs.SharedLaws.{shared_one_of_three, shared_sound_row}
 use Rattle.schedule_laws.proofs.DpcpLaws.{dpcp_one_of_three, dpcp_sound_row}
 use Rattle.program_sources.specs.Valid.{IsValid}
+use Rattle.program_laws.specs.Programs.{source_of}
 use Rattle.soundness_laws.specs.Sound.{Sound}
-use Rattle.soundness_laws.specs.Analyses.{source_of, AreValues}
+use Rattle.soundness_laws.specs.Analyses.{AreValues}
 use Rattle.soundness_laws.proofs.Soundness.{sound_of}
 use Rattle.soundness_laws.proofs.Instances.{mpcp_analyses, fmlp_analyses, dpcp_analyses}
 

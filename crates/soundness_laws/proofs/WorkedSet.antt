@@ -28,8 +28,9 @@ use Rattle.schedule_model.specs.Protocols.{shared_rule}
 use Rattle.schedule_model.proofs.WorkedFiles.{then_request, local_only, jobs_a, trace_a}
 use Rattle.schedule_model.proofs.SharedExamples.{a_keeps_fmlp}
 use Rattle.program_sources.specs.Valid.{IsValid, IsProvedBound, value_at}
+use Rattle.program_laws.specs.Programs.{source_of}
 use Rattle.soundness_laws.specs.Sound.{IsLawfulSchedule, blocked_in_window, KeepsBounds, Sound}
-use Rattle.soundness_laws.specs.Analyses.{source_of, AreValues}
+use Rattle.soundness_laws.specs.Analyses.{AreValues}
 use Rattle.soundness_laws.specs.Worked.{two_tasks, two_bounds, two_bounds_of_fewer_rows, greater_bounds, too_small_bound}
 
 pub two_accepted : IsAccepted two_tasks

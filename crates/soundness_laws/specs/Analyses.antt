@@ -4,7 +4,6 @@ use Rattle.bounded_sums.specs.Tests.{count_below}
 use Rattle.program_form.specs.Certificate.{CertificateDef}
 use Rattle.program_form.specs.Duals.{Covers, dual_value}
 use Rattle.sporadic_model.specs.SetDef.{SetDef, task_at}
-use Rattle.sporadic_model.specs.declared.ids.Protocol.{Protocol}
 use Rattle.schedule_model.specs.RowDef.{Trace}
 use Rattle.schedule_model.specs.Activity.{task_of}
 use Rattle.schedule_model.specs.BlockedTicks.{is_blocked}
@@ -12,14 +11,9 @@ use Rattle.schedule_model.specs.declared.rule.Rule.{Rule}
 use Rattle.program_sources.specs.Recurrence.{SourceDef}
 use Rattle.program_sources.specs.Fitting.{tasks_of}
 use Rattle.program_sources.specs.Valid.{value_at}
-use Rattle.program_laws.specs.Programs.{program_of, interfering_cost}
 use Rattle.charge_model.specs.Interferers.{interferes_with_some}
 use Rattle.charge_model.specs.Windows.{bound_end, window_end, EndedWithin}
 use Rattle.soundness_laws.specs.Sound.{IsLawfulSchedule}
-
--- The source of a protocol's programs for a set.
-abbrev pub source_of : Protocol → SetDef → SourceDef
-source_of p set = record { set = set; program = program_of p set; interfering = interfering_cost p set }
 
 -- Are the values those of the certificate's duals, one for each task?
 pub record AreValues (f : SourceDef) (c : CertificateDef) (values : List ℕ) : Type 0 where

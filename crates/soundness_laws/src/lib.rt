@@ -20,8 +20,9 @@ ghost use Rattle.schedule_model.specs.Keeping.{KeepsBefore};
 ghost use Rattle.schedule_model.specs.BlockedTicks.{is_shared_interference, is_dpcp_interference, is_blocked};
 ghost use Rattle.program_sources.specs.Recurrence.{SourceDef};
 ghost use Rattle.program_sources.specs.Valid.{IsValid};
+ghost use Rattle.program_laws.specs.Programs.{source_of};
 ghost use Rattle.soundness_laws.specs.Sound.{is_in_window, KeepsBounds, Sound};
-ghost use Rattle.soundness_laws.specs.Analyses.{source_of, AreValues, Analyses};
+ghost use Rattle.soundness_laws.specs.Analyses.{AreValues, Analyses};
 ghost use Rattle.soundness_laws.specs.Worked.{two_tasks, two_bounds, two_bounds_of_fewer_rows, greater_bounds, too_small_bound};
 ghost use Rattle.soundness_laws.specs.Worked.{late_tasks, bounds_alone};
 

@@ -120,15 +120,15 @@ pub holder_alike : (w : Trace) (t u q : ℕ) → IsAlike w t u → holder_in (w.
 holder_alike w t u q a = ap (λ row. holder_in row q) a.row
 
 -- And the tick is the same for each job.
-delayed_alike : (w : Trace) (t u j : ℕ) → IsAlike w t u → is_delayed w u j ≡ is_delayed w t j
+pub delayed_alike : (w : Trace) (t u j : ℕ) → IsAlike w t u → is_delayed w u j ≡ is_delayed w t j
 unfolding is_delayed
 delayed_alike w t u j a = rw (active_alike w t u j a, a.row) refl
 
-shared_interference_alike : (w : Trace) (t u j : ℕ) → IsAlike w t u → is_shared_interference w u j ≡ is_shared_interference w t j
+pub shared_interference_alike : (w : Trace) (t u j : ℕ) → IsAlike w t u → is_shared_interference w u j ≡ is_shared_interference w t j
 unfolding is_shared_interference runs_higher
 shared_interference_alike w t u j a = rw (delayed_alike w t u j a, a.row) refl
 
-dpcp_interference_alike : (w : Trace) (t u j : ℕ) → IsAlike w t u → is_dpcp_interference w u j ≡ is_dpcp_interference w t j
+pub dpcp_interference_alike : (w : Trace) (t u j : ℕ) → IsAlike w t u → is_dpcp_interference w u j ≡ is_dpcp_interference w t j
 unfolding is_dpcp_interference runs_higher_local
 dpcp_interference_alike w t u j a =
     ap

@@ -36,16 +36,16 @@ use Rattle.stretch_laws.proofs.Alike.{running_alike, holder_alike, dpcp_blocked_
 use Rattle.stretch_laws.proofs.SharedStretches.{keep_again, sized_again}
 
 -- At a tick that is alike the same requests are at each processor, and hold there.
-request_at_alike : (w : Trace) (t u k j : ℕ) → IsAlike w t u → has_request_at w u k j ≡ has_request_at w t k j
+pub request_at_alike : (w : Trace) (t u k j : ℕ) → IsAlike w t u → has_request_at w u k j ≡ has_request_at w t k j
 unfolding has_request_at
 request_at_alike w t u k j a = rw (active_alike w t u j a, a.phase j) refl
 
-has_requests_alike : (w : Trace) (t u k : ℕ) → IsAlike w t u → has_requests w u k ≡ has_requests w t k
+pub has_requests_alike : (w : Trace) (t u k : ℕ) → IsAlike w t u → has_requests w u k ≡ has_requests w t k
 unfolding has_requests
 has_requests_alike w t u k a =
     any_below-agree (length w.jobs) (has_request_at w u k) (has_request_at w t k) (λ j l. request_at_alike w t u k j a)
 
-holds_at_alike : (w : Trace) (t u k j : ℕ) → IsAlike w t u → holds_at w u k j ≡ holds_at w t k j
+pub holds_at_alike : (w : Trace) (t u k j : ℕ) → IsAlike w t u → holds_at w u k j ≡ holds_at w t k j
 unfolding holds_at
 holds_at_alike w t u k j a = rw (request_at_alike w t u k j a, a.phase j, a.row) refl
 
@@ -305,7 +305,7 @@ never_granted w t u q j lawful a keep grant asks free granted =
     both_ways (is_barred w u (home_of w q) (task_of w j)) free_of_bars barred
 
 -- Each rule.
-run_again : (w : Trace) (t u : ℕ) → IsAlike w t u → KeepsRun w t → KeepsRun w u
+pub run_again : (w : Trace) (t u : ℕ) → IsAlike w t u → KeepsRun w t → KeepsRun w u
 run_again w t u a run = record {
   active = λ k j e. active_alike w t u j a ∙ run.active k j (sym (running_alike w t u k a) ∙ e);
   local = λ k j e h. run.local k j (sym (running_alike w t u k a) ∙ e) (sym (ap is_local (a.phase j)) ∙ h);
@@ -332,13 +332,13 @@ grant_again w t u lawful a keep grant = record {
         (λ e. both_ways (is_job j (holder_in (w.row t) q)) other (named_job j (holder_in (w.row t) q) e)) g)
   ]
 
-idle_again : (w : Trace) (t u : ℕ) → IsAlike w t u → KeepsIdle w t → KeepsIdle w u
+pub idle_again : (w : Trace) (t u : ℕ) → IsAlike w t u → KeepsIdle w t → KeepsIdle w u
 idle_again w t u a idle = record {
   requests = λ k e. has_requests_alike w t u k a ∙ idle.requests k (sym (running_alike w t u k a) ∙ e);
   locals = λ k e i b c. active_local_alike w t u i a ∙ idle.locals k (sym (running_alike w t u k a) ∙ e) i b c;
 }
 
-first_holder_again : (w : Trace) (t u k : ℕ) → IsAlike w t u → RunsFirstHolder w t k → RunsFirstHolder w u k
+pub first_holder_again : (w : Trace) (t u k : ℕ) → IsAlike w t u → RunsFirstHolder w t k → RunsFirstHolder w u k
 first_holder_again w t u k a f = record {
   runner = f.runner;
   runs = running_alike w t u k a ∙ f.runs;

@@ -33,11 +33,11 @@ pub mpcp_runs_alike : RunsAlike mpcp
 unfolding mpcp
 mpcp_runs_alike w t u j m q a e = ap (boost_in w (processor_of w j)) (a.phase j)
 
-run_of_holder : (o : Ranks) (w : Trace) (t u j : ℕ) → RunsAlike o → IsAlike w t u → is_ready_holder w t j ≡ true → o.run w u j ≡ o.run w t j
+pub run_of_holder : (o : Ranks) (w : Trace) (t u j : ℕ) → RunsAlike o → IsAlike w t u → is_ready_holder w t j ≡ true → o.run w u j ≡ o.run w t j
 run_of_holder o w t u j ranks a h = let r : ReadyHolder w t j = ready_holder_is w t j h in ranks w t u j r.number r.resource a r.phase
 
 -- Each rule.
-run_again : (w : Trace) (t u : ℕ) → IsAlike w t u → KeepsRun w t → KeepsRun w u
+pub run_again : (w : Trace) (t u : ℕ) → IsAlike w t u → KeepsRun w t → KeepsRun w u
 run_again w t u a run = record {
   ready = λ k j e. ready_alike w t u j a ∙ run.ready k j (sym (running_alike w t u k a) ∙ e);
   column = λ k j e. run.column k j (sym (running_alike w t u k a) ∙ e);
@@ -46,17 +46,17 @@ run_again w t u a run = record {
 pub keep_again : (w : Trace) (t u : ℕ) → IsAlike w t u → KeepsKeep w u
 keep_again w t u a q j e asks = holder_alike w t u q a ∙ sym (a.held q) ∙ e
 
-grant_again : (o : Ranks) (w : Trace) (t u : ℕ) → IsAlike w t u → KeepsGrant o w t → KeepsGrant o w u
+pub grant_again : (o : Ranks) (w : Trace) (t u : ℕ) → IsAlike w t u → KeepsGrant o w t → KeepsGrant o w u
 grant_again o w t u a grant = record {
   requests = λ q j e. requester_alike w t u q j a ∙ grant.requests q j (sym (holder_alike w t u q a) ∙ e);
   first = λ q j e new i b r. absurd (new (a.held q ∙ sym (holder_alike w t u q a) ∙ e));
   free = λ q e i b. requester_alike w t u q i a ∙ grant.free q (sym (holder_alike w t u q a) ∙ e) i b;
 }
 
-idle_again : (w : Trace) (t u : ℕ) → IsAlike w t u → KeepsIdle w t → KeepsIdle w u
+pub idle_again : (w : Trace) (t u : ℕ) → IsAlike w t u → KeepsIdle w t → KeepsIdle w u
 idle_again w t u a idle k e i b c = ready_alike w t u i a ∙ idle k (sym (running_alike w t u k a) ∙ e) i b c
 
-priority_again : (o : Ranks) (w : Trace) (t u : ℕ) → RunsAlike o → IsAlike w t u → KeepsPriority o w t → KeepsPriority o w u
+pub priority_again : (o : Ranks) (w : Trace) (t u : ℕ) → RunsAlike o → IsAlike w t u → KeepsPriority o w t → KeepsPriority o w u
 priority_again o w t u ranks a priority = record {
   holders = λ k r e i b c h. holders k r e i b c h;
   locals = λ k r e none i b c h. priority.locals k r (sym (running_alike w t u k a) ∙ e)
@@ -73,7 +73,7 @@ priority_again o w t u ranks a priority = record {
         omega (arith, both.1, run_of_holder o w t u r ranks a both.0, run_of_holder o w t u i ranks a ready),
       )
 
-row_again : (o : Ranks) (w : Trace) (t u : ℕ) → RunsAlike o → IsAlike w t u → KeepsRow (shared_rule o) w t → KeepsRow (shared_rule o) w u
+pub row_again : (o : Ranks) (w : Trace) (t u : ℕ) → RunsAlike o → IsAlike w t u → KeepsRow (shared_rule o) w t → KeepsRow (shared_rule o) w u
 row_again o w t u ranks a keeps rule.Run = run_again w t u a (keeps rule.Run)
 row_again o w t u ranks a keeps rule.Keep = keep_again w t u a
 row_again o w t u ranks a keeps rule.Grant = grant_again o w t u a (keeps rule.Grant)
@@ -84,7 +84,7 @@ row_again o w t u ranks a keeps rule.Priority = priority_again o w t u ranks a (
 pub sized_again : (w : Trace) (t u : ℕ) → IsAlike w t u → IsSized w.set (w.row t) → IsSized w.set (w.row u)
 sized_again w t u a sized = subst (IsSized w.set) (sym a.row) sized
 
-choice_again : (o : Ranks) (w : Trace) (t u : ℕ) → RunsAlike o → IsAlike w t u → IsSharedChoice o w t → IsSharedChoice o w u
+pub choice_again : (o : Ranks) (w : Trace) (t u : ℕ) → RunsAlike o → IsAlike w t u → IsSharedChoice o w t → IsSharedChoice o w u
 choice_again o w t u ranks a chosen = record {
   sized = sized_again w t u a chosen.sized;
   keeps = row_again o w t u ranks a chosen.keeps;

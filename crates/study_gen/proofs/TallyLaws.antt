@@ -11,7 +11,7 @@ use Rattle.sporadic_model.specs.declared.ids.Protocol.{Protocol}
 use Rattle.sporadic_model.specs.declared.ids.Protocol.TheVariants as protocol
 use Rattle.response_fixpoint.specs.Rounds.{Ending, EndsIn, Schedulable, NotShown, Wide, Allowance}
 use Rattle.response_fixpoint.specs.Runs.{rounds_of}
-use Rattle.response_fixpoint.specs.Written.{written}
+use Rattle.program_laws.specs.Programs.{source_of}
 use Rattle.response_fixpoint.specs.Answers.{Answers, IsAnswerOf}
 use Rattle.response_fixpoint.specs.declared.verdict.Verdict.{Verdict}
 use Rattle.response_fixpoint.specs.declared.verdict.Verdict.TheVariants as verdict
@@ -26,7 +26,7 @@ use Rattle.study_gen.specs.declared.counting.StepTally.{StepTally}
 
 -- The only endings that an answer leaves.
 abbrev pub Only : Result Verdict Stop → Protocol → SetDef → Type 0
-Only r p set = (e : Ending) → EndsIn (rounds_of (written p set)) 1000000 e → IsAnswerOf r e
+Only r p set = (e : Ending) → EndsIn (rounds_of (source_of p set)) 1000000 e → IsAnswerOf r e
 
 -- What an answer says of how the analysis ended.
 abbrev pub SaysOutcome : Result Verdict Stop → Protocol → SetDef → Type 0
@@ -36,7 +36,7 @@ SaysOutcome (Err (stop.Wide task)) p set = IsOutcome outcome.Stopped p set
 SaysOutcome (Err stop.Allowance) p set = IsOutcome outcome.Stopped p set
 SaysOutcome (Err stop.Memory) p set = Unit {0}
 
-pub says_outcome : (p : Protocol) (set : SetDef) (r : Result Verdict Stop) → Answers r (written p set) 1000000
+pub says_outcome : (p : Protocol) (set : SetDef) (r : Result Verdict Stop) → Answers r (source_of p set) 1000000
     → Only r p set → SaysOutcome r p set
 says_outcome p set (Ok (verdict.Schedulable certificate)) ends only = (
   (certificate.bounds.items, map dual_seen certificate.duals.items, ends),
@@ -68,13 +68,13 @@ says_outcome p set (Err stop.Memory) ends only = tt
 
 -- The same of a verdict, and of a stop, that the answer is.
 pub verdict_says : (p : Protocol) (set : SetDef) (r : Result Verdict Stop) (v w : Verdict)
-    → Answers r (written p set) 1000000 → Only r p set
+    → Answers r (source_of p set) 1000000 → Only r p set
     → r ≡ Ok v → v ≡ w → SaysOutcome (Ok w) p set
 verdict_says p set r v w ends only is same =
     subst (λ (x : Verdict). SaysOutcome (Ok x) p set) same
     (subst (λ (x : Result Verdict Stop). SaysOutcome x p set) is (says_outcome p set r ends only))
 
-pub stop_says : (p : Protocol) (set : SetDef) (r : Result Verdict Stop) (e f : Stop) → Answers r (written p set) 1000000 → Only r p set
+pub stop_says : (p : Protocol) (set : SetDef) (r : Result Verdict Stop) (e f : Stop) → Answers r (source_of p set) 1000000 → Only r p set
     → r ≡ Err e → e ≡ f → SaysOutcome (Err f) p set
 stop_says p set r e f ends only is same =
     subst (λ (x : Stop). SaysOutcome (Err x) p set) same

@@ -6,17 +6,17 @@ use Rattle.sporadic_model.specs.declared.ids.Protocol.{Protocol}
 use Rattle.sporadic_model.specs.declared.ids.Protocol.TheVariants as protocol
 use Rattle.response_fixpoint.specs.Rounds.{EndsIn, Schedulable, Wide, Allowance}
 use Rattle.response_fixpoint.specs.Runs.{rounds_of}
-use Rattle.response_fixpoint.specs.Written.{written}
+use Rattle.program_laws.specs.Programs.{source_of}
 use Rattle.study_gen.specs.Sets.{set_made, behind_set}
 use Rattle.study_gen.specs.declared.counting.StudyCounts.{StudyCounts}
 
 -- Do the rounds of the set end in Schedulable with the study's allowance?
 abbrev pub IsShown : Protocol → SetDef → Type 0
-IsShown p set = (bounds : List ℕ) × (duals : List DualDef) × EndsIn (rounds_of (written p set)) 1000000 (Schedulable bounds duals)
+IsShown p set = (bounds : List ℕ) × (duals : List DualDef) × EndsIn (rounds_of (source_of p set)) 1000000 (Schedulable bounds duals)
 
 -- Do they end in Wide or Allowance?
 abbrev pub IsStopped : Protocol → SetDef → Type 0
-IsStopped p set = ((i : ℕ) × EndsIn (rounds_of (written p set)) 1000000 (Wide i)) ⊎ (EndsIn (rounds_of (written p set)) 1000000 Allowance)
+IsStopped p set = ((i : ℕ) × EndsIn (rounds_of (source_of p set)) 1000000 (Wide i)) ⊎ (EndsIn (rounds_of (source_of p set)) 1000000 Allowance)
 
 -- Do just c of the numbers below n have the property?
 abbrev pub Counts : (ℕ → Type 0) → ℕ → ℕ → Type 0

@@ -1,14 +1,20 @@
-use cert_json::{CertPlace, CertRefusal, read, write};
+use cert_json::{CertPlace, CertRefusal, read, read_old, write};
 use program_form::{Certificate, Dual};
-use sporadic_model::Protocol;
+use set_digests::{digest_text, set_digest};
 use std::alloc::{AllocError, Global};
 use std::test::Fail;
 
 /// More bytes than any text of these tests has.
 const MOST_TEXT: usize = 100_000;
 
-/// The certificate of two tasks that share a resource.
+/// The digest of no set.
+const DIGEST: [u8; 32] = [0xab; 32];
+
+/// The certificate of two tasks that share a resource, and its text before certificates had digests.
 const OF_TWO: &str =
+    "{\"bounds\":[5,5],\"duals\":[{\"den\":1,\"num\":[2,0,0,0]},{\"den\":1,\"num\":[1,0,0,0]}],\"protocol\":\"fmlp+\",\"set\":\"abababababababababababababababababababababababababababababababab\",\"verdict\":\"schedulable\",\"version\":2}\n";
+
+const OLD_OF_TWO: &str =
     "{\"bounds\":[5,5],\"duals\":[{\"den\":1,\"num\":[2,0,0,0]},{\"den\":1,\"num\":[1,0,0,0]}],\"protocol\":\"fmlp+\",\"verdict\":\"schedulable\",\"version\":1}\n";
 
 fn dual(alloc: Global, den: u64, num: &[u64]) -> Result<Dual, AllocError> {
@@ -18,15 +24,22 @@ fn dual(alloc: Global, den: u64, num: &[u64]) -> Result<Dual, AllocError> {
     })
 }
 
-fn certificate(alloc: Global, bounds: &[u64], dens: &[u64]) -> Result<Certificate, AllocError> {
-    let mut duals = Vec::new(alloc);
-    for den in dens {
-        duals.push(dual(alloc, *den, &[])?)?;
+#[test]
+fn a_digest_is_written_in_hexadecimal(rt: HostRuntime) -> Result<(), Fail> {
+    for (bytes, text) in [
+        (
+            "abc",
+            "ba7816bf8f01cfea414140de5dae2223b00361a396177a9cb410ff61f20015ad",
+        ),
+        (
+            "",
+            "e3b0c44298fc1c149afbf4c8996fb92427ae41e4649b934ca495991b7852b855",
+        ),
+    ] {
+        let digest = digest_text(rt.alloc(), &set_digest(bytes.as_bytes()))?;
+        assert_eq!(rt; digest.as_str(), text);
     }
-    Ok(Certificate {
-        bounds: bounds.to_vec(alloc)?,
-        duals,
-    })
+    Ok(())
 }
 
 #[test]
@@ -39,27 +52,8 @@ fn writes_the_certificate_of_two_tasks(rt: HostRuntime) -> Result<(), Fail> {
             dual(alloc, 1, &[1, 0, 0, 0])?,
         ]?,
     };
-    let text = write(alloc, Protocol::FmlpPlus, &certificate)?;
+    let text = write(alloc, "fmlp+", &DIGEST, &certificate)?;
     assert_eq!(rt; text.as_slice(), OF_TWO.as_bytes());
-    Ok(())
-}
-
-#[test]
-fn writes_the_word_of_each_protocol(rt: HostRuntime) -> Result<(), Fail> {
-    let alloc = rt.alloc();
-    for (protocol, line) in [
-        (
-            Protocol::Mpcp,
-            "{\"bounds\":[],\"duals\":[],\"protocol\":\"mpcp\",\"verdict\":\"schedulable\",\"version\":1}\n",
-        ),
-        (
-            Protocol::Dpcp,
-            "{\"bounds\":[],\"duals\":[],\"protocol\":\"dpcp\",\"verdict\":\"schedulable\",\"version\":1}\n",
-        ),
-    ] {
-        let text = write(alloc, protocol, &certificate(alloc, &[], &[])?)?;
-        assert_eq!(rt; text.as_slice(), line.as_bytes());
-    }
     Ok(())
 }
 
@@ -67,31 +61,31 @@ fn writes_the_word_of_each_protocol(rt: HostRuntime) -> Result<(), Fail> {
 fn again(
     alloc: Global,
     text: &str,
-    protocol: Protocol,
+    word: &str,
 ) -> Result<Result<Vec<u8>, CertRefusal>, AllocError> {
     if text.len() > MOST_TEXT {
         return Ok(Err(CertRefusal::NotJson));
     }
-    match read(alloc, text.as_bytes(), protocol) {
-        Ok(certificate) => Ok(Ok(write(alloc, protocol, &certificate)?)),
+    match read(alloc, text.as_bytes(), word) {
+        Ok(file) => Ok(Ok(write(alloc, word, &file.digest, &file.certificate)?)),
         Err(refusal) => Ok(Err(refusal)),
     }
 }
 
 #[test]
 fn reads_what_is_written(rt: HostRuntime) -> Result<(), Fail> {
-    for (text, protocol) in [
-        (OF_TWO, Protocol::FmlpPlus),
+    for (text, word) in [
+        (OF_TWO, "fmlp+"),
         (
-            "{\"bounds\":[6,6],\"duals\":[{\"den\":1,\"num\":[2,0,0]},{\"den\":1,\"num\":[1,1,0]}],\"protocol\":\"dpcp\",\"verdict\":\"schedulable\",\"version\":1}\n",
-            Protocol::Dpcp,
+            "{\"bounds\":[6,6],\"duals\":[{\"den\":1,\"num\":[2,0,0]},{\"den\":1,\"num\":[1,1,0]}],\"protocol\":\"dpcp\",\"set\":\"0123456789abcdef0123456789abcdef0123456789abcdef0123456789abcdef\",\"verdict\":\"schedulable\",\"version\":2}\n",
+            "dpcp",
         ),
         (
-            "{\"bounds\":[18446744073709551615,0],\"duals\":[{\"den\":9223372036854775807,\"num\":[9223372036854775807]},{\"den\":1,\"num\":[]}],\"protocol\":\"mpcp\",\"verdict\":\"schedulable\",\"version\":1}\n",
-            Protocol::Mpcp,
+            "{\"bounds\":[18446744073709551615,0],\"duals\":[{\"den\":9223372036854775807,\"num\":[9223372036854775807]},{\"den\":1,\"num\":[]}],\"protocol\":\"mpcp\",\"set\":\"abababababababababababababababababababababababababababababababab\",\"verdict\":\"schedulable\",\"version\":2}\n",
+            "mpcp",
         ),
     ] {
-        match again(rt.alloc(), text, protocol)? {
+        match again(rt.alloc(), text, word)? {
             Ok(line) => assert_eq!(rt; line.as_slice(), text.as_bytes()),
             Err(refusal) => assert_eq!(rt; Some(refusal), None, "at {text}"),
         }
@@ -102,26 +96,27 @@ fn reads_what_is_written(rt: HostRuntime) -> Result<(), Fail> {
 #[test]
 fn reads_members_in_any_order(rt: HostRuntime) -> Result<(), Fail> {
     let text = r#"
-        { "version": 1, "verdict": "schedulable", "protocol": "fmlp+",
+        { "version": 2, "verdict": "schedulable", "protocol": "fmlp+",
+          "set": "abababababababababababababababababababababababababababababababab",
           "duals": [ {"num": [2, 0, 0, 0], "den": 1}, {"num": [1, 0, 0, 0], "den": 1} ],
           "bounds": [ 5, 5 ] }
     "#;
-    match again(rt.alloc(), text, Protocol::FmlpPlus)? {
+    match again(rt.alloc(), text, "fmlp+")? {
         Ok(line) => assert_eq!(rt; line.as_slice(), OF_TWO.as_bytes()),
         Err(refusal) => assert_eq!(rt; Some(refusal), None),
     }
     Ok(())
 }
 
-fn refusal_of(alloc: Global, text: &str, protocol: Protocol) -> Option<CertRefusal> {
+fn refusal_of(alloc: Global, text: &str, word: &str) -> Option<CertRefusal> {
     if text.len() > MOST_TEXT {
         return None;
     }
-    read(alloc, text.as_bytes(), protocol).err()
+    read(alloc, text.as_bytes(), word).err()
 }
 
 // A text, and why it is refused under FMLP+.
-const REFUSED: [(&str, CertRefusal); 24] = [
+const REFUSED: [(&str, CertRefusal); 28] = [
     ("", CertRefusal::NotJson),
     ("{", CertRefusal::NotJson),
     (
@@ -134,58 +129,71 @@ const REFUSED: [(&str, CertRefusal); 24] = [
     (r#"{"version":"1"}"#, CertRefusal::Shape(CertPlace::Root)),
     (r#"{"version":1.0}"#, CertRefusal::Shape(CertPlace::Root)),
     (r#"{"version":9}"#, CertRefusal::Version),
-    (r#"{"version":0,"version":2}"#, CertRefusal::Version),
-    (r#"{"version":1}"#, CertRefusal::Shape(CertPlace::Root)),
+    (r#"{"version":2,"version":3}"#, CertRefusal::Version),
+    (r#"{"version":2}"#, CertRefusal::Shape(CertPlace::Root)),
+    (r#"{"version":1}"#, CertRefusal::Version),
     (
         r#"{"bounds":[],"duals":[],"protocol":"fmlp+","verdict":"schedulable","version":9}"#,
         CertRefusal::Version,
     ),
     (
-        r#"{"bounds":[],"duals":[],"protocol":"fmlp+","set":"a","verdict":"schedulable","version":1}"#,
+        r#"{"bounds":[],"duals":[],"protocol":"fmlp+","set":"abababababababababababababababababababababababababababababababab","sets":1,"verdict":"schedulable","version":2}"#,
         CertRefusal::Shape(CertPlace::Root),
     ),
     (
-        r#"{"bounds":[],"duals":null,"protocol":"fmlp+","verdict":"schedulable","version":1}"#,
+        r#"{"bounds":[],"duals":null,"protocol":"fmlp+","set":"abababababababababababababababababababababababababababababababab","verdict":"schedulable","version":2}"#,
         CertRefusal::Shape(CertPlace::Root),
     ),
     (
-        r#"{"bounds":["5"],"duals":[],"protocol":"pip","verdict":"schedulable","version":1}"#,
+        r#"{"bounds":["5"],"duals":[],"protocol":"pip","set":"abababababababababababababababababababababababababababababababaB","verdict":"schedulable","version":2}"#,
         CertRefusal::Shape(CertPlace::Root),
     ),
     (
-        r#"{"bounds":["5"],"duals":[],"protocol":"fmlp+","verdict":"Schedulable","version":1}"#,
+        r#"{"bounds":["5"],"duals":[],"protocol":"fmlp+","set":"abababababababababababababababababababababababababababababababab","verdict":"Schedulable","version":2}"#,
         CertRefusal::Shape(CertPlace::Root),
     ),
     (
-        r#"{"bounds":[5,-1],"duals":[{}],"protocol":"mpcp","verdict":"schedulable","version":1}"#,
+        r#"{"bounds":["5"],"duals":[],"protocol":"fmlp+","verdict":"schedulable","version":2}"#,
+        CertRefusal::Shape(CertPlace::Root),
+    ),
+    (
+        r#"{"bounds":["5"],"duals":[],"protocol":"fmlp+","set":"ababababababababababababababababababababababababababababababab","verdict":"schedulable","version":2}"#,
+        CertRefusal::Shape(CertPlace::Root),
+    ),
+    (
+        r#"{"bounds":[5,-1],"duals":[{}],"protocol":"mpcp","set":"abababababababababababababababababababababababababababababababab","verdict":"schedulable","version":2}"#,
         CertRefusal::Shape(CertPlace::Bounds),
     ),
     (
-        r#"{"bounds":[18446744073709551616],"duals":[],"protocol":"fmlp+","verdict":"schedulable","version":1}"#,
+        r#"{"bounds":[18446744073709551616],"duals":[],"protocol":"fmlp+","set":"abababababababababababababababababababababababababababababababab","verdict":"schedulable","version":2}"#,
         CertRefusal::Shape(CertPlace::Bounds),
     ),
     (
-        r#"{"bounds":[5,5],"duals":[{"den":0,"num":[2,0]},{"den":1,"num":[1]}],"protocol":"fmlp+","verdict":"schedulable","version":1}"#,
+        r#"{"bounds":[5,5],"duals":[{"den":0,"num":[2,0]},{"den":1,"num":[1]}],"protocol":"fmlp+","set":"abababababababababababababababababababababababababababababababab","verdict":"schedulable","version":2}"#,
         CertRefusal::Shape(CertPlace::Dual(0)),
     ),
     (
-        r#"{"bounds":[5,5],"duals":[{"den":1,"num":[9223372036854775808,0]},{}],"protocol":"fmlp+","verdict":"schedulable","version":1}"#,
+        r#"{"bounds":[5,5],"duals":[{"den":1,"num":[9223372036854775808,0]},{}],"protocol":"fmlp+","set":"abababababababababababababababababababababababababababababababab","verdict":"schedulable","version":2}"#,
         CertRefusal::Shape(CertPlace::Dual(0)),
     ),
     (
-        r#"{"bounds":[5,5],"duals":[{"den":1,"num":[]},{"den":9223372036854775808,"num":[]}],"protocol":"mpcp","verdict":"schedulable","version":1}"#,
+        r#"{"bounds":[5,5],"duals":[{"den":1,"num":[]},{"den":9223372036854775808,"num":[]}],"protocol":"mpcp","set":"abababababababababababababababababababababababababababababababab","verdict":"schedulable","version":2}"#,
         CertRefusal::Shape(CertPlace::Dual(1)),
     ),
     (
-        r#"{"bounds":[5,5],"duals":[{"den":1,"num":[]},{"den":1,"num":[],"set":1}],"protocol":"fmlp+","verdict":"schedulable","version":1}"#,
+        r#"{"bounds":[5,5],"duals":[{"den":1,"num":[]},{"den":1,"num":[],"set":1}],"protocol":"fmlp+","set":"abababababababababababababababababababababababababababababababab","verdict":"schedulable","version":2}"#,
         CertRefusal::Shape(CertPlace::Dual(1)),
     ),
     (
-        r#"{"bounds":[5,5],"duals":[{"den":1,"num":[]},{"den":1,"num":[0.5]}],"protocol":"fmlp+","verdict":"schedulable","version":1}"#,
+        r#"{"bounds":[5,5],"duals":[{"den":1,"num":[]},{"den":1,"num":[0.5]}],"protocol":"fmlp+","set":"abababababababababababababababababababababababababababababababab","verdict":"schedulable","version":2}"#,
         CertRefusal::Shape(CertPlace::Dual(1)),
     ),
     (
-        r#"{"bounds":[],"duals":[],"protocol":"dpcp","verdict":"schedulable","version":1}"#,
+        r#"{"bounds":[],"duals":[],"protocol":"dpcp","set":"abababababababababababababababababababababababababababababababab","verdict":"schedulable","version":2}"#,
+        CertRefusal::OtherProtocol,
+    ),
+    (
+        r#"{"bounds":[],"duals":[],"protocol":"a \u00e4","set":"abababababababababababababababababababababababababababababababab","verdict":"schedulable","version":2}"#,
         CertRefusal::OtherProtocol,
     ),
 ];
@@ -193,7 +201,7 @@ const REFUSED: [(&str, CertRefusal); 24] = [
 #[test]
 fn names_the_first_cause(rt: HostRuntime) -> Result<(), Fail> {
     for (text, cause) in REFUSED {
-        let refusal = refusal_of(rt.alloc(), text, Protocol::FmlpPlus);
+        let refusal = refusal_of(rt.alloc(), text, "fmlp+");
         assert_eq!(rt; refusal, Some(cause), "at {text}");
     }
     Ok(())
@@ -201,9 +209,69 @@ fn names_the_first_cause(rt: HostRuntime) -> Result<(), Fail> {
 
 #[test]
 fn refuses_a_certificate_for_another_protocol(rt: HostRuntime) -> Result<(), Fail> {
-    for protocol in [Protocol::Mpcp, Protocol::Dpcp] {
-        let refusal = refusal_of(rt.alloc(), OF_TWO, protocol);
+    for word in ["mpcp", "dpcp", "fmlp", ""] {
+        let refusal = refusal_of(rt.alloc(), OF_TWO, word);
         assert_eq!(rt; refusal, Some(CertRefusal::OtherProtocol));
+    }
+    Ok(())
+}
+
+/// Why the text is refused as one of version 1.
+fn old_refusal_of(alloc: Global, text: &str, word: &str) -> Option<CertRefusal> {
+    if text.len() > MOST_TEXT {
+        return None;
+    }
+    read_old(alloc, text.as_bytes(), word).err()
+}
+
+#[test]
+fn reads_the_version_before_apart(rt: HostRuntime) -> Result<(), Fail> {
+    let alloc = rt.alloc();
+    assert_eq!(rt;
+        refusal_of(alloc, OLD_OF_TWO, "fmlp+"),
+        Some(CertRefusal::Version)
+    );
+    for (text, word, refusal) in [
+        (OLD_OF_TWO, "fmlp+", None),
+        (OLD_OF_TWO, "mpcp", Some(CertRefusal::OtherProtocol)),
+        (OF_TWO, "fmlp+", Some(CertRefusal::Version)),
+        (
+            r#"{"version":"1"}"#,
+            "fmlp+",
+            Some(CertRefusal::Shape(CertPlace::Root)),
+        ),
+        (
+            r#"{"bounds":[],"duals":[],"protocol":"fmlp+","set":"abababababababababababababababababababababababababababababababab","verdict":"schedulable","version":1}"#,
+            "fmlp+",
+            Some(CertRefusal::Shape(CertPlace::Root)),
+        ),
+        (
+            r#"{"bounds":[],"duals":[{"den":0,"num":[]}],"protocol":"pip","verdict":"schedulable","version":1}"#,
+            "fmlp+",
+            Some(CertRefusal::Shape(CertPlace::Dual(0))),
+        ),
+        (
+            r#"{"bounds":[],"duals":[],"protocol":"pip","verdict":"schedulable","version":1}"#,
+            "fmlp+",
+            Some(CertRefusal::OtherProtocol),
+        ),
+    ] {
+        assert_eq!(rt; old_refusal_of(alloc, text, word), refusal, "at {text}");
+    }
+    Ok(())
+}
+
+#[test]
+fn the_version_before_is_written_with_a_digest(rt: HostRuntime) -> Result<(), Fail> {
+    if OLD_OF_TWO.len() > MOST_TEXT {
+        return Ok(());
+    }
+    match read_old(rt.alloc(), OLD_OF_TWO.as_bytes(), "fmlp+") {
+        Ok(certificate) => {
+            let text = write(rt.alloc(), "fmlp+", &DIGEST, &certificate)?;
+            assert_eq!(rt; text.as_slice(), OF_TWO.as_bytes());
+        }
+        Err(refusal) => assert_eq!(rt; Some(refusal), None),
     }
     Ok(())
 }
@@ -225,13 +293,13 @@ fn largest(alloc: Global) -> Result<Certificate, AllocError> {
 
 #[test]
 fn reads_half_a_megabyte_that_was_written(rt: HostRuntime) -> Result<(), Fail> {
-    let text = write(rt.alloc(), Protocol::Dpcp, &largest(rt.alloc())?)?;
+    let text = write(rt.alloc(), "dpcp", &DIGEST, &largest(rt.alloc())?)?;
     if text.len() < 512_000 || text.len() > 600_000 {
         return Err("64 times 400 numerators take 20 bytes each".into());
     }
-    match read(rt.alloc(), &text, Protocol::Dpcp) {
-        Ok(certificate) => {
-            let again = write(rt.alloc(), Protocol::Dpcp, &certificate)?;
+    match read(rt.alloc(), &text, "dpcp") {
+        Ok(file) => {
+            let again = write(rt.alloc(), "dpcp", &file.digest, &file.certificate)?;
             assert!(rt; again == text);
         }
         Err(refusal) => assert_eq!(rt; Some(refusal), None),

@@ -18,5 +18,5 @@ pub record AreMeasures (interferes : Trace → ℕ → ℕ → Bool) (w : Trace)
 -- first broken rule. Only want of memory says nothing of the schedule.
 abbrev pub Conforms : (Rule → Trace → ℕ → Type 0) → (Trace → ℕ → ℕ → Bool) → Trace → ℕ → Result Measured Unlawful → Type 0
 Conforms keeps interferes w n (Ok m) = KeepsBefore keeps w n × AreMeasures interferes w n m
-Conforms keeps interferes w n (Err (unlawful.Broken t r)) = IsFirstUnlawful keeps w n t r
+Conforms keeps interferes w n (Err (unlawful.Broken b)) = IsFirstUnlawful keeps w n b.tick b.rule
 Conforms keeps interferes w n (Err unlawful.Memory) = Unit {0}

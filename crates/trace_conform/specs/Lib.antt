@@ -3,4 +3,3 @@ pub mod Counts
 pub mod Reached
 pub mod Measured
 pub mod Conforming
-pub mod ByProtocol

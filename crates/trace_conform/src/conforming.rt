@@ -3,16 +3,16 @@ ghost use Rattle.sporadic_model.specs.Homes.{HasHomesFor};
 ghost use Rattle.schedule_model.specs.RowDef.{trace_in, ticks_of};
 ghost use Rattle.schedule_model.specs.Fitting.{is_fitting};
 ghost use Rattle.trace_conform.specs.Conforming.{Conforms};
-ghost use Rattle.trace_conform.specs.ByProtocol.{rules_of, interference_of};
+ghost use Rattle.schedule_model.specs.ByProtocol.{rules_of, interference_of};
 
 use crate::counts::no_counts;
-use crate::judging::judge_all;
+use crate::judging::{Breach, judge_all};
 use crate::measures::{Measured, measure_all};
 use dpcp_rules::Dpcp;
 use fmlp_rules::FmlpPlus;
 use mpcp_rules::Mpcp;
 use phase_machine::{Judge, Machine};
-use schedule_model::{JobList, RowList, Rule};
+use schedule_model::{JobList, RowList};
 use sporadic_model::Protocol;
 use std::alloc::{AllocError, Global};
 use thiserror::Error;
@@ -20,14 +20,9 @@ use thiserror::Error;
 /// Why a schedule is not measured.
 #[derive(Clone, Copy, Debug, PartialEq, Eq, Error)]
 pub enum Unlawful {
-    /// A row breaks a rule: the first such tick, and the first rule that its row breaks.
-    #[error("the row at tick {tick} breaks a rule")]
-    Broken {
-        /// The tick, counted from 0.
-        tick: u64,
-        /// The rule.
-        rule: Rule,
-    },
+    /// A row breaks a rule.
+    #[error("a row breaks a rule")]
+    Broken(Breach),
     /// Memory was refused.
     #[error("out of memory")]
     Memory,
@@ -60,12 +55,7 @@ pub fn conform_with<P: Judge>(
     let mut counts = no_counts(alloc, jobs.len())?;
     match judge_all(protocol, rows, &mut machine, &mut counts) {
         Ok(()) => {}
-        Err(breach) => {
-            return Err(Unlawful::Broken {
-                tick: breach.tick,
-                rule: breach.rule,
-            });
-        }
+        Err(breach) => return Err(Unlawful::Broken(breach)),
     }
     let tasks = measure_all(alloc, &machine, &counts)?;
     Ok(Measured { tasks })

@@ -13,7 +13,9 @@ use schedule_model::{RowList, Rule};
 /// The first tick at which a row breaks a rule, and the first rule that it breaks.
 #[derive(Clone, Copy, Debug, PartialEq, Eq)]
 pub struct Breach {
+    /// The tick, counted from 0.
     pub tick: u64,
+    /// The rule.
     pub rule: Rule,
 }
 

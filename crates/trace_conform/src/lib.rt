@@ -8,4 +8,5 @@ mod measures;
 pub mod runs;
 
 pub use conforming::{Unlawful, conform, conform_with};
+pub use judging::Breach;
 pub use measures::{Measured, TaskMeasure};

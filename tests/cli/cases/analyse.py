@@ -1,10 +1,11 @@
 """The command `analyse`: its verdicts, its stops, and sets that are refused."""
 from setting import Case
-from sets import FIVE, GREATEST, NAMES, PAIR, PAIR_CERTIFICATE, SIX, SIX_CERTIFICATE, WIDE, certificate, pair, resource, task, task_set
+from sets import FIVE, GREATEST, NAMES, PAIR, PAIR_CERTIFICATE, SIX, SIX_CERTIFICATE, WIDE, certificate, pair, resource, task, task_set, tied
 
 
 def analysed(shows, words, says, text, status=0):
-    return Case(shows, words, says, status, {"set": text})
+    """A certificate that is given is taken as one of this set."""
+    return Case(shows, words, tied(says, text), status, {"set": text})
 
 
 def refused(shows, reason, text, protocol="fmlp+"):

@@ -37,8 +37,8 @@ def with_member(text, of, which, **members):
 
 
 ANALYSES = [
-    analysed("one task that fills its processor", certificate("fmlp+", [1], [[]]), ALONE),
-    analysed("three tasks on one processor", certificate("fmlp+", [1, 3, 10], [[], [], []]), THREE),
+    analysed("one task that fills its processor", certificate("fmlp+", [1], [[]], ALONE), ALONE),
+    analysed("three tasks on one processor", certificate("fmlp+", [1, 3, 10], [[], [], []], THREE), THREE),
     analysed("two tasks that want more than there is", "not shown t2 3 2\n", FULL, 1),
     analysed("rounds that want too many units", "allowance\n", SLOW, 6),
 ]
@@ -77,6 +77,8 @@ WORDS = [
     without_form("a certificate is lacking", "check fmlp+ set"),
     without_form("a report in capitals", "report FMLP+ set"),
     without_form("a check under an unknown protocol", "check edf set cert"),
+    without_form("an upgrade under an unknown protocol", "upgrade edf set cert"),
+    without_form("an upgrade of no certificate", "upgrade fmlp+ set"),
     without_form("a judgement under an unknown protocol", "conform edf set jobs rows"),
     without_form("a simulation under an unknown protocol", "simulate edf set jobs 5"),
 ]

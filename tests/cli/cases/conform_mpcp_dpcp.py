@@ -1,10 +1,6 @@
 """The command `conform` under MPCP and DPCP."""
 from setting import Case
-from sets import PAIR, PAIR_JOBS, PAIR_ROWS, pair, resource, task, task_set
-
-HOME = task_set(3, [resource("a", 3), resource("b", 3)], task("t1", 1, 20, 4, ("a", 1), ("b", 1)), task("t2", 2, 20, 4, ("a", 2)))
-HOME_JOBS = "task,release,script\nt1,1,1 b:1 1\nt2,0,1 a:2 1\n"
-HOME_ROWS = "ticks,P1,P2,P3,a,b\n1,,2,,,\n1,1,,2,2,\n1,,,2,2,\n1,,2,1,,1\n1,1,,,,\n"
+from sets import HOME, HOME_JOBS, HOME_ROWS, PAIR, PAIR_JOBS, PAIR_ROWS, pair, resource
 
 
 def judged(shows, says, status, protocol, text, jobs, rows):

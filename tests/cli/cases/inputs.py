@@ -3,7 +3,7 @@ from errno import EACCES, EIO, EMFILE, ENOENT, ENOMEM
 
 from commands import INPUTS
 from setting import Case, Fifo, Link, Padded
-from sets import GREATEST, NAMES, PAIR, PAIR_CERTIFICATE, PAIR_JOBS, PAIR_MEASURED, PAIR_ROWS
+from sets import GREATEST, NAMES, PAIR, PAIR_CERTIFICATE, PAIR_JOBS, PAIR_MEASURED, PAIR_ROWS, tied
 from tracing import Fault, Pieces
 
 GREATEST_INPUT = 67_108_864
@@ -12,6 +12,11 @@ ANALYSE = "analyse fmlp+ set"
 CONFORM = "conform fmlp+ set jobs rows"
 GREATEST_SAYS = f"not shown {NAMES[0]} 1000000028 1000000000\n"
 ALL = {"set": PAIR, "jobs": PAIR_JOBS, "rows": PAIR_ROWS}
+
+
+def padded(size):
+    """The certificate of the pair with spaces up to so many bytes."""
+    return tied(PAIR_CERTIFICATE, PAIR.ljust(size))
 
 
 def unread(shows, files, words=ANALYSE):
@@ -40,13 +45,13 @@ PIECES = [
     Case("a pipe in pieces of one byte", ANALYSE, PAIR_CERTIFICATE, 0, {"set": Fifo(PAIR, 1)}),
     Case("a pipe in pieces of 7 bytes", ANALYSE, GREATEST_SAYS, 1, {"set": Fifo(GREATEST, 7)}),
     Case("reads of one byte each", CONFORM, PAIR_MEASURED, 0, ALL, faults=(Pieces("read", 1),)),
-    Case("a file that ends in the middle of a read", ANALYSE, PAIR_CERTIFICATE, 0, {"set": Padded(PAIR, 3 * 4096 + 17)}),
-    Case("a file that ends with a read", ANALYSE, PAIR_CERTIFICATE, 0, {"set": Padded(PAIR, 2 * 4096)}),
+    Case("a file that ends in the middle of a read", ANALYSE, padded(3 * 4096 + 17), 0, {"set": Padded(PAIR, 3 * 4096 + 17)}),
+    Case("a file that ends with a read", ANALYSE, padded(2 * 4096), 0, {"set": Padded(PAIR, 2 * 4096)}),
     Case("a set cut in the middle of a read", ANALYSE, "refused set notjson\n", 3, {"set": GREATEST[: 4096 + 17]}),
     Case("a set cut at the end of a read", ANALYSE, "refused set notjson\n", 3, {"set": GREATEST[:8192]}),
-    Case("a set of more than a megabyte", ANALYSE, PAIR_CERTIFICATE, 0, {"set": Padded(PAIR, MEGABYTE + 1)}),
+    Case("a set of more than a megabyte", ANALYSE, padded(MEGABYTE + 1), 0, {"set": Padded(PAIR, MEGABYTE + 1)}),
     Case("the longest input, all of it white space", ANALYSE, "refused set notjson\n", 3, {"set": Padded("", GREATEST_INPUT)}),
-    Case("the longest set", ANALYSE, PAIR_CERTIFICATE, 0, {"set": Padded(PAIR, GREATEST_INPUT)}),
+    Case("the longest set", ANALYSE, padded(GREATEST_INPUT), 0, {"set": Padded(PAIR, GREATEST_INPUT)}),
     Case("an input without end", "analyse fmlp+ /dev/zero", "refused set toolong\n", 3),
     Case("an input that is always empty", "analyse fmlp+ /dev/null", "refused set notjson\n", 3),
 ]

@@ -1,12 +1,11 @@
 """Standard output that takes less than it should, or nothing. What is written is a beginning of the answer, and the status is 4."""
 from errno import EIO, ENOSPC
 
-from commands import COMMANDS, INPUTS
+from commands import COMMANDS, FILES
 from setting import BROKEN, CLOSED, FULL, Case, Room
 from sets import PAIR_MEASURED, pair
 from tracing import Fault, Pieces
 
-FILES = INPUTS
 ANALYSE = "analyse fmlp+ set"
 CONFORM = "conform fmlp+ set jobs rows"
 

@@ -2,12 +2,11 @@ use Rattle.std.proofs.Common.{refl}
 use Rattle.std.specs.Prelude.{slice_index}
 use Rattle.program_form.specs.Certificate.{CertificateDef, certificate_seen}
 use Rattle.sporadic_model.specs.Accepted.{IsAccepted}
-use Rattle.program_sources.specs.Recurrence.{SourceDef}
+use Rattle.program_sources.specs.Recurrence.{SourceDef, source_at}
 use Rattle.program_sources.specs.Valid.{IsValid, value_at}
 use Rattle.schedule_model.specs.RowDef.{Trace, trace_in, ticks_of}
 use Rattle.soundness_laws.specs.Analyses.{AreValues}
 use Rattle.soundness_laws.specs.Sound.{IsLawfulSchedule, Sound}
-use Rattle.dual_check.specs.Answers.{source_for}
 use Rattle.audit_figures.specs.Figures.{AreFigures}
 use Rattle.audit_figures.proofs.Lawful.{valid_bounds, same_values, lie_within, add_up}
 use Rattle.audit_figures.proofs.auditing.audit_with.Goals as goal
@@ -15,8 +14,7 @@ use Rattle.audit_figures.proofs.auditing.audit_with.Goals as goal
 pub sound_figures-requires-clause-bounds : goal.sound_figures-requires-clause-bounds
 sound_figures-requires-clause-bounds g c =
     let f : SourceDef =
-    source_for (g.P.ChargedProtocol.program_of c.args.protocol.now)
-    (g.P.ChargedProtocol.interfering c.args.protocol.now) c.args.jobs.now.set in
+    source_at (g.P.ProgramSource.source c.args.protocol.now) c.args.jobs.now.set in
     let cert : CertificateDef = certificate_seen c.args.certificate.now in
     let judged : IsValid f cert × AreValues f cert c.in-Ok.valid.values.items =
     rw c.set-2.ensures at c.in-Ok.ensures.judges in
@@ -26,8 +24,7 @@ sound_figures-requires-clause-bounds g c =
 pub returns-clause-audits : goal.returns-clause-audits
 returns-clause-audits g c =
     let f : SourceDef =
-    source_for (g.P.ChargedProtocol.program_of c.args.protocol.now)
-    (g.P.ChargedProtocol.interfering c.args.protocol.now) c.args.jobs.now.set in
+    source_at (g.P.ProgramSource.source c.args.protocol.now) c.args.jobs.now.set in
     let cert : CertificateDef = certificate_seen c.args.certificate.now in
     let w : Trace = trace_in c.args.jobs.now c.args.rows.now.runs in
     let judged : IsValid f cert × AreValues f cert c.in-Ok.valid.values.items =

@@ -2,19 +2,14 @@ use Rattle.std.proofs.Common.{ℕ, sym, ap, subst, inr}
 use Rattle.command_words.specs.Words.{Form, Study}
 use Rattle.run_plans.specs.Commands.{IsStudyAnswer, plan_of}
 use Rattle.command_words.specs.FormSeen.{form_seen}
-use Rattle.run_plans.specs.Outcome.{Shown, IsReplyOf}
+use Rattle.run_plans.specs.Outcome.{Shown, shown, IsReplyOf}
 use Rattle.run_plans.specs.Replies.{Answered}
 use Rattle.run_plans.proofs.ReplyLaws.{answered_also}
 use Rattle.block_top.proofs.commands.command_reply.Goals as goal
 
 pub returns-in-Study-clause-reply : goal.returns-in-Study-clause-reply
 returns-in-Study-clause-reply g c =
-    let shelf : Shown = record {
-      names = g.S.Shelf.names c.args.shelf.now;
-      before = g.S.Shelf.faults c.args.shelf.now;
-      now = g.S.Shelf.faults c.args.shelf.now;
-      given = g.S.Shelf.given c.args.shelf.now;
-    } in
+    let shelf : Shown = shown (g.S.Shelf.seen c.args.shelf.now) (g.S.Shelf.seen c.args.shelf.now) in
     subst (λ (f : Form). Answered c.counted.result (IsReplyOf shelf (plan_of f))) (sym (ap form_seen c.in-Study.is))
     (answered_also (IsStudyAnswer c.in-Study.seed c.in-Study.sets)
     (IsReplyOf shelf (plan_of (Study c.in-Study.seed c.in-Study.sets))) (λ a is. inr is)

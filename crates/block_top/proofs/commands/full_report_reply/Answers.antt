@@ -1,23 +1,10 @@
-use Rattle.run_plans.specs.Inputs.{set_input}
 use Rattle.run_plans.specs.Commands.{full_table_of, with_certificate}
-use Rattle.run_plans.specs.Outcome.{IsReplyOf}
-use Rattle.run_plans.specs.Replies.{Answered}
-use Rattle.run_plans.proofs.ReplyLaws.{replied_got}
+use Rattle.run_plans.proofs.ReplyLaws.{replied_tied}
 use Rattle.block_top.proofs.commands.full_report_reply.Goals as goal
 
 pub returns-clause-reply : goal.returns-clause-reply
 returns-clause-reply g c =
-    let names = g.S.Shelf.names c.args.shelf.now in
-    let mid = g.S.Shelf.faults c.get_set.new.shelf in
-    let now = g.S.Shelf.faults c.proved_table_reply.new.shelf in
-    let given = g.S.Shelf.given c.proved_table_reply.new.shelf in
-    let keeps = c.get_set.ensures.keeps in
-    let got = c.in_ok-_bytes.ensures.got in
-    let rest : Answered c.proved_table_reply.result (IsReplyOf (record { names = names; before = mid; now = now; given = given })
-    (with_certificate c.args.protocol c.args.certificate.now (full_table_of c.args.protocol c.in_ok-_bytes.set))) =
-    rw keeps.names at c.proved_table_reply.ensures.reply in
-    replied_got names (g.S.Shelf.faults c.args.shelf.now) mid now (g.S.Shelf.given c.get_set.new.shelf) given
-    (set_input c.args.protocol) c.args.set.now
-    (λ bytes tasks. with_certificate c.args.protocol c.args.certificate.now (full_table_of c.args.protocol tasks))
-    c.in_ok-_bytes._bytes.items c.in_ok-_bytes.set c.proved_table_reply.result
-    keeps.later got.0 (λ works. absurd works) rest
+    replied_tied (g.S.Shelf.seen c.args.shelf.now) (g.S.Shelf.seen c.get_tied_set.new.shelf) (g.S.Shelf.seen c.proved_table_reply.new.shelf)
+    c.args.protocol c.args.set.now (λ digest tasks. with_certificate c.args.protocol c.args.certificate.now (full_table_of c.args.protocol digest tasks))
+    (c.in_ok-set.set, c.in_ok-set.digest) c.proved_table_reply.result c.get_tied_set.ensures.keeps c.in_ok-set.ensures.got
+    (λ digest tasks works. works) c.proved_table_reply.ensures.reply

@@ -1,24 +1,11 @@
-use Rattle.run_plans.specs.Inputs.{set_input}
 use Rattle.run_plans.specs.Commands.{simulating_jobs}
-use Rattle.run_plans.specs.Outcome.{IsReplyOf}
-use Rattle.run_plans.specs.Replies.{Answered}
+use Rattle.run_plans.specs.Inputs.{set_input}
 use Rattle.run_plans.proofs.ReplyLaws.{replied_got}
 use Rattle.block_top.proofs.commands.simulate_reply.Goals as goal
 
 pub returns-clause-reply : goal.returns-clause-reply
 returns-clause-reply g c =
-    let names = g.S.Shelf.names c.args.shelf.now in
-    let mid = g.S.Shelf.faults c.get_set.new.shelf in
-    let now = g.S.Shelf.faults c.simulated_reply.new.shelf in
-    let given = g.S.Shelf.given c.simulated_reply.new.shelf in
-    let keeps = c.get_set.ensures.keeps in
-    let got = c.in_ok-_bytes.ensures.got in
-    let rest : Answered c.simulated_reply.result
-    (IsReplyOf (record { names = names; before = mid; now = now; given = given })
-    (simulating_jobs c.args.protocol c.args.jobs.now c.args.ticks c.in_ok-_bytes.set)) =
-    rw keeps.names at c.simulated_reply.ensures.reply in
-    replied_got names (g.S.Shelf.faults c.args.shelf.now) mid now (g.S.Shelf.given c.get_set.new.shelf) given
+    replied_got (g.S.Shelf.seen c.args.shelf.now) (g.S.Shelf.seen c.get_set.new.shelf) (g.S.Shelf.seen c.simulated_reply.new.shelf)
     (set_input c.args.protocol) c.args.set.now
-    (λ bytes tasks. simulating_jobs c.args.protocol c.args.jobs.now c.args.ticks tasks) c.in_ok-_bytes._bytes.items
-    c.in_ok-_bytes.set c.simulated_reply.result
-    keeps.later got.0 (λ works. absurd works) rest
+    (λ bytes tasks. simulating_jobs c.args.protocol c.args.jobs.now c.args.ticks tasks) c.in_ok-set.set c.simulated_reply.result
+    c.get_set.ensures.keeps c.in_ok-set.ensures.got (λ works. absurd works) c.simulated_reply.ensures.reply

@@ -1,8 +1,8 @@
 use Rattle.std.proofs.Common.{sym, subst}
 use Rattle.sporadic_model.specs.SetDef.{SetDef}
-use Rattle.sporadic_model.specs.Homes.{HasHomesFor}
+use Rattle.named_protocols.specs.Named.{HasHomes}
 use Rattle.block_top.proofs.commands.simulated_reply.Goals as goal
 
 pub simulation-requires-clause-suits : goal.simulation-requires-clause-suits
 simulation-requires-clause-suits g c =
-    subst (λ (s : SetDef). HasHomesFor c.args.protocol s) (sym c.in_ok-_bytes.ensures.of_set) c.requires.suits
+    subst (λ (s : SetDef). HasHomes c.args.protocol s) (sym c.in_ok-jobs.ensures.of_set) c.requires.suits

@@ -1,5 +1,4 @@
 use Rattle.std.proofs.Common.{ℕ, List, ap}
-use Rattle.run_plans.specs.Plans.{Answer}
 use Rattle.block_top.proofs.study.counted.Goals as goal
 
 pub returns : goal.returns

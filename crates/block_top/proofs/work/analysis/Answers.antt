@@ -6,5 +6,5 @@ verdict_reply-requires g c =
     names_task c.args.protocol c.args.set.now c.args.allowance c.analyse-verdict.result c.analyse-verdict.ensures.rounds
 
 pub returns : goal.returns
-returns g c = analysis_replied c.args.protocol c.args.set.now c.args.allowance c.analyse-verdict.result
+returns g c = analysis_replied c.args.protocol c.args.digest.now c.args.set.now c.args.allowance c.analyse-verdict.result
     c.in_ok-verdict_reply.field-0 c.analyse-verdict.ensures.rounds c.in_ok-verdict_reply.ensures

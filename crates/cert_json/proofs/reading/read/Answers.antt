@@ -8,4 +8,4 @@ pub judged-requires : goal.judged-requires
 judged-requires c = omega (arith, read-size c.args.bytes.now (view c.in-Ok.value) c.in-Ok.ensures.ok.1, c.requires)
 
 pub returns-in-Ok-clause-small : goal.returns-in-Ok-clause-small
-returns-in-Ok-clause-small c = small_if_judged c.judged.result c.args.protocol (view c.in-Ok.value) c.judged.ensures
+returns-in-Ok-clause-small c = small_if_judged c.judged.result c.args.word.now (view c.in-Ok.value) c.judged.ensures

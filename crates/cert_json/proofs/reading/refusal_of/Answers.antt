@@ -3,4 +3,5 @@ use Rattle.cert_json.proofs.FormLaws.{form_of}
 use Rattle.cert_json.proofs.reading.refusal_of.Goals as goal
 
 pub returns-clause-form : goal.returns-clause-form
-returns-clause-form c = form_of c.first_refusal.result c.args.protocol (view c.args.value.now) c.first_refusal.ensures
+returns-clause-form c =
+    form_of c.first_refusal.result c.args.version c.args.word.now (view c.args.value.now) c.first_refusal.ensures

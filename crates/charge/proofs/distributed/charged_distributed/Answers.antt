@@ -1,5 +1,4 @@
 use Rattle.std.proofs.Common.{◌∙◌, sym, ap}
-use Rattle.schedule_model.specs.declared.rule.Rule.TheVariants as rule
 use Rattle.phase_machine.specs.MachineDef.{under}
 use Rattle.charge_laws.proofs.DpcpCharging.{dpcp_uncharged}
 use Rattle.charge.specs.ChargeNow.{dpcp_charge_now}
@@ -7,12 +6,12 @@ use Rattle.charge.proofs.DistributedNow.{distributed_shown}
 use Rattle.charge.proofs.distributed.charged_distributed.Goals as goal
 
 pub returns-then-blocked-clause-value : goal.returns-then-blocked-clause-value
-returns-then-blocked-clause-value c = λ rows shows e keeps.
+returns-then-blocked-clause-value c = λ rows shows e run.
     c.charge_of_blocked.ensures.value ∙ ap (λ row. dpcp_charge_now c.args.machine.now row c.args.j.0) (sym e)
-    ∙ distributed_shown c.args.machine.now rows c.args.j.0 shows c.requires.listed (keeps rule.Run)
-    (sym (c.blocked.ensures rows shows e keeps) ∙ c.if-blocked.true)
+    ∙ distributed_shown c.args.machine.now rows c.args.j.0 shows c.requires.listed run
+    (sym (c.blocked.ensures rows shows e run) ∙ c.if-blocked.true)
 
 pub returns-clause-value : goal.returns-clause-value
-returns-clause-value c = λ rows shows e keeps.
+returns-clause-value c = λ rows shows e run.
     sym (dpcp_uncharged (under c.args.machine.now rows) c.args.machine.now.tick c.args.j.0
-    (sym (c.blocked.ensures rows shows e keeps) ∙ c.if-blocked.false))
+    (sym (c.blocked.ensures rows shows e run) ∙ c.if-blocked.false))

@@ -1,39 +1,16 @@
-use Rattle.std.proofs.Common.{◌≡◌, length, ap, ◌∙◌, arith}
-use Rattle.std.specs.Vec.{with_items}
-use Rattle.std.proofs.lemmas.List.{with_items_is, length-map}
-use Rattle.schedule_model.specs.Seen.{place_seen}
-use Rattle.dpcp_rules.proofs.Written.{choice_written}
+use Rattle.schedule_model.specs.Seen.{row_seen}
+use Rattle.dpcp_rules.proofs.Written.{choice_made}
 use Rattle.dpcp_rules.proofs.choosing.choose.Goals as goal
 
 pub returns-clause-chosen : goal.returns-clause-chosen
 returns-clause-chosen c = λ rows shows e.
-    let holders : length c.grant_all.new.holders ≡ length c.args.machine.now.list.set.resources =
-    omega (
-      arith,
-      c.grant_all.ensures.len,
-      ap length c.deref_mut.ensures.value,
-      length-map c.args.row.now.holders.items place_seen,
-      c.requires.sized.resources,
-    ) in
-    let running : length c.run_all.new.running ≡ c.args.machine.now.list.set.processors =
-    omega (
-      arith,
-      c.run_all.ensures.len,
-      ap length c.deref_mut-2.ensures.value,
-      length-map c.args.row.now.running.items place_seen,
-      c.requires.sized.processors,
-    ) in
-    choice_written c.args.machine.now rows c.note_waiting.new.first c.note_kept.new.bars c.grant_all.new.holders c.run_all.new.running
-    (with_items c.args.row.now.holders c.grant_all.new.holders).items
-    (with_items c.args.row.now.running c.run_all.new.running).items c.deref.result.now
+    choice_made c.args.machine.now rows (row_seen c.choose_row.new.row) c.tables_of-tables.result.first.keys
+    c.tables_of-tables.result.bars.keys
     (record {
       shows = shows;
-      accepted = c.note_waiting.ensures.accepted;
+      accepted = c.tables_of-tables.ensures.accepted;
       homes = c.requires.suits;
-      waiting = c.note_waiting.ensures.least;
-      kept = c.note_kept.ensures.least;
+      waiting = c.tables_of-tables.ensures.first;
+      kept = c.tables_of-tables.ensures.bars;
     })
-    (with_items_is c.args.row.now.holders c.grant_all.new.holders (c.grant_all.ensures.len ∙ c.deref_mut.ensures.len))
-    (with_items_is c.args.row.now.running c.run_all.new.running (c.run_all.ensures.len ∙ c.deref_mut-2.ensures.len))
-    c.deref.ensures.value holders running e c.grant_all.ensures.granted
-    c.run_all.ensures.running
+    e c.choose_row.ensures.sized c.choose_row.ensures.granted c.choose_row.ensures.placed

@@ -2,11 +2,11 @@ use Rattle.std.proofs.Common.{◌≡◌, ◌∙◌, ℕ, ◌+◌, ◌≤◌, ◌
 use Rattle.std.proofs.lemmas.List.{get_or_default, length-map}
 use Rattle.program_form.specs.Certificate.{DualDef, CertificateDef, dual_seen, certificate_seen}
 use Rattle.program_form.specs.Program.{ProgramDef}
-use Rattle.program_sources.specs.Recurrence.{SourceDef}
+use Rattle.program_sources.specs.Recurrence.{SourceDef, source_at}
 use Rattle.program_sources.specs.Valid.{dual_at}
 use Rattle.dual_check.specs.declared.duals.DualWorth.{DualWorth}
 use Rattle.dual_check.specs.Tests.{HasNumerators, HasDualSize}
-use Rattle.dual_check.specs.Answers.{source_for, IsWorth, IsWorthOf, AreWorths}
+use Rattle.dual_check.specs.Answers.{IsWorth, IsWorthOf, AreWorths}
 use Rattle.dual_check.proofs.WorthLaws.{dual_seen_at, one_more_worth}
 use Rattle.dual_check.proofs.duals.weigh_duals.Goals as goal
 
@@ -21,8 +21,7 @@ weigh-requires-clause-denominator g c =
 
 pub loop-i-preserved : goal.loop-i-preserved
 loop-i-preserved g c =
-    let f : SourceDef = source_for (g.P.ChargedProtocol.program_of c.args.protocol.now)
-    (g.P.ChargedProtocol.interfering c.args.protocol.now) c.args.set.now in
+    let f : SourceDef = source_at (g.P.ProgramSource.source c.args.protocol.now) c.args.set.now in
     let cert : CertificateDef = certificate_seen c.args.certificate.now in
     let i : ℕ = c.loop-i.i in
     let here : i < length c.args.certificate.now.duals.items = omega (arith, c.requires.dual_each) in

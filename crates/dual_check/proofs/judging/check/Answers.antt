@@ -1,5 +1,5 @@
 -- What is Ok for one protocol is sound under the protocol that was handed in.
-use Rattle.std.proofs.Common.{◌≡◌, sym, subst, IfOk}
+use Rattle.std.proofs.Common.{sym, subst, IfOk}
 use Rattle.sporadic_model.specs.declared.ids.Protocol.{Protocol}
 use Rattle.dual_check.specs.Soundness.{SoundUnder}
 use Rattle.dual_check.proofs.judging.check.Goals as goal

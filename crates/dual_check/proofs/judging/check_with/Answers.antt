@@ -1,14 +1,10 @@
-use Rattle.std.proofs.Common.{rules}
 use Rattle.program_form.specs.Certificate.{certificate_seen}
-use Rattle.sporadic_model.specs.SetDef.{SetDef}
-use Rattle.program_sources.specs.Recurrence.{SourceDef}
-use Rattle.dual_check.specs.Answers.{source_for}
+use Rattle.program_sources.specs.Recurrence.{SourceDef, source_at}
 use Rattle.dual_check.proofs.judging.check_with.Goals as goal
 
 pub returns-clause-sound : goal.returns-clause-sound
 returns-clause-sound g c =
-    let f : SourceDef = source_for (g.P.ChargedProtocol.program_of c.args.protocol.now)
-    (g.P.ChargedProtocol.interfering c.args.protocol.now) c.args.set.now in
+    let f : SourceDef = source_at (g.P.ProgramSource.source c.args.protocol.now) c.args.set.now in
     c.what_passes_is_sound.ensures c.args.protocol.now f (certificate_seen c.args.certificate.now) c.judged.result
     c.keeps_the_model.ensures.accepted c.requires.suits
     (c.charged_protocols_are_analysed.ensures c.args.protocol.now c.args.set.now c.keeps_the_model.ensures.accepted c.requires.suits)

@@ -8,6 +8,6 @@ abbrev pub invariant-loop-place : goal.invariant-loop-place
 invariant-loop-place g l = record {
   len : length l.list.items ≡ length l.columns;
   done : (k : ℕ) (d : Fragment) → k < l.place → slice_index l.list.items k
-      ≡ (g.K.Constraint.row_of l.kind l.set l.i.0).coefficient (column_seen (slice_index_or l.columns k d));
+      ≡ (g.K.RowKind.row_of l.kind l.set l.i.0).coefficient (column_seen (slice_index_or l.columns k d));
   left : (k : ℕ) → l.place ≤ k → k < length l.columns → slice_index l.list.items k ≡ 0;
 }

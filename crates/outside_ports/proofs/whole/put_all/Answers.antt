@@ -8,12 +8,12 @@ loop-sent-preserved g c = record {
   tells = c.in-Ok.ensures.tells ∙ c.loop-sent.invariant.tells;
   later = omega arith;
   calls = omega (arith, c.in-Ok.ensures.some, c.in-Ok.ensures.one_call);
-  takes = λ room fits held.
-      let before = c.loop-sent.invariant.takes room fits held in
+  takes = λ fits.
+      let before = c.loop-sent.invariant.takes fits in
       let piece : length (take (length c.args.text.now - c.loop-sent.sent) (drop c.loop-sent.sent c.args.text.now))
-      ≤ room - c.loop-sent.sent =
-      omega (arith, length-rest c.args.text.now c.loop-sent.sent, fits) in
-      let after = c.in-Ok.ensures.takes (room - c.loop-sent.sent) piece before.0 in
-      (subst (g.K.Sink.takes c.write.new.self) (sub_sub _ _ _) after.0, after.1 ∙ before.1);
+      ≤ (g.K.Sink.seen c.loop-sent.sink).room =
+      omega (arith, length-rest c.args.text.now c.loop-sent.sent, fits, before.0) in
+      let after = c.in-Ok.ensures.takes piece in
+      (omega (arith, before.0, after.0), after.1 ∙ before.1);
   appended = Appends-next _ _ _ _ _ _ c.loop-sent.invariant.appended c.in-Ok.ensures.appends;
 }

@@ -1,19 +1,20 @@
 -- After each read the bytes are what was given and what the rest lost.
-use Rattle.std.proofs.Common.{◌≡◌, ◌+◌, ◌-◌, ◌≤◌, vec_len}
+use Rattle.std.proofs.Common.{◌≡◌, ◌+◌, ◌-◌, ◌≤◌, vec_len, true}
 use Rattle.std.specs.Prelude.{is_some}
 use Rattle.std.specs.Io.KnownBytes.{Consumes}
 use Rattle.outside_ports.proofs.whole.read_all.Given as goal
 
 abbrev pub invariant-loop-count : goal.invariant-loop-count
 invariant-loop-count g l = record {
-  names : g.S.Shelf.names l.shelf ≡ g.S.Shelf.names l.initial.shelf;
-  tells : is_some (g.S.Shelf.rest l.shelf) ≡ is_some (g.S.Shelf.rest l.initial.shelf);
+  names : (g.S.Shelf.seen l.shelf).names ≡ (g.S.Shelf.seen l.initial.shelf).names;
+  tells : is_some (g.S.Shelf.seen l.shelf).rest ≡ is_some (g.S.Shelf.seen l.initial.shelf).rest;
   most : vec_len l.bytes ≤ 67108864;
-  given : g.S.Shelf.given l.shelf ≡ vec_len l.bytes;
-  calm : g.S.Shelf.faults l.shelf ≡ g.S.Shelf.faults l.initial.shelf;
-  calls : g.S.Shelf.calls l.shelf ≤ g.S.Shelf.calls l.initial.shelf + vec_len l.bytes;
-  steady : g.S.Shelf.steady l.initial.shelf → g.S.Shelf.steady l.shelf × (g.S.Shelf.faults l.shelf ≡ g.S.Shelf.faults l.initial.shelf);
-  taken : Consumes (g.S.Shelf.rest l.initial.shelf) (g.S.Shelf.rest l.shelf) l.bytes.items;
+  given : (g.S.Shelf.seen l.shelf).given ≡ vec_len l.bytes;
+  calm : (g.S.Shelf.seen l.shelf).faults ≡ (g.S.Shelf.seen l.initial.shelf).faults;
+  calls : (g.S.Shelf.seen l.shelf).calls ≤ (g.S.Shelf.seen l.initial.shelf).calls + vec_len l.bytes;
+  steady : (g.S.Shelf.seen l.initial.shelf).steady ≡ true
+      → ((g.S.Shelf.seen l.shelf).steady ≡ true) × ((g.S.Shelf.seen l.shelf).faults ≡ (g.S.Shelf.seen l.initial.shelf).faults);
+  taken : Consumes (g.S.Shelf.seen l.initial.shelf).rest (g.S.Shelf.seen l.shelf).rest l.bytes.items;
 }
 
 abbrev pub decreases-loop-count : goal.decreases-loop-count

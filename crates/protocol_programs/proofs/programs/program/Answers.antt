@@ -1,24 +1,26 @@
-use Rattle.std.proofs.Common.{◌≡◌, ℕ, List, map, sym, ◌∙◌, ap, subst}
+use Rattle.std.proofs.Common.{◌≡◌, List, map, sym, ◌∙◌, ap, subst}
+use Rattle.std.specs.Result.{IfOk}
 use Rattle.program_form.specs.Program.{ProgramDef, IsProgram}
-use Rattle.program_form.specs.RowBlock.{RowBlockDef, block_seen}
+use Rattle.program_form.specs.RowBlock.{block_seen}
+use Rattle.fragments.specs.declared.columns.Fragment.{Fragment}
+use Rattle.fragments.specs.ColumnDef.{column_seen}
 use Rattle.fragments.specs.Columns.{columns_of}
-use Rattle.fragments.specs.Constraints.{block_of}
 use Rattle.program_laws.specs.Programs.{cost_of, rows_of, program_of}
 use Rattle.program_laws.proofs.WrittenPrograms.{written_program}
 use Rattle.protocol_programs.specs.Joined.{lists_of}
+use Rattle.protocol_programs.proofs.Over.{lists_are_program}
 use Rattle.protocol_programs.proofs.programs.program.Goals as goal
 
-pub accepted-requires : goal.accepted-requires
-accepted-requires c =
+pub program_over-requires-clause-program : goal.program_over-requires-clause-program
+program_over-requires-clause-program c =
     let set = c.args.set.now in
     let i = c.args.i.0 in
-    let columns = columns_of c.args.protocol set i in
-    let costs : c.in_ok-costs.costs.items ≡ map (cost_of set) columns = c.in_ok-costs.ensures in
-    let block : block_seen c.in_ok-block.block ≡ block_of columns (rows_of c.args.protocol set i) c.args.bounds.now =
-    c.in_ok-block.ensures in
-    let same : lists_of c.in_ok-costs.costs.items (block_seen c.in_ok-block.block) ≡ program_of c.args.protocol set i c.args.bounds.now
-    = ap (λ (x : List ℕ). lists_of x (block_seen c.in_ok-block.block)) costs
-    ∙ ap (λ (b : RowBlockDef). lists_of (map (cost_of set) columns) b) block in
+    let seen : map column_seen c.deref-3.result.now ≡ columns_of c.args.protocol set i =
+    ap (λ (fs : List Fragment). map column_seen fs) c.deref-3.ensures.value ∙ c.in_ok-columns.ensures in
+    let same : lists_of (map (cost_of set) (map column_seen c.deref-3.result.now)) (block_seen c.in_ok-block.block)
+    ≡ program_of c.args.protocol set i c.args.bounds.now =
+    lists_are_program set (map column_seen c.deref-3.result.now) (columns_of c.args.protocol set i) (rows_of c.args.protocol set i)
+    c.args.bounds.now (block_seen c.in_ok-block.block) seen c.in_ok-block.ensures in
     subst IsProgram (sym same) (written_program c.args.protocol set i c.args.bounds.now c.tasks-tasks.ensures.accepted
     c.requires.task c.requires.within)
 
@@ -26,9 +28,10 @@ pub returns : goal.returns
 returns c =
     let set = c.args.set.now in
     let i = c.args.i.0 in
-    let columns = columns_of c.args.protocol set i in
-    let costs : c.in_ok-costs.costs.items ≡ map (cost_of set) columns = c.in_ok-costs.ensures in
-    let block : block_seen c.in_ok-block.block ≡ block_of columns (rows_of c.args.protocol set i) c.args.bounds.now =
-    c.in_ok-block.ensures in
-    c.accepted.ensures ∙ (ap (λ (x : List ℕ). lists_of x (block_seen c.in_ok-block.block)) costs
-    ∙ ap (λ (b : RowBlockDef). lists_of (map (cost_of set) columns) b) block)
+    let seen : map column_seen c.deref-3.result.now ≡ columns_of c.args.protocol set i =
+    ap (λ (fs : List Fragment). map column_seen fs) c.deref-3.ensures.value ∙ c.in_ok-columns.ensures in
+    let same : lists_of (map (cost_of set) (map column_seen c.deref-3.result.now)) (block_seen c.in_ok-block.block)
+    ≡ program_of c.args.protocol set i c.args.bounds.now =
+    lists_are_program set (map column_seen c.deref-3.result.now) (columns_of c.args.protocol set i) (rows_of c.args.protocol set i)
+    c.args.bounds.now (block_seen c.in_ok-block.block) seen c.in_ok-block.ensures in
+    subst (λ (d : ProgramDef). IfOk c.program_over.result (λ p. p ≡ d)) same c.program_over.ensures

@@ -1,21 +1,16 @@
-use Rattle.std.proofs.Common.{◌≡◌, suc, List, Option, ◌∷◌, ◌∙◌, ap, length, sym, subst, arith, Some}
+use Rattle.std.proofs.Common.{◌≡◌, suc, List, Option, ◌∷◌, ◌∙◌, ap, length, sym, subst, arith}
 use Rattle.std.proofs.lemmas.List.{length-replicate, with_items_is}
 use Rattle.std.specs.Prelude.{Result, slice_get}
-use Rattle.program_sources.specs.Recurrence.{SourceDef}
+use Rattle.program_sources.specs.Recurrence.{SourceDef, source_at}
 use Rattle.simplex.specs.declared.SolveStop.{SolveStop}
 use Rattle.response_fixpoint.specs.Solutions.{AreFound, AreAhead, outcomes_with}
 use Rattle.response_fixpoint.specs.declared.task_run.Solution.{Solution}
-use Rattle.response_fixpoint.specs.declared.ahead.Ahead.{Ahead}
 use Rattle.response_fixpoint.proofs.AheadLaws.{nothing_ahead, found_put}
 use Rattle.response_fixpoint.proofs.ahead.solve_ahead.Goals as goal
 
 pub loop-part-init : goal.loop-part-init
 loop-part-init g c =
-    let f : SourceDef = record {
-      set = c.args.set.now;
-      program = g.P.ProgramSource.program_of c.args.protocol.now c.args.set.now;
-      interfering = g.P.ProgramSource.interfering c.args.protocol.now c.args.set.now;
-    } in
+    let f : SourceDef = source_at (g.P.ProgramSource.source c.args.protocol.now) c.args.set.now in
     let same : c.into_iter-part-iterator.result.rest.items ≡ c.in_ok-part-items.part-items.items =
     c.into_iter-part-iterator.ensures.into_iter_gives.0 in
     record {
@@ -27,11 +22,7 @@ loop-part-init g c =
 
 pub put_all-requires : goal.put_all-requires
 put_all-requires g c =
-    let f : SourceDef = record {
-      set = c.args.set.now;
-      program = g.P.ProgramSource.program_of c.args.protocol.now c.args.set.now;
-      interfering = g.P.ProgramSource.interfering c.args.protocol.now c.args.set.now;
-    } in
+    let f : SourceDef = source_at (g.P.ProgramSource.source c.args.protocol.now) c.args.set.now in
     let split : c.loop-part.part-iterator.rest.items ≡ c.in-Some.part ∷ c.next.new.self.rest.items = c.in-Some.ensures.steps.0 in
     let found : AreFound f c.args.bounds.now c.args.left c.in_ok-part.field-0.items =
     rw c.in_ok-part.was at (c.loop-part.invariant.found 0 c.in-Some.part (ap (λ (xs : List _). slice_get xs 0) split)) in
@@ -40,11 +31,7 @@ put_all-requires g c =
 
 pub loop-part-preserved : goal.loop-part-preserved
 loop-part-preserved g c =
-    let f : SourceDef = record {
-      set = c.args.set.now;
-      program = g.P.ProgramSource.program_of c.args.protocol.now c.args.set.now;
-      interfering = g.P.ProgramSource.interfering c.args.protocol.now c.args.set.now;
-    } in
+    let f : SourceDef = source_at (g.P.ProgramSource.source c.args.protocol.now) c.args.set.now in
     let split : c.loop-part.part-iterator.rest.items ≡ c.in-Some.part ∷ c.next.new.self.rest.items = c.in-Some.ensures.steps.0 in
     let found : AreFound f c.args.bounds.now c.args.left c.in_ok-part.field-0.items =
     rw c.in_ok-part.was at (c.loop-part.invariant.found 0 c.in-Some.part (ap (λ (xs : List _). slice_get xs 0) split)) in

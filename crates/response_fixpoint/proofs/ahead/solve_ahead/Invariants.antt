@@ -1,5 +1,6 @@
 use Rattle.std.proofs.Common.{◌≡◌, ℕ, length, Some}
 use Rattle.std.specs.Prelude.{IfOk, slice_get}
+use Rattle.program_sources.specs.Recurrence.{source_at}
 use Rattle.response_fixpoint.specs.Solutions.{AreFound, AreAhead}
 use Rattle.response_fixpoint.proofs.ahead.solve_ahead.Given as goal
 
@@ -7,14 +8,7 @@ use Rattle.response_fixpoint.proofs.ahead.solve_ahead.Given as goal
 abbrev pub invariant-loop-part : goal.invariant-loop-part
 invariant-loop-part g l = record {
   len : length l.outcomes.items ≡ length l.set.tasks;
-  ahead : AreAhead (record {
-    set = l.set;
-    program = g.P.ProgramSource.program_of l.protocol l.set;
-    interfering = g.P.ProgramSource.interfering l.protocol l.set;
-  }) l.bounds 0 l.left l.outcomes.items;
-  found : (k : ℕ) (part : _) → slice_get l.part-iterator.rest.items k ≡ Some part → IfOk part (λ v. AreFound (record {
-    set = l.set;
-    program = g.P.ProgramSource.program_of l.protocol l.set;
-    interfering = g.P.ProgramSource.interfering l.protocol l.set;
-  }) l.bounds l.left v.items);
+  ahead : AreAhead (source_at (g.P.ProgramSource.source l.protocol) l.set) l.bounds 0 l.left l.outcomes.items;
+  found : (k : ℕ) (part : _) → slice_get l.part-iterator.rest.items k ≡ Some part
+      → IfOk part (λ v. AreFound (source_at (g.P.ProgramSource.source l.protocol) l.set) l.bounds l.left v.items);
 }

@@ -1,7 +1,7 @@
 use Rattle.std.proofs.Common.{◌≡◌, ◌≢◌, ℕ, ◌+◌, ◌-◌, List, sym, ◌∙◌, refl, arith, Ok, true, false}
 use Rattle.std.specs.Str.{bytes_eq}
 use Rattle.std.proofs.lemmas.Slice.Eq.{bytes_eq-Decides}
-use Rattle.program_sources.specs.Recurrence.{SourceDef}
+use Rattle.program_sources.specs.Recurrence.{SourceDef, source_at}
 use Rattle.response_fixpoint.specs.Answers.{GivesRound, found_of}
 use Rattle.response_fixpoint.proofs.AnswerLaws.{settled_ends, settled_answers, next_in_range, reaches_more}
 use Rattle.response_fixpoint.proofs.analysis.take_rounds.Goals as goal
@@ -15,11 +15,7 @@ other_vectors xs ys e = λ same. (let yes = (bytes_eq-Decides xs ys).1 (sym same
 
 pub returns-then-eq : goal.returns-then-eq
 returns-then-eq g c =
-    let f : SourceDef = record {
-      set = c.args.set.now;
-      program = g.P.ProgramSource.program_of c.args.protocol.now c.args.set.now;
-      interfering = g.P.ProgramSource.interfering c.args.protocol.now c.args.set.now;
-    } in
+    let f : SourceDef = source_at (g.P.ProgramSource.source c.args.protocol.now) c.args.set.now in
     let way = c.loop-next.invariant.reached in
     let next = c.in-Ok.next in
     let given : GivesRound (Ok next) f c.loop-next.bounds.items (c.args.allowance - c.loop-next.spent) =
@@ -30,11 +26,7 @@ returns-then-eq g c =
 
 pub loop-next-preserved : goal.loop-next-preserved
 loop-next-preserved g c =
-    let f : SourceDef = record {
-      set = c.args.set.now;
-      program = g.P.ProgramSource.program_of c.args.protocol.now c.args.set.now;
-      interfering = g.P.ProgramSource.interfering c.args.protocol.now c.args.set.now;
-    } in
+    let f : SourceDef = source_at (g.P.ProgramSource.source c.args.protocol.now) c.args.set.now in
     let way = c.loop-next.invariant.reached in
     let next = c.in-Ok.next in
     let given : GivesRound (Ok next) f c.loop-next.bounds.items (c.args.allowance - c.loop-next.spent) =

@@ -1,5 +1,6 @@
 use Rattle.std.proofs.Common.{ℕ, ◌≤◌, ◌-◌}
 use Rattle.program_sources.specs.Bounds.{IsInRange}
+use Rattle.program_sources.specs.Recurrence.{source_at}
 use Rattle.response_fixpoint.specs.Rounds.{Reaches}
 use Rattle.response_fixpoint.specs.Runs.{rounds_of}
 use Rattle.response_fixpoint.specs.Solutions.{AreEarlier}
@@ -8,18 +9,10 @@ use Rattle.response_fixpoint.proofs.analysis.take_rounds.Given as goal
 -- the rounds have come to these bounds, with the units that are spent, and with solutions of the tasks' programs
 abbrev pub invariant-loop-next : goal.invariant-loop-next
 invariant-loop-next g l = record {
-  reached : (k : ℕ) × Reaches (rounds_of (record {
-    set = l.set;
-    program = g.P.ProgramSource.program_of l.protocol l.set;
-    interfering = g.P.ProgramSource.interfering l.protocol l.set;
-  })) l.allowance k l.spent l.bounds.items;
+  reached : (k : ℕ) × Reaches (rounds_of (source_at (g.P.ProgramSource.source l.protocol) l.set)) l.allowance k l.spent l.bounds.items;
   range : IsInRange l.set l.bounds.items;
   within : l.spent ≤ l.allowance;
-  kept : AreEarlier (record {
-    set = l.set;
-    program = g.P.ProgramSource.program_of l.protocol l.set;
-    interfering = g.P.ProgramSource.interfering l.protocol l.set;
-  }) l.earlier.items;
+  kept : AreEarlier (source_at (g.P.ProgramSource.source l.protocol) l.set) l.earlier.items;
 }
 
 abbrev pub decreases-loop-next : goal.decreases-loop-next

@@ -1,7 +1,7 @@
 use Rattle.std.proofs.Common.{◌≡◌, ◌+◌, ◌-◌, ◌≤◌, List, length, sym, ◌∙◌, ap, subst, arith}
 use Rattle.std.proofs.lemmas.List.{length-map}
 use Rattle.program_form.specs.Certificate.{dual_seen}
-use Rattle.program_sources.specs.Recurrence.{SourceDef}
+use Rattle.program_sources.specs.Recurrence.{SourceDef, source_at}
 use Rattle.program_sources.specs.Fitting.{latest_of}
 use Rattle.response_fixpoint.specs.Rounds.{Found, Passes}
 use Rattle.response_fixpoint.specs.Runs.{rounds_of}
@@ -15,32 +15,20 @@ use Rattle.response_fixpoint.proofs.rounds.take_round.Goals as goal
 
 pub returns-in-Err : goal.returns-in-Err
 returns-in-Err g c =
-    let f : SourceDef = record {
-      set = c.args.set.now;
-      program = g.P.ProgramSource.program_of c.args.protocol.now c.args.set.now;
-      interfering = g.P.ProgramSource.interfering c.args.protocol.now c.args.set.now;
-    } in
+    let f : SourceDef = source_at (g.P.ProgramSource.source c.args.protocol.now) c.args.set.now in
     rw (c.stopped.ensures) (run_halts f c.args.bounds.now c.args.left c.loop-i.i (found_of c.loop-i.round) c.in-Err.stop
     (omega arith) c.loop-i.invariant.passed c.in-Err.ensures)
 
 pub returns-in-Err-take_run : goal.returns-in-Err-take_run
 returns-in-Err-take_run g c =
-    let f : SourceDef = record {
-      set = c.args.set.now;
-      program = g.P.ProgramSource.program_of c.args.protocol.now c.args.set.now;
-      interfering = g.P.ProgramSource.interfering c.args.protocol.now c.args.set.now;
-    } in
+    let f : SourceDef = source_at (g.P.ProgramSource.source c.args.protocol.now) c.args.set.now in
     value_halts f c.args.bounds.now c.args.left c.loop-i.i c.latest_bound.result c.loop-i.round c.take_run.new.round
     c.in-Ok.run' c.in-Err-take_run.stop (omega arith)
     c.latest_bound.ensures.value c.loop-i.invariant.passed c.in-Ok.ensures.0 c.in-Err-take_run.ensures
 
 pub loop-i-preserved : goal.loop-i-preserved
 loop-i-preserved g c =
-    let f : SourceDef = record {
-      set = c.args.set.now;
-      program = g.P.ProgramSource.program_of c.args.protocol.now c.args.set.now;
-      interfering = g.P.ProgramSource.interfering c.args.protocol.now c.args.set.now;
-    } in
+    let f : SourceDef = source_at (g.P.ProgramSource.source c.args.protocol.now) c.args.set.now in
     let run = c.in-Ok.run' in
     let solution = run.solution in
     let ran = c.in-Ok.ensures in
@@ -67,10 +55,6 @@ loop-i-preserved g c =
 
 pub run_task-requires-clause-ahead : goal.run_task-requires-clause-ahead
 run_task-requires-clause-ahead g c =
-    let f : SourceDef = record {
-      set = c.args.set.now;
-      program = g.P.ProgramSource.program_of c.args.protocol.now c.args.set.now;
-      interfering = g.P.ProgramSource.interfering c.args.protocol.now c.args.set.now;
-    } in
+    let f : SourceDef = source_at (g.P.ProgramSource.source c.args.protocol.now) c.args.set.now in
     rw (c.flatten-outcome.ensures) (first_ahead f c.args.bounds.now c.loop-i.i c.args.left c.loop-i.round.used
     c.loop-i.outcomes.rest.items c.next.new.self.rest.items c.next.result c.next.ensures.items c.loop-i.invariant.ahead)

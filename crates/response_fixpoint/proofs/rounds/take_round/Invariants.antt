@@ -1,4 +1,5 @@
 use Rattle.std.proofs.Common.{◌≤◌}
+use Rattle.program_sources.specs.Recurrence.{source_at}
 use Rattle.response_fixpoint.specs.Rounds.{Passes}
 use Rattle.response_fixpoint.specs.Runs.{rounds_of}
 use Rattle.response_fixpoint.specs.Solutions.{AreEarlier, AreAhead}
@@ -9,21 +10,9 @@ use Rattle.response_fixpoint.proofs.rounds.take_round.Given as goal
 -- next task
 abbrev pub invariant-loop-i : goal.invariant-loop-i
 invariant-loop-i g l = record {
-  passed : Passes (rounds_of (record {
-    set = l.set;
-    program = g.P.ProgramSource.program_of l.protocol l.set;
-    interfering = g.P.ProgramSource.interfering l.protocol l.set;
-  })) l.bounds l.left l.i (found_of l.round);
+  passed : Passes (rounds_of (source_at (g.P.ProgramSource.source l.protocol) l.set)) l.bounds l.left l.i (found_of l.round);
   within : l.round.used ≤ l.left;
   least : l.i ≤ l.round.used;
-  kept : AreEarlier (record {
-    set = l.set;
-    program = g.P.ProgramSource.program_of l.protocol l.set;
-    interfering = g.P.ProgramSource.interfering l.protocol l.set;
-  }) l.round.solutions.items;
-  ahead : AreAhead (record {
-    set = l.set;
-    program = g.P.ProgramSource.program_of l.protocol l.set;
-    interfering = g.P.ProgramSource.interfering l.protocol l.set;
-  }) l.bounds l.i l.left l.outcomes.rest.items;
+  kept : AreEarlier (source_at (g.P.ProgramSource.source l.protocol) l.set) l.round.solutions.items;
+  ahead : AreAhead (source_at (g.P.ProgramSource.source l.protocol) l.set) l.bounds l.i l.left l.outcomes.rest.items;
 }

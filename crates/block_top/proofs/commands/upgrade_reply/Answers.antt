@@ -1,0 +1,10 @@
+use Rattle.run_plans.specs.Commands.{upgrading}
+use Rattle.run_plans.proofs.ReplyLaws.{replied_tied}
+use Rattle.block_top.proofs.commands.upgrade_reply.Goals as goal
+
+pub returns-clause-reply : goal.returns-clause-reply
+returns-clause-reply g c =
+    replied_tied (g.S.Shelf.seen c.args.shelf.now) (g.S.Shelf.seen c.get_tied_set.new.shelf) (g.S.Shelf.seen c.upgraded_reply.new.shelf)
+    c.args.protocol c.args.set.now (λ digest tasks. upgrading c.args.protocol c.args.certificate.now digest tasks)
+    (c.in_ok-set.set, c.in_ok-set.digest) c.upgraded_reply.result c.get_tied_set.ensures.keeps c.in_ok-set.ensures.got
+    (λ digest tasks works. works) c.upgraded_reply.ensures.reply

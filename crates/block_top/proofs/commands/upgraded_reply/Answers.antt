@@ -1,0 +1,15 @@
+use Rattle.program_form.specs.Certificate.{certificate_seen}
+use Rattle.run_plans.specs.Plans.{Answer, Working}
+use Rattle.run_plans.specs.Inputs.{old_cert_input}
+use Rattle.run_plans.specs.Commands.{IsJudgement, upgraded_answer, upgrade_of}
+use Rattle.run_plans.proofs.ReplyLaws.{replied_work}
+use Rattle.block_top.proofs.commands.upgraded_reply.Goals as goal
+
+pub returns-clause-reply : goal.returns-clause-reply
+returns-clause-reply g c =
+    replied_work (g.S.Shelf.seen c.args.shelf.now) (g.S.Shelf.seen c.get_old_cert.new.shelf) (old_cert_input c.args.protocol)
+    c.args.certificate.now (λ bytes d. Working (upgrade_of c.args.protocol c.args.digest.now c.args.set.now d))
+    (certificate_seen c.in_ok-certificate.certificate)
+    (IsJudgement c.args.protocol c.args.set.now (certificate_seen c.in_ok-certificate.certificate)
+    (upgraded_answer c.args.protocol c.args.digest.now (certificate_seen c.in_ok-certificate.certificate))) c.upgraded.result
+    c.get_old_cert.ensures.keeps c.in_ok-certificate.ensures.got (λ (a : Answer) is. is) c.upgraded.ensures

@@ -1,0 +1,42 @@
+//! Whether a certificate is of the set.
+
+ghost use Rattle.std.specs.Prelude.{◌≡◌, ◌≢◌, ◌↔◌, IfOk, IsTrue, MatchOption};
+ghost use Rattle.run_plans.specs.Commands.{other_set_answer};
+ghost use Rattle.run_plans.specs.Replies.{reply_seen};
+
+use cert_json::CertFile;
+use reply_texts::other_set_line;
+use run_plans::{Reply, Status};
+use std::alloc::{AllocError, Global};
+
+/// The reply where a certificate is of another set.
+fn other_set_reply(alloc: Global) -> Result<Reply, AllocError>
+    ensures { IfOk result (λ r. reply_seen r ≡ other_set_answer) }
+{
+    Ok(Reply {
+        status: Status::No,
+        text: other_set_line(alloc)?,
+    })
+}
+
+/// Is the certificate of the set of this digest?
+fn is_tied(file: &CertFile, digest: &[u8; 32]) -> bool
+    ensures { IsTrue result ↔ (file.now.digest ≡ digest.now) }
+{
+    file.digest.as_slice() == digest.as_slice()
+}
+
+/// The reply that the certificate is of another set than that of this digest; none where it is of it.
+pub(crate) fn untied(
+    alloc: Global,
+    file: &CertFile,
+    digest: &[u8; 32],
+) -> Result<Option<Reply>, AllocError>
+    ensures { IfOk result (λ o. MatchOption o (file.now.digest ≡ digest.now)
+        (λ r. (file.now.digest ≢ digest.now) × (reply_seen r ≡ other_set_answer))) }
+{
+    if is_tied(file, digest) {
+        return Ok(None);
+    }
+    Ok(Some(other_set_reply(alloc)?))
+}

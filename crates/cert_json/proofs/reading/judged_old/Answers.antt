@@ -1,0 +1,10 @@
+use Rattle.std.proofs.Common.{◌∙◌, sym}
+use Rattle.serde_json.specs.View.{view}
+use Rattle.cert_json.specs.declared.version.Version.TheVariants as version
+use Rattle.cert_json.specs.Answers.{IsCertificateOf}
+use Rattle.cert_json.proofs.FormLaws.{judged_by_cause}
+use Rattle.cert_json.proofs.reading.judged_old.Goals as goal
+
+pub returns-in-Some : goal.returns-in-Some
+returns-in-Some c = judged_by_cause IsCertificateOf c.in-Some.refusal version.First c.args.word.now (view c.args.value.now)
+    (sym c.refusal_of.ensures.cause ∙ c.in-Some.is)

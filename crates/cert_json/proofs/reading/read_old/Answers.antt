@@ -1,0 +1,11 @@
+use Rattle.std.proofs.Common.{arith}
+use Rattle.serde_json.specs.View.{view}
+use Rattle.taskset_json.proofs.Sizes.{read-size}
+use Rattle.cert_json.proofs.SmallDuals.{small_if_old}
+use Rattle.cert_json.proofs.reading.read_old.Goals as goal
+
+pub judged_old-requires : goal.judged_old-requires
+judged_old-requires c = omega (arith, read-size c.args.bytes.now (view c.in-Ok.value) c.in-Ok.ensures.ok.1, c.requires)
+
+pub returns-in-Ok-clause-small : goal.returns-in-Ok-clause-small
+returns-in-Ok-clause-small c = small_if_old c.judged_old.result c.args.word.now (view c.in-Ok.value) c.judged_old.ensures

@@ -1,0 +1,4 @@
+pub mod Priority
+pub mod Verdict
+pub mod Chosen
+pub mod NextRow

@@ -1,0 +1,19 @@
+ghost use Rattle.std.specs.Prelude.{ℕ, ◌<◌};
+ghost use Rattle.sporadic_model.specs.Accepted.{IsAccepted};
+ghost use Rattle.sporadic_model.specs.Homes.{EachHasHome};
+ghost use Rattle.schedule_model.specs.LawfulJobs.{AreLawfulJobs};
+ghost use Rattle.schedule_model.specs.RowDef.{Trace, jobs_of};
+ghost use Rattle.schedule_model.specs.TakenRows.{CanBeTakenBefore};
+ghost use Rattle.schedule_model.specs.Keeping.{KeepsBefore};
+ghost use Rattle.schedule_model.specs.Chosen.{IsSized};
+ghost use Rattle.dflp_laws.specs.Rules.{dflp_rule};
+ghost use Rattle.dflp_protocol.specs.NextRow.{HasChoice};
+
+/// Each schedule of lawful jobs of an accepted set, in which each resource has a home, has a row that the protocol chooses after the
+/// rows before it, if these can be taken; so each lawful schedule has a lawful next row. This says so, and does nothing.
+pub fn each_schedule_has_a_next_row()
+    ensures taken { (w : Trace) (t : ℕ) → IsAccepted w.set → EachHasHome w.set → AreLawfulJobs (jobs_of w)
+        → CanBeTakenBefore w t → HasChoice w t }
+    ensures lawful { (w : Trace) (t : ℕ) → IsAccepted w.set → EachHasHome w.set → AreLawfulJobs (jobs_of w)
+        → ((u : ℕ) → u < t → IsSized w.set (w.row u)) → KeepsBefore dflp_rule w t → HasChoice w t }
+{}

@@ -1,0 +1,144 @@
+//! The protocol's programs: so its sets are analysed, and its certificates are checked.
+
+ghost use Rattle.std.specs.Prelude.{◌≡◌, ◌<◌, ◌==◌, ◌&&◌, not, map, length, IfOk};
+ghost use Rattle.bounded_sums.specs.Tests.{any_below};
+ghost use Rattle.program_form.specs.RowBlock.{block_seen};
+ghost use Rattle.sporadic_model.specs.SetDef.{task_at};
+ghost use Rattle.sporadic_model.specs.Users.{is_user};
+ghost use Rattle.sporadic_model.specs.Homes.{EachHasHome, home_in};
+ghost use Rattle.program_sources.specs.Bounds.{AreWithinDeadlines};
+ghost use Rattle.fragments.specs.ColumnDef.{column_seen, AreKnown};
+ghost use Rattle.fragments.specs.Columns.{requests_beside};
+ghost use Rattle.fragments.specs.Constraints.{block_of};
+ghost use Rattle.fragments.specs.Stretches.{AreInOrder};
+ghost use Rattle.dflp_laws.specs.Programs.{may_block, is_dflp_column, dflp_rows, dflp_program, dflp_source};
+ghost use Rattle.dflp_laws.proofs.Programs.{dflp_covered, dflp_rises, dflp_is_program};
+
+use crate::Dflp;
+use crate::queues::add_queues;
+use direct_constraints::{add_request_rows, add_time_rows, add_turn_rows};
+use fragments::{Class, ColumnTest, Fragment, fragments_where, home, passing_stand_in_order, uses};
+use preempt_constraints::add_interval_rows;
+use program_form::{Program, RowBlock};
+use program_sources::ProgramSource;
+use protocol_programs::{interference, program_over};
+use sporadic_model::{Protocol, ResourceId, TaskId, TaskSet};
+use std::alloc::{AllocError, Global};
+
+/// Is the resource `r` another one than `q`, of the same home, that `i` requests?
+fn is_beside(set: &TaskSet, i: TaskId, q: ResourceId, r: ResourceId) -> bool
+    requires task { i.0 < length set.now.tasks }
+    requires resource { q.0 < length set.now.resources }
+    requires other { r.0 < length set.now.resources }
+    ensures { result ≡ (not (r.0 == q.0) && (is_user set.now r.0 i.0 && (home_in set.now r.0 == home_in set.now q.0))) }
+{
+    r.0 != q.0 && uses(set, i, r) && home(set, r) == home(set, q)
+}
+
+/// Does `i` request another resource of the resource's home?
+fn asks_beside(set: &TaskSet, i: TaskId, q: ResourceId) -> bool
+    requires task { i.0 < length set.now.tasks }
+    requires resource { q.0 < length set.now.resources }
+    ensures { result ≡ requests_beside set.now i.0 q.0 }
+{
+    for r in 0..set.resources() {
+        if is_beside(set, i, q, ResourceId(r)) {
+            return true;
+        }
+    }
+    false
+}
+
+/// May requests of the column's resource block `i` in its way?
+fn may_block(set: &TaskSet, i: TaskId, column: Fragment) -> bool
+    requires task { i.0 < length set.now.tasks }
+    requires resource { column.resource.0 < length set.now.resources }
+    ensures { result ≡ may_block set.now i.0 column.resource.0 column.class }
+{
+    match column.class {
+        Class::Direct => uses(set, i, column.resource),
+        Class::Indirect => asks_beside(set, i, column.resource),
+        Class::Preemption => home(set, column.resource) == set.processor(i),
+    }
+}
+
+impl ColumnTest for Dflp {
+    ghost passes = { λ k set i c. is_dflp_column set i c };
+
+    ghost fits = { λ k set i x. Unit {0} };
+
+    fn test(&self, set: &TaskSet, i: TaskId, column: Fragment) -> bool {
+        column.task.0 != i.0 && uses(set, column.task, column.resource) && may_block(set, i, column)
+    }
+}
+
+/// The rows of the protocol, in their order, where some column has a coefficient above zero in them.
+fn rows(
+    alloc: Global,
+    set: &TaskSet,
+    i: TaskId,
+    bounds: &[u64],
+    columns: &[Fragment],
+) -> Result<RowBlock, AllocError>
+    requires task { i.0 < length set.now.tasks }
+    requires within { AreWithinDeadlines set.now bounds.now }
+    requires known { AreKnown (length set.now.tasks) (length set.now.resources) columns.now }
+    requires order { AreInOrder columns.now }
+    ensures { IfOk result (λ b. block_seen b ≡ block_of (map column_seen columns.now) (dflp_rows set.now i.0) bounds.now) }
+{
+    let mut block = RowBlock {
+        rows: Vec::new(alloc),
+        limits: Vec::new(alloc),
+    };
+    add_request_rows(alloc, &mut block, set, i, bounds, columns)?;
+    add_time_rows(alloc, &mut block, set, i, bounds, columns)?;
+    add_interval_rows(alloc, &mut block, set, i, bounds, columns)?;
+    add_turn_rows(alloc, &mut block, set, i, bounds, columns)?;
+    add_queues(alloc, &mut block, set, i, bounds, columns)?;
+    Ok(block)
+}
+
+/// The blocking program of task `i`, where these are the bounds, in ticks. It refuses for want of memory alone.
+fn program(alloc: Global, set: &TaskSet, i: TaskId, bounds: &[u64]) -> Result<Program, AllocError>
+    requires task { i.0 < length set.now.tasks }
+    requires within { AreWithinDeadlines set.now bounds.now }
+    ensures { IfOk result (λ p. p ≡ dflp_program set.now i.0 bounds.now) }
+{
+    // every set is lawful, so its columns and rows make a program
+    let _tasks = set.tasks();
+    let columns = fragments_where(alloc, &Dflp, set, i)?;
+    passing_stand_in_order(set, &Dflp, i, &columns);
+    let block = rows(alloc, set, i, bounds, &columns)?;
+    program_over(alloc, set, &columns, block)
+}
+
+impl ProgramSource for Dflp {
+    ghost serves = { λ p. EachHasHome };
+
+    ghost source = { λ p. dflp_source };
+
+    ghost covers = { λ p set i r c served here within. dflp_covered set i r c within };
+
+    ghost rises = { λ p set i r s served here most. dflp_rises set i r s here most };
+
+    ghost is_program = { λ p set i r served accepted here within. dflp_is_program set i r accepted here within };
+
+    ghost least = { λ p set h served here numbers. numbers.local_from };
+
+    ghost most = { λ p set h served here numbers. numbers.local_to };
+
+    fn program(
+        &self,
+        alloc: Global,
+        set: &TaskSet,
+        i: TaskId,
+        bounds: &[u64],
+    ) -> Result<Program, AllocError> {
+        program(alloc, set, i, bounds)
+    }
+
+    /// A job interferes as under DPCP, for its local limit.
+    fn interference(&self, set: &TaskSet, i: TaskId, bounds: &[u64]) -> u64 {
+        interference(set, Protocol::Dpcp, i, bounds)
+    }
+}

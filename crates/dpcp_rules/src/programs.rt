@@ -1,0 +1,44 @@
+//! The protocol's programs, as they are written down: so its sets are analysed, and its certificates are checked.
+
+ghost use Rattle.sporadic_model.specs.declared.ids.Protocol.TheVariants as protocol;
+ghost use Rattle.sporadic_model.specs.Homes.{EachHasHome};
+ghost use Rattle.program_laws.specs.Programs.{source_of};
+ghost use Rattle.program_laws.proofs.WrittenPrograms.{written_program, programs_rise, interfering_least, interfering_most};
+ghost use Rattle.program_laws.proofs.CoveredColumns.{covered};
+
+use crate::Dpcp;
+use program_form::Program;
+use program_sources::ProgramSource;
+use protocol_programs::{interference, program};
+use sporadic_model::{Protocol, TaskId, TaskSet};
+use std::alloc::{AllocError, Global};
+
+impl ProgramSource for Dpcp {
+    ghost serves = { λ p. EachHasHome };
+
+    ghost source = { λ p. source_of protocol.Dpcp };
+
+    ghost covers = { λ p set i r c served here within. covered protocol.Dpcp set i r c within };
+
+    ghost rises = { λ p set i r s served here most. programs_rise protocol.Dpcp set i r s here most };
+
+    ghost is_program = { λ p set i r served accepted here within. written_program protocol.Dpcp set i r accepted here within };
+
+    ghost least = { λ p set h served here numbers. interfering_least protocol.Dpcp set h numbers };
+
+    ghost most = { λ p set h served here numbers. interfering_most protocol.Dpcp set h numbers };
+
+    fn program(
+        &self,
+        alloc: Global,
+        set: &TaskSet,
+        i: TaskId,
+        bounds: &[u64],
+    ) -> Result<Program, AllocError> {
+        program(alloc, set, Protocol::Dpcp, i, bounds)
+    }
+
+    fn interference(&self, set: &TaskSet, i: TaskId, bounds: &[u64]) -> u64 {
+        interference(set, Protocol::Dpcp, i, bounds)
+    }
+}

@@ -1,0 +1,140 @@
+ghost use Rattle.std.specs.Prelude.{◌≡◌, ℕ, ◌<◌, ◌++◌, map, length, OnOk, IfOk, Bool, [], ◌∷◌};
+ghost use Rattle.std.specs.List.{filter};
+ghost use Rattle.bounded_sums.specs.Sums.{collect_below};
+ghost use Rattle.sporadic_model.specs.SetDef.{SetDef};
+ghost use Rattle.fragments.specs.ColumnDef.{ColumnDef, column_seen, classes_of, all_columns};
+ghost use Rattle.fragments.specs.Columns.{columns_where};
+
+use crate::columns::{Class, Fragment};
+use sporadic_model::{ResourceId, TaskId, TaskSet};
+use std::alloc::{AllocError, Global};
+
+/// A test of the columns of the blocking program of a task `i`.
+pub trait ColumnTest {
+    /// Which columns pass, for a set and the analysed task?
+    ghost passes: { Self → SetDef → ℕ → ColumnDef → Bool };
+
+    /// Can it judge the columns that are requests of the task with the last number, for a set and the analysed task?
+    ghost fits: { Self → SetDef → ℕ → ℕ → Type 0 };
+
+    /// Does the column pass?
+    fn test(&self, set: &TaskSet, i: TaskId, column: Fragment) -> bool
+        requires fits { fits self.now set.now i.0 column.task.0 }
+        requires task { i.0 < length set.now.tasks }
+        requires column { column.task.0 < length set.now.tasks }
+        requires resource { column.resource.0 < length set.now.resources }
+        ensures { result ≡ passes self.now set.now i.0 (column_seen column) };
+}
+
+// Adds the column, if it passes.
+fn add_column<T: ColumnTest>(
+    columns: &mut Vec<Fragment>,
+    test: &T,
+    set: &TaskSet,
+    i: TaskId,
+    c: Fragment,
+) -> Result<(), AllocError>
+    requires fits { T.fits test.now set.now i.0 c.task.0 }
+    requires task { i.0 < length set.now.tasks }
+    requires column { c.task.0 < length set.now.tasks }
+    requires resource { c.resource.0 < length set.now.resources }
+    ensures { OnOk result (map column_seen columns.new.items
+        ≡ map column_seen columns.old.items ++ filter (T.passes test.now set.now i.0) (column_seen c ∷ [])) }
+{
+    if test.test(set, i, c) {
+        columns.push(c)?;
+    }
+    Ok(())
+}
+
+// Adds the columns of the requests of `resource` by `task` that pass.
+fn add_classes<T: ColumnTest>(
+    columns: &mut Vec<Fragment>,
+    test: &T,
+    set: &TaskSet,
+    i: TaskId,
+    of: (TaskId, ResourceId),
+) -> Result<(), AllocError>
+    requires fits { T.fits test.now set.now i.0 of.0.0 }
+    requires task { i.0 < length set.now.tasks }
+    requires other { of.0.0 < length set.now.tasks }
+    requires resource { of.1.0 < length set.now.resources }
+    ensures { OnOk result (map column_seen columns.new.items
+        ≡ map column_seen columns.old.items ++ filter (T.passes test.now set.now i.0) (classes_of of.0.0 of.1.0)) }
+{
+    let (task, resource) = of;
+    let class = Class::Direct;
+    add_column(
+        columns,
+        test,
+        set,
+        i,
+        Fragment {
+            task,
+            resource,
+            class,
+        },
+    )?;
+    let class = Class::Indirect;
+    add_column(
+        columns,
+        test,
+        set,
+        i,
+        Fragment {
+            task,
+            resource,
+            class,
+        },
+    )?;
+    let class = Class::Preemption;
+    add_column(
+        columns,
+        test,
+        set,
+        i,
+        Fragment {
+            task,
+            resource,
+            class,
+        },
+    )
+}
+
+/// Adds the columns of the requests by task `x` that pass.
+pub(crate) fn add_task<T: ColumnTest>(
+    columns: &mut Vec<Fragment>,
+    test: &T,
+    set: &TaskSet,
+    i: TaskId,
+    x: TaskId,
+) -> Result<(), AllocError>
+    requires fits { T.fits test.now set.now i.0 x.0 }
+    requires task { i.0 < length set.now.tasks }
+    requires other { x.0 < length set.now.tasks }
+    ensures { OnOk result (map column_seen columns.new.items ≡ map column_seen columns.old.items
+        ++ filter (T.passes test.now set.now i.0) (collect_below (length set.now.resources) (λ q. classes_of x.0 q))) }
+{
+    for q in 0..set.resources() {
+        add_classes(columns, test, set, i, (x, ResourceId(q)))?;
+    }
+    Ok(())
+}
+
+/// The columns of the set that pass the test, in order of the task, then the resource, then the class.
+pub fn fragments_where<T: ColumnTest>(
+    alloc: Global,
+    test: &T,
+    set: &TaskSet,
+    i: TaskId,
+) -> Result<Vec<Fragment>, AllocError>
+    requires fits { (x : ℕ) → x < length set.now.tasks → T.fits test.now set.now i.0 x }
+    requires task { i.0 < length set.now.tasks }
+    ensures { IfOk result (λ v. map column_seen v.items ≡ columns_where (T.passes test.now set.now i.0) set.now) }
+{
+    let mut columns = Vec::new(alloc);
+    for x in 0..set.tasks() {
+        add_task(&mut columns, test, set, i, TaskId(x))?;
+    }
+    Ok(columns)
+}

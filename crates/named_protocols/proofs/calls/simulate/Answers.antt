@@ -1,0 +1,12 @@
+use Rattle.std.proofs.Common.{sym, subst}
+use Rattle.std.specs.Result.{IfOk}
+use Rattle.schedule_model.specs.RowDef.{trace_in}
+use Rattle.schedule_model.specs.Keeping.{KeepsBefore}
+use Rattle.protocol_names.specs.declared.ProtocolName.{ProtocolName}
+use Rattle.named_protocols.specs.Named.{rules_of}
+use Rattle.named_protocols.proofs.calls.simulate.Goals as goal
+
+pub returns-in-Base-clause-keeps : goal.returns-in-Base-clause-keeps
+returns-in-Base-clause-keeps c =
+    subst (λ (n : ProtocolName). IfOk c.simulate.result (λ rows. KeepsBefore (rules_of n) (trace_in c.args.jobs.now rows.runs) c.args.ticks))
+    (sym c.in-Base.is) c.simulate.ensures.keeps

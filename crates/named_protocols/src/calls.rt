@@ -1,0 +1,145 @@
+ghost use Rattle.std.specs.Prelude.{◌≡◌, ℕ, ◌<◌, ◌≤◌, ◌↔◌, true, List, length, slice_index, slice_index_or, IfOk, IfErr, IsErrOf};
+ghost use Rattle.std.specs.List.{All};
+ghost use Rattle.program_form.specs.Certificate.{certificate_seen};
+ghost use Rattle.sporadic_model.specs.declared.limits.TheConstants.{MOST_TICKS};
+ghost use Rattle.program_sources.specs.Fitting.{AreFitting};
+ghost use Rattle.program_sources.specs.Valid.{IsValid};
+ghost use Rattle.schedule_model.specs.RowDef.{trace_in, ticks_of};
+ghost use Rattle.schedule_model.specs.Fitting.{is_fitting};
+ghost use Rattle.schedule_model.specs.Keeping.{KeepsBefore};
+ghost use Rattle.response_fixpoint.specs.Rounds.{Ending, EndsIn};
+ghost use Rattle.response_fixpoint.specs.Runs.{rounds_of, RequestsNothing};
+ghost use Rattle.response_fixpoint.specs.Answers.{Answers, IsAnswerOf, IsRight, IsSchedulable};
+ghost use Rattle.dual_check.specs.Answers.{HasDenominators, Judges};
+ghost use Rattle.trace_conform.specs.Conforming.{Conforms};
+ghost use Rattle.sim_engine.specs.Simulated.{IsSimulated};
+ghost use Rattle.audit_figures.specs.Audited.{Audits, LieWithin, charged_ticks};
+ghost use Rattle.audit_figures.specs.Figures.{no_figures, blocked_sum};
+ghost use Rattle.named_protocols.specs.Named.{HasHomes, rules_of, choice_of, interference_of, charges_of, source_of, SoundUnder};
+
+use audit_figures::{AuditStop, TaskFigures, audit_with};
+use dflp_protocol::Dflp;
+use dual_check::{Invalid, Valid, check_with};
+use program_form::Certificate;
+use protocol_names::ProtocolName;
+use request_windows::DpcpWindows;
+use response_fixpoint::{Stop, Verdict, analyse_with};
+use schedule_model::{JobList, RowList};
+use sim_engine::simulate_with;
+use spin_protocol::Spin;
+use sporadic_model::TaskSet;
+use std::alloc::{AllocError, Global};
+use std::thread::Threads;
+use trace_conform::{Measured, Unlawful, conform_with};
+
+/// The least bounds of the set under the protocol of this name, as `analyse` of `response_fixpoint` finds them.
+pub fn analyse<R: Threads + Sync>(
+    rt: &R,
+    alloc: Global,
+    set: &TaskSet,
+    protocol: ProtocolName,
+    allowance: u64,
+) -> Result<Verdict, Stop>
+    requires suits { HasHomes protocol set.now }
+    ensures rounds { Answers result (source_of protocol set.now) allowance }
+    ensures only { (e : Ending) → EndsIn (rounds_of (source_of protocol set.now)) allowance e → IsAnswerOf result e }
+    ensures right { IfOk result (λ verdict. IsRight verdict (source_of protocol set.now)) }
+    ensures exactly { IfOk result (λ verdict. IsSchedulable verdict ↔ ((s : List ℕ) × AreFitting (source_of protocol set.now) s)) }
+    ensures never_wide { RequestsNothing set.now → (task : ℕ) → IsErrOf result (Stop.Wide (record { 0 = task })) → ⊥ }
+{
+    match protocol {
+        ProtocolName::Base(base) => response_fixpoint::analyse(rt, alloc, set, base, allowance),
+        ProtocolName::Dflp => analyse_with(rt, alloc, set, &Dflp, allowance),
+        ProtocolName::Spin => analyse_with(rt, alloc, set, &Spin, allowance),
+        ProtocolName::DpcpWindows => analyse_with(rt, alloc, set, &DpcpWindows, allowance),
+    }
+}
+
+/// Whether the certificate is valid under the protocol of this name, as `check` of `dual_check` judges it.
+pub fn check(
+    alloc: Global,
+    protocol: ProtocolName,
+    set: &TaskSet,
+    certificate: &Certificate,
+) -> Result<Valid, Invalid>
+    requires suits { HasHomes protocol set.now }
+    requires denominators { HasDenominators (certificate_seen certificate.now) }
+    ensures judges { Judges result (source_of protocol set.now) (certificate_seen certificate.now) }
+    ensures accepts { IsValid (source_of protocol set.now) (certificate_seen certificate.now) → IfErr result (λ e. e ≡ Invalid.Memory) }
+    ensures sound { IfOk result (λ v. SoundUnder protocol set.now certificate.now.bounds.items v.values.items) }
+{
+    match protocol {
+        ProtocolName::Base(base) => dual_check::check(alloc, base, set, certificate),
+        ProtocolName::Dflp => check_with(alloc, &Dflp, set, certificate),
+        ProtocolName::Spin => check_with(alloc, &Spin, set, certificate),
+        ProtocolName::DpcpWindows => check_with(alloc, &DpcpWindows, set, certificate),
+    }
+}
+
+/// Whether each row keeps the rules of the protocol of this name, with the measures of each task, as `conform` of `trace_conform`
+/// judges it.
+pub fn conform(
+    alloc: Global,
+    protocol: ProtocolName,
+    jobs: &JobList,
+    rows: &RowList,
+) -> Result<Measured, Unlawful>
+    requires suits { HasHomes protocol jobs.now.set }
+    requires fits { is_fitting rows.now jobs.now ≡ true }
+    ensures { Conforms (rules_of protocol) (interference_of protocol) (trace_in jobs.now rows.now.runs) (ticks_of rows.now.runs) result }
+{
+    match protocol {
+        ProtocolName::Base(base) => trace_conform::conform(alloc, base, jobs, rows),
+        ProtocolName::Dflp => conform_with(alloc, &Dflp, jobs, rows),
+        ProtocolName::Spin => conform_with(alloc, &Spin, jobs, rows),
+        ProtocolName::DpcpWindows => conform_with(alloc, &DpcpWindows, jobs, rows),
+    }
+}
+
+/// The schedule that the protocol of this name chooses, as `simulate` of `sim_engine` makes it.
+pub fn simulate(
+    alloc: Global,
+    protocol: ProtocolName,
+    jobs: &JobList,
+    ticks: u64,
+) -> Result<RowList, AllocError>
+    requires suits { HasHomes protocol jobs.now.set }
+    requires some { 1 ≤ ticks }
+    requires most { ticks ≤ MOST_TICKS }
+    ensures simulated { IfOk result (λ rows. IsSimulated (choice_of protocol) jobs.now ticks rows.runs) }
+    ensures keeps { IfOk result (λ rows. KeepsBefore (rules_of protocol) (trace_in jobs.now rows.runs) ticks) }
+    ensures fits { IfOk result (λ rows. is_fitting rows jobs.now ≡ true) }
+{
+    match protocol {
+        ProtocolName::Base(base) => sim_engine::simulate(alloc, base, jobs, ticks),
+        ProtocolName::Dflp => simulate_with(alloc, &Dflp, jobs, ticks),
+        ProtocolName::Spin => simulate_with(alloc, &Spin, jobs, ticks),
+        ProtocolName::DpcpWindows => simulate_with(alloc, &DpcpWindows, jobs, ticks),
+    }
+}
+
+/// The figures of each task under the protocol of this name, as `audit` of `audit_figures` finds them.
+pub fn audit(
+    alloc: Global,
+    protocol: ProtocolName,
+    certificate: &Certificate,
+    jobs: &JobList,
+    rows: &RowList,
+) -> Result<Vec<TaskFigures>, AuditStop>
+    requires homes { HasHomes protocol jobs.now.set }
+    requires denominators { HasDenominators (certificate_seen certificate.now) }
+    requires fits { is_fitting rows.now jobs.now ≡ true }
+    ensures audits { Audits (rules_of protocol) (interference_of protocol) (charges_of protocol) (source_of protocol jobs.now.set)
+        (certificate_seen certificate.now) (trace_in jobs.now rows.now.runs) (ticks_of rows.now.runs) result }
+    ensures within { IfOk result (λ v. All LieWithin v.items) }
+    ensures adds_up { IfOk result (λ v. (x : ℕ) → x < length jobs.now.set.tasks → charged_ticks (slice_index_or v.items x no_figures)
+        ≡ blocked_sum (interference_of protocol) (trace_in jobs.now rows.now.runs) (slice_index certificate.now.bounds.items)
+        (ticks_of rows.now.runs) x) }
+{
+    match protocol {
+        ProtocolName::Base(base) => audit_figures::audit(alloc, base, certificate, jobs, rows),
+        ProtocolName::Dflp => audit_with(alloc, &Dflp, certificate, jobs, rows),
+        ProtocolName::Spin => audit_with(alloc, &Spin, certificate, jobs, rows),
+        ProtocolName::DpcpWindows => audit_with(alloc, &DpcpWindows, certificate, jobs, rows),
+    }
+}

@@ -1,0 +1,26 @@
+-- What makes the program over some columns and rows a program, and which rows rise with the bounds.
+use Rattle.std.specs.Prelude.{ℕ, ◌<◌, ◌≤◌, ◌^◌, List, length, slice_index}
+use Rattle.std.specs.List.{All, Contains}
+use Rattle.program_form.specs.declared.TheConstants.{MOST_NUMBER}
+use Rattle.sporadic_model.specs.SetDef.{SetDef}
+use Rattle.fragments.specs.ColumnDef.{ColumnDef, IsKnown}
+use Rattle.fragments.specs.Constraints.{ConstraintDef}
+use Rattle.direct_constraints.specs.Rows.{request_row}
+
+-- Are the row's coefficients and its limit at these bounds small?
+pub record IsSmallRow (r : List ℕ) (row : ConstraintDef) : Type 0 where
+  pub coefficients : (c : ColumnDef) → row.coefficient c ≤ MOST_NUMBER
+  pub limit : row.limit (slice_index r) ≤ MOST_NUMBER
+
+-- Is the row's limit at the bounds r at most that at s?
+abbrev pub Rises : List ℕ → List ℕ → ConstraintDef → Type 0
+Rises r s row = row.limit (slice_index r) ≤ row.limit (slice_index s)
+
+-- Are the columns of tasks and resources of the set, is the row of each task's requests of each resource among the rows, and is no
+-- row large at these bounds?
+pub record AreWritten (set : SetDef) (i : ℕ) (columns : List ColumnDef) (rows : List ConstraintDef) (r : List ℕ) : Type 0 where
+  pub known : All (IsKnown (length set.tasks) (length set.resources)) columns
+  pub requests : (x q : ℕ) → x < length set.tasks → q < length set.resources → Contains rows (request_row set i x q)
+  pub small : All (IsSmallRow r) rows
+  pub columns_to : length columns < 2 ^ 32
+  pub rows_to : length rows < 2 ^ 32

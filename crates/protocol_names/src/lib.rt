@@ -1,0 +1,69 @@
+//! The protocols by their names: the words that a command, or a certificate, has for them.
+#![tactic(auto)]
+
+ghost use Rattle.std.specs.Prelude.{◌≡◌, List, ℕ, Some};
+ghost use Rattle.protocol_names.specs.Names.{word_of, name_of, homes_as};
+
+use sporadic_model::Protocol;
+
+/// The name of a protocol. Every protocol that the program knows has one, and no other has.
+#[derive(Clone, Copy, Debug, PartialEq, Eq)]
+pub enum ProtocolName {
+    /// One of the three protocols that task sets are checked for by their own type: MPCP, FMLP+ and DPCP.
+    Base(Protocol),
+    /// The distributed FIFO protocol.
+    Dflp,
+    /// FIFO spin locks, whose requests aren't preempted.
+    Spin,
+    /// DPCP, whose programs bound what runs within each request's window.
+    DpcpWindows,
+}
+
+impl ProtocolName {
+    /// Its word in commands and certificates.
+    pub fn word(self) -> &'static str
+        ensures { result.now ≡ word_of self }
+    {
+        match self {
+            ProtocolName::Base(Protocol::Mpcp) => "mpcp",
+            ProtocolName::Base(Protocol::FmlpPlus) => "fmlp+",
+            ProtocolName::Base(Protocol::Dpcp) => "dpcp",
+            ProtocolName::Dflp => "dflp",
+            ProtocolName::Spin => "spin",
+            ProtocolName::DpcpWindows => "dpcp-w",
+        }
+    }
+
+    /// The protocol which asks a set for the same homes of resources.
+    pub fn homes_as(self) -> Protocol
+        ensures { result ≡ homes_as self }
+    {
+        match self {
+            ProtocolName::Base(protocol) => protocol,
+            ProtocolName::Dflp => Protocol::Dpcp,
+            ProtocolName::Spin => Protocol::Mpcp,
+            ProtocolName::DpcpWindows => Protocol::Dpcp,
+        }
+    }
+}
+
+/// The protocol that a word names; none where it names none.
+pub fn protocol_named(word: &str) -> Option<ProtocolName>
+    ensures { result ≡ name_of word.now }
+{
+    match word {
+        "mpcp" => Some(ProtocolName::Base(Protocol::Mpcp)),
+        "fmlp+" => Some(ProtocolName::Base(Protocol::FmlpPlus)),
+        "dpcp" => Some(ProtocolName::Base(Protocol::Dpcp)),
+        "dflp" => Some(ProtocolName::Dflp),
+        "spin" => Some(ProtocolName::Spin),
+        "dpcp-w" => Some(ProtocolName::DpcpWindows),
+        _ => None,
+    }
+}
+
+/// A law of the words: each names its protocol, and no other word does.
+pub fn words_name_their_protocols()
+    ensures named { (name : ProtocolName) → name_of (word_of name) ≡ Some name }
+    ensures only { (word : List ℕ) (name : ProtocolName) → name_of word ≡ Some name → word ≡ word_of name }
+{}

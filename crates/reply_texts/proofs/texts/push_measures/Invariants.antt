@@ -1,0 +1,12 @@
+use Rattle.std.proofs.Common.{◌≡◌, ◌++◌}
+use Rattle.std.specs.Prelude.{slice_index_or}
+use Rattle.bounded_sums.specs.Sums.{collect_below}
+use Rattle.sporadic_model.specs.SetDef.{task_at}
+use Rattle.trace_conform.specs.Measured.{measure_seen, no_measure}
+use Rattle.reply_texts.specs.Texts.{measures_line}
+use Rattle.reply_texts.proofs.texts.push_measures.Given as goal
+
+-- the lines of the tasks so far are written
+abbrev pub invariant-loop-x : goal.invariant-loop-x
+invariant-loop-x l = l.text.items ≡ l.initial.text.items ++ collect_below l.x
+    (λ x. measures_line (task_at l.set x).name (measure_seen (slice_index_or l.measures x no_measure)))

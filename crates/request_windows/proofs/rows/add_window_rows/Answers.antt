@@ -1,0 +1,16 @@
+use Rattle.std.proofs.Common.{map, length}
+use Rattle.program_form.specs.RowBlock.{block_seen}
+use Rattle.fragments.specs.ColumnDef.{column_seen}
+use Rattle.fragments.specs.Constraints.{per}
+use Rattle.fragments.proofs.Rows.{next_rows}
+use Rattle.window_laws.specs.WindowRows.{window_row}
+use Rattle.request_windows.proofs.rows.add_window_rows.Goals as goal
+
+pub loop-x-preserved : goal.loop-x-preserved
+loop-x-preserved c = record {
+  rows = next_rows (block_seen c.args.block.now) (block_seen c.loop-x.block) (block_seen c.add_window_rows_of.new.block)
+      (map column_seen c.args.columns.now) c.args.bounds.now
+      (λ x. per (length c.args.set.now.resources) (window_row c.args.set.now c.args.i.0 x)) c.loop-x.x
+      c.loop-x.invariant.rows c.in_ok-place.ensures.rows;
+  place = c.in_ok-place.ensures.end;
+}

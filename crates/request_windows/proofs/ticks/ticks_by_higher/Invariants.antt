@@ -1,0 +1,11 @@
+use Rattle.std.proofs.Common.{◌≡◌, ◌*◌, ◌≤◌}
+use Rattle.std.specs.Prelude.{slice_index}
+use Rattle.bounded_sums.specs.Sums.{sum_below}
+use Rattle.window_laws.specs.Windows.{ticks_by}
+use Rattle.request_windows.proofs.ticks.ticks_by_higher.Given as goal
+
+abbrev pub invariant-loop-x : goal.invariant-loop-x
+invariant-loop-x l = record {
+  value : l.total ≡ sum_below l.x (ticks_by l.set (slice_index l.bounds) l.k l.span);
+  most : l.total ≤ l.x * 64000000000000000000000;
+}

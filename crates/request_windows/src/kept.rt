@@ -1,0 +1,50 @@
+//! The windows of a task's requests, computed once for all of its rows.
+
+ghost use Rattle.std.specs.Prelude.{◌≡◌, ◌<◌, ◌≤◌, true, length, slice_index, IfOk, unwrap_or};
+ghost use Rattle.sporadic_model.specs.Homes.{EachHasHome};
+ghost use Rattle.sporadic_model.specs.Users.{is_user};
+ghost use Rattle.program_sources.specs.Bounds.{AreWithinDeadlines};
+ghost use Rattle.window_laws.specs.Windows.{window_of};
+ghost use Rattle.request_windows.specs.Windows.{AreWindows};
+
+use crate::searching::window;
+use fragments::uses;
+use sporadic_model::{ResourceId, TaskId, TaskSet};
+use std::alloc::{AllocError, Global};
+
+// The window of a request of `q` by `i`, where `i` requests it.
+fn window_if_used(set: &TaskSet, i: TaskId, q: ResourceId, bounds: &[u64]) -> Option<u64>
+    requires task { i.0 < length set.now.tasks }
+    requires resource { q.0 < length set.now.resources }
+    requires suits { EachHasHome set.now }
+    requires within { AreWithinDeadlines set.now bounds.now }
+    ensures value { is_user set.now q.0 i.0 ≡ true → result ≡ window_of set.now (slice_index bounds.now) i.0 q.0 }
+    ensures small { unwrap_or result 0 ≤ 1000000000 }
+{
+    // no deadline passes the limits of every set
+    let _deadline = set.deadline(i);
+    if uses(set, i, q) {
+        window(set, i, q, bounds)
+    } else {
+        None
+    }
+}
+
+/// The windows of the requests of a job of `i`, for each resource that it requests.
+pub(crate) fn windows_of(
+    alloc: Global,
+    set: &TaskSet,
+    i: TaskId,
+    bounds: &[u64],
+) -> Result<Vec<Option<u64>>, AllocError>
+    requires task { i.0 < length set.now.tasks }
+    requires suits { EachHasHome set.now }
+    requires within { AreWithinDeadlines set.now bounds.now }
+    ensures { IfOk result (λ v. AreWindows set.now (slice_index bounds.now) i.0 v.items) }
+{
+    let mut windows = Vec::with_capacity(alloc, set.resources() as usize)?;
+    for q in 0..set.resources() {
+        windows.push(window_if_used(set, i, ResourceId(q), bounds))?;
+    }
+    Ok(windows)
+}

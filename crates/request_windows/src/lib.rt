@@ -1,0 +1,14 @@
+//! DPCP with windows of requests: how long a request can be open, and the rows that this gives.
+#![tactic(auto)]
+
+mod kept;
+mod limits;
+mod programs;
+mod protocol;
+mod rows;
+mod searching;
+mod ticks;
+
+pub use programs::program;
+pub use protocol::DpcpWindows;
+pub use searching::window;

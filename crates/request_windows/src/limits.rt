@@ -1,0 +1,159 @@
+//! The limit of a row of windows.
+
+ghost use Rattle.std.specs.Prelude.{◌≡◌, ◌<◌, ◌≤◌, ◌&&◌, ◌*◌, true, length, slice_index, is_none};
+ghost use Rattle.bounded_sums.specs.Sums.{only_if};
+ghost use Rattle.sporadic_model.specs.Users.{is_user, count_of};
+ghost use Rattle.program_sources.specs.Bounds.{AreWithinDeadlines};
+ghost use Rattle.window_laws.specs.Windows.{window_of};
+ghost use Rattle.window_laws.specs.WindowRows.{meets_there, lacks_window, requests_there, requests_met, window_row};
+ghost use Rattle.request_windows.specs.Windows.{AreWindows};
+
+use fragments::{cnt, home, uses};
+use sporadic_model::{ResourceId, TaskId, TaskSet, jobs_in};
+
+// Does `i` request `q`, whose home is that of `r`?
+fn meets(set: &TaskSet, i: TaskId, r: ResourceId, q: ResourceId) -> bool
+    requires task { i.0 < length set.now.tasks }
+    requires resource { r.0 < length set.now.resources }
+    requires other { q.0 < length set.now.resources }
+    ensures { result ≡ meets_there set.now i.0 r.0 q.0 }
+{
+    uses(set, i, q) && home(set, q) == home(set, r)
+}
+
+// Does it, and has its request no window?
+fn lacks_there(
+    set: &TaskSet,
+    i: TaskId,
+    r: ResourceId,
+    q: ResourceId,
+    bounds: &[u64],
+    windows: &[Option<u64>],
+) -> bool
+    requires task { i.0 < length set.now.tasks }
+    requires resource { r.0 < length set.now.resources }
+    requires other { q.0 < length set.now.resources }
+    requires windows { AreWindows set.now (slice_index bounds.now) i.0 windows.now }
+    ensures { result ≡ (meets_there set.now i.0 r.0 q.0 && is_none (window_of set.now (slice_index bounds.now) i.0 q.0)) }
+{
+    // the bounds only say what the windows are
+    let _bounds = bounds;
+    meets(set, i, r, q) && windows[q.0 as usize].is_none()
+}
+
+// Does any such request lack one?
+fn lacks(set: &TaskSet, i: TaskId, r: ResourceId, bounds: &[u64], windows: &[Option<u64>]) -> bool
+    requires task { i.0 < length set.now.tasks }
+    requires resource { r.0 < length set.now.resources }
+    requires windows { AreWindows set.now (slice_index bounds.now) i.0 windows.now }
+    ensures { result ≡ lacks_window set.now (slice_index bounds.now) i.0 r.0 }
+{
+    for q in 0..set.resources() {
+        if lacks_there(set, i, r, ResourceId(q), bounds, windows) {
+            return true;
+        }
+    }
+    false
+}
+
+// How many requests of `r` can jobs of `x` make that run within the window of a request of `q` by `i`?
+fn requests_there(
+    set: &TaskSet,
+    i: TaskId,
+    x: TaskId,
+    r: ResourceId,
+    q: ResourceId,
+    bounds: &[u64],
+    windows: &[Option<u64>],
+) -> u64
+    requires task { i.0 < length set.now.tasks }
+    requires other { x.0 < length set.now.tasks }
+    requires resource { r.0 < length set.now.resources }
+    requires own { q.0 < length set.now.resources }
+    requires user { is_user set.now q.0 i.0 ≡ true }
+    requires within { AreWithinDeadlines set.now bounds.now }
+    requires windows { AreWindows set.now (slice_index bounds.now) i.0 windows.now }
+    ensures value { result ≡ requests_there set.now (slice_index bounds.now) i.0 x.0 r.0 q.0 }
+    ensures most { result ≤ 2000000000000 }
+{
+    // no bound and jitter together pass the deadline of their task, which is within the limits of every set
+    let _tasks = set.tasks();
+    let span = windows[q.0 as usize].unwrap_or(0);
+    let bound = bounds[x.0 as usize] + set.jitter(x);
+    set.count(x, r) * jobs_in(span, bound, set.period(x))
+}
+
+// And within the windows of all requests of `q` that a job of `i` makes, where they are made at the home of `r`?
+fn requests_by(
+    set: &TaskSet,
+    i: TaskId,
+    x: TaskId,
+    r: ResourceId,
+    q: ResourceId,
+    bounds: &[u64],
+    windows: &[Option<u64>],
+) -> u64
+    requires task { i.0 < length set.now.tasks }
+    requires other { x.0 < length set.now.tasks }
+    requires resource { r.0 < length set.now.resources }
+    requires own { q.0 < length set.now.resources }
+    requires within { AreWithinDeadlines set.now bounds.now }
+    requires windows { AreWindows set.now (slice_index bounds.now) i.0 windows.now }
+    ensures value { result ≡ only_if (meets_there set.now i.0 r.0 q.0)
+        (count_of set.now i.0 q.0 * requests_there set.now (slice_index bounds.now) i.0 x.0 r.0 q.0) }
+    ensures most { result ≤ 2000000000000000 }
+{
+    if meets(set, i, r, q) {
+        set.count(i, q) * requests_there(set, i, x, r, q, bounds, windows)
+    } else {
+        0
+    }
+}
+
+// How many within the windows of all requests that a job of `i` makes at the home of `r`?
+fn requests_met(
+    set: &TaskSet,
+    i: TaskId,
+    x: TaskId,
+    r: ResourceId,
+    bounds: &[u64],
+    windows: &[Option<u64>],
+) -> u64
+    requires task { i.0 < length set.now.tasks }
+    requires other { x.0 < length set.now.tasks }
+    requires resource { r.0 < length set.now.resources }
+    requires within { AreWithinDeadlines set.now bounds.now }
+    requires windows { AreWindows set.now (slice_index bounds.now) i.0 windows.now }
+    ensures { result ≡ requests_met set.now (slice_index bounds.now) i.0 x.0 r.0 }
+{
+    let mut total = 0;
+    for q in 0..set.resources() {
+        total += requests_by(set, i, x, r, ResourceId(q), bounds, windows);
+    }
+    total
+}
+
+/// The limit of the row of windows for requests of the resource by the task: as many as it can make while a job of `i` runs, and no
+/// more than run within the windows of that job's requests there, where each has one.
+pub(crate) fn limit(
+    set: &TaskSet,
+    i: TaskId,
+    x: TaskId,
+    r: ResourceId,
+    bounds: &[u64],
+    windows: &[Option<u64>],
+) -> u64
+    requires task { i.0 < length set.now.tasks }
+    requires other { x.0 < length set.now.tasks }
+    requires resource { r.0 < length set.now.resources }
+    requires within { AreWithinDeadlines set.now bounds.now }
+    requires windows { AreWindows set.now (slice_index bounds.now) i.0 windows.now }
+    ensures { result ≡ (window_row set.now i.0 x.0 r.0).limit (slice_index bounds.now) }
+{
+    let requests = cnt(set, i, x, r, bounds);
+    if lacks(set, i, r, bounds, windows) {
+        requests
+    } else {
+        requests.min(requests_met(set, i, x, r, bounds, windows))
+    }
+}

@@ -1,0 +1,46 @@
+//! The window of a request.
+
+ghost use Rattle.std.specs.Prelude.{◌≡◌, ◌<◌, ◌≤◌, true, length, slice_index, IfSome};
+ghost use Rattle.sporadic_model.specs.SetDef.{task_at};
+ghost use Rattle.sporadic_model.specs.Homes.{EachHasHome};
+ghost use Rattle.sporadic_model.specs.Users.{is_user};
+ghost use Rattle.program_sources.specs.Bounds.{AreWithinDeadlines};
+ghost use Rattle.window_laws.specs.Windows.{window_of};
+
+use crate::ticks::ticks_there;
+use sporadic_model::{ResourceId, TaskId, TaskSet};
+
+// The least number of ticks that is enough, from below: where some number isn't, nothing is that is less than what can run in it.
+fn search(set: &TaskSet, i: TaskId, q: ResourceId, bounds: &[u64]) -> Option<u64>
+    requires task { i.0 < length set.now.tasks }
+    requires resource { q.0 < length set.now.resources }
+    requires within { AreWithinDeadlines set.now bounds.now }
+    ensures value { result ≡ window_of set.now (slice_index bounds.now) i.0 q.0 }
+    ensures within { IfSome result (λ w. (1 ≤ w) × (w ≤ (task_at set.now i.0).deadline)) }
+{
+    let deadline = set.deadline(i);
+    let mut span = 1u64;
+    while span <= deadline {
+        let there = ticks_there(set, i, q, bounds, span);
+        if there <= u128::from(span) {
+            return Some(span);
+        }
+        span = there.min(u128::from(deadline) + 1) as u64;
+    }
+    None
+}
+
+/// How long a request of `q` by `i` can be open under DPCP, where these are the bounds: the least number of ticks, from 1, that is
+/// as long as all that may run at the resource's home in so many ticks. None exactly where no such number is within the deadline of
+/// `i`. It takes no memory.
+pub fn window(set: &TaskSet, i: TaskId, q: ResourceId, bounds: &[u64]) -> Option<u64>
+    requires task { i.0 < length set.now.tasks }
+    requires resource { q.0 < length set.now.resources }
+    requires user { is_user set.now q.0 i.0 ≡ true }
+    requires suits { EachHasHome set.now }
+    requires within { AreWithinDeadlines set.now bounds.now }
+    ensures value { result ≡ window_of set.now (slice_index bounds.now) i.0 q.0 }
+    ensures within { IfSome result (λ w. (1 ≤ w) × (w ≤ (task_at set.now i.0).deadline)) }
+{
+    search(set, i, q, bounds)
+}

@@ -1,0 +1,116 @@
+//! How many ticks of requests may run on a processor.
+
+ghost use Rattle.std.specs.Prelude.{◌≡◌, ◌<◌, ◌≤◌, ◌*◌, ◌+◌, length, slice_index};
+ghost use Rattle.bounded_sums.specs.Sums.{only_if, sum_below};
+ghost use Rattle.sporadic_model.specs.Users.{length_of};
+ghost use Rattle.schedule_model.specs.Measures.{greatest_below};
+ghost use Rattle.program_sources.specs.Bounds.{AreWithinDeadlines};
+ghost use Rattle.window_laws.specs.Windows.{time_at, may_hold_up, longest_lower, ticks_by, ticks_there};
+
+use fragments::{ceiling_place, home, uses};
+use sporadic_model::{ResourceId, TaskId, TaskSet, jobs_in};
+
+// For how many ticks may the requests of one job of task `x` run on processor `k`, all together?
+fn time_at(set: &TaskSet, x: TaskId, k: u32) -> u64
+    requires { x.0 < length set.now.tasks }
+    ensures value { result ≡ time_at set.now x.0 k }
+    ensures most { result ≤ 32000000000000 }
+{
+    let mut total = 0;
+    for q in 0..set.resources() {
+        let resource = ResourceId(q);
+        if home(set, resource) == k {
+            total += set.count(x, resource) * set.length(x, resource);
+        }
+    }
+    total
+}
+
+// May a request of `q` by `x`, which is lower than `i`, hold up one of `i` on processor `k`?
+fn holds_up(set: &TaskSet, i: TaskId, k: u32, x: TaskId, q: ResourceId) -> bool
+    requires other { x.0 < length set.now.tasks }
+    requires resource { q.0 < length set.now.resources }
+    ensures { result ≡ may_hold_up set.now i.0 k x.0 q.0 }
+{
+    i.0 < x.0 && home(set, q) == k && uses(set, x, q) && ceiling_place(set, q) <= i.0
+}
+
+// For how many ticks may the longest of these requests by `x` last?
+fn longest_by(set: &TaskSet, i: TaskId, k: u32, x: TaskId) -> u64
+    requires { x.0 < length set.now.tasks }
+    ensures value { result ≡ greatest_below (length set.now.resources)
+        (λ q. only_if (may_hold_up set.now i.0 k x.0 q) (length_of set.now x.0 q)) }
+    ensures most { result ≤ 1000000000 }
+{
+    let mut longest = 0;
+    for q in 0..set.resources() {
+        if holds_up(set, i, k, x, ResourceId(q)) {
+            longest = set.length(x, ResourceId(q)).max(longest);
+        }
+    }
+    longest
+}
+
+// And by any lower task?
+fn longest_lower(set: &TaskSet, i: TaskId, k: u32) -> u64
+    ensures value { result ≡ longest_lower set.now i.0 k }
+    ensures most { result ≤ 1000000000 }
+{
+    let mut longest = 0;
+    for x in 0..set.tasks() {
+        longest = longest_by(set, i, k, TaskId(x)).max(longest);
+    }
+    longest
+}
+
+// For how many ticks may requests of jobs of `x` run on processor `k` in a span of ticks?
+fn ticks_by(set: &TaskSet, bounds: &[u64], k: u32, span: u64, x: TaskId) -> u128
+    requires task { x.0 < length set.now.tasks }
+    requires within { AreWithinDeadlines set.now bounds.now }
+    requires span { span ≤ 1000000000 }
+    ensures value { result ≡ ticks_by set.now (slice_index bounds.now) k span x.0 }
+    ensures most { result ≤ 64000000000000000000000 }
+{
+    // no bound and jitter together pass the deadline of their task, which is within the limits of every set
+    let _tasks = set.tasks();
+    let bound = bounds[x.0 as usize] + set.jitter(x);
+    let jobs = jobs_in(span, bound, set.period(x));
+    u128::from(jobs) * u128::from(time_at(set, x, k))
+}
+
+// And those of all tasks higher than `i`?
+fn ticks_by_higher(set: &TaskSet, i: TaskId, bounds: &[u64], k: u32, span: u64) -> u128
+    requires task { i.0 < length set.now.tasks }
+    requires within { AreWithinDeadlines set.now bounds.now }
+    requires span { span ≤ 1000000000 }
+    ensures value { result ≡ sum_below i.0 (ticks_by set.now (slice_index bounds.now) k span) }
+    ensures most { result ≤ i.0 * 64000000000000000000000 }
+{
+    let mut total = 0u128;
+    for x in 0..i.0 {
+        total += ticks_by(set, bounds, k, span, TaskId(x));
+    }
+    total
+}
+
+/// For how many ticks may requests run at the home of `q` in a span of ticks from the issue of a request of it by `i` on, while it is
+/// open?
+pub(crate) fn ticks_there(
+    set: &TaskSet,
+    i: TaskId,
+    q: ResourceId,
+    bounds: &[u64],
+    span: u64,
+) -> u128
+    requires task { i.0 < length set.now.tasks }
+    requires resource { q.0 < length set.now.resources }
+    requires within { AreWithinDeadlines set.now bounds.now }
+    requires span { span ≤ 1000000000 }
+    ensures { result ≡ ticks_there set.now (slice_index bounds.now) i.0 q.0 span }
+{
+    // a set has at most 64 tasks, so the sum fits
+    let _tasks = set.tasks();
+    let k = home(set, q);
+    let own = set.length(i, q) + longest_lower(set, i, k);
+    u128::from(own) + ticks_by_higher(set, i, bounds, k, span)
+}

@@ -1,0 +1,121 @@
+-- What is written and what is checked lists bounds that every lawful schedule keeps.
+use Rattle.std.proofs.Common.{◌≡◌, ℕ, ◌<◌, ◌≤◌, List, length, map, refl, sym, ap, subst, arith, IsUtf8}
+use Rattle.std.specs.Prelude.{codes, slice_index, slice_index_or}
+use Rattle.std.specs.List.{range_with_len}
+use Rattle.std.proofs.lemmas.List.{get_or_default}
+use Rattle.std.proofs.lemmas.List.FromFn.{length-map-range_with_len, get_or-map-range_with_len}
+use Rattle.serde_json.specs.Data.{Data}
+use Rattle.program_form.specs.Certificate.{CertificateDef}
+use Rattle.program_sources.specs.Bounds.{AreWithinDeadlines}
+use Rattle.program_sources.specs.Recurrence.{SourceDef}
+use Rattle.program_sources.specs.Fitting.{tasks_of}
+use Rattle.program_sources.specs.Valid.{dual_at, no_dual, value_at, IsValid}
+use Rattle.sporadic_model.specs.SetDef.{SetDef, latest_bound, task_at}
+use Rattle.sporadic_model.specs.Accepted.{IsAccepted, TaskNumbers}
+use Rattle.protocol_names.specs.declared.ProtocolName.{ProtocolName}
+use Rattle.soundness_laws.specs.Analyses.{AreValues}
+use Rattle.named_protocols.specs.Named.{SoundUnder, source_of}
+use Rattle.response_fixpoint.specs.Answers.{IsBest}
+use Rattle.taskset_json.specs.Answers.{IsValue}
+use Rattle.taskset_json.specs.Members.{list_at}
+use Rattle.cert_json.specs.Ranges.{IsSmallDual, IsWritable}
+use Rattle.cert_json.specs.Text.{certificate_text}
+use Rattle.cert_json.specs.Value.{certificate_data}
+use Rattle.cert_json.specs.Written.{numbers_written, certificate_written}
+use Rattle.cert_json.proofs.ReadBack.{is_value, formed, file-written}
+use Rattle.cert_json.specs.FileDef.{FileDef}
+use Rattle.set_digests.proofs.Bytes.{is_digest}
+use Rattle.sha2.specs.Sha256.{sha256}
+use Rattle.json.proofs.Printed.Utf8.{IsUtf8-are_ascii}
+use Rattle.protocol_names.specs.Names.{word_of}
+use Rattle.run_plans.specs.Inputs.{IsFileText}
+use Rattle.run_plans.specs.Headline.{Call, ReadsSome, IsProvedCheck}
+use Rattle.run_plans.specs.Bounding.{AreKept, ListsBounds}
+use Rattle.named_protocols.proofs.EachName.{named_sound, named_word_is_text}
+
+-- The numbers of a set that is read have 64 bits.
+numbers_of : (set : SetDef) → IsAccepted set → (i : ℕ) → i < length set.tasks → TaskNumbers set i
+unfolding IsAccepted
+numbers_of set accepted i here = accepted.numbers i here
+
+-- The best certificate of such a set can be written: its bounds have 64 bits, and its duals are small.
+pub writable : (protocol : ProtocolName) (set : SetDef) (c : CertificateDef) → IsAccepted set → IsBest (source_of protocol set) c → IsWritable c
+writable protocol set c accepted best = record {
+  bounds = λ k d here. (
+      let task : k < length set.tasks = omega (arith, here, best.valid.bound_each) in
+      let numbers = numbers_of set accepted k task in
+      let within : slice_index c.bounds k ≤ latest_bound (task_at set k) = (best.valid.proved k task).within in
+      let same : slice_index_or c.bounds k d ≡ slice_index c.bounds k = get_or_default c.bounds k d 0 here in
+      omega (arith, same, within, numbers.deadline_to, numbers.period_to));
+  duals = λ k d here. (
+      let task : k < length set.tasks = omega (arith, here, best.valid.dual_each) in
+      let small = best.small k task in
+      let own : IsSmallDual (dual_at c.duals k) = record {
+        positive = (best.valid.proved k task).feasible.covers.positive;
+        small = omega (arith, small.den);
+        numerators = λ m z there. omega (arith, small.num m z there);
+      } in
+      subst IsSmallDual (get_or_default c.duals k no_dual d here) own);
+}
+
+pub text_is_read : (protocol : ProtocolName) (bytes : List ℕ) (c : CertificateDef) → IsWritable c
+    → IsFileText protocol (certificate_text (word_of protocol) (sha256 bytes) c) (record { certificate = c; digest = sha256 bytes })
+text_is_read protocol bytes c w =
+    let word : List ℕ = word_of protocol in
+    let digest : List ℕ = sha256 bytes in (
+      certificate_data word digest c,
+      is_value word digest c (named_word_is_text protocol) w,
+      formed word digest c (is_digest bytes) w,
+      sym (file-written word (record { certificate = c; digest = digest }) (is_digest bytes)),
+    )
+
+-- There are values of any certificate's duals.
+values_of : (f : SourceDef) (c : CertificateDef) → List ℕ
+values_of f c = map (value_at f c) (range_with_len 0 (tasks_of f))
+
+are_values : (f : SourceDef) (c : CertificateDef) → AreValues f c (values_of f c)
+unfolding values_of
+are_values f c = record {
+  one_each = length-map-range_with_len (value_at f c) 0 (tasks_of f);
+  each = λ i here. get_or-map-range_with_len (value_at f c) 0 (tasks_of f) i i 0 here (omega arith);
+}
+
+-- The bounds of a valid certificate are within all deadlines, and every lawful schedule keeps them.
+within : (protocol : ProtocolName) (set : SetDef) (c : CertificateDef) → IsValid (source_of protocol set) c → AreWithinDeadlines set c.bounds
+within protocol set c valid = record { one_each = valid.bound_each; to_latest = λ i here. (valid.proved i here).within }
+
+kept_under : (p : ProtocolName) (set : SetDef) (bounds values : List ℕ) → SoundUnder p set bounds values → AreKept p set bounds
+kept_under p set bounds values sound w n j lawful listed due = (sound w n lawful).finished j listed due
+
+kept : (protocol : ProtocolName) (set : SetDef) (c : CertificateDef) → IsAccepted set → IsValid (source_of protocol set) c
+    → AreKept protocol set c.bounds
+kept protocol set c accepted valid = kept_under protocol set c.bounds (values_of (source_of protocol set) c)
+    (named_sound protocol set c (values_of (source_of protocol set) c) accepted valid (are_values (source_of protocol set) c))
+
+-- So a text whose value writes a valid certificate lists such bounds.
+lists_bounds : (call : Call) (protocol : ProtocolName) (name text : List ℕ) (set : SetDef) (c : CertificateDef) (value : Data)
+    → ReadsSome call protocol name set → IsValid (source_of protocol set) c → IsValue text value → c ≡ certificate_written value
+    → ListsBounds call protocol name text
+lists_bounds call protocol name text set c value read valid is_value same =
+    let bounds : c.bounds ≡ numbers_written (list_at (codes "bounds") value) = ap (λ (x : CertificateDef). x.bounds) same in
+    record {
+      set = set;
+      read = read;
+      value = value;
+      is_value = is_value;
+      within = subst (λ (b : List ℕ). AreWithinDeadlines set b) bounds (within protocol set c valid);
+      kept = subst (λ (b : List ℕ). AreKept protocol set b) bounds (kept protocol set c read.text.accepted valid);
+    }
+
+pub analysis_bounds : (call : Call) (protocol : ProtocolName) (name bytes : List ℕ) (set : SetDef) (c : CertificateDef)
+    → ReadsSome call protocol name set → IsBest (source_of protocol set) c
+    → ListsBounds call protocol name (certificate_text (word_of protocol) (sha256 bytes) c)
+analysis_bounds call protocol name bytes set c read best =
+    let text = text_is_read protocol bytes c (writable protocol set c read.text.accepted best) in
+    lists_bounds call protocol name (certificate_text (word_of protocol) (sha256 bytes) c) set c text.0 read best.valid text.1
+    (ap (λ (f : FileDef). f.certificate) text.3)
+
+pub check_bounds : (call : Call) (protocol : ProtocolName) (name cert : List ℕ) (p : IsProvedCheck call protocol name cert)
+    → ListsBounds call protocol name p.bytes
+check_bounds call protocol name cert p = lists_bounds call protocol name p.bytes p.set p.certificate p.reads.0 p.read p.valid p.reads.1
+    (ap (λ (f : FileDef). f.certificate) p.reads.3)

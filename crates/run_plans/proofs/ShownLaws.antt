@@ -1,0 +1,173 @@
+-- What status 0 of `analyse` and of `check` says, whatever is known of the inputs.
+use Rattle.std.proofs.Common.{◌≡◌, ℕ, List, refl, ◌∙◌, ap, subst, arith, inl, inr}
+use Rattle.std.specs.Io.KnownBytes.{Appends}
+use Rattle.program_form.specs.Certificate.{DualDef, CertificateDef}
+use Rattle.program_sources.specs.Valid.{IsValid}
+use Rattle.sporadic_model.specs.SetDef.{SetDef}
+use Rattle.sporadic_model.specs.Accepted.{IsAccepted}
+use Rattle.protocol_names.specs.declared.ProtocolName.{ProtocolName}
+use Rattle.response_fixpoint.specs.Rounds.{Ending, Schedulable, NotShown, Wide, Allowance, EndsIn}
+use Rattle.response_fixpoint.specs.Runs.{rounds_of}
+use Rattle.named_protocols.specs.Named.{source_of}
+use Rattle.response_fixpoint.specs.Answers.{IsBest}
+use Rattle.response_fixpoint.proofs.EndLaws.{schedulable_best}
+use Rattle.named_protocols.proofs.EachName.{named_above, named_sound}
+use Rattle.cert_json.specs.Text.{certificate_text}
+use Rattle.protocol_names.specs.Names.{word_of}
+use Rattle.command_words.specs.Words.{Analyse, Check}
+use Rattle.sha2.specs.Sha256.{sha256}
+use Rattle.cert_json.specs.FileDef.{FileDef}
+use Rattle.run_plans.specs.Plans.{Answer, Known, IsRead, IsOutcomeOf}
+use Rattle.run_plans.specs.Inputs.{set_input, cert_input}
+use Rattle.run_plans.specs.Commands.{ending_answer, IsCheck, plan_of}
+use Rattle.run_plans.specs.Outcome.{shown_by}
+use Rattle.run_plans.specs.Headline.{Call, WritesSchedulable, ReadsSome, IsProvedAnalysis, IsProvedCheck}
+use Rattle.run_plans.specs.Bounding.{ListsBounds}
+use Rattle.run_plans.specs.Run.{shelf_of, Gives}
+use Rattle.run_plans.proofs.PlanLaws.{stopped_status}
+use Rattle.run_plans.proofs.SoundLaws.{accepted_of, valid_at_zero}
+use Rattle.run_plans.proofs.TiedLaws.{tied_at_zero}
+use Rattle.run_plans.proofs.SetTextLaws.{is_text}
+use Rattle.run_plans.proofs.BoundLaws.{analysis_bounds}
+
+-- An analysis has status 0 only where its rounds end as schedulable.
+record IsSchedulableEnding (e : Ending) : Type 0 where
+  bounds : List ℕ
+  duals : List DualDef
+  is : e ≡ Schedulable bounds duals
+
+schedulable_ending : (protocol : ProtocolName) (digest : List ℕ) (set : SetDef) (e : Ending) (a : Answer) → a ≡ ending_answer protocol digest set e
+    → a.status ≡ 0 → IsSchedulableEnding e
+schedulable_ending protocol digest set (Schedulable bounds duals) a is zero = record { bounds = bounds; duals = duals; is = refl }
+schedulable_ending protocol digest set (NotShown i value) a is zero =
+    let s : a.status ≡ 1 = ap (λ x. x.status) is in absurd (omega (arith, s, zero))
+schedulable_ending protocol digest set (Wide i) a is zero = let s : a.status ≡ 5 = ap (λ x. x.status) is in absurd (omega (arith, s, zero))
+schedulable_ending protocol digest set Allowance a is zero = let s : a.status ≡ 6 = ap (λ x. x.status) is in absurd (omega (arith, s, zero))
+
+-- What the outcome of an analysis with status 0 is: the text of the best certificate of the set.
+pub record WroteBest (known : Known) (protocol : ProtocolName) (name : List ℕ) (a : Answer) : Type 0 where
+  pub bytes : List ℕ
+  pub set : SetDef
+  pub read : IsRead known (set_input protocol) name bytes set
+  pub last : known.last bytes
+  pub certificate : CertificateDef
+  pub best : IsBest (source_of protocol set) certificate
+  pub text : a.text ≡ certificate_text (word_of protocol) (sha256 bytes) certificate
+
+pub wrote_best : (known : Known) (protocol : ProtocolName) (name : List ℕ) (allowance : ℕ) (a : Answer)
+    → IsOutcomeOf known (plan_of (Analyse protocol name allowance)) a
+    → a.status ≡ 0 → WroteBest known protocol name a
+wrote_best known protocol name allowance a (inl stopped) zero =
+    let three : a.status ≡ 3 = stopped_status known (set_input protocol) name a stopped in absurd (omega (arith, three, zero))
+wrote_best known protocol name allowance a (inr (bytes, set, read, last, (e, ends, is))) zero =
+    let end = schedulable_ending protocol (sha256 bytes) set e a is zero in
+    let schedulable : EndsIn (rounds_of (source_of protocol set)) allowance (Schedulable end.bounds end.duals) =
+    subst (λ (x : Ending). EndsIn (rounds_of (source_of protocol set)) allowance x) end.is ends in
+    record {
+      bytes = bytes;
+      set = set;
+      read = read;
+      last = last tt;
+      certificate = record { bounds = end.bounds; duals = end.duals };
+      best = schedulable_best (source_of protocol set) allowance end.bounds end.duals (named_above protocol set) schedulable;
+      text = ap (λ x. x.text) is ∙ ap (λ (x : Ending). (ending_answer protocol (sha256 bytes) set x).text) end.is;
+    }
+
+-- What the outcome of `check` with status 0 is: that the certificate is valid.
+record FoundValid (known : Known) (protocol : ProtocolName) (name cert : List ℕ) : Type 0 where
+  bytes : List ℕ
+  set : SetDef
+  read : IsRead known (set_input protocol) name bytes set
+  text : List ℕ
+  certificate : CertificateDef
+  also : IsRead known (cert_input protocol) cert text (record { certificate = certificate; digest = sha256 bytes })
+  last : known.last text
+  valid : IsValid (source_of protocol set) certificate
+
+found_valid : (known : Known) (protocol : ProtocolName) (name cert : List ℕ) (a : Answer)
+    → IsOutcomeOf known (plan_of (Check protocol name cert)) a → a.status ≡ 0 → FoundValid known protocol name cert
+found_valid known protocol name cert a (inl stopped) zero =
+    let three : a.status ≡ 3 = stopped_status known (set_input protocol) name a stopped in absurd (omega (arith, three, zero))
+found_valid known protocol name cert a (inr (bytes, set, read, none, inl stopped)) zero =
+    let three : a.status ≡ 3 = stopped_status known (cert_input protocol) cert a stopped in absurd (omega (arith, three, zero))
+found_valid known protocol name cert a (inr (bytes, set, read, none, inr (text, file, also, last, tied))) zero =
+    let own = tied_at_zero (sha256 bytes) file (IsCheck protocol set) a tied zero in
+    let same : file ≡ record { certificate = file.certificate; digest = sha256 bytes } =
+    ap (λ (digest : List ℕ). record { certificate = file.certificate; digest = digest }) own.0 in
+    record {
+      bytes = bytes;
+      set = set;
+      read = read;
+      text = text;
+      certificate = file.certificate;
+      also = subst (λ (f : FileDef). IsRead known (cert_input protocol) cert text f) same also;
+      last = last tt;
+      valid = valid_at_zero protocol set file.certificate a own.1 zero;
+    }
+
+-- A set that was read under a name.
+some_read : (call : Call) (protocol : ProtocolName) (name bytes : List ℕ) (set : SetDef)
+    → IsRead (shown_by (shelf_of call)) (set_input protocol) name bytes set → ReadsSome call protocol name set
+some_read call protocol name bytes set (has, reads) =
+    record { bytes = bytes; named = has.0; short = has.1; text = is_text protocol bytes set reads }
+
+-- What the best certificate of an accepted set writes.
+pub best_writes : (call : Call) (protocol : ProtocolName) (digest : List ℕ) (set : SetDef) (c : CertificateDef) → IsAccepted set → IsBest (source_of protocol set) c
+    → call.status ≡ 0 → Appends call.sink_before.written call.sink_now.written (certificate_text (word_of protocol) digest c)
+    → WritesSchedulable call protocol digest set
+best_writes call protocol digest set c accepted best done text = record {
+  certificate = c;
+  done = done;
+  text = text;
+  least = best.least;
+  optimal = best.optimal;
+  sound = λ values are. named_sound protocol set c values accepted best.valid are;
+}
+
+pub proved_analysis : (call : Call) (protocol : ProtocolName) (name : List ℕ) (allowance : ℕ) (a : Answer)
+    → IsOutcomeOf (shown_by (shelf_of call)) (plan_of (Analyse protocol name allowance)) a
+    → Gives call a → call.status ≡ 0 → IsProvedAnalysis call protocol name
+unfolding some_read
+proved_analysis call protocol name allowance a out gives zero =
+    let zero' : a.status ≡ 0 = omega (arith, gives.0, zero) in
+    let w = wrote_best (shown_by (shelf_of call)) protocol name allowance a out zero' in
+    record {
+      set = w.set;
+      read = some_read call protocol name w.bytes w.set w.read;
+      given = w.last;
+      writes = best_writes call protocol (sha256 w.bytes) w.set w.certificate (accepted_of protocol w.bytes w.set w.read.1) w.best zero
+          (subst (λ (t : List ℕ). Appends call.sink_before.written call.sink_now.written t) w.text gives.1);
+    }
+
+-- And the bounds that it lists.
+pub bounded_analysis : (call : Call) (protocol : ProtocolName) (name : List ℕ) (allowance : ℕ) (a : Answer)
+    → IsOutcomeOf (shown_by (shelf_of call)) (plan_of (Analyse protocol name allowance)) a → Gives call a → call.status ≡ 0
+    → (text : List ℕ) × Appends call.sink_before.written call.sink_now.written text × ListsBounds call protocol name text
+bounded_analysis call protocol name allowance a out gives zero =
+    let zero' : a.status ≡ 0 = omega (arith, gives.0, zero) in
+    let w = wrote_best (shown_by (shelf_of call)) protocol name allowance a out zero' in (
+      certificate_text (word_of protocol) (sha256 w.bytes) w.certificate,
+      subst (λ (t : List ℕ). Appends call.sink_before.written call.sink_now.written t) w.text gives.1,
+      analysis_bounds call protocol name w.bytes w.set w.certificate (some_read call protocol name w.bytes w.set w.read) w.best,
+    )
+
+pub proved_check : (call : Call) (protocol : ProtocolName) (name cert : List ℕ) (a : Answer)
+    → IsOutcomeOf (shown_by (shelf_of call)) (plan_of (Check protocol name cert)) a
+    → Gives call a → call.status ≡ 0 → IsProvedCheck call protocol name cert
+unfolding some_read
+proved_check call protocol name cert a out gives zero =
+    let zero' : a.status ≡ 0 = omega (arith, gives.0, zero) in
+    let f = found_valid (shown_by (shelf_of call)) protocol name cert a out zero' in
+    record {
+      set = f.set;
+      read = some_read call protocol name f.bytes f.set f.read;
+      certificate = f.certificate;
+      bytes = f.text;
+      named = f.also.0.0;
+      short = f.also.0.1;
+      given = f.last;
+      reads = f.also.1;
+      valid = f.valid;
+      sound = λ values are.
+          named_sound protocol f.set f.certificate values (accepted_of protocol f.bytes f.set f.read.1) f.valid are;
+    }

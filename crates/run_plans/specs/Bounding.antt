@@ -1,0 +1,41 @@
+-- The promise on bounds alone, in which no program, dual or row of one stands.
+use Rattle.std.specs.Prelude.{◌≡◌, ℕ, ◌<◌, ◌≤◌, List, length, Some, codes}
+use Rattle.std.specs.Io.KnownBytes.{Appends}
+use Rattle.serde_json.specs.Data.{Data}
+use Rattle.outside_ports.specs.Names.{IsNamed}
+use Rattle.sporadic_model.specs.SetDef.{SetDef}
+use Rattle.protocol_names.specs.declared.ProtocolName.{ProtocolName}
+use Rattle.schedule_model.specs.RowDef.{Trace}
+use Rattle.schedule_model.specs.Phase.{phase_of}
+use Rattle.schedule_model.specs.Phase.Phase.{Finished}
+use Rattle.soundness_laws.specs.Sound.{IsLawfulSchedule, due_tick}
+use Rattle.named_protocols.specs.Named.{rules_of}
+use Rattle.program_sources.specs.Bounds.{AreWithinDeadlines}
+use Rattle.command_words.specs.Words.{Analyse, Check, form_of}
+use Rattle.taskset_json.specs.Answers.{IsValue}
+use Rattle.taskset_json.specs.Members.{list_at}
+use Rattle.cert_json.specs.Written.{numbers_written}
+use Rattle.run_plans.specs.Headline.{Call, ReadsSome}
+
+-- In every schedule that keeps the protocol's rules, of whatever lawful jobs of the set, is each job finished by its release plus its
+-- task's bound, where that lies within the rows?
+abbrev pub AreKept : ProtocolName → SetDef → List ℕ → Type 0
+AreKept protocol set bounds = (w : Trace) (n j : ℕ) → IsLawfulSchedule (rules_of protocol) set w n → j < length w.jobs
+    → due_tick w bounds j ≤ n → phase_of w (due_tick w bounds j) j ≡ Finished
+
+-- The text lists bounds for a set that the call read under this name: they are the numbers of its member `bounds`, within all
+-- deadlines, and every lawful schedule keeps them.
+pub record ListsBounds (call : Call) (protocol : ProtocolName) (name : List ℕ) (text : List ℕ) : Type 0 where
+  pub set : SetDef
+  pub read : ReadsSome call protocol name set
+  pub value : Data
+  pub is_value : IsValue text value
+  pub within : AreWithinDeadlines set (numbers_written (list_at (codes "bounds") value))
+  pub kept : AreKept protocol set (numbers_written (list_at (codes "bounds") value))
+
+-- With status 0, what `analyse` writes lists such bounds, and so does the certificate that `check` read.
+pub record IsBounding (call : Call) : Type 0 where
+  pub analysed : (protocol : ProtocolName) (name : List ℕ) (allowance : ℕ) → form_of call.words ≡ Some (Analyse protocol name allowance)
+      → call.status ≡ 0 → (text : List ℕ) × Appends call.sink_before.written call.sink_now.written text × ListsBounds call protocol name text
+  pub checked : (protocol : ProtocolName) (name cert : List ℕ) → form_of call.words ≡ Some (Check protocol name cert)
+      → call.status ≡ 0 → (text : List ℕ) × IsNamed call.shelf_before.names cert text × ListsBounds call protocol name text

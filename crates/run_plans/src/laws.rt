@@ -1,0 +1,26 @@
+//! Laws of calls. Each function does nothing, and what it ensures holds for all calls of which what a run promises is so.
+
+ghost use Rattle.run_plans.specs.Headline.{Call};
+ghost use Rattle.run_plans.specs.Run.{IsRun};
+ghost use Rattle.run_plans.specs.Checked.{ChecksWhatWasWritten, ChecksForAnotherSet, FindsValid, FindsOtherSet};
+ghost use Rattle.run_plans.specs.Twice.{AreSteady, IsCompleteCall};
+
+/// Of two calls: where the first analyses a set and writes "schedulable", the second, which checks the written bytes for the same
+/// bytes of the set, answers `valid`; or a count of faults rises, or memory runs out.
+pub fn analysed_then_checked()
+    ensures { (first second : Call) → IsRun first → IsRun second → ChecksWhatWasWritten first second → FindsValid second }
+{}
+
+/// Of two calls: where the first analyses a set and writes "schedulable", the second, which checks the written bytes for a set of
+/// other bytes with another digest, answers that the certificate is of another set; or a count of faults rises, or memory runs out.
+pub fn checked_for_another_set()
+    ensures { (first second : Call) → IsRun first → IsRun second → ChecksForAnotherSet first second → FindsOtherSet second }
+{}
+
+/// Of two calls over one shelf, which promises that no call fails, as a `MemShelf` with no failing call does, and one sink that
+/// tells its bytes: where the named inputs are accepted and the sink raises no count, each call ends with its answer, or for want
+/// of memory.
+pub fn two_runs()
+    ensures first { (first second : Call) → IsRun first → AreSteady first second → IsCompleteCall first }
+    ensures second { (first second : Call) → IsRun second → AreSteady first second → IsCompleteCall second }
+{}

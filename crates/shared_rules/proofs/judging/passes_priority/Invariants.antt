@@ -1,9 +1,0 @@
-use Rattle.std.proofs.Common.{◌≡◌, true}
-use Rattle.bounded_sums.specs.Tests.{all_below}
-use Rattle.schedule_model.specs.Seen.{row_seen}
-use Rattle.shared_rules.specs.RowTests.{current_passes, priority_passes}
-use Rattle.shared_rules.proofs.judging.passes_priority.Given as goal
-
-abbrev pub invariant-loop-x : goal.invariant-loop-x
-invariant-loop-x g l = all_below l.x
-    (current_passes l.machine (priority_passes l.machine (g.O.Order.run l.order l.machine) (row_seen l.row))) ≡ true

@@ -1,0 +1,10 @@
+pub mod SpinCharging
+pub mod OneSpin
+pub mod PlainRows
+pub mod SpinningParts
+pub mod SpinningRow
+pub mod SpinPlacement
+pub mod SpinPrograms
+pub mod SpinPoints
+pub mod SpinWorked
+pub mod SpinSoundness

@@ -1,0 +1,142 @@
+-- The row of lower requests, and the rows of the job's own spinning.
+use Rattle.std.proofs.Common.{◌≡◌, ℕ, ◌*◌, ◌<◌, ◌≤◌, ◌==◌, ◌&&◌, true, refl, sym, subst, ◌∙◌, arith}
+use Rattle.std.proofs.lemmas.Bool.{and_parts, eqb-true, eq-eqb}
+use Rattle.bounded_sums.specs.Sums.{flag}
+use Rattle.schedule_model.specs.declared.rule.Rule.TheVariants as rule
+use Rattle.schedule_model.specs.RowDef.{Trace}
+use Rattle.schedule_model.specs.Phase.{phase_of}
+use Rattle.schedule_model.specs.Phase.Phase.{Asking}
+use Rattle.schedule_model.specs.Activity.{task_of, processor_of}
+use Rattle.schedule_model.specs.SharedRules.{KeepsRun}
+use Rattle.schedule_model.specs.Keeping.{KeepsBefore}
+use Rattle.schedule_laws.proofs.ActiveJobs.{Requester}
+use Rattle.schedule_laws.proofs.Rows.{ReadyHolder, ready_holder_is}
+use Rattle.fragments.specs.declared.columns.Class.{Class}
+use Rattle.fragments.specs.declared.columns.Class.TheVariants.{Direct, Preemption}
+use Rattle.fragments.specs.ColumnDef.{ColumnDef, is_direct, is_preemption}
+use Rattle.charge_model.specs.Charges.{Charge}
+use Rattle.charge_model.specs.Windows.{window_end}
+use Rattle.row_laws.specs.Meeting.{TicksMeet}
+use Rattle.row_laws.proofs.Brings.{Window, Hit, flag_times-at_most, flag_times-passes}
+use Rattle.row_laws.proofs.SlotRow.{OneRequest, slot_row}
+use Rattle.row_laws.proofs.Requests.{direct_is, preemption_is}
+use Rattle.row_laws.proofs.Numbers.{OwnRequest, by_number_of}
+use Rattle.spin_rules.specs.SpinRules.{spin_rule}
+use Rattle.spin_rules.proofs.InRequests.{in_request_from}
+use Rattle.spin_charging.specs.SpinCharges.{spin_charge}
+use Rattle.spin_charging.specs.SpinPrograms.{lower_request_row, is_from, own_spinning_row}
+use Rattle.spin_charging.proofs.SpinCharging.{RunsBelow, SpunBy, SpinReason, spin_reason}
+use Rattle.spin_charging.proofs.OneSpin.{holder_asks, spun_one, lower_one}
+
+-- Why ticks of these classes are charged.
+below_by : (w : Trace) (t j y : ℕ) (c : Class) → c ≡ Preemption → SpinReason w t j c y → RunsBelow w t j y
+below_by w t j y c e why = subst (λ (d : Class). SpinReason w t j d y) e why
+
+own_by : (w : Trace) (t j y : ℕ) (c : Class) → c ≡ Direct → SpinReason w t j c y → SpunBy w t (processor_of w j) j y
+own_by w t j y c e why = subst (λ (d : Class). SpinReason w t j d y) e why
+
+-- What is held is what the holder's request is of.
+pub spun_resource : (w : Trace) (n t k s y m q : ℕ) → KeepsBefore spin_rule w n → t < n → (a : SpunBy w t k s y)
+    → phase_of w t y ≡ Asking m q → a.resource ≡ q
+spun_resource w n t k s y m q keeps l a e =
+    let r : Requester w t a.resource y = holder_asks w n t a.resource y keeps l a.holder in
+    let x : Asking r.number a.resource ≡ Asking m q = sym r.phase ∙ e in
+    cc
+
+-- Row of lower requests: what is charged by preemption is one request.
+pub lower_request_row_met : (w : Trace) (bound : ℕ → ℕ) (n j : ℕ) → Window spin_charge w bound n j → KeepsBefore spin_rule w n
+    → TicksMeet spin_charge w bound n j lower_request_row
+lower_request_row_met w bound n j window keeps s share fair =
+    omega (
+      arith,
+      slot_row spin_charge w bound n j 1 s share f (λ t. 0) (λ k. true) window
+          (record {
+            within = λ t l h. omega arith;
+            passes = λ t l h. refl;
+            one = λ u v order l a b same. one u v order l a b;
+          })
+          (record { fair = fair; small = λ c. flag_times-at_most (is_preemption c.class) (share c.task c.resource) }),
+    ) where
+      f : ColumnDef → ℕ
+      f = λ c. flag (is_preemption c.class) * share c.task c.resource
+
+      by : (t : ℕ) → t < n → (h : Hit spin_charge w f j t) → RunsBelow w t j h.charge.job
+      by t l h = below_by w t j h.charge.job h.charge.class
+          (preemption_is h.charge.class (flag_times-passes (is_preemption h.charge.class) (share (task_of w h.charge.job) h.resource) h.some))
+          (spin_reason w t j h.charge window.lawful (keeps t l) h.is_it)
+
+      place : (t y : ℕ) → t < n → RunsBelow w t j y → processor_of w y ≡ processor_of w j
+      place t y l a = let run : KeepsRun w t = keeps t l rule.Run in sym (run.column (processor_of w j) y a.runs)
+
+      one : (u v : ℕ) → u ≤ v → v < window_end w bound n j → (a : Hit spin_charge w f j u) → (b : Hit spin_charge w f j v)
+          → OneRequest w u v a.charge.job b.charge.job
+      one u v order l a b =
+          let early : RunsBelow w u j a.charge.job = by u (omega arith) a in
+          let late : RunsBelow w v j b.charge.job = by v (omega arith) b in
+          let first : ReadyHolder w u a.charge.job = ready_holder_is w u a.charge.job early.holds in
+          let second : ReadyHolder w v b.charge.job = ready_holder_is w v b.charge.job late.holds in
+          lower_one w n u v j a.charge.job b.charge.job window.lawful keeps order (omega arith) early.active late.active
+          (in_request_from w u a.charge.job first.number first.resource first.active first.phase)
+          (in_request_from w v b.charge.job second.number second.resource second.active second.phase)
+          (place u a.charge.job (omega arith) early) (place v b.charge.job (omega arith) late) late.lower
+
+-- A charge whose column is of q, and of a task of processor k.
+pub record FromColumn (w : Trace) (k q : ℕ) (charge : Charge) (resource : ℕ) : Type 0 where
+  pub processor : processor_of w charge.job ≡ k
+  pub same : resource ≡ q
+
+pub from_column : (w : Trace) (k q : ℕ) (charge : Charge) (resource : ℕ)
+    → is_from w.set k q (record { task = task_of w charge.job; resource = resource; class = charge.class }) ≡ true
+    → FromColumn w k q charge resource
+from_column w k q charge resource h =
+    let parts : ((processor_of w charge.job == k) ≡ true) × ((resource == q) ≡ true) = and_parts _ _ h in
+    record { processor = eqb-true _ _ parts.0; same = eqb-true _ _ parts.1 }
+
+-- Row of own spinning: each request of q by the job pays for one request of processor k.
+pub own_spinning_row_met : (w : Trace) (bound : ℕ → ℕ) (n j k q : ℕ) → Window spin_charge w bound n j → KeepsBefore spin_rule w n
+    → TicksMeet spin_charge w bound n j (own_spinning_row w.set (task_of w j) k q)
+own_spinning_row_met w bound n j k q window keeps s share fair =
+    by_number_of spin_charge w bound n j q s share f window
+    (record {
+      fair = fair;
+      small = λ c. flag_times-at_most (is_from w.set k q c && is_direct c.class) (share c.task c.resource);
+    }) own
+    (λ u v m a b order l g h early late. one u v m a b order l g h early late) where
+      f : ColumnDef → ℕ
+      f = λ c. flag (is_from w.set k q c && is_direct c.class) * share c.task c.resource
+
+      both : (t : ℕ) → (h : Hit spin_charge w f j t)
+          → (FromColumn w k q h.charge h.resource) × (is_direct h.charge.class ≡ true)
+      both t h =
+          let c : ColumnDef = record { task = task_of w h.charge.job; resource = h.resource; class = h.charge.class } in
+          let parts : (is_from w.set k q c ≡ true) × (is_direct h.charge.class ≡ true) =
+          and_parts _ _ (flag_times-passes (is_from w.set k q c && is_direct h.charge.class)
+          (share (task_of w h.charge.job) h.resource) h.some) in
+          (from_column w k q h.charge h.resource parts.0, parts.1)
+
+      by : (t : ℕ) → t < n → (h : Hit spin_charge w f j t) → SpunBy w t (processor_of w j) j h.charge.job
+      by t l h = own_by w t j h.charge.job h.charge.class (direct_is h.charge.class (both t h).1)
+          (spin_reason w t j h.charge window.lawful (keeps t l) h.is_it)
+
+      own : (t : ℕ) → t < window_end w bound n j → (h : Hit spin_charge w f j t) → OwnRequest w t j (λ r. r == q)
+      own t l h =
+          let a : SpunBy w t (processor_of w j) j h.charge.job = by t (omega arith) h in
+          record {
+            number = a.number;
+            resource = a.resource;
+            request = a.request;
+            passes = eq-eqb a.resource q
+                (spun_resource w n t (processor_of w j) j h.charge.job h.number h.resource keeps (omega arith) a h.request ∙ (both t h).0.same);
+          }
+
+      one : (u v m a b : ℕ) → u ≤ v → v < window_end w bound n j → (g : Hit spin_charge w f j u) → (h : Hit spin_charge w f j v)
+          → phase_of w u j ≡ Asking m a → phase_of w v j ≡ Asking m b → OneRequest w u v g.charge.job h.charge.job
+      one u v m a b order l g h early late =
+          let first : SpunBy w u (processor_of w j) j g.charge.job = by u (omega arith) g in
+          let second : SpunBy w v (processor_of w j) j h.charge.job = by v (omega arith) h in
+          let x : Asking first.number first.resource ≡ Asking m a = sym first.request ∙ early in
+          let y : Asking second.number second.resource ≡ Asking m b = sym second.request ∙ late in
+          let one_number : first.number ≡ m = cc in
+          let two_number : second.number ≡ m = cc in
+          spun_one w n u v (processor_of w j) j g.charge.job h.charge.job window.lawful keeps order (omega arith) first second
+          (one_number ∙ sym two_number) ((both u g).0.processor ∙ sym (both v h).0.processor)

@@ -1,0 +1,169 @@
+-- What the ticks of a window bring to a row of spinning, parted by the job that spins: the analysed job, a job of a higher task of
+-- its processor, one of a lower task. What one job spins for is paid by its requests.
+use Rattle.std.proofs.Common.{◌≡◌, ℕ, ◌*◌, ◌<◌, ◌≤◌, ◌==◌, ◌&&◌, not, true, false, List, length, get_or, sym}
+use Rattle.std.proofs.Common.{ap, subst, ◌∙◌, arith, Option}
+use Rattle.std.specs.Option.{option_map_or}
+use Rattle.std.proofs.Math.Nat.{mul-le-mul_right}
+use Rattle.std.proofs.lemmas.Bool.{and_parts, not-true, eqb-true}
+use Rattle.bounded_sums.specs.Sums.{sum_below, flag, only_if}
+use Rattle.bounded_sums.specs.Tests.{count_below}
+use Rattle.bounded_sums.proofs.SumLaws.{only_if-at_most}
+use Rattle.sporadic_model.specs.Users.{count_of, length_of}
+use Rattle.schedule_model.specs.JobDef.{SegmentDef, job_of, asks_for}
+use Rattle.schedule_model.specs.RowDef.{Trace}
+use Rattle.schedule_model.specs.Phase.{phase_of}
+use Rattle.schedule_model.specs.Phase.Phase.{Asking}
+use Rattle.schedule_model.specs.Activity.{task_of, processor_of}
+use Rattle.schedule_model.specs.Keeping.{KeepsBefore}
+use Rattle.schedule_laws.specs.Counting.{no_segment}
+use Rattle.schedule_laws.proofs.Segments.{open_segment}
+use Rattle.schedule_laws.proofs.OwnRequests.{own_requests}
+use Rattle.fragments.specs.declared.columns.Class.{Class}
+use Rattle.fragments.specs.declared.columns.Class.TheVariants.{Direct, Indirect, Preemption}
+use Rattle.fragments.specs.ColumnDef.{ColumnDef, is_preemption}
+use Rattle.charge_model.specs.Windows.{window_end}
+use Rattle.row_laws.specs.Meeting.{brings}
+use Rattle.row_laws.proofs.Brings.{Window, Hit, flag_times-at_most, flag_times-passes, only_if-parts}
+use Rattle.row_laws.proofs.SlotRow.{OneRequest, Shares, parts_paid}
+use Rattle.row_laws.proofs.Numbers.{number_of}
+use Rattle.spin_rules.specs.SpinRules.{spin_rule}
+use Rattle.spin_charging.specs.SpinCharges.{spinner_on, spin_charge}
+use Rattle.spin_charging.specs.SpinPrograms.{is_from}
+use Rattle.spin_charging.proofs.SpinCharging.{SpunBy, SpinReason, spin_reason}
+use Rattle.spin_charging.proofs.OneSpin.{spun_one}
+use Rattle.spin_charging.proofs.PlainRows.{FromColumn, from_column, spun_resource}
+
+-- What is known of the row that is met.
+pub record Spins (w : Trace) (bound : ℕ → ℕ) (n j s : ℕ) (share : ℕ → ℕ → ℕ) : Type 0 where
+  pub window : Window spin_charge w bound n j
+  pub keeps : KeepsBefore spin_rule w n
+  pub fair : (y q : ℕ) → share y q * length_of w.set y q ≤ s
+
+-- What a column of requests of q from processor k counts.
+abbrev pub spinning_share : Trace → ℕ → ℕ → (ℕ → ℕ → ℕ) → ColumnDef → ℕ
+spinning_share w k q share c = flag (is_from w.set k q c && not (is_preemption c.class)) * share c.task c.resource
+
+-- The job that spins on j's processor; 0 where none does. And what the tick brings.
+abbrev pub spinner_at : Trace → ℕ → ℕ → ℕ
+spinner_at w j t = option_map_or (λ s. s) (spinner_on w t (processor_of w j)) 0
+
+abbrev pub amount : Trace → ℕ → ℕ → ℕ → (ℕ → ℕ → ℕ) → ℕ → ℕ
+amount w j k q share t = brings spin_charge w (spinning_share w k q share) j t
+
+pub shares_of : (w : Trace) (bound : ℕ → ℕ) (n j k q s : ℕ) (share : ℕ → ℕ → ℕ) → Spins w bound n j s share
+    → Shares w s share (spinning_share w k q share)
+shares_of w bound n j k q s share c = record {
+  fair = c.fair;
+  small = λ d. flag_times-at_most (is_from w.set k q d && not (is_preemption d.class)) (share d.task d.resource);
+}
+
+-- What is charged, and not by preemption, is spun for.
+spun_of : (w : Trace) (t j y : ℕ) (c : Class) → is_preemption c ≡ false → SpinReason w t j c y
+    → (s : ℕ) × SpunBy w t (processor_of w j) s y
+spun_of w t j y Direct off why = (j, why)
+spun_of w t j y Indirect off why = (why.0, why.2)
+spun_of w t j y Preemption off why = absurd (cc)
+
+-- What a tick that brings something says.
+pub record SpunTick (w : Trace) (j k q t y : ℕ) : Type 0 where
+  pub spun : SpunBy w t (processor_of w j) (spinner_at w j t) y
+  pub resource : spun.resource ≡ q
+  pub processor : processor_of w y ≡ k
+
+pub spun_tick : (w : Trace) (bound : ℕ → ℕ) (n j k q s : ℕ) (share : ℕ → ℕ → ℕ) (t : ℕ) → Spins w bound n j s share
+    → t < n → (h : Hit spin_charge w (spinning_share w k q share) j t) → SpunTick w j k q t h.charge.job
+spun_tick w bound n j k q s share t c l h = record {
+  spun = spun;
+  resource = spun_resource w n t (processor_of w j) (spinner_at w j t) h.charge.job h.number h.resource c.keeps l spun h.request
+      ∙ from.same;
+  processor = from.processor;
+} where
+  column : ColumnDef
+  column = record { task = task_of w h.charge.job; resource = h.resource; class = h.charge.class }
+
+  parts : (is_from w.set k q column ≡ true) × (not (is_preemption h.charge.class) ≡ true)
+  parts = and_parts _ _ (flag_times-passes (is_from w.set k q column && not (is_preemption h.charge.class))
+      (share (task_of w h.charge.job) h.resource) h.some)
+
+  from : FromColumn w k q h.charge h.resource
+  from = from_column w k q h.charge h.resource parts.0
+
+  some : (s : ℕ) × SpunBy w t (processor_of w j) s h.charge.job
+  some = spun_of w t j h.charge.job h.charge.class (not-true _ parts.1)
+      (spin_reason w t j h.charge c.window.lawful (c.keeps t l) h.is_it)
+
+  same : some.0 ≡ spinner_at w j t
+  same = let a : SpunBy w t (processor_of w j) some.0 h.charge.job = some.1 in sym (ap (λ (o : Option ℕ). option_map_or (λ i. i) o 0) a.found)
+
+  spun : SpunBy w t (processor_of w j) (spinner_at w j t) h.charge.job
+  spun = subst (λ i. SpunBy w t (processor_of w j) i h.charge.job) same some.1
+
+-- Two ticks in one request of one job that spins are charged to one request.
+pub one_spin : (w : Trace) (bound : ℕ → ℕ) (n j k q s : ℕ) (share : ℕ → ℕ → ℕ) (u v y z : ℕ) → Spins w bound n j s share → u ≤ v → v < n
+    → (a : SpunTick w j k q u y) → (b : SpunTick w j k q v z) → spinner_at w j u ≡ spinner_at w j v
+    → phase_of w u (spinner_at w j u) ≡ phase_of w v (spinner_at w j v) → OneRequest w u v y z
+one_spin w bound n j k q s share u v y z c order l a b same phase =
+    spun_one w n u v (processor_of w j) (spinner_at w j v) y z c.window.lawful c.keeps order l early b.spun number
+    (a.processor ∙ sym b.processor) where
+      early : SpunBy w u (processor_of w j) (spinner_at w j v) y
+      early = subst (λ i. SpunBy w u (processor_of w j) i y) same a.spun
+
+      number : early.number ≡ b.spun.number
+      number =
+          let x : Asking early.number early.resource ≡ Asking b.spun.number b.spun.resource =
+          sym early.request ∙ ap (phase_of w u) (sym same) ∙ phase ∙ b.spun.request in
+          cc
+
+-- What counts of job z's spinning.
+abbrev pub spun_part : Trace → ℕ → ℕ → (ℕ → ℕ) → ℕ → ℕ
+spun_part w j z g t = only_if (spinner_at w j t == z) (g t)
+
+-- What one job spins for, however much of it counts, is paid by its requests of q.
+pub spinner_paid : (w : Trace) (bound : ℕ → ℕ) (n j k q s : ℕ) (share : ℕ → ℕ → ℕ) (g : ℕ → ℕ) (z : ℕ) → Spins w bound n j s share
+    → ((t : ℕ) → g t ≤ amount w j k q share t) → z < length w.jobs
+    → sum_below (window_end w bound n j) (λ t. spun_part w j z g t) ≤ count_of w.set (task_of w z) q * s
+spinner_paid w bound n j k q s share g z c part listed =
+    let paid : sum_below (window_end w bound n j) (λ t. spun_part w j z g t)
+    ≤ count_below (length script) (λ m. asks_for q (get_or script m no_segment)) * s =
+    parts_paid spin_charge w bound n j (length script) s share (spinning_share w k q share) (λ t. spun_part w j z g t)
+    (λ t. number_of (phase_of w t z)) (λ m. asks_for q (get_or script m no_segment)) c.window
+    (record {
+      below = λ t l. omega (arith, only_if-at_most (spinner_at w j t == z) (g t), part t);
+      within = λ t l some h. let a : SpunTick w j k q t h.charge.job = at t l h in
+          rw (asks t l some h) ((open_segment w t z a.spun.number q (asks t l some h)).within);
+      passes = λ t l some h. let a : SpunTick w j k q t h.charge.job = at t l h in
+          ap (λ p. asks_for q (get_or script (number_of p) no_segment)) (asks t l some h)
+          ∙ (open_segment w t z a.spun.number q (asks t l some h)).asks;
+      one = λ u v order l first second a b same. one u v order l first second a b same;
+    })
+    (shares_of w bound n j k q s share c) in
+    omega (arith, paid, mul-le-mul_right s (own_requests w.set (job_of w.jobs z) q (c.window.lawful.each z listed))) where
+      script : List SegmentDef
+      script = (job_of w.jobs z).script
+
+      at : (t : ℕ) → t < window_end w bound n j → (h : Hit spin_charge w (spinning_share w k q share) j t)
+          → SpunTick w j k q t h.charge.job
+      at t l h = spun_tick w bound n j k q s share t c (omega arith) h
+
+      is_z : (t : ℕ) → 0 < spun_part w j z g t → spinner_at w j t ≡ z
+      is_z t some = eqb-true _ _ (only_if-parts (spinner_at w j t == z) (g t) some).0
+
+      asks : (t : ℕ) → (l : t < window_end w bound n j) → 0 < spun_part w j z g t
+          → (h : Hit spin_charge w (spinning_share w k q share) j t) → phase_of w t z ≡ Asking (at t l h).spun.number q
+      asks t l some h =
+          let a : SpunTick w j k q t h.charge.job = at t l h in
+          ap (phase_of w t) (sym (is_z t some)) ∙ a.spun.request ∙ ap (Asking a.spun.number) a.resource
+
+      one : (u v : ℕ) → u ≤ v → v < window_end w bound n j → 0 < spun_part w j z g u → 0 < spun_part w j z g v
+          → (a : Hit spin_charge w (spinning_share w k q share) j u) → (b : Hit spin_charge w (spinning_share w k q share) j v)
+          → number_of (phase_of w u z) ≡ number_of (phase_of w v z) → OneRequest w u v a.charge.job b.charge.job
+      one u v order l first second a b same =
+          let early : SpunTick w j k q u a.charge.job = at u (omega arith) a in
+          let late : SpunTick w j k q v b.charge.job = at v l b in
+          let number : early.spun.number ≡ late.spun.number =
+          sym (ap number_of (asks u (omega arith) first a)) ∙ same ∙ ap number_of (asks v l second b) in
+          let phase : phase_of w u z ≡ phase_of w v z =
+          asks u (omega arith) first a ∙ ap (λ m. Asking m q) number ∙ sym (asks v l second b) in
+          one_spin w bound n j k q s share u v a.charge.job b.charge.job c order (omega arith) early late
+          (is_z u first ∙ sym (is_z v second))
+          (ap (phase_of w u) (is_z u first) ∙ phase ∙ ap (phase_of w v) (sym (is_z v second)))

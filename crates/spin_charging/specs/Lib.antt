@@ -1,0 +1,2 @@
+pub mod SpinCharges
+pub mod SpinPrograms

@@ -1,0 +1,4 @@
+mod SpinVerdict
+mod SpinChosen
+mod SpinNow
+mod SpinNextRow

@@ -1,0 +1,4 @@
+pub mod SpinTests
+pub mod SpinClaims
+pub mod SpinChargeNow
+pub mod NextRow

@@ -1,0 +1,84 @@
+//! The choice of a row: the holders first, then what runs.
+
+ghost use Rattle.std.specs.Prelude.{◌≡◌, ℕ, length, map};
+ghost use Rattle.schedule_model.specs.RowDef.{RowDef};
+ghost use Rattle.schedule_model.specs.Chosen.{IsSized};
+ghost use Rattle.schedule_model.specs.Keeping.{KeepsBefore};
+ghost use Rattle.schedule_model.specs.Seen.{row_seen, place_seen};
+ghost use Rattle.phase_machine.specs.MachineDef.{under};
+ghost use Rattle.phase_machine.specs.Shows.{Shows};
+ghost use Rattle.fmlp_rules.specs.IssueOrder.{issue_now};
+ghost use Rattle.shared_rules.specs.RowTests.{processor_now};
+ghost use Rattle.shared_rules.specs.Scene.{scene_now, place_in};
+ghost use Rattle.shared_rules.specs.Choosing.{Granted};
+ghost use Rattle.shared_rules.specs.Filling.{FilledTwice, holder_claim};
+ghost use Rattle.spin_rules.specs.SpinRules.{spin_rule, IsSpinChoice};
+ghost use Rattle.spin_protocol.specs.SpinClaims.{calm_claim};
+
+use crate::judging::has_spinner;
+use fmlp_rules::FmlpPlus;
+use phase_machine::Machine;
+use schedule_model::{JobId, Row};
+use shared_rules::choosing::grant_all;
+use shared_rules::claims::{Claim, HolderClaim, fill_twice};
+use shared_rules::columns::OwnProcessors;
+use shared_rules::lookup::{is_local, processor_of};
+use shared_rules::row_choice::{RowChoice, choose_row};
+
+/// Local jobs claim their task's processor, where no job spins there.
+#[derive(Drop)]
+struct CalmClaim<'a> {
+    holders: &'a [Option<JobId>],
+}
+
+impl<'a> Claim for CalmClaim<'a> {
+    ghost needs = { λ c m. length c.holders.now ≡ length m.list.set.resources };
+
+    ghost claim = { λ c m. calm_claim m (place_in (map place_seen c.holders.now)) };
+
+    fn claim_of(&self, machine: &Machine, j: JobId) -> Option<u32> {
+        let processor = processor_of(machine, j);
+        if is_local(machine, j) && !has_spinner(machine, self.holders, processor) {
+            return Some(processor);
+        }
+        None
+    }
+}
+
+/// Grants in the order of issue; then holders run, and where none does and no job spins, Local jobs.
+#[derive(Drop)]
+struct SpinChoice;
+
+impl RowChoice for SpinChoice {
+    ghost needs = { λ c m. Unit {0} };
+
+    ghost granted = { λ c m. Granted (scene_now (issue_now m) (issue_now m) m) (length m.list.set.tasks) };
+
+    ghost placed = { λ c m held. FilledTwice m (holder_claim m (processor_now m) held) (calm_claim m held) };
+
+    fn grant(&self, machine: &Machine, holders: &mut [Option<JobId>]) {
+        grant_all(&FmlpPlus, machine, holders);
+    }
+
+    fn run(&self, machine: &Machine, holders: &[Option<JobId>], running: &mut [Option<JobId>]) {
+        fill_twice(
+            &HolderClaim {
+                columns: &OwnProcessors,
+                holders,
+            },
+            &CalmClaim { holders },
+            machine,
+            running,
+        );
+    }
+}
+
+/// Makes the lent row the chosen one, after rows that keep the rules.
+pub(crate) fn choose_spin(machine: &Machine, row: &mut Row)
+    requires sized { IsSized machine.now.list.set (row_seen row.old) }
+    ensures sized { IsSized machine.now.list.set (row_seen row.new) }
+    ensures chosen { (rows : ℕ → RowDef) → Shows machine.now rows → rows machine.now.tick ≡ row_seen row.new
+        → KeepsBefore spin_rule (under machine.now rows) machine.now.tick → IsSpinChoice (under machine.now rows) machine.now.tick }
+{
+    choose_row(&SpinChoice, machine, row);
+}

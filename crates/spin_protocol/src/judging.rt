@@ -1,0 +1,189 @@
+//! The tests of the rules over a machine and the row that comes next.
+
+ghost use Rattle.std.specs.Prelude.{◌≡◌, ℕ, ◌<◌, length, map, IfSome, slice_index_or, None};
+ghost use Rattle.schedule_model.specs.RowDef.{RowDef};
+ghost use Rattle.schedule_model.specs.Seen.{row_seen, place_seen};
+ghost use Rattle.phase_machine.specs.MachineDef.{under};
+ghost use Rattle.phase_machine.specs.Shows.{Shows};
+ghost use Rattle.phase_machine.specs.Taking.{IsRowFor};
+ghost use Rattle.phase_machine.specs.Judged.{Judged};
+ghost use Rattle.fmlp_rules.specs.IssueOrder.{issue_now};
+ghost use Rattle.shared_rules.specs.Scene.{place_in};
+ghost use Rattle.spin_rules.specs.SpinRules.{spin_rule};
+ghost use Rattle.spin_protocol.specs.SpinTests.{is_request_now, spins_now, is_quiet, has_spinner_now, idle_passes};
+ghost use Rattle.spin_protocol.specs.SpinTests.{passes_idle, may_run_beside, priority_passes, passes_priority, first_failed};
+
+use fmlp_rules::FmlpPlus;
+use phase_machine::{Machine, Phase};
+use schedule_model::{JobId, Row, Rule};
+use shared_rules::judging::{holders_pass, passes_keep, passes_run, requests_pass};
+use shared_rules::lookup::{holds, is_local, may_run, processor_of, running_beside, task_of};
+use shared_rules::walking::{JobTest, each_passes};
+
+/// Is the job in a request, if it is active?
+fn is_asking(machine: &Machine, j: JobId) -> bool
+    requires { j.0 < length machine.now.list.jobs }
+    ensures { result ≡ is_request_now machine.now j.0 }
+{
+    match machine.phase(j) {
+        Phase::Asking(_, _) => true,
+        _ => false,
+    }
+}
+
+/// With these holders: does the job spin, if it is active?
+pub(crate) fn spins(machine: &Machine, holders: &[Option<JobId>], j: JobId) -> bool
+    requires listed { j.0 < length machine.now.list.jobs }
+    requires sized { length holders.now ≡ length machine.now.list.set.resources }
+    ensures { result ≡ spins_now machine.now (place_in (map place_seen holders.now)) j.0 }
+{
+    is_asking(machine, j) && !holds(machine, holders, j)
+}
+
+/// The test that an active job is no spinner of a processor, with these holders.
+#[derive(Drop)]
+struct QuietTest<'a> {
+    holders: &'a [Option<JobId>],
+    processor: u32,
+}
+
+impl<'a> JobTest for QuietTest<'a> {
+    ghost needs = { λ t m. length t.holders.now ≡ length m.list.set.resources };
+
+    ghost passes = { λ t m. is_quiet m (place_in (map place_seen t.holders.now)) t.processor };
+
+    fn test(&self, machine: &Machine, j: JobId) -> bool {
+        !(processor_of(machine, j) == self.processor && spins(machine, self.holders, j))
+    }
+}
+
+/// With these holders: does an active job of the processor's tasks spin?
+#[tactic(auto, unfolding(crate::specs::SpinTests::has_spinner_now))]
+pub(crate) fn has_spinner(machine: &Machine, holders: &[Option<JobId>], processor: u32) -> bool
+    requires { length holders.now ≡ length machine.now.list.set.resources }
+    ensures { result ≡ has_spinner_now machine.now (place_in (map place_seen holders.now)) processor }
+{
+    !each_passes(&QuietTest { holders, processor }, machine)
+}
+
+/// Idle, for one job: where it is ready, does its processor run something, or does a job there spin?
+fn idle_passes(machine: &Machine, row: &Row, j: JobId) -> bool
+    requires fits { IsRowFor machine.now.list (row_seen row.now) }
+    requires listed { j.0 < length machine.now.list.jobs }
+    ensures { result ≡ idle_passes machine.now (row_seen row.now) j.0 }
+{
+    !may_run(machine, &row.holders, j)
+        || (running_beside(machine, row, j).is_some()
+            || has_spinner(machine, &row.holders, processor_of(machine, j)))
+}
+
+/// The test of Idle for active jobs.
+#[derive(Drop)]
+struct IdleTest<'a> {
+    row: &'a Row,
+}
+
+impl<'a> JobTest for IdleTest<'a> {
+    ghost needs = { λ t m. IsRowFor m.list (row_seen t.row.now) };
+
+    ghost passes = { λ t m. idle_passes m (row_seen t.row.now) };
+
+    fn test(&self, machine: &Machine, j: JobId) -> bool {
+        idle_passes(machine, self.row, j)
+    }
+}
+
+/// Idle: is no processor idle that has a ready job and no spinner?
+#[tactic(auto, unfolding(crate::specs::SpinTests::passes_idle))]
+fn passes_idle(machine: &Machine, row: &Row) -> bool
+    requires fits { IsRowFor machine.now.list (row_seen row.now) }
+    ensures { result ≡ passes_idle machine.now (row_seen row.now) }
+{
+    each_passes(&IdleTest { row }, machine)
+}
+
+/// Priority, for one job and what runs on its processor.
+fn may_run_beside(machine: &Machine, j: JobId, running: Option<JobId>) -> bool
+    requires listed { j.0 < length machine.now.list.jobs }
+    requires running { IfSome running (λ r. r.0 < length machine.now.list.jobs) }
+    ensures { result ≡ may_run_beside machine.now j.0 (place_seen running) }
+{
+    match running {
+        Some(r) => {
+            (!is_asking(machine, j) || r == j)
+                && (!is_local(machine, j)
+                    || (is_asking(machine, r) || task_of(machine, r).0 <= task_of(machine, j).0))
+        }
+        None => true,
+    }
+}
+
+/// The same in a row.
+fn priority_passes(machine: &Machine, row: &Row, j: JobId) -> bool
+    requires fits { IsRowFor machine.now.list (row_seen row.now) }
+    requires listed { j.0 < length machine.now.list.jobs }
+    ensures { result ≡ priority_passes machine.now (row_seen row.now) j.0 }
+{
+    may_run_beside(machine, j, running_beside(machine, row, j))
+}
+
+/// The test of Priority for active jobs.
+#[derive(Drop)]
+struct PriorityTest<'a> {
+    row: &'a Row,
+}
+
+impl<'a> JobTest for PriorityTest<'a> {
+    ghost needs = { λ t m. IsRowFor m.list (row_seen t.row.now) };
+
+    ghost passes = { λ t m. priority_passes m (row_seen t.row.now) };
+
+    fn test(&self, machine: &Machine, j: JobId) -> bool {
+        priority_passes(machine, self.row, j)
+    }
+}
+
+/// Priority: where a job is in a request, does nothing else run on its processor; else, no lower job than a Local one?
+#[tactic(auto, unfolding(crate::specs::SpinTests::passes_priority))]
+fn passes_priority(machine: &Machine, row: &Row) -> bool
+    requires fits { IsRowFor machine.now.list (row_seen row.now) }
+    ensures { result ≡ passes_priority machine.now (row_seen row.now) }
+{
+    each_passes(&PriorityTest { row }, machine)
+}
+
+/// The first rule whose test fails.
+#[tactic(auto, unfolding(shared_rules::specs::RowTests::passes_grant))]
+fn first_failed(machine: &Machine, row: &Row) -> Option<Rule>
+    requires fits { IsRowFor machine.now.list (row_seen row.now) }
+    ensures { result ≡ first_failed machine.now (issue_now machine.now) (row_seen row.now) }
+{
+    if !passes_run(machine, row) {
+        return Some(Rule::Run);
+    }
+    if !passes_keep(machine, row) {
+        return Some(Rule::Keep);
+    }
+    if !(holders_pass(machine, row) && requests_pass(&FmlpPlus, machine, row)) {
+        return Some(Rule::Grant);
+    }
+    if !passes_idle(machine, row) {
+        return Some(Rule::Idle);
+    }
+    if !passes_priority(machine, row) {
+        return Some(Rule::Priority);
+    }
+    None
+}
+
+/// Does the row keep all five rules? Else the first that it breaks.
+pub(crate) fn judge_spin(machine: &Machine, row: &Row) -> Result<(), Rule>
+    requires fits { IsRowFor machine.now.list (row_seen row.now) }
+    ensures { (rows : ℕ → RowDef) → Shows machine.now rows → rows machine.now.tick ≡ row_seen row.now
+        → Judged spin_rule (under machine.now rows) machine.now.tick result }
+{
+    match first_failed(machine, row) {
+        Some(rule) => Err(rule),
+        None => Ok(()),
+    }
+}

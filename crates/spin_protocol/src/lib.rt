@@ -1,0 +1,18 @@
+//! Non-preemptive FIFO spin locks: requests are granted in the order of issue, a job that waits spins, and a job in a request isn't
+//! preempted. [`Spin`] judges and chooses rows, gives programs and charges ticks, so the calls over a protocol's type take it.
+#![tactic(auto)]
+
+mod charging;
+mod choosing;
+mod instances;
+mod judging;
+mod laws;
+mod programs;
+mod rows;
+
+pub use laws::each_lawful_schedule_has_a_next_row;
+
+/// Non-preemptive FIFO spin locks under partitioned fixed-priority scheduling. A job that waits for a resource spins: its processor
+/// runs nothing then. Homes aren't looked at.
+#[derive(Clone, Copy, Debug, PartialEq, Eq)]
+pub struct Spin;

@@ -1,0 +1,152 @@
+//! The rows that spin locks have of their own, as far as they are computed.
+
+ghost use Rattle.std.specs.Prelude.{◌≡◌, ℕ, ◌<◌, ◌≤◌, ◌*◌, ◌&&◌, length, slice_index};
+ghost use Rattle.bounded_sums.specs.Sums.{flag};
+ghost use Rattle.bounded_sums.specs.Tests.{any_below};
+ghost use Rattle.sporadic_model.specs.Users.{is_user};
+ghost use Rattle.program_sources.specs.Bounds.{AreWithinDeadlines};
+ghost use Rattle.fragments.specs.ColumnDef.{column_seen};
+ghost use Rattle.fragments.specs.Columns.{is_lower_local};
+ghost use Rattle.spin_charging.specs.SpinPrograms.{lower_request_row, is_from, is_used_below, higher_requests};
+ghost use Rattle.spin_charging.specs.SpinPrograms.{spinning_row, own_spinning_row};
+
+use fragments::{Constraint, Fragment, RowKind, cnt, lower_local, share_processor, uses};
+use sporadic_model::{ResourceId, TaskId, TaskSet};
+
+/// How many requests of lower tasks block a job by preemption: the one that was open at its release.
+const LOWER_REQUESTS: u64 = 1;
+
+/// So many requests of lower tasks block by preemption.
+#[derive(Drop)]
+pub(crate) struct LowerRequestRow;
+
+impl RowKind for LowerRequestRow {
+    ghost row_of = { λ k set i. lower_request_row };
+
+    ghost fits = { λ k set. Unit {0} };
+
+    fn coefficient(&self, _set: &TaskSet, _i: TaskId, column: Fragment) -> u64 {
+        if column.class.is_preemption() { 1 } else { 0 }
+    }
+}
+
+impl Constraint for LowerRequestRow {
+    fn limit(&self, _set: &TaskSet, _i: TaskId, _bounds: &[u64]) -> u64 {
+        LOWER_REQUESTS
+    }
+}
+
+/// Is it a column of requests of the resource from the processor?
+fn is_from(set: &TaskSet, processor: u32, resource: ResourceId, column: Fragment) -> bool
+    requires { column.task.0 < length set.now.tasks }
+    ensures { result ≡ is_from set.now processor resource.0 (column_seen column) }
+{
+    set.processor(column.task) == processor && column.resource == resource
+}
+
+/// Is `x` a lower task of `i`'s processor that uses the resource?
+fn is_lower_user(set: &TaskSet, i: TaskId, q: ResourceId, x: TaskId) -> bool
+    requires task { i.0 < length set.now.tasks }
+    requires resource { q.0 < length set.now.resources }
+    requires other { x.0 < length set.now.tasks }
+    ensures { result ≡ (is_lower_local set.now i.0 x.0 && is_user set.now q.0 x.0) }
+{
+    lower_local(set, i, x) && uses(set, x, q)
+}
+
+/// Does a lower task of `i`'s processor use the resource?
+fn is_used_below(set: &TaskSet, i: TaskId, q: ResourceId) -> bool
+    requires task { i.0 < length set.now.tasks }
+    requires resource { q.0 < length set.now.resources }
+    ensures { result ≡ is_used_below set.now i.0 q.0 }
+{
+    for x in 0..set.tasks() {
+        if is_lower_user(set, i, q, TaskId(x)) {
+            return true;
+        }
+    }
+    false
+}
+
+/// One where the test passes, else none.
+fn one_if(test: bool) -> u64
+    ensures { result ≡ flag test }
+{
+    if test { 1 } else { 0 }
+}
+
+/// How many requests of the resource can the higher tasks of `i`'s processor make while a job of `i` runs?
+fn higher_requests(set: &TaskSet, i: TaskId, q: ResourceId, bounds: &[u64]) -> u64
+    requires task { i.0 < length set.now.tasks }
+    requires resource { q.0 < length set.now.resources }
+    requires within { AreWithinDeadlines set.now bounds.now }
+    ensures value { result ≡ higher_requests set.now (slice_index bounds.now) i.0 q.0 }
+    ensures most { result ≤ i.0 * 2000000000000 }
+{
+    // a set has at most 64 tasks, so the sum fits
+    let _tasks = set.tasks();
+    let mut total = 0;
+    for h in 0..i.0 {
+        if share_processor(set, TaskId(h), i) {
+            total += cnt(set, i, TaskId(h), q, bounds);
+        }
+    }
+    total
+}
+
+/// Of a processor and a resource: each request of it from `i`'s processor spins for at most one from there.
+#[derive(Drop)]
+pub(crate) struct SpinningRow {
+    pub processor: u32,
+    pub resource: ResourceId,
+}
+
+impl RowKind for SpinningRow {
+    ghost row_of = { λ k set i. spinning_row set i k.processor k.resource.0 };
+
+    ghost fits = { λ k set. k.resource.0 < length set.resources };
+
+    fn coefficient(&self, set: &TaskSet, _i: TaskId, column: Fragment) -> u64 {
+        if is_from(set, self.processor, self.resource, column) && !column.class.is_preemption() {
+            1
+        } else {
+            0
+        }
+    }
+}
+
+impl Constraint for SpinningRow {
+    fn limit(&self, set: &TaskSet, i: TaskId, bounds: &[u64]) -> u64 {
+        // a set has at most 64 tasks, so the sum fits
+        let _tasks = set.tasks();
+        let lower = one_if(is_used_below(set, i, self.resource));
+        set.count(i, self.resource) + (higher_requests(set, i, self.resource, bounds) + lower)
+    }
+}
+
+/// The same of the requests of `i` itself.
+#[derive(Drop)]
+pub(crate) struct OwnSpinningRow {
+    pub processor: u32,
+    pub resource: ResourceId,
+}
+
+impl RowKind for OwnSpinningRow {
+    ghost row_of = { λ k set i. own_spinning_row set i k.processor k.resource.0 };
+
+    ghost fits = { λ k set. k.resource.0 < length set.resources };
+
+    fn coefficient(&self, set: &TaskSet, _i: TaskId, column: Fragment) -> u64 {
+        if is_from(set, self.processor, self.resource, column) && column.class.is_direct() {
+            1
+        } else {
+            0
+        }
+    }
+}
+
+impl Constraint for OwnSpinningRow {
+    fn limit(&self, set: &TaskSet, i: TaskId, _bounds: &[u64]) -> u64 {
+        set.count(i, self.resource)
+    }
+}

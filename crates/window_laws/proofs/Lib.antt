@@ -1,0 +1,14 @@
+pub mod Least
+pub mod Rising
+pub mod Programs
+pub mod OpenRequests
+pub mod OwnTicks
+pub mod LowerTicks
+pub mod HigherTicks
+pub mod Ending
+pub mod OwnWeights
+pub mod WindowRow
+pub mod Points
+pub mod MoreRows
+pub mod WorkedWindows
+pub mod Sound

@@ -1,0 +1,97 @@
+-- The programs with rows of windows are programs, rise with the bounds, and bound blocking no less than those without.
+use Rattle.std.proofs.Common.{ℕ, ◌<◌, ◌++◌, List, length, arith}
+use Rattle.std.specs.Prelude.{slice_index}
+use Rattle.std.specs.List.{All, Contains}
+use Rattle.std.proofs.lemmas.List.{length-append, append_assoc}
+use Rattle.std.proofs.lemmas.List.Elements.{All-append}
+use Rattle.std.proofs.Math.Nat.{mul-le-mul_right}
+use Rattle.program_form.specs.Program.{IsProgram, IsCovered, columns}
+use Rattle.program_form.specs.Limits.{HasLimitsAtMost}
+use Rattle.sporadic_model.specs.SetDef.{SetDef}
+use Rattle.sporadic_model.specs.Accepted.{IsAccepted}
+use Rattle.sporadic_model.specs.declared.ids.Protocol.TheVariants as protocol
+use Rattle.program_sources.specs.Fitting.{ComesUpAbove}
+use Rattle.program_sources.proofs.RecurrenceLaws.{comes_up_above}
+use Rattle.program_sources.specs.Bounds.{AtMost, AreWithinDeadlines}
+use Rattle.fragments.specs.Columns.{is_column, columns_of}
+use Rattle.fragments.specs.Windows.{requests_in}
+use Rattle.fragments.specs.Constraints.{ConstraintDef}
+use Rattle.fragments.proofs.KnownColumns.{passing_known}
+use Rattle.direct_constraints.specs.Rows.{common_rows, request_row, own_rows}
+use Rattle.preempt_constraints.specs.Rows.{preemption_rows}
+use Rattle.indirect_constraints.specs.Rows.{indirect_rows}
+use Rattle.program_laws.specs.Programs.{rows_of}
+use Rattle.program_laws.specs.Written.{IsSmallRow, Rises}
+use Rattle.program_laws.proofs.RowKinds.{each_row, all_per_pair}
+use Rattle.program_laws.proofs.RisingLimits.{limits_rise}
+use Rattle.program_laws.proofs.SmallNumbers.{rows_small, requests_small, flag_small}
+use Rattle.program_laws.proofs.CoveredColumns.{covered_by, request_row_among}
+use Rattle.program_laws.proofs.ListLengths.{Few, few, pair_at_most, rows_few}
+use Rattle.program_laws.proofs.GivenPrograms.{limits_at_most, is_program, written_where}
+use Rattle.window_laws.specs.WindowRows.{lacks_window, requests_met, window_row, window_rows, windowed_rows, windowed_program, windowed_source}
+use Rattle.window_laws.proofs.Rising.{window_limit_rises, limit_most}
+
+-- Whatever is true of each row of DPCP and of each row of windows is true of all.
+pub windowed_each : (P : ConstraintDef → Type 0) (set : SetDef) (i : ℕ) → All P (rows_of protocol.Dpcp set i)
+    → ((x p : ℕ) → x < i → p < length set.resources → P (window_row set i x p)) → All P (windowed_rows set i)
+windowed_each P set i rows each =
+    All-append P (rows_of protocol.Dpcp set i) (window_rows set i) rows (all_per_pair P i (length set.resources) (window_row set i) each)
+
+pub windowed_rises : (set : SetDef) (i : ℕ) (r s : List ℕ) → i < length set.tasks → AtMost (length set.tasks) r s
+    → HasLimitsAtMost (windowed_program set i r) (windowed_program set i s)
+windowed_rises set i r s here h =
+    limits_at_most set (columns_of protocol.Dpcp set i) (windowed_rows set i) r s
+    (windowed_each (Rises r s) set i (each_row (Rises r s) protocol.Dpcp set i (limits_rise protocol.Dpcp set i r s here h))
+    (λ x p l b. window_limit_rises set (slice_index r) (slice_index s) i x p here l h))
+
+window_small : (set : SetDef) (i x p : ℕ) (r : List ℕ) → IsAccepted set → AreWithinDeadlines set r → i < length set.tasks → x < i
+    → IsSmallRow r (window_row set i x p)
+window_small set i x p r accepted within here l = record {
+  coefficients = λ c. flag_small _;
+  limit = omega (
+    arith,
+    limit_most (lacks_window set (slice_index r) i p) (requests_in set (slice_index r) i x p)
+        (requests_met set (slice_index r) i x p),
+    requests_small set r i x p accepted within here (omega arith),
+  );
+}
+
+rows_to : (set : SetDef) (i : ℕ) → IsAccepted set → i < length set.tasks → length (windowed_rows set i) < 4294967296
+rows_to set i accepted here =
+    let f : Few set = few set accepted in
+    omega (
+      arith,
+      length-append (rows_of protocol.Dpcp set i) (window_rows set i),
+      rows_few protocol.Dpcp set i accepted,
+      pair_at_most i (length set.resources) (window_row set i),
+      mul-le-mul_right (length set.resources) here,
+      f.pairs,
+    )
+
+-- The rows of requests stand among them.
+among : (set : SetDef) (i x q : ℕ) → x < length set.tasks → q < length set.resources
+    → Contains (windowed_rows set i) (request_row set i x q)
+among set i x q a b =
+    let rest : List ConstraintDef =
+    preemption_rows set i ++ (own_rows protocol.Dpcp set i ++ indirect_rows protocol.Dpcp set i) in
+    rw (append_assoc (common_rows set i) rest (window_rows set i)) (request_row_among set i x q (rest ++ window_rows set i) a b)
+
+pub windowed_is_program : (set : SetDef) (i : ℕ) (r : List ℕ) → IsAccepted set → i < length set.tasks → AreWithinDeadlines set r
+    → IsProgram (windowed_program set i r)
+windowed_is_program set i r accepted here within =
+    is_program set i (columns_of protocol.Dpcp set i) (windowed_rows set i) r accepted
+    (written_where (is_column protocol.Dpcp set i) set i (windowed_rows set i) r accepted (λ x q a b. among set i x q a b)
+    (windowed_each (IsSmallRow r) set i
+    (each_row (IsSmallRow r) protocol.Dpcp set i (rows_small protocol.Dpcp set i r accepted within here))
+    (λ x p l b. window_small set i x p r accepted within here l)) (rows_to set i accepted here))
+
+-- Each column has a coefficient above zero in some row.
+pub windowed_covered : (set : SetDef) (i : ℕ) (r : List ℕ) (c : ℕ) → c < columns (windowed_program set i r)
+    → IsCovered (windowed_program set i r) c
+windowed_covered set i r c within =
+    covered_by set i (columns_of protocol.Dpcp set i) (windowed_rows set i) r c (passing_known (is_column protocol.Dpcp set i) set)
+    (λ x q a b. among set i x q a b) within
+
+-- What comes up at some bounds, no less comes up at greater ones.
+pub windowed_above : (set : SetDef) → ComesUpAbove (windowed_source set)
+windowed_above set = comes_up_above (windowed_source set) (λ i r s here most. windowed_rises set i r s here most)

@@ -1,0 +1,134 @@
+-- Windows never shrink where bounds rise, and no limit of a row of windows falls.
+use Rattle.std.proofs.Common.{◌≡◌, ℕ, suc, ◌+◌, ◌*◌, ◌<◌, ◌≤◌, ◌&&◌, Bool, true, false, length, refl, arith, inl, inr}
+use Rattle.std.proofs.Common.{Option, Some, None, nat_lt, nat_le, min, cond, is_none}
+use Rattle.std.proofs.Math.Nat.{mul-le-mul_left, mul-le-mul_right}
+use Rattle.std.proofs.lemmas.Bool.{cases_Bool, and_parts, and_from, leb-true, le-leb}
+use Rattle.bounded_sums.specs.Sums.{sum_below, only_if}
+use Rattle.bounded_sums.proofs.SumLaws.{sum_below-monotone}
+use Rattle.bounded_sums.proofs.TestLaws.{any_below-none, any_below-none_from, found_below-is}
+use Rattle.sporadic_model.specs.SetDef.{SetDef, task_at}
+use Rattle.sporadic_model.specs.Users.{count_of}
+use Rattle.sporadic_model.specs.Homes.{home_in}
+use Rattle.program_sources.proofs.RecurrenceLaws.{div_ceil_rises}
+use Rattle.fragments.specs.Windows.{requests_in}
+use Rattle.window_laws.specs.Windows.{time_at, ticks_by, ticks_there, is_enough, window_of}
+use Rattle.window_laws.specs.WindowRows.{meets_there, lacks_window, requests_there, requests_met, window_row}
+use Rattle.window_laws.proofs.Least.{Found, found_from}
+
+-- The bounds r are at most s.
+abbrev pub IsBelow : SetDef → (ℕ → ℕ) → (ℕ → ℕ) → Type 0
+IsBelow set r s = (x : ℕ) → x < length set.tasks → r x ≤ s x
+
+pub ticks_by_rise : (set : SetDef) (r s : ℕ → ℕ) (k v w x : ℕ) → v ≤ w → r x ≤ s x → ticks_by set r k v x ≤ ticks_by set s k w x
+ticks_by_rise set r s k v w x more h = mul-le-mul_right (time_at set x k)
+    (div_ceil_rises (v + (r x + (task_at set x).jitter)) (w + (s x + (task_at set x).jitter)) (task_at set x).period (omega arith))
+
+-- In more ticks, and at greater bounds, no less can run.
+pub ticks_there_rise : (set : SetDef) (r s : ℕ → ℕ) (i q v w : ℕ) → v ≤ w → ((x : ℕ) → x < i → r x ≤ s x)
+    → ticks_there set r i q v ≤ ticks_there set s i q w
+ticks_there_rise set r s i q v w more h =
+    let each : sum_below i (ticks_by set r (home_in set q) v) ≤ sum_below i (ticks_by set s (home_in set q) w) =
+    sum_below-monotone i (ticks_by set r (home_in set q) v) (ticks_by set s (home_in set q) w)
+    (λ x l. ticks_by_rise set r s (home_in set q) v w x more (h x l)) in
+    omega (arith, each)
+
+pub enough_is : (set : SetDef) (bounds : ℕ → ℕ) (i q w : ℕ) → is_enough set bounds i q w ≡ true
+    → (nat_lt 0 w ≡ true) × (ticks_there set bounds i q w ≤ w)
+enough_is set bounds i q w h =
+    let parts : (nat_lt 0 w ≡ true) × (nat_le (ticks_there set bounds i q w) w ≡ true) = and_parts _ _ h in
+    (parts.0, leb-true (ticks_there set bounds i q w) w parts.1)
+
+pub enough_from : (set : SetDef) (bounds : ℕ → ℕ) (i q w : ℕ) → nat_lt 0 w ≡ true → ticks_there set bounds i q w ≤ w
+    → is_enough set bounds i q w ≡ true
+enough_from set bounds i q w some most = and_from _ _ some (le-leb (ticks_there set bounds i q w) w most)
+
+-- What is enough at greater bounds is enough.
+enough_falls : (set : SetDef) (r s : ℕ → ℕ) (i q w : ℕ) → ((x : ℕ) → x < i → r x ≤ s x) → is_enough set s i q w ≡ true
+    → is_enough set r i q w ≡ true
+enough_falls set r s i q w h enough =
+    let parts : (nat_lt 0 w ≡ true) × (ticks_there set s i q w ≤ w) = enough_is set s i q w enough in
+    enough_from set r i q w parts.0 (omega (arith, parts.1, ticks_there_rise set r s i q w w (omega arith) h))
+
+-- So where there is a window at greater bounds, there is one, which isn't greater.
+pub window_below : (set : SetDef) (r s : ℕ → ℕ) (i q b : ℕ) → ((x : ℕ) → x < i → r x ≤ s x) → window_of set s i q ≡ Some b
+    → Found (suc (task_at set i).deadline) (is_enough set r i q) b
+window_below set r s i q b h e =
+    let found : (b < suc (task_at set i).deadline) × (is_enough set s i q b ≡ true) =
+    found_below-is (suc (task_at set i).deadline) (is_enough set s i q) b e in
+    found_from (suc (task_at set i).deadline) (is_enough set r i q) b found.0 (enough_falls set r s i q b h found.1)
+
+some_of : {A : Type 0} (o : Option A) → is_none o ≡ false → (a : A) × (o ≡ Some a)
+some_of None h = absurd (cc)
+some_of (Some a) h = (a, refl)
+
+-- A request at r's home has a window, where none lacks one.
+pub window_there : (set : SetDef) (bounds : ℕ → ℕ) (i r q : ℕ) → q < length set.resources → lacks_window set bounds i r ≡ false
+    → meets_there set i r q ≡ true → (b : ℕ) × (window_of set bounds i q ≡ Some b)
+window_there set bounds i r q l none meets =
+    let here : (meets_there set i r q && is_none (window_of set bounds i q)) ≡ false =
+    any_below-none (length set.resources) (λ c. meets_there set i r c && is_none (window_of set bounds i c)) none q l in
+    some_of (window_of set bounds i q) (rw meets at here)
+
+-- What is at most as much only where a test passes.
+only_if_rises : (b : Bool) (m n : ℕ) → (b ≡ true → m ≤ n) → only_if b m ≤ only_if b n
+only_if_rises true m n h = h refl
+only_if_rises false m n h = omega arith
+
+-- Where there is a window at the greater bounds no more requests run within that at the lower ones.
+there_rise : (set : SetDef) (r s : ℕ → ℕ) (i x p q : ℕ) → ((y : ℕ) → y < i → r y ≤ s y) → x < i
+    → (b : ℕ) → window_of set s i q ≡ Some b → requests_there set r i x p q ≤ requests_there set s i x p q
+there_rise set r s i x p q h l b e =
+    let low : Found (suc (task_at set i).deadline) (is_enough set r i q) b = window_below set r s i q b h e in
+    let lesser : window_of set r i q ≡ Some low.least = low.is_it in
+    rw (e, lesser) (mul-le-mul_left (count_of set x p)
+    (div_ceil_rises (low.least + (r x + (task_at set x).jitter)) (b + (s x + (task_at set x).jitter)) (task_at set x).period
+    (omega (arith, h x l, low.at_most))))
+
+pub met_rise : (set : SetDef) (r s : ℕ → ℕ) (i x p : ℕ) → ((y : ℕ) → y < i → r y ≤ s y) → x < i → lacks_window set s i p ≡ false
+    → requests_met set r i x p ≤ requests_met set s i x p
+met_rise set r s i x p h l none =
+    sum_below-monotone (length set.resources) (λ q. only_if (meets_there set i p q) (count_of set i q * requests_there set r i x p q))
+    (λ q. only_if (meets_there set i p q) (count_of set i q * requests_there set s i x p q))
+    (λ q b. only_if_rises (meets_there set i p q) (count_of set i q * requests_there set r i x p q)
+    (count_of set i q * requests_there set s i x p q) (λ meets.
+    let at : (c : ℕ) × (window_of set s i q ≡ Some c) = window_there set s i p q b none meets in
+    mul-le-mul_left (count_of set i q) (there_rise set r s i x p q h l at.0 at.1)))
+
+-- Where no window is lacking at the greater bounds, none is.
+pub lacks_none : (set : SetDef) (r s : ℕ → ℕ) (i p : ℕ) → ((y : ℕ) → y < i → r y ≤ s y) → lacks_window set s i p ≡ false
+    → lacks_window set r i p ≡ false
+lacks_none set r s i p h none =
+    any_below-none_from (length set.resources) (λ q. meets_there set i p q && is_none (window_of set r i q)) (λ q b. at q b) where
+      at : (q : ℕ) → q < length set.resources → (meets_there set i p q && is_none (window_of set r i q)) ≡ false
+      at q b = elim (cases_Bool (meets_there set i p q)) [
+        | inr away ↦ rw away refl
+        | inl meets ↦
+            let some : (c : ℕ) × (window_of set s i q ≡ Some c) = window_there set s i p q b none meets in
+            let low : Found (suc (task_at set i).deadline) (is_enough set r i q) some.0 = window_below set r s i q some.0 h some.1 in
+            let lesser : window_of set r i q ≡ Some low.least = low.is_it in
+            rw (meets, lesser) refl
+      ]
+
+requests_rise : (set : SetDef) (r s : ℕ → ℕ) (i x p : ℕ) → i < length set.tasks → x < i → IsBelow set r s
+    → requests_in set r i x p ≤ requests_in set s i x p
+requests_rise set r s i x p here l below = mul-le-mul_left (count_of set x p)
+    (div_ceil_rises (r i + (r x + (task_at set x).jitter)) (s i + (s x + (task_at set x).jitter)) (task_at set x).period
+    (omega (arith, below i here, below x (omega arith))))
+
+pub limit_most : (b : Bool) (m n : ℕ) → cond b m (min m n) ≤ m
+limit_most true m n = omega arith
+limit_most false m n = omega arith
+
+-- No limit of a row of windows falls where bounds rise.
+pub window_limit_rises : (set : SetDef) (r s : ℕ → ℕ) (i x p : ℕ) → i < length set.tasks → x < i → IsBelow set r s
+    → (window_row set i x p).limit r ≤ (window_row set i x p).limit s
+window_limit_rises set r s i x p here l below = elim (cases_Bool (lacks_window set s i p)) [
+  | inl lacks ↦
+      let most : (window_row set i x p).limit r ≤ requests_in set r i x p =
+      limit_most (lacks_window set r i p) (requests_in set r i x p) (requests_met set r i x p) in
+      rw lacks (omega (arith, most, requests_rise set r s i x p here l below))
+  | inr none ↦
+      let h : (y : ℕ) → y < i → r y ≤ s y = λ y b. below y (omega arith) in
+      let lower : lacks_window set r i p ≡ false = lacks_none set r s i p h none in
+      rw (none, lower) (omega (arith, requests_rise set r s i x p here l below, met_rise set r s i x p h l none))
+]
