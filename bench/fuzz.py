@@ -40,20 +40,22 @@ PIECES += [b"\xef\xbb\xbf", b"\xff", b"\x00", b"\\u0000", b"\\ud800", b" ", b"\t
 NAME = rb"[A-Za-z0-9_.-]{1,32}"
 PLACE = rb"(root|(resource|task) [0-9]+|request [0-9]+ [0-9]+)"
 SET_REASON = rb"(absent|toolong|notjson|notask|shape %s|size (processors|tasks|resources|requests)|(name|twicename|processor|period|deadline|cost|local|resource|twicerequest|count|length|home|nohome) %s)" % (PLACE, PLACE)
-CERT_REASON = rb"(absent|toolong|notjson|shape (root|bounds|dual [0-9]+)|version|otherprotocol)"
+CERT_REASON = rb"(absent|toolong|notjson|shape|shape (root|bounds|dual [0-9]+)|version|otherprotocol)"
 LINE_REASON = rb"(absent|toolong( [0-9]+)?|(fields|number|unknownname|script|overbudget|tooclose|toomany|unknownjob) [0-9]+)"
 ANSWERS = {
     0: {
         "analyse": rb'\{"bounds":\[[0-9,]+\],"duals":\[.*\],"protocol":"(mpcp|fmlp\+|dpcp|dflp|dpcp-w|spin)","set":"[0-9a-f]{64}","verdict":"schedulable","version":2\}\n',
         "report": rb"task {28}cpu .*\n(.*\n)+(load [0-9]+ [0-9]+\n)+",
         "check": rb"valid\n",
+        "refute": rb'\{"protocol":"(mpcp|fmlp\+|dpcp|dflp|dpcp-w|spin)","set":"[0-9a-f]{64}","steps":\[.*\],"verdict":"notshown","version":1\}\n',
+        "confirm": rb"confirmed\n",
         "upgrade": rb'\{"bounds":\[[0-9,]+\],"duals":\[.*\],"protocol":"(mpcp|fmlp\+|dpcp|dflp|dpcp-w|spin)","set":"[0-9a-f]{64}","verdict":"schedulable","version":2\}\n',
         "conform": rb"lawful [0-9]+\n(%s [0-9]+ ([0-9]+|-) [0-9]+\n)+" % NAME,
         "simulate": rb"ticks(,[A-Za-z0-9_.-]+)+\n([0-9]+(,[0-9]*)+\n)+",
         "audit": rb"kept [0-9]+\n(%s ([0-9]+|-)( [0-9]+){6}\n)+" % NAME,
         "study": rb"step mpcp fmlp\+ dpcp\n([1-8]( [0-9]+){3}\n){8}stopped [0-9]+\n",
     },
-    1: rb"(not shown %s [0-9]+ [0-9]+|invalid (otherset|size|(bound|dualsize|small) %s|cover %s [0-9]+)|broken [0-9]+ (run|keep|grant|idle|priority))\n" % (NAME, NAME, NAME),
+    1: rb"(not shown %s [0-9]+ [0-9]+|schedulable|invalid (otherset|open|step [0-9]+ (after|task|rising|size|row [0-9]+|low)|size|(bound|dualsize|small) %s|cover %s [0-9]+)|broken [0-9]+ (run|keep|grant|idle|priority))\n" % (NAME, NAME, NAME),
     2: rb"refused words\n",
     3: rb"refused (set %s|cert %s|(jobs|rows) %s)\n" % (SET_REASON, CERT_REASON, LINE_REASON),
     5: rb"wide %s\n" % NAME,
@@ -89,7 +91,7 @@ def base_commands(program, folder):
     """Each command over examples that it accepts. Certificates come from the program itself, and so do schedules where there are none."""
     found = [Command("study 0 1", {})]
     for protocol in PROTOCOLS:
-        for name in ("pair.json", "plant.json", "shared.json", "three.json", "overloaded.json"):
+        for name in ("pair.json", "plant.json", "three.json", "overloaded.json"):
             text = example(name)
             if protocol in AT_HOMES and b"home" not in text and b"resources" in text:
                 continue
@@ -100,6 +102,11 @@ def base_commands(program, folder):
                 found += [Command(f"{word} {protocol} set cert", {"set": text, "cert": certificate}) for word in ("check", "report")]
                 old = re.sub(rb'"set":"[0-9a-f]{64}",', b"", certificate).replace(b'"version":2', b'"version":1')
                 found.append(Command(f"upgrade {protocol} set old", {"set": text, "old": old}))
+            refute = Command(f"refute {protocol} set", {"set": text})
+            found.append(refute)
+            status, refusal, _ = refute.run(program, folder, refute.files, refute.words, 600)
+            if status == 0:
+                found.append(Command(f"confirm {protocol} set cert", {"set": text, "cert": refusal}))
             if name in SCHEDULES:
                 found += over_schedules(program, folder, protocol, {"set": text, "cert": certificate}, *SCHEDULES[name])
     return found

@@ -22,7 +22,7 @@ NAME = re.compile(r"[A-Za-z_][\w-]*(?:\.[A-Za-z_][\w-]*)?")
 ITEM = re.compile(r"pub (?:const|enum|struct) (\w+)")
 
 BOUNDS = ["run_plans/Bounding:IsBounding"]
-HEADLINE = ["run_plans/Headline:IsProvedAnalysis,IsProvedCheck"]
+HEADLINE = ["run_plans/Headline:IsProvedAnalysis,IsProvedCheck", "command_words/Spelled:analyse_words,check_words"]
 BEYOND = ["run_plans/Headline:IsHeadline,Analyses", "run_plans/Checked:ChecksWhatWasWritten,FindsValid,ChecksForAnotherSet,FindsOtherSet"]
 LISTS = (
     ("`bounding`, the bounds alone", BOUNDS),

@@ -128,6 +128,8 @@ def commands_of(program, folder):
     every = [["analyse", protocol, plant] for protocol in PROTOCOLS]
     every += [["report", "fmlp+", plant], ["analyse", "mpcp", str(EXAMPLES / "overloaded.json")], ["analyse", "fmlp+", str(EXAMPLES / "none.json")], ["--help"]]
     every += [["conform", protocol, pair, jobs, rows] for protocol in PROTOCOLS]
+    short, refusal = (str(EXAMPLES / name) for name in ("pair-short.json", "pair-short-refusal.json"))
+    every += [["refute", "mpcp", short], ["confirm", "mpcp", short, refusal]]
     every += [["check", "fmlp+", pair, str(certificate)], ["report", "fmlp+", pair, str(certificate)]]
     every += [["audit", "fmlp+", pair, str(certificate), jobs, rows], ["simulate", "fmlp+", pair, jobs, "50"], ["study", "0", "1"]]
     for words in every:

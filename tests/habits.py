@@ -1,4 +1,5 @@
-"""./block --help, the completion of words in bash, and the reading list of the headline."""
+"""./block --help and its bound of memory, the completion of words in bash, and the reading list of the headline."""
+import os
 import re
 import shutil
 import subprocess
@@ -21,6 +22,26 @@ def helped(folder, words):
     shutil.copy(TOP / "block", top)
     shutil.copy(TOP / "docs" / "GUIDE.md", top / "docs")
     return subprocess.run([top / "block", *words], cwd=folder, capture_output=True, text=True)
+
+
+def bounded(folder, program, memory):
+    """The status and the answer of a copy of ./block, which runs the program over a large text of nested objects."""
+    top = Path(folder) / "bounded"
+    out = top / "crates" / "block_cli" / "out"
+    out.mkdir(parents=True, exist_ok=True)
+    (top / "crates.txt").touch()
+    shutil.copy(TOP / "block", top)
+    shutil.copy(program, out / "block_cli")
+    (out / "block.built").touch()
+    (top / "set").write_text('{"processors":1,"tasks":[' + ",".join(['{"a":{"b":{}}}'] * 300_000) + "]}")
+    ran = subprocess.run([top / "block", "report", "fmlp+", "set"], cwd=top, capture_output=True, text=True, env={**os.environ, **memory})
+    return ran.returncode, ran.stdout
+
+
+def memory_problem(folder, program):
+    """BLOCK_MEMORY bounds the program's memory; without it the same text is read whole, and refused."""
+    found = [bounded(folder, program, memory) for memory in ({"BLOCK_MEMORY": "200000"}, {"BLOCK_MEMORY": "unlimited"}, {})]
+    return None if found == [(7, ""), (3, "refused set shape task 1\n"), (3, "refused set shape task 1\n")] else f"./block in little memory: {found}"
 
 
 def forms_of(text):
@@ -64,7 +85,7 @@ def reading_problem():
     return None if same else "the tables of docs/PROOFS.md aren't those that bench/reading.py --table prints"
 
 
-def problems(folder):
+def problems(folder, program):
     """What is wrong, or None, for each thing that is tried."""
     shown = [helped(folder, words) for words in (["--help"], ["-h"], ["--help", "analyse"])]
     answers = {(ran.returncode, ran.stdout, ran.stderr) for ran in shown}
@@ -84,3 +105,4 @@ def problems(folder):
     yield None if registered.returncode == 0 else f"the completion isn't registered: {registered.stderr}"
     yield from list(form_problems(forms, place)) or [None]
     yield reading_problem()
+    yield memory_problem(folder, program)

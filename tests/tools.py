@@ -6,7 +6,7 @@
 What a schedule comes to is compared in full; of the pictures it looks whether they are well formed and name what they show, which needs
 matplotlib and is left out with a word where no Python here has it. The tools that ask the program are tried by
 edges_and_certificates.py, sets_from_tables.py and dossiers.py, over PROGRAM, which is what `rt ci` or `./block` built where none is given.
-What needs no program, the help of ./block and the completion of its words, is tried by habits.py.
+The help of ./block, its bound of memory, and the completion of its words are tried by habits.py.
 """
 import subprocess
 import sys
@@ -143,12 +143,13 @@ def problems(folder):
 
 
 def main():
+    program = Path(sys.argv[1]).resolve() if sys.argv[1:] else BUILT
     with tempfile.TemporaryDirectory(prefix="block-") as folder:
-        found = [*habits.problems(folder), *problems(folder)]
+        found = [*habits.problems(folder, program), *problems(folder)]
         for tried in (edges_and_certificates, sets_from_tables, dossiers):
             place = Path(folder) / tried.__name__
             place.mkdir()
-            found += tried.problems(place, Path(sys.argv[1]).resolve() if sys.argv[1:] else BUILT)
+            found += tried.problems(place, program)
     wrong = [problem for problem in found if problem is not None]
     print(*wrong, f"the tools: {len(found) - len(wrong)} passed, {len(wrong)} failed", sep="\n")
     sys.exit(1 if wrong else 0)

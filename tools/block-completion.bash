@@ -20,9 +20,9 @@ _block_files() {
 _block() {
     COMPREPLY=()
     case ${COMP_WORDS[1]}:$COMP_CWORD in
-        *:1) _block_words "analyse check upgrade report conform simulate study audit --help" ;;
-        analyse:2 | check:2 | upgrade:2 | report:2 | conform:2 | simulate:2 | audit:2) _block_words "mpcp fmlp+ dpcp dflp dpcp-w spin" ;;
-        analyse:3 | check:3 | upgrade:3 | report:3 | conform:3 | simulate:3 | audit:3 | check:4 | upgrade:4 | report:4 | audit:4) _block_files json ;;
+        *:1) _block_words "analyse refute check confirm upgrade report conform simulate study audit --help" ;;
+        analyse:2 | refute:2 | check:2 | confirm:2 | upgrade:2 | report:2 | conform:2 | simulate:2 | audit:2) _block_words "mpcp fmlp+ dpcp dflp dpcp-w spin" ;;
+        analyse:3 | refute:3 | check:3 | confirm:3 | upgrade:3 | report:3 | conform:3 | simulate:3 | audit:3 | check:4 | confirm:4 | upgrade:4 | report:4 | audit:4) _block_files json ;;
         conform:4 | simulate:4 | conform:5 | audit:5 | audit:6) _block_files csv ;;
     esac
 }

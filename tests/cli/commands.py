@@ -1,10 +1,10 @@
 """Each command over the pair of tasks: its words, the inputs that it reads, in that order, and the whole of what it writes."""
 from dataclasses import dataclass
 
-from sets import OLD_PAIR_CERTIFICATE, PAIR, PAIR_AUDITED, PAIR_CERTIFICATE, PAIR_FULL_TABLE, PAIR_JOBS, PAIR_MEASURED, PAIR_ROWS, PAIR_SIMULATED, PAIR_TABLE, STUDIED
+from sets import OLD_PAIR_CERTIFICATE, PAIR, PAIR_AUDITED, PAIR_CERTIFICATE, PAIR_FULL_TABLE, PAIR_JOBS, PAIR_MEASURED, PAIR_ROWS, PAIR_SIMULATED, PAIR_TABLE, SHORT, SHORT_REFUSAL, STUDIED
 
 INPUTS = {"set": PAIR, "cert": PAIR_CERTIFICATE, "jobs": PAIR_JOBS, "rows": PAIR_ROWS}
-FILES = {**INPUTS, "old": OLD_PAIR_CERTIFICATE}
+FILES = {**INPUTS, "old": OLD_PAIR_CERTIFICATE, "short": SHORT, "refusal": SHORT_REFUSAL}
 
 
 @dataclass(frozen=True)
@@ -19,7 +19,9 @@ class Command:
 
 COMMANDS = [
     Command("analyse fmlp+ set", PAIR_CERTIFICATE),
+    Command("refute mpcp short", SHORT_REFUSAL),
     Command("check fmlp+ set cert", "valid\n"),
+    Command("confirm mpcp short refusal", "confirmed\n"),
     Command("upgrade fmlp+ set old", PAIR_CERTIFICATE),
     Command("report fmlp+ set", PAIR_TABLE),
     Command("report fmlp+ set cert", PAIR_FULL_TABLE),

@@ -18,20 +18,25 @@ def parsed(text):
         return None
 
 
+def kind_of(value):
+    """The schema that a value has to meet, by its verdict."""
+    return {None: "task-set", "notshown": "refusal"}.get(value.get("verdict"), "certificate")
+
+
 def shown_certificates():
-    """The certificates that the documents show."""
+    """The certificates and refusals that the documents show."""
     for document in ("README.md", "docs/GUIDE.md", "docs/FORMATS.md"):
         for line in (TOP / document).read_text().splitlines():
-            if re.fullmatch(r'\{"bounds":.*\}', line):
+            if re.fullmatch(r'\{"(bounds|protocol)":.*\}', line):
                 yield document, json.loads(line)
 
 
 def examples():
-    """Each JSON file among the examples, and the schema that it has to meet. Certificates of version 1 have none."""
+    """Each JSON file among the examples but certificates of version 1, which have no schema."""
     for path in sorted((TOP / "examples").glob("*.json")):
         value = json.loads(path.read_text())
-        if value.get("version") != 1:
-            yield path.name, "certificate" if "verdict" in value else "task-set", value
+        if kind_of(value) != "certificate" or value["version"] != 1:
+            yield path.name, value
 
 
 def accepted_sets(cases):
@@ -45,9 +50,9 @@ def accepted_sets(cases):
 
 
 def certificates_of(cases):
-    """The certificates that the program is to write in the table."""
+    """The certificates and refusals that the program is to write in the table."""
     for name, case in cases:
-        if case.status == 0 and isinstance(case.says, str) and case.says.startswith('{"bounds"'):
+        if case.status == 0 and isinstance(case.says, str) and case.says.startswith(('{"bounds"', '{"protocol"')):
             yield f"{name}: {case.shows}", json.loads(case.says)
 
 
@@ -57,11 +62,11 @@ def differences(cases):
         from jsonschema import Draft7Validator
     except ImportError:
         return None, 0
-    validators = {name: Draft7Validator(schema(name)) for name in ("task-set", "certificate")}
+    validators = {name: Draft7Validator(schema(name)) for name in ("task-set", "certificate", "refusal")}
     for validator in validators.values():
         Draft7Validator.check_schema(validator.schema)
-    taken = list(examples())
-    taken += [(name, "certificate", value) for name, value in (*shown_certificates(), *certificates_of(cases))]
+    written = (*examples(), *shown_certificates(), *certificates_of(cases))
+    taken = [(name, kind_of(value), value) for name, value in written]
     taken += [(name, "task-set", value) for name, value in accepted_sets(cases)]
     errors = [(name, kind, next(validators[kind].iter_errors(value), None)) for name, kind, value in taken]
     found = [f"docs/schema/{kind}.schema.json refuses {name}: {error.message}" for name, kind, error in errors if error is not None]

@@ -64,6 +64,21 @@ PAIR_MEASURED = "lawful 5\nt1 1 5 2\nt2 1 4 0\n"
 PAIR_AUDITED = "kept 5\nt1 5 5 2 2 2 0 0\nt2 4 5 0 1 0 0 0\n"
 PAIR_SIMULATED = "ticks,P1,P2,q\n1,1,2,\n1,1,,1\n1,1,2,2\n1,,2,2\n1,,2,\n"
 
+
+def step(number, value, *num, den=1):
+    """A step of a refusal: its task, counted from 1, the task's next bound, and a point's numerators over a denominator."""
+    return {"point": {"den": den, "num": list(num)}, "task": number, "value": value}
+
+
+def refusal(protocol, of, *steps):
+    """The text of a refusal of the set whose text is given."""
+    written = {"protocol": protocol, "set": digest_of(of), "steps": list(steps), "verdict": "notshown", "version": 1}
+    return json.dumps(written, separators=(",", ":")) + "\n"
+
+
+SHORT = pair(first={"deadline": 4})
+SHORT_REFUSAL = refusal("mpcp", SHORT, step(1, 5, 1))
+
 HEADER = "task                            cpu     period   deadline       cost      local\n"
 PAIR_TABLE = (
     HEADER

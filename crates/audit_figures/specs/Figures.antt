@@ -6,7 +6,7 @@ use Rattle.bounded_sums.specs.Tests.{count_below}
 use Rattle.schedule_model.specs.RowDef.{Trace}
 use Rattle.schedule_model.specs.Activity.{task_of}
 use Rattle.schedule_model.specs.BlockedTicks.{is_blocked}
-use Rattle.schedule_model.specs.Measures.{measures_of}
+use Rattle.schedule_model.specs.Measures.{blocking_of, measures_of}
 use Rattle.fragments.specs.declared.columns.Class.{Class}
 use Rattle.fragments.specs.declared.columns.Class.TheVariants.{Direct, Indirect, Preemption}
 use Rattle.charge_model.specs.Charges.{Charge}
@@ -31,6 +31,10 @@ unfoldable pub blocked_sum : (Trace → ℕ → ℕ → Bool) → Trace → (ℕ
 blocked_sum interferes w bound n x =
     sum_below (length w.jobs)
     (λ j. only_if (task_of w j == x) (count_below (window_end w bound n j) (λ t. is_blocked interferes w t j)))
+
+-- And at how many of n ticks, within their windows or not?
+unfoldable pub blocked_ticks : (Trace → ℕ → ℕ → Bool) → Trace → ℕ → ℕ → ℕ
+blocked_ticks interferes w n x = sum_below (length w.jobs) (λ j. only_if (task_of w j == x) (blocking_of interferes w n j))
 
 -- The figures of task x over n rows, where tasks have these bounds and values.
 unfoldable pub figures_of : (Trace → ℕ → ℕ → Option Charge) → (Trace → ℕ → ℕ → Bool) → Trace → (ℕ → ℕ) → (ℕ → ℕ) → ℕ → ℕ → TaskFigures

@@ -14,7 +14,7 @@ ghost use Rattle.soundness_laws.specs.Sound.{Sound};
 ghost use Rattle.charge.specs.Table.{item_seen, IsChargeTable};
 ghost use Rattle.charge.specs.ByProtocol.{charges_of};
 ghost use Rattle.dual_check.specs.Answers.{HasDenominators};
-ghost use Rattle.audit_figures.specs.Figures.{no_figures, blocked_sum, AreFigures};
+ghost use Rattle.audit_figures.specs.Figures.{no_figures, blocked_sum, blocked_ticks, AreFigures};
 ghost use Rattle.audit_figures.specs.Audited.{Audits, LieWithin, charged_ticks};
 
 use crate::beside::{TaskFigures, figures};
@@ -132,6 +132,10 @@ pub fn audit_with<P: ChargedProtocol>(
     ensures adds_up { IfOk result (λ v. (x : ℕ) → x < length jobs.now.set.tasks → charged_ticks (slice_index_or v.items x no_figures)
         ≡ blocked_sum (P.interferes protocol.now) (trace_in jobs.now rows.now.runs) (slice_index certificate.now.bounds.items)
         (ticks_of rows.now.runs) x) }
+
+    // And all those at which they are blocked at all.
+    ensures adds_up_to_all { IfOk result (λ v. (x : ℕ) → x < length jobs.now.set.tasks → charged_ticks (slice_index_or v.items x no_figures)
+        ≡ blocked_ticks (P.interferes protocol.now) (trace_in jobs.now rows.now.runs) (ticks_of rows.now.runs) x) }
 {
     jobs.set().keeps_the_model();
     jobs.keeps_its_rules();
@@ -175,6 +179,8 @@ pub fn audit(
     ensures adds_up { IfOk result (λ v. (x : ℕ) → x < length jobs.now.set.tasks → charged_ticks (slice_index_or v.items x no_figures)
         ≡ blocked_sum (interference_of protocol) (trace_in jobs.now rows.now.runs) (slice_index certificate.now.bounds.items)
         (ticks_of rows.now.runs) x) }
+    ensures adds_up_to_all { IfOk result (λ v. (x : ℕ) → x < length jobs.now.set.tasks → charged_ticks (slice_index_or v.items x no_figures)
+        ≡ blocked_ticks (interference_of protocol) (trace_in jobs.now rows.now.runs) (ticks_of rows.now.runs) x) }
 {
     match protocol {
         Protocol::Mpcp => audit_with(alloc, &Mpcp, certificate, jobs, rows),

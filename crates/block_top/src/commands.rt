@@ -1,10 +1,11 @@
 ghost use Rattle.std.specs.Prelude.{◌≤◌, IfOk};
 ghost use Rattle.sporadic_model.specs.declared.limits.TheConstants.{MOST_TICKS};
 ghost use Rattle.named_protocols.specs.Named.{HasHomes};
-ghost use Rattle.command_words.specs.Words.{Analyse, Check, Upgrade, Report, FullReport, Conform, Simulate, words_seen, Audit};
+ghost use Rattle.command_words.specs.Words.{Analyse, Refute, Check, Confirm, Upgrade, Report, FullReport, Conform, Simulate};
+ghost use Rattle.command_words.specs.Words.{Audit, words_seen};
 ghost use Rattle.command_words.specs.FormSeen.{form_seen, HasFittingNumbers};
 ghost use Rattle.run_plans.specs.Commands.{check_of, full_table_of, upgrading, with_certificate, judging_rows, judging_jobs};
-ghost use Rattle.run_plans.specs.Commands.{simulating_jobs, plan_of, auditing_rows, auditing_jobs, auditing};
+ghost use Rattle.run_plans.specs.Commands.{simulating_jobs, plan_of, auditing_rows, auditing_jobs, auditing, confirming};
 ghost use Rattle.program_form.specs.Certificate.{certificate_seen};
 ghost use Rattle.cert_json.specs.File.{file_seen};
 ghost use Rattle.dual_check.specs.Answers.{HasDenominators};
@@ -12,8 +13,11 @@ ghost use Rattle.run_plans.specs.Outcome.{shown, IsReply};
 ghost use Rattle.run_plans.specs.Replies.{reply_seen, AnswersPlan, Keeps};
 
 use crate::auditing::audited;
-use crate::input::{get_cert, get_jobs, get_old_cert, get_rows, get_set, get_tied_set};
+use crate::input::{
+    get_cert, get_jobs, get_old_cert, get_refusal, get_rows, get_set, get_tied_set,
+};
 use crate::judging::{judgement, proved_table};
+use crate::refusing::{confirmation, refutation};
 use crate::study::counted;
 use crate::upgrading::upgraded;
 use crate::work::{analysis, conformance, no_form, simulation, table};
@@ -41,6 +45,55 @@ fn analyse_reply<R: Threads + Sync, S: Shelf>(
 {
     let (set, digest) = get_tied_set(alloc, shelf, protocol, name)?;
     analysis(rt, alloc, &digest, &set, protocol, allowance)
+}
+
+/// Reads the inputs of `refute`, and does its work.
+fn refute_reply<S: Shelf>(
+    alloc: Global,
+    shelf: &mut S,
+    protocol: ProtocolName,
+    name: &str,
+    allowance: u64,
+) -> Result<Reply, Halt>
+    ensures reply { AnswersPlan result (S.seen shelf.old) (S.seen shelf.new) (plan_of (Refute protocol name.now allowance)) }
+    ensures keeps { Keeps (S.seen shelf.old) (S.seen shelf.new) }
+{
+    let (set, digest) = get_tied_set(alloc, shelf, protocol, name)?;
+    refutation(alloc, &digest, &set, protocol, allowance)
+}
+
+/// Reads the refusal of `confirm`, once its set is read, and does its work.
+fn confirmation_reply<R: Threads + Sync, S: Shelf>(
+    rt: &R,
+    alloc: Global,
+    shelf: &mut S,
+    protocol: ProtocolName,
+    digest: &[u8; 32],
+    set: &TaskSet,
+    cert: &str,
+) -> Result<Reply, Halt>
+    requires { HasHomes protocol set.now }
+    ensures reply { AnswersPlan result (S.seen shelf.old) (S.seen shelf.new) (confirming protocol cert.now digest.now set.now) }
+    ensures keeps { Keeps (S.seen shelf.old) (S.seen shelf.new) }
+{
+    let (refusal, own) = get_refusal(alloc, shelf, protocol, cert)?;
+    confirmation(rt, alloc, protocol, digest, set, &refusal, &own)
+}
+
+/// Reads the inputs of `confirm`, and does its work.
+fn confirm_reply<R: Threads + Sync, S: Shelf>(
+    rt: &R,
+    alloc: Global,
+    shelf: &mut S,
+    protocol: ProtocolName,
+    set: &str,
+    cert: &str,
+) -> Result<Reply, Halt>
+    ensures reply { AnswersPlan result (S.seen shelf.old) (S.seen shelf.new) (plan_of (Confirm protocol set.now cert.now)) }
+    ensures keeps { Keeps (S.seen shelf.old) (S.seen shelf.new) }
+{
+    let (set, digest) = get_tied_set(alloc, shelf, protocol, set)?;
+    confirmation_reply(rt, alloc, shelf, protocol, &digest, &set, cert)
 }
 
 /// Reads the certificate of `check`, once its set is read, and does its work.
@@ -340,11 +393,21 @@ fn command_reply<R: Threads + Sync, S: Shelf>(
             set,
             allowance,
         } => analyse_reply(rt, alloc, shelf, protocol, set, allowance),
+        Command::Refute {
+            protocol,
+            set,
+            allowance,
+        } => refute_reply(alloc, shelf, protocol, set, allowance),
         Command::Check {
             protocol,
             set,
             certificate,
         } => check_reply(alloc, shelf, protocol, set, certificate),
+        Command::Confirm {
+            protocol,
+            set,
+            refusal,
+        } => confirm_reply(rt, alloc, shelf, protocol, set, refusal),
         Command::Upgrade {
             protocol,
             set,

@@ -3,9 +3,12 @@ ghost use Rattle.outside_ports.specs.declared.whole.TheConstants.{GREATEST_INPUT
 ghost use Rattle.program_form.specs.Certificate.{certificate_seen};
 ghost use Rattle.named_protocols.specs.Named.{HasHomes};
 ghost use Rattle.dual_check.specs.Answers.{HasDenominators};
+ghost use Rattle.refusal_laws.specs.Steps.{HasDenominators as HasPointDenominators};
+ghost use Rattle.refusal_laws.specs.Seen.{steps_seen};
 ghost use Rattle.run_plans.specs.Plans.{refused};
-ghost use Rattle.reply_texts.specs.Refusals.{reason_text, cert_reason_text, jobs_reason_text, rows_reason_text};
-ghost use Rattle.run_plans.specs.Inputs.{set_input, cert_input, old_cert_input, jobs_input, rows_input};
+ghost use Rattle.reply_texts.specs.Refusals.{reason_text, cert_reason_text, refusal_reason_text, jobs_reason_text, rows_reason_text};
+ghost use Rattle.run_plans.specs.Inputs.{set_input, cert_input, old_cert_input, refusal_input, jobs_input, rows_input};
+ghost use Rattle.run_plans.specs.RefusalReplies.{refusal_taken};
 ghost use Rattle.run_plans.specs.Outcome.{shown};
 ghost use Rattle.run_plans.specs.Replies.{HaltsWith, IsLoaded, IsTaken, IsGot, IsGotTied, cert_taken, old_cert_taken, ReadsSetFor, Keeps};
 
@@ -13,7 +16,9 @@ use cert_json::{CertFile, CertRefusal};
 use outside_ports::{LoadFault, Shelf, load};
 use program_form::Certificate;
 use protocol_names::ProtocolName;
-use reply_texts::{cert_reason, jobs_reason, reason, rows_reason};
+use refusal_json::{ReadFault, read_refusal};
+use refusal_laws::Refusal;
+use reply_texts::{cert_reason, jobs_reason, reason, refusal_reason, rows_reason};
 use run_plans::{Halt, fault, refusal};
 use schedule_model::{JobList, RowList};
 use set_digests::set_digest;
@@ -179,6 +184,50 @@ pub fn get_old_cert<S: Shelf>(
 {
     let bytes = load_input(alloc, shelf, "cert", name)?;
     take_old_cert(alloc, &bytes, protocol)
+}
+
+/// The reply that a refusal is refused.
+fn refusal_refusal(alloc: Global, cause: ReadFault) -> Halt
+    ensures { HaltsWith result (λ answer. answer ≡ refused (codes "cert") (refusal_reason_text cause)) }
+{
+    match refusal_reason(alloc, cause) {
+        Ok(reason) => refusal(alloc, "cert", reason.as_str()),
+        Err(AllocError) => Halt::Memory,
+    }
+}
+
+/// The refusal for the protocol that the bytes are, with its set's digest, or the reply that refuses them.
+fn take_refusal(
+    alloc: Global,
+    bytes: &[u8],
+    protocol: ProtocolName,
+) -> Result<(Refusal, [u8; 32]), Halt>
+    requires { length bytes.now ≤ GREATEST_INPUT_BYTES }
+    ensures taken { IsTaken (refusal_input protocol) bytes.now (refusal_taken result) }
+    ensures denominators { IfOk result (λ given. HasPointDenominators (steps_seen given.0)) }
+{
+    match read_refusal(alloc, bytes, protocol.word()) {
+        Ok(given) => Ok(given),
+        Err(ReadFault::Memory) => Err(Halt::Memory),
+        Err(cause) => Err(refusal_refusal(alloc, cause)),
+    }
+}
+
+/// Loads and reads the refusal of this name, which is for this protocol, with its set's digest.
+pub fn get_refusal<S: Shelf>(
+    alloc: Global,
+    shelf: &mut S,
+    protocol: ProtocolName,
+    name: &str,
+) -> Result<(Refusal, [u8; 32]), Halt>
+    ensures got { IsGot
+        (shown (S.seen shelf.old) (S.seen shelf.new))
+        (refusal_input protocol) name.now (refusal_taken result) }
+    ensures denominators { IfOk result (λ given. HasPointDenominators (steps_seen given.0)) }
+    ensures keeps { Keeps (S.seen shelf.old) (S.seen shelf.new) }
+{
+    let bytes = load_input(alloc, shelf, "cert", name)?;
+    take_refusal(alloc, &bytes, protocol)
 }
 
 /// The reply that jobs are refused.

@@ -5,6 +5,7 @@ mod auditing;
 mod commands;
 mod input;
 mod judging;
+mod refusing;
 mod study;
 mod top;
 mod tying;

@@ -10,13 +10,20 @@ use run_plans::{Reply, Status};
 use std::alloc::{AllocError, Global};
 
 /// The reply where a certificate is of another set.
-fn other_set_reply(alloc: Global) -> Result<Reply, AllocError>
+pub(crate) fn other_set_reply(alloc: Global) -> Result<Reply, AllocError>
     ensures { IfOk result (λ r. reply_seen r ≡ other_set_answer) }
 {
     Ok(Reply {
         status: Status::No,
         text: other_set_line(alloc)?,
     })
+}
+
+/// Are the two digests the same?
+pub(crate) fn are_same(own: &[u8; 32], digest: &[u8; 32]) -> bool
+    ensures { IsTrue result ↔ (own.now ≡ digest.now) }
+{
+    own.as_slice() == digest.as_slice()
 }
 
 /// Is the certificate of the set of this digest?

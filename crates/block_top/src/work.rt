@@ -70,7 +70,7 @@ fn not_shown_reply(
 }
 
 /// The reply where a task's program is too wide.
-fn wide_reply(alloc: Global, set: &TaskSet, task: TaskId) -> Result<Reply, AllocError>
+pub(crate) fn wide_reply(alloc: Global, set: &TaskSet, task: TaskId) -> Result<Reply, AllocError>
     requires { task.0 < length set.now.tasks }
     ensures { IfOk result (λ r. reply_seen r ≡ record { status = 5; text = wide_text (task_at set.now task.0).name }) }
 {
@@ -81,7 +81,7 @@ fn wide_reply(alloc: Global, set: &TaskSet, task: TaskId) -> Result<Reply, Alloc
 }
 
 /// The reply where the programs want more units than the allowance.
-fn allowance_reply(alloc: Global) -> Result<Reply, AllocError>
+pub(crate) fn allowance_reply(alloc: Global) -> Result<Reply, AllocError>
     ensures { IfOk result (λ r. reply_seen r ≡ record { status = 6; text = allowance_text }) }
 {
     Ok(Reply {

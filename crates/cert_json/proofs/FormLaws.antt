@@ -11,7 +11,9 @@ use Rattle.cert_json.specs.declared.version.Version.{Version}
 use Rattle.cert_json.specs.declared.refusal.CertRefusal.{CertRefusal}
 use Rattle.cert_json.specs.declared.refusal.CertRefusal.TheVariants as refusal
 use Rattle.cert_json.specs.declared.refusal.CertPlace.TheVariants as place
-use Rattle.cert_json.specs.Form.{number_of, is_certificate, is_whole, is_dual, is_for, has_form}
+use Rattle.cert_json.specs.Form.{is_dual}
+use Rattle.cert_json.specs.FormParts.{is_whole, is_for}
+use Rattle.cert_json.specs.Versions.{number_of, is_certificate_of, has_form_of}
 use Rattle.cert_json.specs.Answers.{JudgesValue}
 use Rattle.cert_json.specs.Refusals.{version_refusal, refused_unless, first_bad_dual, first_refusal}
 
@@ -62,12 +64,12 @@ none_version v (Some n) = one_or_other (n == number_of v)
 both : {a b c d : Bool} → a ≡ b → c ≡ d → (a && c) ≡ (b && d)
 both e f = ap₂ (λ x y. x && y) e f
 
-none_refused : (v : Version) (word : List ℕ) (d : Data) → is_none (first_refusal v word d) ≡ has_form v word d
+none_refused : (v : Version) (word : List ℕ) (d : Data) → is_none (first_refusal v word d) ≡ has_form_of v word d
 none_refused v word d =
     none_or (version_refusal v (whole_at (codes "version") d)) _
     ∙ both (none_version v (whole_at (codes "version") d))
-    (none_or (refused_unless (is_certificate v d) (refusal.Shape place.Root)) _
-    ∙ both (none_unless (is_certificate v d) (refusal.Shape place.Root))
+    (none_or (refused_unless (is_certificate_of v d) (refusal.Shape place.Root)) _
+    ∙ both (none_unless (is_certificate_of v d) (refusal.Shape place.Root))
     (none_or (refused_unless (list_all is_whole (list_at (codes "bounds") d)) (refusal.Shape place.Bounds)) _
     ∙ both (none_unless (list_all is_whole (list_at (codes "bounds") d)) (refusal.Shape place.Bounds))
     (none_or (option_map (λ k. refusal.Shape (place.Dual k)) (first_bad_dual d)) _
@@ -76,7 +78,7 @@ none_refused v word d =
     (none_unless (is_for word d) refusal.OtherProtocol))))
 
 -- Where there is no cause the value has the form.
-pub form_from : (v : Version) (word : List ℕ) (d : Data) → first_refusal v word d ≡ None → has_form v word d ≡ true
+pub form_from : (v : Version) (word : List ℕ) (d : Data) → first_refusal v word d ≡ None → has_form_of v word d ≡ true
 form_from v word d h = sym (none_refused v word d) ∙ ap is_none h
 
 is_there : (o : Option CertRefusal) → is_none o ≡ true → o ≡ None
@@ -84,10 +86,10 @@ is_there None e = refl
 is_there (Some r) e = absurd (cc)
 
 -- Where the value has the form there is no cause.
-pub none_from_form : (v : Version) (word : List ℕ) (d : Data) → has_form v word d ≡ true → first_refusal v word d ≡ None
+pub none_from_form : (v : Version) (word : List ℕ) (d : Data) → has_form_of v word d ≡ true → first_refusal v word d ≡ None
 none_from_form v word d h = is_there (first_refusal v word d) (none_refused v word d ∙ h)
 
-pub form_of : (o : Option CertRefusal) (v : Version) (word : List ℕ) (d : Data) → o ≡ first_refusal v word d → IfNone o (has_form v word d ≡ true)
+pub form_of : (o : Option CertRefusal) (v : Version) (word : List ℕ) (d : Data) → o ≡ first_refusal v word d → IfNone o (has_form_of v word d ≡ true)
 form_of None v word d h = form_from v word d (sym h)
 form_of (Some r) v word d h = tt
 
@@ -127,8 +129,8 @@ dual_refused (Some k) = tt
 refused : (v : Version) (word : List ℕ) (d : Data) → IfRefused (first_refusal v word d)
 refused v word d =
     or_refused (version_refusal v (whole_at (codes "version") d)) _ (version_refused v (whole_at (codes "version") d))
-    (or_refused (refused_unless (is_certificate v d) (refusal.Shape place.Root)) _
-    (unless_refused (is_certificate v d) (refusal.Shape place.Root) tt)
+    (or_refused (refused_unless (is_certificate_of v d) (refusal.Shape place.Root)) _
+    (unless_refused (is_certificate_of v d) (refusal.Shape place.Root) tt)
     (or_refused (refused_unless (list_all is_whole (list_at (codes "bounds") d)) (refusal.Shape place.Bounds)) _
     (unless_refused (list_all is_whole (list_at (codes "bounds") d)) (refusal.Shape place.Bounds) tt)
     (or_refused (option_map (λ k. refusal.Shape (place.Dual k)) (first_bad_dual d)) _ (dual_refused (first_bad_dual d))

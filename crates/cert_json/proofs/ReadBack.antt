@@ -25,7 +25,8 @@ use Rattle.cert_json.specs.declared.version.Version.TheVariants as version
 use Rattle.cert_json.specs.declared.refusal.CertRefusal.{CertRefusal}
 use Rattle.cert_json.specs.declared.refusal.CertRefusal.TheVariants as refusal
 use Rattle.cert_json.specs.FileDef.{FileDef}
-use Rattle.cert_json.specs.Form.{is_whole, is_from, is_dual, has_form}
+use Rattle.cert_json.specs.Form.{is_from, is_dual, has_form}
+use Rattle.cert_json.specs.FormParts.{is_whole}
 use Rattle.cert_json.specs.Refusals.{first_refusal}
 use Rattle.cert_json.specs.Written.{numbers_written, dual_written, certificate_written, file_written}
 use Rattle.cert_json.specs.Ranges.{IsSmallDual, IsWritable}
@@ -37,14 +38,14 @@ use Rattle.cert_json.proofs.PlainTexts.{IsPlain, ArePlain, line_is_value}
 
 -- ---- small numbers have 64 bits
 
-record Has64Bits (d : DualDef) : Type 0 where
-  den : d.den < 2 ^ 64
-  num : All (λ n. n < 2 ^ 64) d.num
+pub record Has64Bits (d : DualDef) : Type 0 where
+  pub den : d.den < 2 ^ 64
+  pub num : All (λ n. n < 2 ^ 64) d.num
 
 small_64 : (n : ℕ) → n ≤ MOST_NUMBER → n < 2 ^ 64
 small_64 n h = omega (arith, h)
 
-each_64 : (d : DualDef) → IsSmallDual d → Has64Bits d
+pub each_64 : (d : DualDef) → IsSmallDual d → Has64Bits d
 each_64 d h = record { den = small_64 d.den h.small; num = λ k z l. small_64 _ (h.numerators k z l) }
 
 -- ---- its text is read as its value
@@ -59,7 +60,7 @@ ascii-den = IsUtf8-are_ascii (codes "den") refl
 ascii-num : IsUtf8 (codes "num")
 ascii-num = IsUtf8-are_ascii (codes "num") refl
 
-dual-plain : (d : DualDef) → Has64Bits d → IsPlain (dual_data d)
+pub dual-plain : (d : DualDef) → Has64Bits d → IsPlain (dual_data d)
 dual-plain d h = (ascii-den, (h.den, (ascii-num, (numbers-plain d.num h.num, tt))))
 
 duals-plain : (ds : List DualDef) → All IsSmallDual ds → ArePlain (items_of (map dual_data ds))
@@ -103,7 +104,7 @@ certificate-plain word digest c u h = (
   ),
 )
 
-numbers-flat : (ns : List ℕ) → tree.items_depth (items_outline (items_of (map number_data ns))) ≡ 0
+pub numbers-flat : (ns : List ℕ) → tree.items_depth (items_outline (items_of (map number_data ns))) ≡ 0
 numbers-flat [] = refl
 numbers-flat (n ∷ ns) = rw (numbers-flat ns) refl
 
@@ -120,7 +121,7 @@ numbers-again [] h = refl
 numbers-again (n ∷ ns) h = rw
     (number_of-decimal n (All-head (λ m. m < 2 ^ 64) n ns h), numbers-again ns (All-tail (λ m. m < 2 ^ 64) n ns h)) refl
 
-dual-again : (d : DualDef) → Has64Bits d → of_json (outline (dual_data d)) ≡ Some (dual_data d)
+pub dual-again : (d : DualDef) → Has64Bits d → of_json (outline (dual_data d)) ≡ Some (dual_data d)
 dual-again d h = rw (number_of-decimal d.den h.den, numbers-again d.num h.num) refl
 
 duals-again : (ds : List DualDef) → All IsSmallDual ds
@@ -154,18 +155,18 @@ are_numerators (n ∷ ns) h =
     ap₂ (λ a b. a && b) (from_least 0 n (omega arith) (All-head (λ m. m ≤ MOST_NUMBER) n ns h))
     (are_numerators ns (All-tail (λ m. m ≤ MOST_NUMBER) n ns h))
 
-dual_formed : (d : DualDef) → IsSmallDual d → is_dual (dual_data d) ≡ true
+pub dual_formed : (d : DualDef) → IsSmallDual d → is_dual (dual_data d) ≡ true
 dual_formed d h = ap₂ (λ a b. a && b) (from_least 1 d.den h.positive h.small) (are_numerators d.num h.numerators)
 
 are_duals : (ds : List DualDef) → All IsSmallDual ds → list_all is_dual (values_of (items_of (map dual_data ds))) ≡ true
 are_duals [] h = refl
 are_duals (d ∷ ds) h = ap₂ (λ a b. a && b) (dual_formed d (All-head IsSmallDual d ds h)) (are_duals ds (All-tail IsSmallDual d ds h))
 
-same_word : (word : List ℕ) → bytes_eq word word ≡ true
+pub same_word : (word : List ℕ) → bytes_eq word word ≡ true
 same_word word = (bytes_eq-Decides word word).1 refl
 
 pub formed : (word digest : List ℕ) (c : CertificateDef) → IsDigest digest → IsWritable c
-    → has_form version.Second word (certificate_data word digest c) ≡ true
+    → has_form word (certificate_data word digest c) ≡ true
 formed word digest c is h = rw
     (text_of_digest digest is, are_whole c.bounds, are_duals c.duals h.duals, same_word word) refl
 
@@ -173,7 +174,7 @@ numbers-written : (ns : List ℕ) → numbers_written (values_of (items_of (map 
 numbers-written [] = refl
 numbers-written (n ∷ ns) = ap (λ l. n ∷ l) (numbers-written ns)
 
-dual-written : (d : DualDef) → dual_written (dual_data d) ≡ d
+pub dual-written : (d : DualDef) → dual_written (dual_data d) ≡ d
 dual-written d = ap (λ ns. record { den = d.den; num = ns }) (numbers-written d.num)
 
 duals-written : (ds : List DualDef) → map dual_written (values_of (items_of (map dual_data ds))) ≡ ds
@@ -189,7 +190,7 @@ file-written word f is = ap₂ (λ c digest. record { certificate = c; digest = 
 
 -- ---- so it is read again
 
-one_value : (text : List ℕ) (d e : Data) → IsValue text d → IsValue text e → d ≡ e
+pub one_value : (text : List ℕ) (d e : Data) → IsValue text d → IsValue text e → d ≡ e
 one_value text d e h k = Some_inj d e (sym h.1 ∙ k.1)
 
 none_is_some : (o : Option CertRefusal) (r : CertRefusal) → o ≡ None → o ≡ Some r → ⊥

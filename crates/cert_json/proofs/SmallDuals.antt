@@ -18,7 +18,9 @@ use Rattle.cert_json.specs.declared.version.Version.{Version}
 use Rattle.cert_json.specs.declared.version.Version.TheVariants as version
 use Rattle.cert_json.specs.declared.refusal.CertRefusal.{CertRefusal}
 use Rattle.cert_json.specs.FileDef.{FileDef}
-use Rattle.cert_json.specs.Form.{dual_form, is_from, is_dual, is_version, is_certificate, is_whole, has_form}
+use Rattle.cert_json.specs.Form.{dual_form, is_from, is_dual}
+use Rattle.cert_json.specs.FormParts.{is_version, is_whole}
+use Rattle.cert_json.specs.Versions.{number_of, is_certificate_of, has_form_of}
 use Rattle.cert_json.specs.Written.{number_written, numbers_written, dual_written, certificate_written}
 use Rattle.cert_json.specs.Ranges.{IsSmallDual, HasSmallDuals}
 use Rattle.cert_json.specs.Answers.{JudgesValue, IsFileOf, IsCertificateOf}
@@ -39,7 +41,7 @@ num_in_range (d ∷ ds) h =
     let p = and_parts (is_from 0 d) _ h in
     All-cons (λ n. n ≤ MOST_NUMBER) (number_written d) (numbers_written ds) (in_range 0 (whole d) p.0).1 (num_in_range ds p.1)
 
-small_dual : (d : Data) → is_dual d ≡ true → IsSmallDual (dual_written d)
+pub small_dual : (d : Data) → is_dual d ≡ true → IsSmallDual (dual_written d)
 small_dual d h =
     let parts = and_parts (is_object_of dual_form d) _ h in
     let ranges = and_parts (option_map_or (is_from 1) (get (codes "den") d) false) _ parts.1 in
@@ -51,10 +53,10 @@ small_duals [] h = All-nil IsSmallDual
 small_duals (d ∷ ds) h = let p = and_parts (is_dual d) _ h in
     All-cons IsSmallDual (dual_written d) (map dual_written ds) (small_dual d p.0) (small_duals ds p.1)
 
-pub small_of_form : (v : Version) (word : List ℕ) (d : Data) → has_form v word d ≡ true → HasSmallDuals (certificate_written d)
+pub small_of_form : (v : Version) (word : List ℕ) (d : Data) → has_form_of v word d ≡ true → HasSmallDuals (certificate_written d)
 small_of_form v word d h =
-    let first = and_parts (is_version v d) _ h in
-    let second = and_parts (is_certificate v d) _ first.1 in
+    let first = and_parts (is_version (number_of v) d) _ h in
+    let second = and_parts (is_certificate_of v d) _ first.1 in
     let third = and_parts (list_all is_whole (list_at (codes "bounds") d)) _ second.1 in
     small_duals (list_at (codes "duals") d) (and_parts (list_all is_dual (list_at (codes "duals") d)) _ third.1).0
 

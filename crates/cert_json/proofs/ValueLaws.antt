@@ -10,7 +10,7 @@ whole-numbers : (ns : List ℕ) → items_have_float (items_of (map number_data 
 whole-numbers [] = refl
 whole-numbers (n ∷ ns) = whole-numbers ns
 
-whole-dual : (d : DualDef) → has_float (dual_data d) ≡ false
+pub whole-dual : (d : DualDef) → has_float (dual_data d) ≡ false
 whole-dual d = rw (whole-numbers d.num) refl
 
 whole-duals : (ds : List DualDef) → items_have_float (items_of (map dual_data ds)) ≡ false

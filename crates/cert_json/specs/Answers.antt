@@ -11,14 +11,14 @@ use Rattle.cert_json.specs.declared.refusal.CertRefusal.{CertRefusal}
 use Rattle.cert_json.specs.declared.refusal.CertRefusal.TheVariants as refusal
 use Rattle.cert_json.specs.FileDef.{FileDef}
 use Rattle.cert_json.specs.File.{file_seen}
-use Rattle.cert_json.specs.Form.{has_form}
+use Rattle.cert_json.specs.Versions.{has_form_of}
 use Rattle.cert_json.specs.Refusals.{first_refusal}
 use Rattle.cert_json.specs.Written.{certificate_written, file_written}
 
 -- What the answer on a value says of it: that it has the version's form for the protocol of the word, and what it writes;
 -- or why it is refused first. Only want of memory says nothing of it.
 abbrev pub JudgesValue : {T : Type 0} → Version → (T → Data → Type 0) → Result T CertRefusal → List ℕ → Data → Type 0
-JudgesValue v IsOf (Ok t) word d = (has_form v word d ≡ true) × IsOf t d
+JudgesValue v IsOf (Ok t) word d = (has_form_of v word d ≡ true) × IsOf t d
 JudgesValue v IsOf (Err refusal.NotJson) word d = ⊥
 JudgesValue v IsOf (Err (refusal.Shape place)) word d = first_refusal v word d ≡ Some (refusal.Shape place)
 JudgesValue v IsOf (Err refusal.Version) word d = first_refusal v word d ≡ Some refusal.Version

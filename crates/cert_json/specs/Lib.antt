@@ -2,6 +2,8 @@ pub mod FileDef
 pub mod File
 pub mod Words
 pub mod Form
+pub mod FormParts
+pub mod Versions
 pub mod Refusals
 pub mod Written
 pub mod Ranges

@@ -8,7 +8,9 @@ use Rattle.cert_json.specs.declared.refusal.CertRefusal.{CertRefusal}
 use Rattle.cert_json.specs.declared.refusal.CertRefusal.TheVariants as refusal
 use Rattle.cert_json.specs.declared.refusal.CertPlace.TheVariants as place
 use Rattle.cert_json.specs.declared.version.Version.{Version}
-use Rattle.cert_json.specs.Form.{number_of, is_certificate, is_whole, is_dual, is_for}
+use Rattle.cert_json.specs.Form.{is_dual}
+use Rattle.cert_json.specs.FormParts.{is_whole, is_for}
+use Rattle.cert_json.specs.Versions.{number_of, is_certificate_of}
 
 -- No version that is a whole number, or another one.
 abbrev pub version_refusal : Version → Option ℕ → Option CertRefusal
@@ -26,7 +28,7 @@ first_bad_dual d = position (λ e. not (is_dual e)) (list_at (codes "duals") d)
 abbrev pub first_refusal : Version → List ℕ → Data → Option CertRefusal
 first_refusal v word d =
     option_or (version_refusal v (whole_at (codes "version") d))
-    (option_or (refused_unless (is_certificate v d) (refusal.Shape place.Root))
+    (option_or (refused_unless (is_certificate_of v d) (refusal.Shape place.Root))
     (option_or (refused_unless (list_all is_whole (list_at (codes "bounds") d)) (refusal.Shape place.Bounds))
     (option_or (option_map (λ k. refusal.Shape (place.Dual k)) (first_bad_dual d))
     (refused_unless (is_for word d) refusal.OtherProtocol))))

@@ -4,7 +4,9 @@ ghost use Rattle.std.specs.Option.{option_map_or};
 ghost use Rattle.serde_json.specs.View.{view};
 ghost use Rattle.serde_json.specs.Find.{get};
 ghost use Rattle.taskset_json.specs.Form.{is_object_of};
-ghost use Rattle.cert_json.specs.Form.{first_form, second_form, dual_form, is_certificate, is_whole, is_from, is_dual, is_for};
+ghost use Rattle.cert_json.specs.Form.{certificate_form, dual_form, is_from, is_dual};
+ghost use Rattle.cert_json.specs.FormParts.{is_whole, is_for};
+ghost use Rattle.cert_json.specs.Versions.{old_form, is_certificate_of};
 
 use crate::version::Version;
 use crate::words::is_verdict_word;
@@ -13,8 +15,8 @@ use serde_json::Value;
 use set_digests::is_digest_text;
 use taskset_json::{Kind, is_object_of, list_at, must, text_at};
 
-fn has_first_members(value: &Value) -> bool
-    ensures { result ≡ is_object_of first_form (view value.now) }
+fn has_old_members(value: &Value) -> bool
+    ensures { result ≡ is_object_of old_form (view value.now) }
 {
     let form = [
         must("bounds", Kind::List),
@@ -26,8 +28,8 @@ fn has_first_members(value: &Value) -> bool
     is_object_of(value, &form)
 }
 
-fn has_second_members(value: &Value) -> bool
-    ensures { result ≡ is_object_of second_form (view value.now) }
+fn has_members(value: &Value) -> bool
+    ensures { result ≡ is_object_of certificate_form (view value.now) }
 {
     let form = [
         must("set", Kind::Text),
@@ -42,12 +44,12 @@ fn has_second_members(value: &Value) -> bool
 
 /// Is the value an object of the version's members, with the text of a digest and the word of the verdict?
 pub(crate) fn is_certificate(value: &Value, version: Version) -> bool
-    ensures { result ≡ is_certificate version (view value.now) }
+    ensures { result ≡ is_certificate_of version (view value.now) }
 {
     match version {
-        Version::First => has_first_members(value) && is_verdict_word(text_at(value, "verdict")),
+        Version::First => has_old_members(value) && is_verdict_word(text_at(value, "verdict")),
         Version::Second => {
-            has_second_members(value)
+            has_members(value)
                 && is_digest_text(text_at(value, "set"))
                 && is_verdict_word(text_at(value, "verdict"))
         }
@@ -109,14 +111,14 @@ fn has_dual_members(value: &Value) -> bool
 }
 
 /// Is the value a dual: an object of a dual's members, with a denominator of at least 1?
-pub(crate) fn is_dual(value: &Value) -> bool
+pub fn is_dual(value: &Value) -> bool
     ensures { result ≡ is_dual (view value.now) }
 {
     has_dual_members(value) && has_denominator(value) && are_numerators(list_at(value, "num"))
 }
 
 /// Is the value's protocol of this word?
-pub(crate) fn is_for(value: &Value, word: &str) -> bool
+pub fn is_for(value: &Value, word: &str) -> bool
     ensures { result ≡ is_for word.now (view value.now) }
 {
     text_at(value, "protocol") == word

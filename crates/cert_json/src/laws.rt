@@ -5,7 +5,7 @@ ghost use Rattle.serde_json.specs.Data.{Data};
 ghost use Rattle.taskset_json.specs.Answers.{IsValue};
 ghost use Rattle.set_digests.specs.Digests.{IsDigest};
 ghost use Rattle.cert_json.specs.FileDef.{FileDef};
-ghost use Rattle.cert_json.specs.Form.{has_form};
+ghost use Rattle.cert_json.specs.Versions.{has_form_of};
 ghost use Rattle.cert_json.specs.Refusals.{first_refusal};
 ghost use Rattle.cert_json.specs.Ranges.{IsWritable};
 ghost use Rattle.cert_json.specs.Text.{certificate_text};
@@ -18,7 +18,7 @@ use crate::version::Version;
 
 /// A value has the form of a certificate of a version, for the protocol of a word, exactly where there is no cause to refuse it.
 pub fn form_is_exact()
-    ensures { (v : Version) (word : List ℕ) (d : Data) → (first_refusal v word d ≡ None) ↔ (has_form v word d ≡ true) }
+    ensures { (v : Version) (word : List ℕ) (d : Data) → (first_refusal v word d ≡ None) ↔ (has_form_of v word d ≡ true) }
 {}
 
 /// The text of a certificate is the JSON text of its value, and what is read of it for the same word is

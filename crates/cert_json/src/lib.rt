@@ -16,9 +16,12 @@ mod writing;
 mod written;
 
 pub use file::CertFile;
+pub use form::{is_dual, is_for};
 pub use laws::{form_is_exact, what_is_written_is_read};
 pub use reading::{read, read_old};
 pub use refusal::{CertPlace, CertRefusal};
 pub use set_digests::set_digest;
+pub use value::value_of_dual;
 pub use version::Version;
 pub use writing::write;
+pub use written::{digest_at, dual_of};

@@ -3,7 +3,7 @@ ghost use Rattle.serde_json.specs.View.{view};
 ghost use Rattle.program_form.specs.Certificate.{certificate_seen};
 ghost use Rattle.taskset_json.specs.Size.{size};
 ghost use Rattle.cert_json.specs.declared.version.Version.TheVariants as version;
-ghost use Rattle.cert_json.specs.Form.{has_form};
+ghost use Rattle.cert_json.specs.Versions.{has_form_of};
 ghost use Rattle.cert_json.specs.Refusals.{first_refusal as cause_of};
 ghost use Rattle.cert_json.specs.Ranges.{HasSmallDuals};
 ghost use Rattle.cert_json.specs.Answers.{Reads, ReadsOld, JudgesValue, IsFileOf, IsCertificateOf};
@@ -21,7 +21,7 @@ use std::alloc::Global;
 fn refusal_of(value: &Value, version: Version, word: &str) -> Option<CertRefusal>
     requires { size (view value.now) < 2 ^ 32 }
     ensures cause { result ≡ cause_of version word.now (view value.now) }
-    ensures form { IfNone result (has_form version word.now (view value.now) ≡ true) }
+    ensures form { IfNone result (has_form_of version word.now (view value.now) ≡ true) }
 {
     first_refusal(value, version, word)
 }

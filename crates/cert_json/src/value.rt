@@ -18,7 +18,8 @@ fn values_of(alloc: Global, numbers: &[u64]) -> Result<Vec<Value>, AllocError>
     Ok(values)
 }
 
-fn value_of_dual(alloc: Global, dual: &Dual) -> Result<Value, AllocError>
+/// The JSON value of a dual.
+pub fn value_of_dual(alloc: Global, dual: &Dual) -> Result<Value, AllocError>
     ensures { IfOk result (λ v. view v ≡ dual_data (dual_seen dual.now)) }
 {
     json!(in alloc; {"den": dual.den, "num": values_of(alloc, &dual.num)?})

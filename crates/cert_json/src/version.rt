@@ -1,5 +1,5 @@
 ghost use Rattle.std.specs.Prelude.{◌≡◌};
-ghost use Rattle.cert_json.specs.Form.{number_of};
+ghost use Rattle.cert_json.specs.Versions.{number_of};
 
 /// The versions of certificates.
 #[derive(Clone, Copy, Debug, PartialEq, Eq)]

@@ -27,7 +27,8 @@ fn numbers_of(alloc: Global, values: &[Value]) -> Result<Vec<u64>, AllocError>
     Ok(numbers)
 }
 
-fn dual_of(alloc: Global, value: &Value) -> Result<Dual, AllocError>
+/// The dual that a value of the form writes.
+pub fn dual_of(alloc: Global, value: &Value) -> Result<Dual, AllocError>
     ensures { IfOk result (λ d. dual_seen d ≡ dual_written (view value.now)) }
 {
     Ok(Dual {
@@ -58,7 +59,7 @@ pub(crate) fn certificate_of(alloc: Global, value: &Value) -> Result<Certificate
 }
 
 /// The digest that a value of the form writes.
-fn digest_at(value: &Value) -> [u8; 32]
+pub fn digest_at(value: &Value) -> [u8; 32]
     ensures { result ≡ digest_written (view value.now) }
 {
     digest_of(text_at(value, "set")).unwrap_or([0; 32])

@@ -1,7 +1,6 @@
 pub mod SharedNow
 pub mod DistributedNow
 pub mod Uncharged
-mod Analysed
 mod Passing
 mod PassedNext
 mod TallyLaws

@@ -1,6 +1,6 @@
 -- Charging where requests run on their resource's home: each blocked tick is charged to a request that runs where the blocked job
 -- would. DPCP is an instance.
-use Rattle.std.proofs.Common.{◌≡◌, ℕ, ◌<◌, ◌≤◌, ◌==◌, ◌&&◌, true, false, length, refl, sym, subst, ◌∙◌, arith, inl, inr, Some, None}
+use Rattle.std.proofs.Common.{◌≡◌, ℕ, ◌<◌, ◌≤◌, ◌==◌, ◌&&◌, true, false, refl, sym, subst, ◌∙◌, arith, inl, inr, Some, None}
 use Rattle.std.specs.Option.{option_map_or}
 use Rattle.std.proofs.lemmas.Bool.{cases_lt, cases_Bool, both_ways, and_parts, and_from, eq-eqb, eqb-true}
 use Rattle.sporadic_model.specs.SetDef.{is_higher_local}
@@ -8,8 +8,9 @@ use Rattle.schedule_model.specs.declared.rule.Rule.TheVariants as rule
 use Rattle.schedule_model.specs.RowDef.{Trace, running_on, holder_in, runs_in}
 use Rattle.schedule_model.specs.Phase.{Phase, is_local, is_finished, phase_of}
 use Rattle.schedule_model.specs.Phase.Phase.{Local, Asking, Finished}
-use Rattle.schedule_model.specs.Activity.{task_of, processor_of, is_active, is_active_local}
+use Rattle.schedule_model.specs.Activity.{task_of, processor_of, is_active, NoLocalIsHigher}
 use Rattle.schedule_model.specs.DpcpRules.{home_of, is_at, has_request_at, has_requests, holds_at, KeepsRun, KeepsIdle, RunsFirstHolder, KeepsPriority}
+use Rattle.schedule_model.specs.Ranks.{by_task}
 use Rattle.schedule_model.specs.Protocols.{dpcp_rule}
 use Rattle.schedule_model.specs.Keeping.{KeepsRow}
 use Rattle.schedule_model.specs.BlockedTicks.{is_delayed, runs_higher_local, is_dpcp_interference, is_blocked}
@@ -62,22 +63,22 @@ pub record RunsAtHomes (w : Trace) (t : ℕ) : Type 0 where
   pub run : KeepsRun w t
   pub idle : KeepsIdle w t
   pub holder : (k : ℕ) → has_requests w t k ≡ true → (r : ℕ) × (running_on (w.row t) k ≡ Some r) × (holds_at w t k r ≡ true)
-  pub locals : (k r : ℕ) → running_on (w.row t) k ≡ Some r → has_requests w t k ≡ false
-      → (i : ℕ) → i < length w.jobs → processor_of w i ≡ k → is_active_local w t i ≡ true → task_of w r ≤ task_of w i
+  pub locals : (k r : ℕ) → running_on (w.row t) k ≡ Some r → has_requests w t k ≡ false → NoLocalIsHigher w t k r
 
 -- In each row before the n-th.
 abbrev pub RunsAtHomesBefore : Trace → ℕ → Type 0
 RunsAtHomesBefore w n = (t : ℕ) → t < n → RunsAtHomes w t
 
-pub dpcp_at_homes : (w : Trace) (t : ℕ) → KeepsRow dpcp_rule w t → RunsAtHomes w t
-dpcp_at_homes w t keeps = record {
-  run = keeps rule.Run;
-  idle = keeps rule.Idle;
-  holder = λ k h. let first : RunsFirstHolder w t k = priority.requests k h in (first.runner, first.runs, first.holds);
+pub at_homes : (rank : Trace → ℕ → ℕ → ℕ) (w : Trace) (t : ℕ) → KeepsRun w t → KeepsIdle w t → KeepsPriority rank w t → RunsAtHomes w t
+at_homes rank w t run idle priority = record {
+  run = run;
+  idle = idle;
+  holder = λ k h. let first : RunsFirstHolder rank w t k = priority.requests k h in (first.runner, first.runs, first.holds);
   locals = priority.locals;
-} where
-  priority : KeepsPriority w t
-  priority = keeps rule.Priority
+}
+
+pub dpcp_at_homes : (w : Trace) (t : ℕ) → KeepsRow dpcp_rule w t → RunsAtHomes w t
+dpcp_at_homes w t keeps = at_homes by_task w t (keeps rule.Run) (keeps rule.Idle) (keeps rule.Priority)
 
 -- Why a blocked tick of job j is charged to job r with a class.
 abbrev pub DpcpReason : Trace → ℕ → ℕ → Class → ℕ → Type 0

@@ -1,1 +1,2 @@
 mod WordLaws
+pub mod SpelledLaws

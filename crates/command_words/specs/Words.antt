@@ -13,8 +13,12 @@ use Rattle.command_words.specs.declared.words.TheConstants.{DEFAULT_ALLOWANCE, G
 pub data Form : Type 0 where
   -- the protocol, the set, the allowance
   Analyse : ProtocolName → List ℕ → ℕ → Form
+  -- the protocol, the set, the allowance
+  Refute : ProtocolName → List ℕ → ℕ → Form
   -- the protocol, the set, the certificate
   Check : ProtocolName → List ℕ → List ℕ → Form
+  -- the protocol, the set, the certificate of refusal
+  Confirm : ProtocolName → List ℕ → List ℕ → Form
   -- the protocol, the set, the certificate of the version before
   Upgrade : ProtocolName → List ℕ → List ℕ → Form
   -- the protocol, the set
@@ -39,20 +43,26 @@ study_form _ _ = None
 abbrev pub form_of_three : List ℕ → List ℕ → List ℕ → Option Form
 form_of_three command second last =
     if bytes_eq command (codes "analyse") then option_map (λ p. Analyse p last DEFAULT_ALLOWANCE) (name_of second)
+    else if bytes_eq command (codes "refute") then option_map (λ p. Refute p last DEFAULT_ALLOWANCE) (name_of second)
     else if bytes_eq command (codes "report") then option_map (λ p. Report p last) (name_of second)
     else if bytes_eq command (codes "study") then study_form (number_between 0 (2 ^ 64 - 1) second) (number_between 1 MOST_SETS last)
     else None
 
--- Which form have these words of `analyse`, whose protocol and allowance are as they were read?
-abbrev pub analyse_form : Option ProtocolName → List ℕ → Option ℕ → Option Form
-analyse_form (Some protocol) name (Some allowance) = Some (Analyse protocol name allowance)
-analyse_form _ name _ = None
+-- The protocol and the allowance that two words write, where both do.
+abbrev pub both : Option ProtocolName → Option ℕ → Option (ProtocolName × ℕ)
+both (Some protocol) (Some allowance) = Some (protocol, allowance)
+both _ _ = None
+
+abbrev pub allowed : List ℕ → List ℕ → Option (ProtocolName × ℕ)
+allowed protocol allowance = both (name_of protocol) (number_between 1 GREATEST_ALLOWANCE allowance)
 
 -- Which form do these four words have?
 abbrev pub form_of_four : List ℕ → List ℕ → List ℕ → List ℕ → Option Form
 form_of_four command protocol name last =
-    if bytes_eq command (codes "analyse") then analyse_form (name_of protocol) name (number_between 1 GREATEST_ALLOWANCE last)
+    if bytes_eq command (codes "analyse") then option_map (λ a. Analyse a.0 name a.1) (allowed protocol last)
+    else if bytes_eq command (codes "refute") then option_map (λ a. Refute a.0 name a.1) (allowed protocol last)
     else if bytes_eq command (codes "check") then option_map (λ p. Check p name last) (name_of protocol)
+    else if bytes_eq command (codes "confirm") then option_map (λ p. Confirm p name last) (name_of protocol)
     else if bytes_eq command (codes "upgrade") then option_map (λ p. Upgrade p name last) (name_of protocol)
     else if bytes_eq command (codes "report") then option_map (λ p. FullReport p name last) (name_of protocol)
     else None

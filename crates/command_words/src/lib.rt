@@ -1,6 +1,8 @@
 //! The forms of words that the program answers.
 #![tactic(auto)]
 
+mod spelled;
 mod words;
 
+pub use spelled::forms_are_spelled;
 pub use words::{Command, DEFAULT_ALLOWANCE, GREATEST_ALLOWANCE, MOST_SETS, command_of};

@@ -1,9 +1,8 @@
 ghost use Rattle.std.specs.Prelude.{◌≡◌, ◌-◌, ◌^◌, option_map, IfSome};
 ghost use Rattle.sporadic_model.specs.declared.limits.TheConstants.{MOST_TICKS};
 ghost use Rattle.text_pieces.specs.Numbers.{number_between};
-ghost use Rattle.command_words.specs.declared.words.TheConstants.{GREATEST_ALLOWANCE, MOST_SETS};
-ghost use Rattle.protocol_names.specs.Names.{name_of};
-ghost use Rattle.command_words.specs.Words.{study_form, form_of_three, analyse_form, form_of_four};
+ghost use Rattle.command_words.specs.declared.words.TheConstants.{MOST_SETS};
+ghost use Rattle.command_words.specs.Words.{study_form, form_of_three, allowed, form_of_four};
 ghost use Rattle.command_words.specs.Words.{simulate_form, form_of_five, form_of, words_seen, form_of_six};
 ghost use Rattle.command_words.specs.FormSeen.{form_seen, HasFittingNumbers};
 
@@ -29,11 +28,23 @@ pub enum Command<'a> {
         set: &'a str,
         allowance: u64,
     },
+    /// Show by a certificate of refusal that the set of this name has no bounds, within so many units.
+    Refute {
+        protocol: ProtocolName,
+        set: &'a str,
+        allowance: u64,
+    },
     /// Judge the certificate of this name for the set of this name.
     Check {
         protocol: ProtocolName,
         set: &'a str,
         certificate: &'a str,
+    },
+    /// Judge the certificate of refusal of this name for the set of this name.
+    Confirm {
+        protocol: ProtocolName,
+        set: &'a str,
+        refusal: &'a str,
     },
     /// Judge the certificate of this name, which is of the version before, for the set of this name, and write it with the
     /// set's digest.
@@ -112,6 +123,13 @@ fn command_of_three<'a>(command: &str, second: &str, set: &'a str) -> Option<Com
             allowance: DEFAULT_ALLOWANCE,
         });
     }
+    if command == "refute" {
+        return protocol_named(second).map(|protocol| Command::Refute {
+            protocol,
+            set,
+            allowance: DEFAULT_ALLOWANCE,
+        });
+    }
     if command == "report" {
         return protocol_named(second).map(|protocol| Command::Report { protocol, set });
     }
@@ -121,21 +139,15 @@ fn command_of_three<'a>(command: &str, second: &str, set: &'a str) -> Option<Com
     None
 }
 
-/// What an analysis with this allowance asks for.
-fn analyse_within<'a>(protocol: &str, set: &'a str, allowance: &str) -> Option<Command<'a>>
-    ensures form { option_map form_seen result
-        ≡ analyse_form (name_of protocol.now) set.now (number_between 1 GREATEST_ALLOWANCE allowance.now) }
-    ensures ticks { IfSome result (λ c. HasFittingNumbers (form_seen c)) }
+/// The protocol and the allowance that two words write.
+fn allowed(protocol: &str, allowance: &str) -> Option<(ProtocolName, u64)>
+    ensures { result ≡ allowed protocol.now allowance.now }
 {
     match (
         protocol_named(protocol),
         number_between(allowance.as_bytes(), 1, GREATEST_ALLOWANCE),
     ) {
-        (Some(protocol), Some(allowance)) => Some(Command::Analyse {
-            protocol,
-            set,
-            allowance,
-        }),
+        (Some(protocol), Some(allowance)) => Some((protocol, allowance)),
         _ => None,
     }
 }
@@ -151,13 +163,31 @@ fn command_of_four<'a>(
     ensures ticks { IfSome result (λ c. HasFittingNumbers (form_seen c)) }
 {
     if command == "analyse" {
-        return analyse_within(protocol, set, last);
+        return allowed(protocol, last).map(|(protocol, allowance)| Command::Analyse {
+            protocol,
+            set,
+            allowance,
+        });
+    }
+    if command == "refute" {
+        return allowed(protocol, last).map(|(protocol, allowance)| Command::Refute {
+            protocol,
+            set,
+            allowance,
+        });
     }
     if command == "check" {
         return protocol_named(protocol).map(|protocol| Command::Check {
             protocol,
             set,
             certificate: last,
+        });
+    }
+    if command == "confirm" {
+        return protocol_named(protocol).map(|protocol| Command::Confirm {
+            protocol,
+            set,
+            refusal: last,
         });
     }
     if command == "upgrade" {

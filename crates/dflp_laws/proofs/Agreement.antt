@@ -1,45 +1,19 @@
 -- Whether a row keeps the rules depends on the rows up to it alone, and so whether it is the chosen one.
-use Rattle.std.proofs.Common.{◌≡◌, ℕ, ◌<◌, ◌≤◌, true, false, length, sym, ◌∙◌, arith, Some}
+use Rattle.std.proofs.Common.{◌≡◌, ℕ, ◌<◌, ◌≤◌, true, length, sym, ◌∙◌, arith, Some}
 use Rattle.schedule_model.specs.declared.rule.Rule.TheVariants as rule
 use Rattle.schedule_model.specs.RowDef.{Trace, running_on, holder_in, held_before}
-use Rattle.schedule_model.specs.Activity.{task_of, processor_of, is_requester, is_active_local, issue_tick_of}
-use Rattle.schedule_model.specs.DpcpRules.{has_requests, holds_at}
+use Rattle.schedule_model.specs.Activity.{task_of, is_requester, issue_tick_of}
+use Rattle.schedule_model.specs.DpcpRules.{holds_at}
 use Rattle.schedule_model.specs.Ranks.{fmlp_plus}
 use Rattle.schedule_laws.specs.Agreement.{AgreeBefore, RulesReadUpTo, ChoiceReadsUpTo}
-use Rattle.schedule_laws.proofs.Agreement.{listed_agree, task_agree, processor_agree, requester_agree, active_local_agree}
+use Rattle.schedule_laws.proofs.Agreement.{listed_agree, task_agree, requester_agree}
 use Rattle.schedule_laws.proofs.Agreement.{issue_agree, held_before_agree, running_agree, holder_agree}
 use Rattle.schedule_laws.proofs.SharedAgreement.{fmlp_plus_agree, keep_agree, grant_agree, sized_agree}
-use Rattle.schedule_laws.proofs.DpcpAgreement.{has_requests_agree, holds_at_agree, dpcp_run_agree, dpcp_idle_agree}
-use Rattle.dflp_laws.specs.Rules.{RunsEarliestHolder, KeepsPriority, dflp_rule, IsDflpChoice}
+use Rattle.schedule_laws.proofs.DpcpAgreement.{holds_at_agree, dpcp_run_agree, dpcp_idle_agree, home_priority_agree}
+use Rattle.dflp_laws.specs.Rules.{dflp_rule, IsDflpChoice}
 
 listed_back : (v w : Trace) (n i : ℕ) → AgreeBefore v w n → i < length w.jobs → i < length v.jobs
 listed_back v w n i a l = omega (arith, l, listed_agree v w n a)
-
-earliest_agree : (v w : Trace) (n t k : ℕ) → AgreeBefore v w n → t < n → RunsEarliestHolder v t k → RunsEarliestHolder w t k
-earliest_agree v w n t k a l f = record {
-  runner = f.runner;
-  runs = sym (running_agree v w n t k a l) ∙ f.runs;
-  holds = sym (holds_at_agree v w n t k f.runner a l) ∙ f.holds;
-  first = λ i b h. first i b h;
-} where
-  first : (i : ℕ) → i < length w.jobs → holds_at w t k i ≡ true → issue_tick_of w t f.runner ≤ issue_tick_of w t i
-  first i b h =
-      let order : issue_tick_of v t f.runner ≤ issue_tick_of v t i =
-      f.first i (listed_back v w n i a b) (holds_at_agree v w n t k i a l ∙ h) in
-      omega (arith, order, issue_agree v w n t f.runner a (omega arith), issue_agree v w n t i a (omega arith))
-
-priority_agree : (v w : Trace) (n t : ℕ) → AgreeBefore v w n → t < n → KeepsPriority v t → KeepsPriority w t
-priority_agree v w n t a l priority = record {
-  requests = λ k h. earliest_agree v w n t k a l (priority.requests k (has_requests_agree v w n t k a (omega arith) ∙ h));
-  locals = λ k r e none i b c h. locals k r e none i b c h;
-} where
-  locals : (k r : ℕ) → running_on (w.row t) k ≡ Some r → has_requests w t k ≡ false → (i : ℕ) → i < length w.jobs
-      → processor_of w i ≡ k → is_active_local w t i ≡ true → task_of w r ≤ task_of w i
-  locals k r e none i b c h =
-      let order : task_of v r ≤ task_of v i =
-      priority.locals k r (running_agree v w n t k a l ∙ e) (has_requests_agree v w n t k a (omega arith) ∙ none)
-      i (listed_back v w n i a b) (processor_agree v w n i a ∙ c) (active_local_agree v w n t i a (omega arith) ∙ h) in
-      omega (arith, order, task_agree v w n r a, task_agree v w n i a)
 
 -- A row keeps a rule in one schedule where it does in the other.
 pub dflp_rules_read : RulesReadUpTo dflp_rule
@@ -47,7 +21,8 @@ dflp_rules_read rule.Run v w n t a l h = dpcp_run_agree v w n t a l h
 dflp_rules_read rule.Keep v w n t a l h = keep_agree v w n t a l h
 dflp_rules_read rule.Grant v w n t a l h = grant_agree fmlp_plus v w n t a l (fmlp_plus_agree v w n t a (omega arith)) h
 dflp_rules_read rule.Idle v w n t a l h = dpcp_idle_agree v w n t a l h
-dflp_rules_read rule.Priority v w n t a l h = priority_agree v w n t a l h
+dflp_rules_read rule.Priority v w n t a l h =
+    home_priority_agree issue_tick_of v w n t a l (λ j. issue_agree v w n t j a (omega arith)) h
 
 -- And so the chosen row.
 pub dflp_choice_reads : ChoiceReadsUpTo IsDflpChoice

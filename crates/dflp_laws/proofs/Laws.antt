@@ -5,7 +5,7 @@ use Rattle.schedule_model.specs.declared.rule.Rule.TheVariants as rule
 use Rattle.schedule_model.specs.RowDef.{Trace, running_on}
 use Rattle.schedule_model.specs.Phase.{Phase, is_finished, phase_of}
 use Rattle.schedule_model.specs.Phase.Phase.{Local, Asking, Finished}
-use Rattle.schedule_model.specs.Activity.{processor_of}
+use Rattle.schedule_model.specs.Activity.{processor_of, issue_tick_of}
 use Rattle.schedule_model.specs.SharedRules.{KeepsGrant}
 use Rattle.schedule_model.specs.DpcpRules.{home_of, KeepsRun}
 use Rattle.schedule_model.specs.Ranks.{fmlp_plus}
@@ -16,9 +16,9 @@ use Rattle.schedule_laws.specs.Agreement.{RunsActiveBefore}
 use Rattle.schedule_laws.proofs.Ticks.{asking_is}
 use Rattle.schedule_laws.proofs.ActiveJobs.{Active, active_is, active_listed, requester_listed}
 use Rattle.schedule_laws.proofs.DpcpLaws.{HigherLocalRunner, dpcp_interfering}
-use Rattle.charge_laws.proofs.DpcpCharging.{RunsAtHomes, RunsAtHomesBefore}
+use Rattle.charge_laws.proofs.DpcpCharging.{RunsAtHomes, RunsAtHomesBefore, at_homes}
 use Rattle.row_laws.proofs.Fifo.{GrantsByIssue}
-use Rattle.dflp_laws.specs.Rules.{RunsEarliestHolder, KeepsPriority, dflp_rule, IsDflpChoice}
+use Rattle.dflp_laws.specs.Rules.{dflp_rule, IsDflpChoice}
 
 -- The processor at which a job runs: its own where it is Local, the home of what it requests where it is in a request.
 abbrev column_of : Trace → ℕ → Phase → ℕ
@@ -55,14 +55,7 @@ dflp_chosen_keeps w t chosen = chosen.keeps
 
 -- Requests run at their homes, whichever holder runs.
 pub dflp_at_homes : (w : Trace) (t : ℕ) → KeepsRow dflp_rule w t → RunsAtHomes w t
-dflp_at_homes w t keeps = record {
-  run = keeps rule.Run;
-  idle = keeps rule.Idle;
-  holder = λ k h. let first : RunsEarliestHolder w t k = priority.requests k h in (first.runner, first.runs, first.holds);
-  locals = priority.locals;
-} where
-  priority : KeepsPriority w t
-  priority = keeps rule.Priority
+dflp_at_homes w t keeps = at_homes issue_tick_of w t (keeps rule.Run) (keeps rule.Idle) (keeps rule.Priority)
 
 pub homes_before : (w : Trace) (n : ℕ) → KeepsBefore dflp_rule w n → RunsAtHomesBefore w n
 homes_before w n keeps t l = dflp_at_homes w t (keeps t l)

@@ -1,14 +1,13 @@
 -- The column in which a charged tick lies is one of the blocked job's program.
-use Rattle.std.proofs.Common.{◌≡◌, ℕ, ◌<◌, ◌==◌, ◌&&◌, not, true, length, sym, ap, ◌∙◌}
-use Rattle.std.proofs.lemmas.Bool.{and_parts, and_from, eq-eqb}
+use Rattle.std.proofs.Common.{◌≡◌, ℕ, ◌<◌, ◌==◌, ◌&&◌, not, true, length}
+use Rattle.std.proofs.lemmas.Bool.{and_parts, and_from}
 use Rattle.sporadic_model.specs.SetDef.{SetDef}
 use Rattle.sporadic_model.specs.Users.{is_user}
 use Rattle.schedule_model.specs.LawfulJobs.{AreLawfulJobs}
 use Rattle.schedule_model.specs.RowDef.{Trace, jobs_of}
 use Rattle.schedule_model.specs.Phase.{phase_of}
 use Rattle.schedule_model.specs.Phase.Phase.{Asking}
-use Rattle.schedule_model.specs.Activity.{task_of, processor_of}
-use Rattle.schedule_model.specs.DpcpRules.{home_of}
+use Rattle.schedule_model.specs.Activity.{task_of}
 use Rattle.schedule_model.specs.Keeping.{KeepsBefore}
 use Rattle.schedule_model.specs.BlockedTicks.{is_dpcp_interference, is_blocked}
 use Rattle.schedule_laws.proofs.ActiveJobs.{active_listed}
@@ -16,17 +15,17 @@ use Rattle.schedule_laws.proofs.KindsOfTicks.{Blocked, blocked_is}
 use Rattle.schedule_laws.proofs.Segments.{open_listed, open_resource, open_user}
 use Rattle.fragments.specs.declared.columns.Class.{Class}
 use Rattle.fragments.specs.declared.columns.Class.TheVariants.{Direct, Indirect, Preemption}
-use Rattle.fragments.specs.Columns.{AreRequests}
+use Rattle.fragments.specs.Columns.{AreRequests, blocks_at_home}
 use Rattle.charge_model.specs.Charges.{dpcp_charge, Executes}
 use Rattle.charge_model.specs.ChargedTicks.{IsCharged}
 use Rattle.charge_laws.proofs.DpcpCharging.{DpcpReason, DpcpCharged, RunsAtHomes, home_charged, home_executes}
 use Rattle.row_laws.proofs.Brings.{column_with}
 use Rattle.row_laws.proofs.SharedPlacement.{other_task, passes_not}
-use Rattle.row_laws.proofs.DpcpPlacement.{runner_resource, beside_there, runner_active}
+use Rattle.row_laws.proofs.DpcpPlacement.{requested_there, home_there, beside_there, runner_active}
 use Rattle.row_laws.proofs.Joined.{column_from, passing_among}
 use Rattle.row_laws.proofs.ChargedTicks.{is_charged_in}
 use Rattle.dflp_laws.specs.Rules.{dflp_rule}
-use Rattle.dflp_laws.specs.Programs.{may_block, is_dflp_column, dflp_columns}
+use Rattle.dflp_laws.specs.Programs.{is_dflp_column, dflp_columns}
 use Rattle.dflp_laws.proofs.Laws.{dflp_at_homes}
 
 -- Columns are requests of users.
@@ -34,16 +33,10 @@ pub columns_are_requests : (set : SetDef) (i : ℕ) → AreRequests (is_dflp_col
 columns_are_requests set i c h = (and_parts _ _ (and_parts (not (c.task == i) && is_user set c.resource c.task) _ h).0).1
 
 may_block_there : (w : Trace) (t j r m q : ℕ) (c : Class) → AreLawfulJobs (jobs_of w) → j < length w.jobs → phase_of w t r ≡ Asking m q
-    → DpcpReason w t j c r → may_block w.set (task_of w j) q c ≡ true
-may_block_there w t j r m q Direct lawful listed e why =
-    let same : why.blocked.resource ≡ q =
-    sym why.same ∙ runner_resource w t (home_of w why.blocked.resource) r m q why.blocked.runner e in
-    ap (λ k. is_user w.set k (task_of w j)) (sym same)
-    ∙ open_user w.set w t j why.blocked.number why.blocked.resource (lawful.each j listed) why.blocked.request
+    → DpcpReason w t j c r → blocks_at_home w.set (task_of w j) q c ≡ true
+may_block_there w t j r m q Direct lawful listed e why = requested_there w t j r m q lawful listed e why
 may_block_there w t j r m q Indirect lawful listed e why = beside_there w t j r m q lawful listed e why.blocked why.other
-may_block_there w t j r m q Preemption lawful listed e why =
-    eq-eqb (home_of w q) (processor_of w j)
-    (ap (home_of w) (sym (runner_resource w t (processor_of w j) r m q why.runner e)) ∙ why.runner.home)
+may_block_there w t j r m q Preemption lawful listed e why = home_there w t j r m q e why
 
 -- Each blocked tick is charged to a request that executes, in one of the columns.
 pub dflp_is_charged : (w : Trace) (n t j : ℕ) → AreLawfulJobs (jobs_of w) → KeepsBefore dflp_rule w n → t < n

@@ -12,6 +12,7 @@ use Rattle.sporadic_model.specs.Accepted.{IsAccepted}
 use Rattle.program_sources.specs.Bounds.{AtMost, AreWithinDeadlines}
 use Rattle.fragments.specs.ColumnDef.{is_preemption}
 use Rattle.fragments.specs.Columns.{is_lower_local}
+use Rattle.fragments.specs.Windows.{requests_at}
 use Rattle.fragments.specs.Constraints.{ConstraintDef, per_pair}
 use Rattle.fragments.proofs.KnownColumns.{passing_known}
 use Rattle.direct_constraints.specs.Rows.{common_rows, turn_row}
@@ -23,7 +24,7 @@ use Rattle.program_laws.proofs.SmallNumbers.{common_small, preemption_small, tur
 use Rattle.program_laws.proofs.CoveredColumns.{covered_by, request_row_among}
 use Rattle.program_laws.proofs.ListLengths.{Few, few, common_few, where_at_most, pair_at_most}
 use Rattle.program_laws.proofs.GivenPrograms.{limits_at_most, is_program, written_where}
-use Rattle.dflp_laws.specs.Programs.{is_dflp_column, requests_at, home_queue_row, dflp_columns, dflp_rows, dflp_program}
+use Rattle.dflp_laws.specs.Programs.{is_dflp_column, home_queue_row, dflp_columns, dflp_rows, dflp_program}
 
 abbrev turns : SetDef → ℕ → List ConstraintDef
 turns set i = per_pair (length set.tasks) (length set.resources) (turn_row set i)

@@ -13,11 +13,11 @@ use Rattle.schedule_model.specs.Ranks.{fmlp_plus}
 use Rattle.schedule_model.specs.Keeping.{KeepsRow}
 use Rattle.schedule_laws.proofs.Issues.{issue_stays}
 use Rattle.stretch_laws.specs.Steady.{IsAsLawful, StaysLawful}
-use Rattle.stretch_laws.proofs.Alike.{IsAlike, alike_through, active_local_alike, running_alike, holder_alike, dpcp_blocked_alike}
+use Rattle.stretch_laws.proofs.Alike.{IsAlike, alike_through, running_alike, holder_alike, dpcp_blocked_alike}
 use Rattle.stretch_laws.proofs.SharedStretches.{keep_again, grant_again, sized_again}
-use Rattle.stretch_laws.proofs.DpcpStretches.{has_requests_alike, holds_at_alike, run_again, idle_again}
+use Rattle.stretch_laws.proofs.DpcpStretches.{holds_at_alike, run_again, idle_again, priority_again}
 use Rattle.charge_laws.proofs.DpcpCharging.{request_at_is}
-use Rattle.dflp_laws.specs.Rules.{RunsEarliestHolder, KeepsPriority, dflp_rule, IsDflpChoice}
+use Rattle.dflp_laws.specs.Rules.{dflp_rule, IsDflpChoice}
 
 -- Who holds at a processor stays in a request, so its issue tick stays.
 issue_alike : (w : Trace) (t u k j : ℕ) → IsAlike w t u → holds_at w t k j ≡ true → issue_tick_of w u j ≡ issue_tick_of w t j
@@ -28,31 +28,13 @@ issue_alike w t u k j a h =
     request_at_is w t k j at in
     sym (issue_stays w t u j is.0 is.1 is.1 is.3 (a.phase j ∙ is.3) a.later)
 
-earliest_again : (w : Trace) (t u k : ℕ) → IsAlike w t u → RunsEarliestHolder w t k → RunsEarliestHolder w u k
-earliest_again w t u k a f = record {
-  runner = f.runner;
-  runs = running_alike w t u k a ∙ f.runs;
-  holds = holds_at_alike w t u k f.runner a ∙ f.holds;
-  first = λ i b h. first i b h;
-} where
-  first : (i : ℕ) → i < length w.jobs → holds_at w u k i ≡ true → issue_tick_of w u f.runner ≤ issue_tick_of w u i
-  first i b h =
-      let old : holds_at w t k i ≡ true = sym (holds_at_alike w t u k i a) ∙ h in
-      omega (arith, f.first i b old, issue_alike w t u k f.runner a f.holds, issue_alike w t u k i a old)
-
-priority_again : (w : Trace) (t u : ℕ) → IsAlike w t u → KeepsPriority w t → KeepsPriority w u
-priority_again w t u a priority = record {
-  requests = λ k h. earliest_again w t u k a (priority.requests k (sym (has_requests_alike w t u k a) ∙ h));
-  locals = λ k r e none i b c h. priority.locals k r (sym (running_alike w t u k a) ∙ e)
-      (sym (has_requests_alike w t u k a) ∙ none) i b c (sym (active_local_alike w t u i a) ∙ h);
-}
-
 row_again : (w : Trace) (t u : ℕ) → IsAlike w t u → KeepsRow dflp_rule w t → KeepsRow dflp_rule w u
 row_again w t u a keeps rule.Run = run_again w t u a (keeps rule.Run)
 row_again w t u a keeps rule.Keep = keep_again w t u a
 row_again w t u a keeps rule.Grant = grant_again fmlp_plus w t u a (keeps rule.Grant)
 row_again w t u a keeps rule.Idle = idle_again w t u a (keeps rule.Idle)
-row_again w t u a keeps rule.Priority = priority_again w t u a (keeps rule.Priority)
+row_again w t u a keeps rule.Priority =
+    priority_again issue_tick_of w t u a (λ k j h. issue_alike w t u k j a h) (keeps rule.Priority)
 
 choice_again : (w : Trace) (t u : ℕ) → IsAlike w t u → IsDflpChoice w t → IsDflpChoice w u
 choice_again w t u a chosen = record {

@@ -31,13 +31,12 @@ use Rattle.shared_rules.proofs.Chosen.{IsSceneOf, granted_keep, granted_grant, g
 use Rattle.fmlp_rules.specs.IssueOrder.{issue_now}
 use Rattle.fmlp_rules.specs.IssueOrderLaw.{issue_gives}
 use Rattle.dpcp_rules.specs.Homes.{column_now}
-use Rattle.dpcp_rules.specs.RowTests.{passes_run, idle_passes, passes_idle, is_no_lower}
+use Rattle.dpcp_rules.specs.RowTests.{passes_run, idle_passes, passes_idle, is_no_later, goes_first, priority_passes, passes_priority}
 use Rattle.dpcp_rules.proofs.RunTest.{run_is}
 use Rattle.dpcp_rules.proofs.Shown.{HolderAt, holds_at_is, phase_is, column_is, unfinished}
-use Rattle.dpcp_rules.proofs.ReadyTests.{idle_is, local_now, holds_of, column_of_request}
+use Rattle.dpcp_rules.proofs.ReadyTests.{idle_is, local_now, holds_of, column_of_request, priority_is}
 use Rattle.dflp_laws.specs.Rules.{dflp_rule, IsDflpChoice}
-use Rattle.dflp_protocol.specs.RowTests.{is_no_later, goes_first, priority_passes, passes_priority}
-use Rattle.dflp_protocol.proofs.Priority.{issue_shown, priority_is}
+use Rattle.dflp_protocol.proofs.Issues.{issues_give, issue_shown}
 
 -- The scene of the grants, and the one where jobs run at homes.
 abbrev pub grants_at : MachineDef → Scene
@@ -129,29 +128,30 @@ holds_not_local held j Local h = absurd (cc)
 holds_not_local held j Finished h = absurd (cc)
 holds_not_local held j (Asking n q) h = refl
 
-priority_passes_made : (m : MachineDef) (rows : ℕ → RowDef) → Made m rows → passes_priority m (rows m.tick) ≡ true
+priority_passes_made : (m : MachineDef) (rows : ℕ → RowDef) → Made m rows → passes_priority m (issue_now m) (rows m.tick) ≡ true
 unfolding passes_priority
-priority_passes_made m rows made = each_from m rows (priority_passes m (rows m.tick)) made.shows
+priority_passes_made m rows made = each_from m rows (priority_passes m (issue_now m) (rows m.tick)) made.shows
     (λ j a. at_job j a (phase_of (under m rows) m.tick j) refl (running_on (rows m.tick) (column_now m j)) refl)
   where
     local_case : (j r : ℕ) → is_active (under m rows) m.tick j ≡ true → phase_of (under m rows) m.tick j ≡ Local
-        → running_on (rows m.tick) (column_now m j) ≡ Some r → (not (is_local_now m r) || is_no_lower m r j) ≡ true
+        → running_on (rows m.tick) (column_now m j) ≡ Some r → (not (is_local_now m r) || is_no_later (task_in m.list.jobs) r j) ≡ true
     local_case j r a f e = elim (cases_Bool (holds_now m (holder_in (rows m.tick)) r)) [
-      | inl holds ↦ or_left (not (is_local_now m r)) (is_no_lower m r j)
+      | inl holds ↦ or_left (not (is_local_now m r)) (is_no_later (task_in m.list.jobs) r j)
           (not_from_false (is_local_now m r) (holds_not_local (holder_in (rows m.tick)) r _ holds))
-      | inr free ↦ or_right (not (is_local_now m r)) (is_no_lower m r j) (le-leb (task_in m.list.jobs r) (task_in m.list.jobs j)
+      | inr free ↦ or_right (not (is_local_now m r)) (is_no_later (task_in m.list.jobs) r j)
+          (le-leb (task_in m.list.jobs r) (task_in m.list.jobs j)
           (made.running.locals (column_now m j) r e free j (now_active m rows j made.shows a) (task_below m rows j made.shows a) refl
           (local_now m rows j Local made.shows a f)))
     ]
 
     request_case : (j r n q : ℕ) → is_active (under m rows) m.tick j ≡ true → phase_of (under m rows) m.tick j ≡ Asking n q
         → running_on (rows m.tick) (column_now m j) ≡ Some r → (holds_now m (holder_in (rows m.tick)) r
-        && (not (holds_now m (holder_in (rows m.tick)) j) || is_no_later m r j)) ≡ true
+        && (not (holds_now m (holder_in (rows m.tick)) j) || is_no_later (issue_now m) r j)) ≡ true
     request_case j r n q a f e = and_from (holds_now m (holder_in (rows m.tick)) r) _ runner.0
         (elim (cases_Bool (holds_now m (holder_in (rows m.tick)) j)) [
-          | inr fails ↦ or_left (not (holds_now m (holder_in (rows m.tick)) j)) (is_no_later m r j)
+          | inr fails ↦ or_left (not (holds_now m (holder_in (rows m.tick)) j)) (is_no_later (issue_now m) r j)
               (not_from_false (holds_now m (holder_in (rows m.tick)) j) fails)
-          | inl truly ↦ or_right (not (holds_now m (holder_in (rows m.tick)) j)) (is_no_later m r j)
+          | inl truly ↦ or_right (not (holds_now m (holder_in (rows m.tick)) j)) (is_no_later (issue_now m) r j)
               (le-leb (issue_now m r) (issue_now m j) (leads truly))
         ]) where
           h : HolderNow m rows (column_now m j)
@@ -169,13 +169,13 @@ priority_passes_made m rows made = each_from m rows (priority_passes m (rows m.t
               l.first
 
     at_job : (j : ℕ) → is_active (under m rows) m.tick j ≡ true → (p : Phase) → phase_of (under m rows) m.tick j ≡ p
-        → (o : Option ℕ) → running_on (rows m.tick) (column_now m j) ≡ o → priority_passes m (rows m.tick) j ≡ true
+        → (o : Option ℕ) → running_on (rows m.tick) (column_now m j) ≡ o → priority_passes m (issue_now m) (rows m.tick) j ≡ true
     at_job j a p f None e = absurd (busy m rows j p made a f e)
     at_job j a Finished f (Some r) e = absurd (unfinished (under m rows) m.tick j a f)
     at_job j a Local f (Some r) e =
-        ap (goes_first m (rows m.tick) j) e ∙ rw (local_now m rows j Local made.shows a f) (local_case j r a f e)
+        ap (goes_first m (issue_now m) (rows m.tick) j) e ∙ rw (local_now m rows j Local made.shows a f) (local_case j r a f e)
     at_job j a (Asking n q) f (Some r) e =
-        ap (goes_first m (rows m.tick) j) e ∙ rw (local_now m rows j (Asking n q) made.shows a f) (request_case j r n q a f e)
+        ap (goes_first m (issue_now m) (rows m.tick) j) e ∙ rw (local_now m rows j (Asking n q) made.shows a f) (request_case j r n q a f e)
 
 -- Of the holders there that were issued at one tick the one of the highest task runs.
 runs_tie : (m : MachineDef) (rows : ℕ → RowDef) (k r i : ℕ) → Made m rows → running_on (rows m.tick) k ≡ Some r
@@ -216,7 +216,8 @@ chosen_from m rows made sized = record {
   keeps rule.Keep = granted_keep fmlp_plus (grants_at m) (under m rows) m.tick scene made.holders
   keeps rule.Grant = granted_grant fmlp_plus (grants_at m) (under m rows) m.tick scene made.holders
   keeps rule.Idle = idle_is m rows made.shows (idle_passes_made m rows made)
-  keeps rule.Priority = priority_is m rows made.shows run (priority_passes_made m rows made)
+  keeps rule.Priority =
+      priority_is issue_tick_of issue_now m rows issues_give made.shows run (priority_passes_made m rows made)
 
 -- The row that the walks end with is the chosen one.
 pub choice_made : (m : MachineDef) (rows : ℕ → RowDef) (row : RowDef) → Shows m rows → rows m.tick ≡ row → IsSized m.list.set row

@@ -1,4 +1,4 @@
-pub mod Priority
+pub mod Issues
 pub mod Verdict
 pub mod Chosen
 pub mod NextRow

@@ -8,10 +8,10 @@ ghost use Rattle.sporadic_model.specs.Users.{is_user};
 ghost use Rattle.sporadic_model.specs.Homes.{EachHasHome, home_in};
 ghost use Rattle.program_sources.specs.Bounds.{AreWithinDeadlines};
 ghost use Rattle.fragments.specs.ColumnDef.{column_seen, AreKnown};
-ghost use Rattle.fragments.specs.Columns.{requests_beside};
+ghost use Rattle.fragments.specs.Columns.{requests_beside, blocks_at_home};
 ghost use Rattle.fragments.specs.Constraints.{block_of};
 ghost use Rattle.fragments.specs.Stretches.{AreInOrder};
-ghost use Rattle.dflp_laws.specs.Programs.{may_block, is_dflp_column, dflp_rows, dflp_program, dflp_source};
+ghost use Rattle.dflp_laws.specs.Programs.{is_dflp_column, dflp_rows, dflp_program, dflp_source};
 ghost use Rattle.dflp_laws.proofs.Programs.{dflp_covered, dflp_rises, dflp_is_program};
 
 use crate::Dflp;
@@ -53,7 +53,7 @@ fn asks_beside(set: &TaskSet, i: TaskId, q: ResourceId) -> bool
 fn may_block(set: &TaskSet, i: TaskId, column: Fragment) -> bool
     requires task { i.0 < length set.now.tasks }
     requires resource { column.resource.0 < length set.now.resources }
-    ensures { result ≡ may_block set.now i.0 column.resource.0 column.class }
+    ensures { result ≡ blocks_at_home set.now i.0 column.resource.0 column.class }
 {
     match column.class {
         Class::Direct => uses(set, i, column.resource),

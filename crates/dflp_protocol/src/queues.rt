@@ -4,7 +4,8 @@ ghost use Rattle.program_sources.specs.Bounds.{AreWithinDeadlines};
 ghost use Rattle.fragments.specs.ColumnDef.{column_seen, AreKnown};
 ghost use Rattle.fragments.specs.Constraints.{per, per_pair, with_rows};
 ghost use Rattle.fragments.specs.Stretches.{slot, AreInOrder, BeginsAt, IsStretch};
-ghost use Rattle.dflp_laws.specs.Programs.{requests_at, home_queue_row};
+ghost use Rattle.fragments.specs.Windows.{requests_at};
+ghost use Rattle.dflp_laws.specs.Programs.{home_queue_row};
 
 use fragments::{Constraint, Fragment, RowKind, add_row_within, home, task_end};
 use program_form::RowBlock;

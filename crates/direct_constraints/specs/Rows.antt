@@ -1,41 +1,36 @@
 -- The rows that every protocol has, and those of direct blocking. In each, i is the analysed task.
 use Rattle.std.specs.Prelude.{ℕ, ◌*◌, ◌==◌, ◌&&◌, nat_lt, List, [], ◌++◌, length}
-use Rattle.bounded_sums.specs.Sums.{flag, only_if}
+use Rattle.bounded_sums.specs.Sums.{only_if}
 use Rattle.sporadic_model.specs.SetDef.{SetDef, task_at}
 use Rattle.sporadic_model.specs.Users.{count_of, length_of}
 use Rattle.sporadic_model.specs.declared.ids.Protocol.{Protocol}
 use Rattle.sporadic_model.specs.declared.ids.Protocol.TheVariants as protocol
-use Rattle.fragments.specs.ColumnDef.{is_direct}
-use Rattle.fragments.specs.Windows.{jobs_in, requests_in}
-use Rattle.fragments.specs.Constraints.{ConstraintDef, per, per_pair}
+use Rattle.fragments.specs.declared.columns.Class.TheVariants.{Direct}
+use Rattle.fragments.specs.ColumnDef.{is_class}
+use Rattle.fragments.specs.Windows.{jobs_during, requests_during}
+use Rattle.fragments.specs.Constraints.{ConstraintDef, counting, per, per_pair}
 
 -- Requests: those of q by x, of all classes, are at most as many as x makes while a job of i runs.
 abbrev pub request_row : SetDef → ℕ → ℕ → ℕ → ConstraintDef
-request_row set i x q = record {
-  coefficient = λ c. flag ((c.task == x) && (c.resource == q));
-  limit = λ bounds. requests_in set bounds i x q;
-}
+request_row set i x q =
+    counting (λ c. (c.task == x) && (c.resource == q)) (λ bounds. requests_during set bounds (bounds i) x q)
 
 -- Time: all requests of x together take no longer than its jobs may execute.
 abbrev pub time_row : SetDef → ℕ → ℕ → ConstraintDef
 time_row set i x = record {
   coefficient = λ c. only_if (c.task == x) (length_of set x c.resource);
-  limit = λ bounds. (task_at set x).cost * jobs_in set bounds i x;
+  limit = λ bounds. (task_at set x).cost * jobs_during set bounds (bounds i) x;
 }
 
 -- Turns: where requests are served in the order of issue, each request of q by i waits for at most one of x.
 abbrev pub turn_row : SetDef → ℕ → ℕ → ℕ → ConstraintDef
-turn_row set i x q = record {
-  coefficient = λ c. flag (((c.task == x) && (c.resource == q)) && is_direct c.class);
-  limit = λ bounds. count_of set i q;
-}
+turn_row set i x q =
+    counting (λ c. ((c.task == x) && (c.resource == q)) && is_class Direct c.class) (λ bounds. count_of set i q)
 
 -- Lower holders: where requests are granted by base priority, each request of q by i waits for at most one of lower tasks.
 abbrev pub lower_holder_row : SetDef → ℕ → ℕ → ConstraintDef
-lower_holder_row set i q = record {
-  coefficient = λ c. flag (((c.resource == q) && is_direct c.class) && nat_lt i c.task);
-  limit = λ bounds. count_of set i q;
-}
+lower_holder_row set i q =
+    counting (λ c. ((c.resource == q) && is_class Direct c.class) && nat_lt i c.task) (λ bounds. count_of set i q)
 
 -- The rows of every protocol: the requests of each task and resource, then the time of each task.
 abbrev pub common_rows : SetDef → ℕ → List ConstraintDef

@@ -19,6 +19,7 @@ use Rattle.schedule_model.specs.SharedRules.{KeepsKeep}
 use Rattle.schedule_model.specs.DpcpRules.{home_of, ceiling_rank, has_requests, holds_at, is_kept, waits_at}
 use Rattle.schedule_model.specs.DpcpRules.{is_first_waiting, is_barred, is_granted, KeepsRun, KeepsGrant, KeepsIdle}
 use Rattle.schedule_model.specs.DpcpRules.{RunsFirstHolder, KeepsPriority}
+use Rattle.schedule_model.specs.Ranks.{by_task}
 use Rattle.schedule_model.specs.Protocols.{dpcp_rule}
 use Rattle.schedule_model.specs.Chosen.{IsSized, IsDpcpChoice}
 use Rattle.schedule_laws.proofs.ActiveJobs.{active_listed, one_active, Requester, requester_is, requester_from}
@@ -536,7 +537,8 @@ made_idle m rows first bars made = record {
       made.running.locals.free k e i (now_active m rows i made.noted.shows l.active)
       (claim_of_local m rows k i made.noted.shows l own) (task_below m rows i made.noted.shows l.active)
 
-made_priority : (m : MachineDef) (rows : ℕ → RowDef) (first bars : List ℕ) → Made m rows first bars → KeepsPriority (under m rows) m.tick
+made_priority : (m : MachineDef) (rows : ℕ → RowDef) (first bars : List ℕ) → Made m rows first bars
+    → KeepsPriority by_task (under m rows) m.tick
 made_priority m rows first bars made = record {
   requests = λ k some. requests k (holder_runs m rows first bars k made (home_holder m rows first bars k made some));
   locals = λ k r e none i l own li. locals k r i none own (ran m rows first bars made k r e) (active_local_is (under m rows) m.tick i li);
@@ -547,7 +549,7 @@ made_priority m rows first bars made = record {
   holder_active : (k i : ℕ) → holds_at (under m rows) m.tick k i ≡ true → is_active (under m rows) m.tick i ≡ true
   holder_active k i h = let at : HolderAt (under m rows) m.tick k i = holds_at_is (under m rows) m.tick k i h in at.request.active
 
-  requests : (k : ℕ) → HolderRuns m rows k → RunsFirstHolder (under m rows) m.tick k
+  requests : (k : ℕ) → HolderRuns m rows k → RunsFirstHolder by_task (under m rows) m.tick k
   requests k h = record {
     runner = h.runner;
     runs = h.runs;

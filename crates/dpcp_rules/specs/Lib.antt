@@ -1,4 +1,5 @@
 pub mod Homes
+pub mod TaskOrder
 pub mod RowTests
 pub mod Blocked
 pub mod Choosing

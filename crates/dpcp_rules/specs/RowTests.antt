@@ -9,6 +9,7 @@ use Rattle.phase_machine.specs.MachineDef.{MachineDef, task_in}
 use Rattle.phase_machine.specs.Now.{waiting_now}
 use Rattle.shared_rules.specs.RowTests.{each_stands, each_current, is_local_now, holds_now, passes_keep, holder_passes, first_of}
 use Rattle.dpcp_rules.specs.Homes.{column_now, entry_at}
+use Rattle.dpcp_rules.specs.TaskOrder.{task_now}
 
 -- Run: is what runs in each column active, Local or the holder of what it requests, and in its column?
 abbrev pub passes_run : MachineDef → RowDef → Bool
@@ -35,24 +36,26 @@ idle_passes m row j = is_some (running_on row (column_now m j))
 unfoldable pub passes_idle : MachineDef → RowDef → Bool
 passes_idle m row = each_current m (idle_passes m row)
 
--- Priority: does what runs where job j would go no later than j? A Local job goes after requests, and after Local jobs of
--- higher tasks; a request gives way to holders alone, and a holder to holders of higher tasks.
-abbrev pub is_no_lower : MachineDef → ℕ → ℕ → Bool
-is_no_lower m r j = nat_le (task_in m.list.jobs r) (task_in m.list.jobs j)
+-- Has the first job a number no greater than that of the second?
+abbrev pub is_no_later : (ℕ → ℕ) → ℕ → ℕ → Bool
+is_no_later rank r j = nat_le (rank r) (rank j)
 
-abbrev pub goes_first : MachineDef → RowDef → ℕ → Option ℕ → Bool
-goes_first m row j None = is_local_now m j
-goes_first m row j (Some r) =
-    if is_local_now m j then not (is_local_now m r) || is_no_lower m r j
-    else holds_now m (holder_in row) r && (not (holds_now m (holder_in row) j) || is_no_lower m r j)
+-- Priority, where holders run by these numbers: does what runs where job j would go no later than j? A Local job goes after
+-- requests, and after Local jobs of higher tasks; a request gives way to holders alone, and a holder to holders that go first.
+abbrev pub goes_first : MachineDef → (ℕ → ℕ) → RowDef → ℕ → Option ℕ → Bool
+goes_first m rank row j None = is_local_now m j
+goes_first m rank row j (Some r) =
+    if is_local_now m j then not (is_local_now m r) || is_no_later (task_in m.list.jobs) r j
+    else holds_now m (holder_in row) r && (not (holds_now m (holder_in row) j) || is_no_later rank r j)
 
-abbrev pub priority_passes : MachineDef → RowDef → ℕ → Bool
-priority_passes m row j = goes_first m row j (running_on row (column_now m j))
+abbrev pub priority_passes : MachineDef → (ℕ → ℕ) → RowDef → ℕ → Bool
+priority_passes m rank row j = goes_first m rank row j (running_on row (column_now m j))
 
-unfoldable pub passes_priority : MachineDef → RowDef → Bool
-passes_priority m row = each_current m (priority_passes m row)
+unfoldable pub passes_priority : MachineDef → (ℕ → ℕ) → RowDef → Bool
+passes_priority m rank row = each_current m (priority_passes m rank row)
 
 -- The first rule whose test fails.
 abbrev pub first_failed : MachineDef → List ℕ → List ℕ → RowDef → Option Rule
 first_failed m first bars row =
-    first_of (passes_run m row) (passes_keep m row) (passes_grant m first bars row) (passes_idle m row) (passes_priority m row)
+    first_of (passes_run m row) (passes_keep m row) (passes_grant m first bars row) (passes_idle m row)
+    (passes_priority m (task_now m) row)

@@ -10,13 +10,15 @@ ghost use Rattle.phase_machine.specs.Taking.{IsRowFor};
 ghost use Rattle.phase_machine.specs.Judged.{Judged};
 ghost use Rattle.shared_rules.specs.RowTests.{each_current};
 ghost use Rattle.dpcp_rules.specs.RowTests.{passes_run, is_due, request_passes, passes_grant};
-ghost use Rattle.dpcp_rules.specs.RowTests.{idle_passes, passes_idle, is_no_lower, goes_first, priority_passes};
+ghost use Rattle.dpcp_rules.specs.RowTests.{idle_passes, passes_idle, goes_first, priority_passes};
 ghost use Rattle.dpcp_rules.specs.RowTests.{passes_priority, first_failed};
 
+use crate::Dpcp;
 use crate::lookup::{AtHomes, column_of, tasks_of};
 use crate::tables::{Tables, tables_of};
 use phase_machine::Machine;
 use schedule_model::{JobId, Row, Rule};
+use shared_rules::Order;
 use shared_rules::columns::running_instead;
 use shared_rules::judging::{each_stands, holders_pass, passes_keep};
 use shared_rules::lookup::{holds, is_local, task_of};
@@ -121,66 +123,71 @@ pub fn passes_idle(machine: &Machine, row: &Row) -> bool
     each_passes(&IdleTest { row }, machine)
 }
 
-/// Is the first job of no lower task than the second?
-fn is_no_lower(machine: &Machine, r: JobId, j: JobId) -> bool
-    requires first { r.0 < length machine.now.list.jobs }
-    requires second { j.0 < length machine.now.list.jobs }
-    ensures { result ≡ is_no_lower machine.now r.0 j.0 }
-{
-    task_of(machine, r).0 <= task_of(machine, j).0
-}
-
-/// Does what runs go no later than the job?
-fn goes_first(machine: &Machine, row: &Row, j: JobId, running: Option<JobId>) -> bool
+/// Does what runs go no later than the job, where holders run in this order?
+fn goes_first<O: Order>(
+    order: &O,
+    machine: &Machine,
+    row: &Row,
+    j: JobId,
+    running: Option<JobId>,
+) -> bool
     requires fits { IsRowFor machine.now.list (row_seen row.now) }
     requires listed { j.0 < length machine.now.list.jobs }
     requires running { IfSome running (λ r. r.0 < length machine.now.list.jobs) }
-    ensures { result ≡ goes_first machine.now (row_seen row.now) j.0 (place_seen running) }
+    ensures { result ≡ goes_first machine.now (O.run order.now machine.now) (row_seen row.now) j.0 (place_seen running) }
 {
     let Some(r) = running else {
         return is_local(machine, j);
     };
     if is_local(machine, j) {
-        return !is_local(machine, r) || is_no_lower(machine, r, j);
+        return !is_local(machine, r) || task_of(machine, r).0 <= task_of(machine, j).0;
     }
     holds(machine, &row.holders, r)
-        && (!holds(machine, &row.holders, j) || is_no_lower(machine, r, j))
+        && (!holds(machine, &row.holders, j)
+            || order.run_of(machine, r) <= order.run_of(machine, j))
 }
 
 /// Priority, for one job: does what runs where the job would go no later?
-fn priority_passes(machine: &Machine, row: &Row, j: JobId) -> bool
+fn priority_passes<O: Order>(order: &O, machine: &Machine, row: &Row, j: JobId) -> bool
     requires suits { EachHasHome machine.now.list.set }
     requires fits { IsRowFor machine.now.list (row_seen row.now) }
     requires listed { j.0 < length machine.now.list.jobs }
-    ensures { result ≡ priority_passes machine.now (row_seen row.now) j.0 }
+    ensures { result ≡ priority_passes machine.now (O.run order.now machine.now) (row_seen row.now) j.0 }
 {
-    goes_first(machine, row, j, running_instead(&AtHomes, machine, row, j))
+    goes_first(
+        order,
+        machine,
+        row,
+        j,
+        running_instead(&AtHomes, machine, row, j),
+    )
 }
 
 /// The test of Priority for active jobs.
 #[derive(Drop)]
-struct PriorityTest<'a> {
+struct PriorityTest<'a, O> {
+    order: &'a O,
     row: &'a Row,
 }
 
-impl<'a> JobTest for PriorityTest<'a> {
+impl<'a, O: Order> JobTest for PriorityTest<'a, O> {
     ghost needs = { λ t m. EachHasHome m.list.set × IsRowFor m.list (row_seen t.row.now) };
 
-    ghost passes = { λ t m. priority_passes m (row_seen t.row.now) };
+    ghost passes = { λ t m. priority_passes m (O.run t.order.now m) (row_seen t.row.now) };
 
     fn test(&self, machine: &Machine, j: JobId) -> bool {
-        priority_passes(machine, self.row, j)
+        priority_passes(self.order, machine, self.row, j)
     }
 }
 
-/// Priority: does what runs on each processor go first there?
+/// Priority, where holders run in this order: does what runs on each processor go first there?
 #[tactic(auto, unfolding(crate::specs::RowTests::passes_priority))]
-fn passes_priority(machine: &Machine, row: &Row) -> bool
+pub fn passes_priority<O: Order>(order: &O, machine: &Machine, row: &Row) -> bool
     requires suits { EachHasHome machine.now.list.set }
     requires fits { IsRowFor machine.now.list (row_seen row.now) }
-    ensures { result ≡ passes_priority machine.now (row_seen row.now) }
+    ensures { result ≡ passes_priority machine.now (O.run order.now machine.now) (row_seen row.now) }
 {
-    each_passes(&PriorityTest { row }, machine)
+    each_passes(&PriorityTest { order, row }, machine)
 }
 
 /// The first rule whose test fails.
@@ -202,7 +209,7 @@ fn first_failed(machine: &Machine, tables: &Tables, row: &Row) -> Option<Rule>
     if !passes_idle(machine, row) {
         return Some(Rule::Idle);
     }
-    if !passes_priority(machine, row) {
+    if !passes_priority(&Dpcp, machine, row) {
         return Some(Rule::Priority);
     }
     None

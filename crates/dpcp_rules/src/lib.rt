@@ -18,14 +18,36 @@ ghost use Rattle.schedule_laws.proofs.DpcpLaws.{dpcp_one_of_three, dpcp_sound_ro
 ghost use Rattle.schedule_laws.proofs.DpcpAgreement.{dpcp_rules_read, dpcp_choice_reads};
 ghost use Rattle.schedule_laws.proofs.TickAgreement.{dpcp_interference_agree};
 ghost use Rattle.stretch_laws.proofs.DpcpStretches.{dpcp_stays_lawful};
+ghost use Rattle.dpcp_rules.specs.TaskOrder.{task_ranks, task_now, tasks_give};
 
 pub use laws::each_schedule_has_a_next_row;
 use phase_machine::{Judge, Machine};
 use schedule_model::{BlockingProtocol, JobId, Row, Rule};
+use shared_rules::Order;
 
 /// The distributed priority ceiling protocol. It suits task sets in which each resource has a home.
 #[derive(Clone, Copy, Debug, PartialEq, Eq)]
 pub struct Dpcp;
+
+impl Order for Dpcp {
+    ghost ranks = { λ p. task_ranks };
+
+    ghost grant = { λ p. task_now };
+
+    ghost run = { λ p. task_now };
+
+    /// The job's task.
+    fn grant_of(&self, machine: &Machine, j: JobId) -> u64 {
+        u64::from(machine.jobs().job(j).task.0)
+    }
+
+    /// The same task.
+    fn run_of(&self, machine: &Machine, j: JobId) -> u64 {
+        self.grant_of(machine, j)
+    }
+
+    ghost gives = { λ p. tasks_give };
+}
 
 impl BlockingProtocol for Dpcp {
     ghost suits = { λ p. EachHasHome };

@@ -10,7 +10,7 @@ use Rattle.fragments.specs.declared.columns.Class.{Class}
 use Rattle.fragments.specs.declared.columns.Class.TheVariants as class
 use Rattle.sporadic_model.specs.Homes.{home_in}
 use Rattle.fragments.specs.Ceilings.{ceiling_rank, remote_ceiling_rank}
-use Rattle.fragments.specs.ColumnDef.{ColumnDef, all_columns}
+use Rattle.fragments.specs.ColumnDef.{ColumnDef, is_class, all_columns}
 
 -- Do two tasks share a processor?
 abbrev pub have_one_processor : SetDef → ℕ → ℕ → Bool
@@ -47,31 +47,38 @@ blocks_by_sharing p set i x q class.Direct = is_user set q i
 blocks_by_sharing p set i x q class.Indirect = has_path p set i x q
 blocks_by_sharing p set i x q class.Preemption = is_lower_local set i x
 
--- Under DPCP, which runs them on their resource's home? Directly where i requests q, indirectly where i requests another
--- resource of q's home, from a lower task only where q's ceiling is no lower than i, and by preemption where q's home is i's
--- processor.
-abbrev pub blocks_at_home : SetDef → ℕ → ℕ → ℕ → Class → Bool
-blocks_at_home set i x q class.Direct = is_user set q i
-blocks_at_home set i x q class.Indirect = requests_beside set i q && (not (nat_lt i x) || nat_le (ceiling_rank set q) i)
-blocks_at_home set i x q class.Preemption = home_in set q == (task_at set i).processor
+-- Where requests run on their resource's home, may those of q block i in this way? Directly where i requests q, indirectly where i
+-- requests another resource of q's home, and by preemption where q's home is i's processor.
+abbrev pub blocks_at_home : SetDef → ℕ → ℕ → Class → Bool
+blocks_at_home set i q class.Direct = is_user set q i
+blocks_at_home set i q class.Indirect = requests_beside set i q
+blocks_at_home set i q class.Preemption = home_in set q == (task_at set i).processor
 
--- May requests of q by x block i in this way? Under MPCP and FMLP+ those of higher tasks beside i never do.
+-- May requests of q by x block i in this way? Under DPCP those of a lower task block indirectly only where q's ceiling is no lower
+-- than i. Under MPCP and FMLP+ those of higher tasks beside i never block.
 abbrev pub may_block : Protocol → SetDef → ℕ → ℕ → ℕ → Class → Bool
-may_block protocol.Mpcp set i x q c = not (is_higher_local set i x) && blocks_by_sharing protocol.Mpcp set i x q c
-may_block protocol.FmlpPlus set i x q c = not (is_higher_local set i x) && blocks_by_sharing protocol.FmlpPlus set i x q c
-may_block protocol.Dpcp set i x q c = blocks_at_home set i x q c
+may_block protocol.Dpcp set i x q k =
+    (not (is_class class.Indirect k && nat_lt i x) || nat_le (ceiling_rank set q) i) && blocks_at_home set i q k
+may_block p set i x q k = not (is_higher_local set i x) && blocks_by_sharing p set i x q k
 
 -- Is it a column of task i: another task's requests of a resource that it uses, which may block i in this way?
-abbrev pub is_column : Protocol → SetDef → ℕ → ColumnDef → Bool
-is_column p set i c = (not (c.task == i) && is_user set c.resource c.task) && may_block p set i c.task c.resource c.class
+abbrev pub is_column_by : (ℕ → ℕ → Class → Bool) → SetDef → ℕ → ColumnDef → Bool
+is_column_by blocks set i c = (not (c.task == i) && is_user set c.resource c.task) && blocks c.task c.resource c.class
 
--- The columns of a set that pass a test, in order of the task, then the resource, then the class.
+-- The columns of task i, in order of the task, then the resource, then the class. They do not depend on any bounds.
+abbrev pub columns_by : (ℕ → ℕ → Class → Bool) → SetDef → ℕ → List ColumnDef
+columns_by blocks set i = filter (is_column_by blocks set i) (all_columns (length set.tasks) (length set.resources))
+
+-- The same of the three protocols, as contracts name them.
+abbrev pub is_column : Protocol → SetDef → ℕ → ColumnDef → Bool
+is_column p set i = is_column_by (may_block p set i) set i
+
+abbrev pub columns_of : Protocol → SetDef → ℕ → List ColumnDef
+columns_of p set i = columns_by (may_block p set i) set i
+
+-- The columns of a set that pass any test, in the same order.
 abbrev pub columns_where : (ColumnDef → Bool) → SetDef → List ColumnDef
 columns_where test set = filter test (all_columns (length set.tasks) (length set.resources))
-
--- The columns of task i. They do not depend on any bounds.
-abbrev pub columns_of : Protocol → SetDef → ℕ → List ColumnDef
-columns_of p set i = columns_where (is_column p set i) set
 
 -- Are the columns that pass requests of resources that their tasks use?
 abbrev pub AreRequests : (ColumnDef → Bool) → SetDef → Type 0

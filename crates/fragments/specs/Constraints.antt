@@ -1,7 +1,7 @@
 -- Rows of a blocking program as data: a row is a coefficient for each column, and a limit that the bounds give.
 use Rattle.std.specs.Prelude.{ℕ, Bool, nat_lt, List, [], ◌∷◌, ◌++◌, map, if◌then◌else◌, slice_index}
 use Rattle.std.specs.List.{filter, list_any}
-use Rattle.bounded_sums.specs.Sums.{collect_below}
+use Rattle.bounded_sums.specs.Sums.{collect_below, flag}
 use Rattle.program_form.specs.RowBlock.{RowBlockDef}
 use Rattle.fragments.specs.ColumnDef.{ColumnDef}
 
@@ -9,6 +9,10 @@ use Rattle.fragments.specs.ColumnDef.{ColumnDef}
 pub record ConstraintDef : Type 0 where
   pub coefficient : ColumnDef → ℕ
   pub limit : (ℕ → ℕ) → ℕ
+
+-- The columns that pass the test, all together, are at most as many as the limit.
+abbrev pub counting : (ColumnDef → Bool) → ((ℕ → ℕ) → ℕ) → ConstraintDef
+counting test limit = record { coefficient = λ c. flag (test c); limit = limit }
 
 -- One row for each number below n; for each number below n that passes the test; for each pair of numbers below m and n.
 abbrev pub per : ℕ → (ℕ → ConstraintDef) → List ConstraintDef
@@ -20,15 +24,15 @@ per_where test n row = collect_below n (λ k. if test k then row k ∷ [] else [
 abbrev pub per_pair : ℕ → ℕ → (ℕ → ℕ → ConstraintDef) → List ConstraintDef
 per_pair m n row = collect_below m (λ k. per n (row k))
 
--- Has some column a coefficient above zero in the row?
+-- The rows that are there: those in which some column has a coefficient above zero.
+abbrev pub rows_there : List ColumnDef → List ConstraintDef → List ConstraintDef
+rows_there columns rows = filter (λ row. list_any (λ c. nat_lt 0 (row.coefficient c)) columns) rows
+
+-- The same test, as proofs name it.
 abbrev pub holds_some : List ColumnDef → ConstraintDef → Bool
 holds_some columns row = list_any (λ c. nat_lt 0 (row.coefficient c)) columns
 
--- The rows that are there: those with a coefficient above zero.
-abbrev pub rows_there : List ColumnDef → List ConstraintDef → List ConstraintDef
-rows_there columns rows = filter (holds_some columns) rows
-
--- The numbers of these rows: their coefficients, and their limits at bounds.
+-- The numbers of the rows that are there: their coefficients, and their limits at bounds.
 abbrev pub coefficients_of : List ColumnDef → List ConstraintDef → List (List ℕ)
 coefficients_of columns rows = map (λ row. map row.coefficient columns) (rows_there columns rows)
 

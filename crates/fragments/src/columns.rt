@@ -4,6 +4,7 @@ ghost use Rattle.bounded_sums.specs.Sums.{collect_below};
 ghost use Rattle.sporadic_model.specs.SetDef.{task_at};
 ghost use Rattle.sporadic_model.specs.Users.{is_user};
 ghost use Rattle.sporadic_model.specs.Homes.{HasHomesFor, home_in};
+ghost use Rattle.fragments.specs.Ceilings.{ceiling_rank};
 ghost use Rattle.fragments.specs.ColumnDef.{column_seen, classes_of, is_direct, is_indirect, is_preemption};
 ghost use Rattle.fragments.specs.Columns.{have_one_processor, may_run_before, has_path, requests_beside};
 ghost use Rattle.fragments.specs.Columns.{blocks_by_sharing, blocks_at_home, may_block, is_column, columns_of};
@@ -263,23 +264,28 @@ fn blocks_shared(
     }
 }
 
-// Under DPCP, may they?
-fn blocks_distributed(set: &TaskSet, i: TaskId, c: Fragment, links: &[ResourceId]) -> bool
+// Where requests run on their resource's home, may they?
+fn blocks_there(set: &TaskSet, i: TaskId, c: Fragment, links: &[ResourceId]) -> bool
     requires task { i.0 < length set.now.tasks }
     requires column { c.task.0 < length set.now.tasks }
     requires resource { c.resource.0 < length set.now.resources }
     requires links { AreLinks Protocol.Dpcp set.now i.0 c.task.0 links.now }
     requires known { All (λ r. r.0 < length set.now.resources) links.now }
-    ensures { result ≡ blocks_at_home set.now i.0 c.task.0 c.resource.0 c.class }
+    ensures { result ≡ blocks_at_home set.now i.0 c.resource.0 c.class }
 {
     match c.class {
         Class::Direct => uses(set, i, c.resource),
-        Class::Indirect => {
-            asks_beside(set, i, c, links)
-                && (c.task.0 <= i.0 || ceiling_place(set, c.resource) <= i.0)
-        }
+        Class::Indirect => asks_beside(set, i, c, links),
         Class::Preemption => home(set, c.resource) == set.processor(i),
     }
+}
+
+// Are they, where they are a lower task's and would block indirectly, of a resource whose ceiling is no lower than `i`?
+fn reaches_up(set: &TaskSet, i: TaskId, c: Fragment) -> bool
+    requires resource { c.resource.0 < length set.now.resources }
+    ensures { result ≡ (not (is_indirect c.class && nat_lt i.0 c.task.0) || nat_le (ceiling_rank set.now c.resource.0) i.0) }
+{
+    !(c.class.is_indirect() && i.0 < c.task.0) || ceiling_place(set, c.resource) <= i.0
 }
 
 // May they under the protocol?
@@ -295,7 +301,7 @@ fn blocks(set: &TaskSet, protocol: Protocol, i: TaskId, c: Fragment, links: &[Re
         Protocol::Mpcp | Protocol::FmlpPlus => {
             !set.higher_local(i, c.task) && blocks_shared(set, protocol, i, c, links)
         }
-        Protocol::Dpcp => blocks_distributed(set, i, c, links),
+        Protocol::Dpcp => reaches_up(set, i, c) && blocks_there(set, i, c, links),
     }
 }
 

@@ -15,19 +15,19 @@ use Rattle.fragments.specs.declared.columns.Class.TheVariants as class
 use Rattle.fragments.specs.declared.columns.Fragment.{Fragment}
 use Rattle.fragments.specs.Ceilings.{ceiling_rank}
 use Rattle.fragments.specs.ColumnDef.{ColumnDef, column_seen, is_preemption}
-use Rattle.fragments.specs.Columns.{is_column, blocks_at_home, requests_beside, columns_of}
+use Rattle.fragments.specs.Columns.{is_column, may_block, requests_beside, columns_of}
 use Rattle.fragments.specs.Constraints.{holds_some}
 use Rattle.fragments.proofs.KnownColumns.{columns_pass, columns_known, all_mapped}
 use Rattle.indirect_constraints.specs.Asked.{IsAskedAtHome, AreAskedAtHome}
 use Rattle.indirect_constraints.specs.Rows.{home_row}
 
 -- What blocks directly or indirectly is of a home where the analysed task requests something.
-asked_there : (set : SetDef) (i x q : ℕ) (k : Class) → q < length set.resources → blocks_at_home set i x q k ≡ true
+asked_there : (set : SetDef) (i x q : ℕ) (k : Class) → q < length set.resources → may_block protocol.Dpcp set i x q k ≡ true
     → is_preemption k ≡ false
     → (r : ℕ) × (r < length set.resources) × (is_user set r i ≡ true) × (home_in set r ≡ home_in set q)
 asked_there set i x q class.Direct l h p = (q, l, h, refl)
 asked_there set i x q class.Indirect l h p =
-    let beside = (and_parts (requests_beside set i q) (not (nat_lt i x) || nat_le (ceiling_rank set q) i) h).0 in
+    let beside = (and_parts (not (nat_lt i x) || nat_le (ceiling_rank set q) i) (requests_beside set i q) h).1 in
     let some = any_below-some (length set.resources) (λ r. not (r == q) && (is_user set r i && (home_in set r == home_in set q))) beside in
     let parts = and_parts (is_user set some.0 i) (home_in set some.0 == home_in set q)
     (and_parts (not (some.0 == q)) (is_user set some.0 i && (home_in set some.0 == home_in set q)) some.2).1 in
@@ -37,7 +37,7 @@ asked_there set i x q class.Preemption l h p = absurd cc
 asked_at_home : (set : SetDef) (i : ℕ) (c : ColumnDef) → c.resource < length set.resources
     → is_column protocol.Dpcp set i c ≡ true → IsAskedAtHome set i c
 asked_at_home set i c l h p = asked_there set i c.task c.resource c.class l
-    (and_parts (not (c.task == i) && is_user set c.resource c.task) (blocks_at_home set i c.task c.resource c.class) h).1 p
+    (and_parts (not (c.task == i) && is_user set c.resource c.task) (may_block protocol.Dpcp set i c.task c.resource c.class) h).1 p
 
 pub columns_asked_at_home : (set : SetDef) (i : ℕ) (cs : List Fragment)
     → map column_seen cs ≡ columns_of protocol.Dpcp set i → AreAskedAtHome set i cs

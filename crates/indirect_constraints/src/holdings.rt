@@ -1,9 +1,8 @@
-ghost use Rattle.std.specs.Prelude.{◌≡◌, ◌<◌, ◌≤◌, ◌*◌, ◌&&◌, ◌==◌, length, slice_index, nat_lt};
-ghost use Rattle.bounded_sums.specs.Sums.{sum_below, only_if};
+ghost use Rattle.std.specs.Prelude.{◌≡◌, ◌<◌, ◌≤◌, ◌*◌, ◌&&◌, length, slice_index, nat_lt};
 ghost use Rattle.bounded_sums.specs.Tests.{any_below};
-ghost use Rattle.sporadic_model.specs.Users.{is_user, count_of};
+ghost use Rattle.sporadic_model.specs.Users.{is_user};
 ghost use Rattle.program_sources.specs.Bounds.{AreWithinDeadlines};
-ghost use Rattle.sporadic_model.specs.Homes.{home_in};
+ghost use Rattle.fragments.specs.Windows.{requests_at};
 ghost use Rattle.indirect_constraints.specs.Rows.{is_beside, higher_holdings, lower_holdings, holdings};
 
 use fragments::{cnt, home, share_processor, uses};
@@ -99,7 +98,7 @@ pub(crate) fn holding_count(set: &TaskSet, i: TaskId, x: TaskId, bounds: &[u64])
 /// How often may a job of `i` request resources of processor `k`?
 pub(crate) fn home_count(set: &TaskSet, i: TaskId, k: u32) -> u64
     requires { i.0 < length set.now.tasks }
-    ensures { result ≡ sum_below (length set.now.resources) (λ q. only_if (home_in set.now q == k) (count_of set.now i.0 q)) }
+    ensures { result ≡ requests_at set.now i.0 k }
 {
     let mut total = 0;
     for q in 0..set.resources() {

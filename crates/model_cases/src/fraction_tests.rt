@@ -1,5 +1,6 @@
 ghost use Rattle.std.specs.Prelude.{pos, ◌≤ℤ◌};
 
+use crate::threads::may_cross_threads;
 use fraction128::{Frac, Scaled, ScalingError, Wide, common_denominator, scale};
 use std::cmp::Ordering;
 use std::process::Abort;
@@ -250,10 +251,8 @@ fn scaling_is_wide_past_the_limit(rt: HostRuntime) {
     }
 }
 
-fn crosses_threads<T: Send + Sync>(_value: &T) {}
-
 #[test]
 fn values_cross_threads(rt: HostRuntime) {
-    crosses_threads(&make(&rt, 1, 2));
-    crosses_threads(&Wide);
+    may_cross_threads(&make(&rt, 1, 2));
+    may_cross_threads(&Wide);
 }

@@ -1,16 +1,22 @@
-//! Worked fractions and programs, and worked sets of tasks with the programs that the protocols give them.
+//! Worked fractions and programs, and worked sets of tasks with the programs that the protocols give them and their refusals.
 #![tactic(auto)]
 
 #[cfg(test)]
 mod building_tests;
 #[cfg(test)]
+mod confirm_tests;
+#[cfg(test)]
 mod form_tests;
 #[cfg(test)]
 mod fraction_tests;
 #[cfg(test)]
+mod meeting;
+#[cfg(test)]
 mod protocol_rows;
 #[cfg(test)]
 mod protocol_tests;
+#[cfg(test)]
+mod refusal_tests;
 #[cfg(test)]
 mod set_tests;
 #[cfg(test)]

@@ -6,6 +6,7 @@ use crate::threads::may_cross_threads;
 use fragments::{Class, Fragment, cnt};
 use program_form::{Program, RowBlock};
 use protocol_programs::{ProgramSource, Written};
+use request_windows::DpcpWindows;
 use sporadic_model::{Protocol, ResourceId, TaskId, TaskSet};
 use std::alloc::{AllocError, Global};
 use std::test::Fail;
@@ -195,5 +196,6 @@ fn counts_the_requests_in_a_window(rt: HostRuntime) -> Result<(), Fail> {
 #[test]
 fn sources_may_cross_threads() {
     may_cross_threads(&Written(Protocol::Mpcp));
+    may_cross_threads(&DpcpWindows);
     may_cross_threads(&(Class::Direct, TaskId(0)));
 }

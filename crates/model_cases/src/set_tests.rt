@@ -1,5 +1,6 @@
 ghost use Rattle.std.specs.Prelude.{◌<◌};
 
+use crate::threads::may_cross_threads;
 use sporadic_model::{
     ModelRefusal, Parts, Place, Protocol, RequestPart, ResourceId, ResourcePart, SizeOf, TaskId,
     TaskPart, TaskSet, jobs_in,
@@ -8,13 +9,13 @@ use std::alloc::{AllocError, Global};
 use std::test::Fail;
 
 /// A task's name, its processor, its period, deadline, cost and local limit, and its requests.
-type Task = (&'static str, u64, [u64; 4], &'static [Request]);
+pub(crate) type Task = (&'static str, u64, [u64; 4], &'static [Request]);
 
 /// The name of a request's resource, its count and its length.
-type Request = (&'static str, u64, u64);
+pub(crate) type Request = (&'static str, u64, u64);
 
 /// A resource's name and its home.
-type Resource = (&'static str, Option<u64>);
+pub(crate) type Resource = (&'static str, Option<u64>);
 
 /// The number of processors, the resources, the tasks, and the refusal that is wanted.
 type Case = (
@@ -53,7 +54,7 @@ fn task_of(alloc: Global, task: &Task) -> Result<TaskPart, AllocError> {
     })
 }
 
-fn parts_of(
+pub(crate) fn parts_of(
     alloc: Global,
     processors: u64,
     resources: &[Resource],
@@ -373,8 +374,6 @@ fn takes_a_set_at_all_its_limits(rt: HostRuntime) -> Result<(), Fail> {
     Ok(())
 }
 
-fn is_shared<T: Send + Sync>(_value: &T) {}
-
 const SHARED: (&[Resource], &[Task]) = (
     &[("r", None), ("s", Some(2)), ("u", None)],
     &[
@@ -419,8 +418,8 @@ fn answers_the_numbers(rt: HostRuntime) -> Result<(), Fail> {
     );
     assert_eq!(rt; [jobs_in(6, 5, 10), jobs_in(5, 5, 10)], [2, 1]);
     set.keeps_the_model();
-    is_shared(&set);
-    is_shared(&(Protocol::Mpcp, t2, s, ModelRefusal::NoTask));
+    may_cross_threads(&set);
+    may_cross_threads(&(Protocol::Mpcp, t2, s, ModelRefusal::NoTask));
     Ok(())
 }
 

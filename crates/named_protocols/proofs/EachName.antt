@@ -1,5 +1,5 @@
 -- What is so of the programs of every protocol, name by name.
-use Rattle.std.proofs.Common.{ℕ, ◌&&◌, ◌==◌, List, IsUtf8, codes, refl}
+use Rattle.std.proofs.Common.{ℕ, ◌==◌, List, IsUtf8, codes, refl}
 use Rattle.json.proofs.Printed.Utf8.{IsUtf8-are_ascii}
 use Rattle.program_form.specs.Certificate.{CertificateDef}
 use Rattle.program_sources.specs.Fitting.{ComesUpAbove}
@@ -16,7 +16,8 @@ use Rattle.protocol_names.specs.declared.ProtocolName.{ProtocolName}
 use Rattle.protocol_names.specs.declared.ProtocolName.TheVariants as name
 use Rattle.sporadic_model.specs.Users.{is_user}
 use Rattle.program_sources.proofs.RecurrenceLaws.{comes_up_above}
-use Rattle.dflp_laws.specs.Programs.{dflp_source, is_dflp_column, may_block as dflp_may_block}
+use Rattle.fragments.specs.Columns.{blocks_at_home}
+use Rattle.dflp_laws.specs.Programs.{dflp_source, is_dflp_column}
 use Rattle.dflp_laws.proofs.Programs.{dflp_rises}
 use Rattle.dflp_laws.proofs.Soundness.{dflp_sound}
 use Rattle.named_protocols.proofs.NoColumns.{none_where, used_by}
@@ -46,7 +47,7 @@ named_above name.DpcpWindows set = comes_up_above (windowed_source set) (λ i r 
 pub named_no_columns : (n : ProtocolName) (set : SetDef) → RequestsNothing set → HasNoColumns (source_of n set)
 named_no_columns (name.Base p) set nothing = no_columns p set nothing
 named_no_columns name.Dflp set nothing = λ i r here. none_where (is_dflp_column set i) set
-    (λ c passes. used_by (c.task == i) (is_user set c.resource c.task) (dflp_may_block set i c.resource c.class) passes) nothing
+    (λ c passes. used_by (c.task == i) (is_user set c.resource c.task) (blocks_at_home set i c.resource c.class) passes) nothing
 named_no_columns name.Spin set nothing = λ i r here. none_where (is_spin_column set i) set
     (λ c passes. used_by (c.task == i) (is_user set c.resource c.task) (blocks_by_spinning set i c.task c.resource c.class) passes) nothing
 named_no_columns name.DpcpWindows set nothing = λ i r here. no_columns protocol.Dpcp set nothing i r here

@@ -1,10 +1,11 @@
 -- Where grants go in the order of issue, and of one issue tick to the highest task, the same rows before leave the same holders.
-use Rattle.std.proofs.Common.{◌≡◌, ◌≢◌, ℕ, ◌<◌, ◌≤◌, true, length, refl, sym, ap, ◌∙◌, arith, inl, inr, Option, Some, None}
+use Rattle.std.proofs.Common.{◌≡◌, ℕ, ◌≤◌, true, refl, sym, ap, ◌∙◌, arith, inl, inr, Option, Some, None}
 use Rattle.std.proofs.lemmas.Bool.{cases_Bool, both_ways}
 use Rattle.schedule_model.specs.RowDef.{Trace, is_job, holder_in, held_before}
 use Rattle.schedule_model.specs.Activity.{task_of, is_requester, issue_tick_of}
 use Rattle.schedule_model.specs.SharedRules.{KeepsKeep, KeepsGrant}
 use Rattle.schedule_model.specs.Ranks.{fmlp_plus}
+use Rattle.schedule_model.specs.Chosen.{GrantsHighest}
 use Rattle.schedule_laws.specs.Agreement.{AgreeBefore}
 use Rattle.schedule_laws.proofs.ActiveJobs.{one_active, Requester, requester_is, requester_listed}
 use Rattle.schedule_laws.proofs.Rows.{job_named, named_job}
@@ -15,8 +16,7 @@ use Rattle.schedule_laws.proofs.SharedChoice.{same_named}
 pub record GrantsInTurn (w : Trace) (t : ℕ) : Type 0 where
   pub keep : KeepsKeep w t
   pub grant : KeepsGrant fmlp_plus w t
-  pub ties : (q j : ℕ) → holder_in (w.row t) q ≡ Some j → held_before w t q ≢ Some j
-      → (i : ℕ) → i < length w.jobs → is_requester w t q i ≡ true → issue_tick_of w t i ≡ issue_tick_of w t j → task_of w j ≤ task_of w i
+  pub ties : GrantsHighest issue_tick_of w t
 
 -- Two new holders are of one task, and so are one job.
 one_new_holder : (v w : Trace) (t q i j : ℕ) → AgreeBefore v w t → GrantsInTurn v t → GrantsInTurn w t

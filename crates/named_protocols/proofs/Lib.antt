@@ -1,6 +1,7 @@
 pub mod NoColumns
 pub mod FifoHolders
-pub mod ByHolders
 pub mod DflpChoice
 pub mod OneSchedule
 pub mod EachName
+pub mod FigureLaws
+pub mod Refusals

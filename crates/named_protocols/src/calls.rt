@@ -14,7 +14,7 @@ ghost use Rattle.dual_check.specs.Answers.{HasDenominators, Judges};
 ghost use Rattle.trace_conform.specs.Conforming.{Conforms};
 ghost use Rattle.sim_engine.specs.Simulated.{IsSimulated};
 ghost use Rattle.audit_figures.specs.Audited.{Audits, LieWithin, charged_ticks};
-ghost use Rattle.audit_figures.specs.Figures.{no_figures, blocked_sum};
+ghost use Rattle.audit_figures.specs.Figures.{no_figures, blocked_sum, blocked_ticks};
 ghost use Rattle.named_protocols.specs.Named.{HasHomes, rules_of, choice_of, interference_of, charges_of, source_of, SoundUnder};
 
 use audit_figures::{AuditStop, TaskFigures, audit_with};
@@ -135,6 +135,8 @@ pub fn audit(
     ensures adds_up { IfOk result (λ v. (x : ℕ) → x < length jobs.now.set.tasks → charged_ticks (slice_index_or v.items x no_figures)
         ≡ blocked_sum (interference_of protocol) (trace_in jobs.now rows.now.runs) (slice_index certificate.now.bounds.items)
         (ticks_of rows.now.runs) x) }
+    ensures adds_up_to_all { IfOk result (λ v. (x : ℕ) → x < length jobs.now.set.tasks → charged_ticks (slice_index_or v.items x no_figures)
+        ≡ blocked_ticks (interference_of protocol) (trace_in jobs.now rows.now.runs) (ticks_of rows.now.runs) x) }
 {
     match protocol {
         ProtocolName::Base(base) => audit_figures::audit(alloc, base, certificate, jobs, rows),

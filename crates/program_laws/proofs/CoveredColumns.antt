@@ -14,10 +14,9 @@ use Rattle.fragments.specs.ColumnDef.{ColumnDef, IsKnown}
 use Rattle.fragments.specs.Columns.{columns_of}
 use Rattle.fragments.specs.Constraints.{ConstraintDef, per, per_pair, holds_some, rows_there, coefficients_of}
 use Rattle.fragments.proofs.KnownColumns.{columns_known}
-use Rattle.direct_constraints.specs.Rows.{request_row, time_row, common_rows, own_rows}
+use Rattle.direct_constraints.specs.Rows.{request_row, time_row, common_rows}
 use Rattle.preempt_constraints.specs.Rows.{preemption_rows}
-use Rattle.indirect_constraints.specs.Rows.{indirect_rows}
-use Rattle.program_laws.specs.Programs.{rows_of, program_with, program_of, cost_of}
+use Rattle.program_laws.specs.Programs.{protocol_rows, rows_of, program_with, program_of, cost_of}
 use Rattle.program_laws.proofs.Lists.{contains_filter, contains_collected}
 
 some_column : ColumnDef
@@ -73,4 +72,4 @@ covered_by set i cs rows r c all among within =
 pub covered : (p : Protocol) (set : SetDef) (i : ℕ) (r : List ℕ) (c : ℕ) → c < columns (program_of p set i r)
     → IsCovered (program_of p set i r) c
 covered p set i r c within = covered_by set i (columns_of p set i) (rows_of p set i) r c (columns_known p set i)
-    (λ x q a b. request_row_among set i x q (preemption_rows set i ++ (own_rows p set i ++ indirect_rows p set i)) a b) within
+    (λ x q a b. request_row_among set i x q (preemption_rows set i ++ protocol_rows p set i) a b) within

@@ -20,10 +20,10 @@ use Rattle.fragments.specs.ColumnDef.{ColumnDef, is_direct, is_indirect, is_pree
 use Rattle.fragments.specs.Columns.{is_column, columns_where, columns_of, is_lower_local, AreRequests, AreOfOthers}
 use Rattle.fragments.specs.Constraints.{ConstraintDef, per, per_where, per_pair, holds_some, rows_there}
 use Rattle.fragments.proofs.KnownColumns.{passing_pass, columns_are_requests, columns_are_of_others}
-use Rattle.direct_constraints.specs.Rows.{request_row, time_row, turn_row, lower_holder_row, common_rows, own_rows}
+use Rattle.direct_constraints.specs.Rows.{request_row, time_row, turn_row, lower_holder_row, common_rows}
 use Rattle.preempt_constraints.specs.Rows.{interval_row, preemption_rows}
-use Rattle.indirect_constraints.specs.Rows.{queue_row, holding_row, home_row, indirect_rows}
-use Rattle.program_laws.specs.Programs.{rows_of, program_of}
+use Rattle.indirect_constraints.specs.Rows.{queue_row, holding_row, home_row}
+use Rattle.program_laws.specs.Programs.{protocol_rows, rows_of, program_of}
 use Rattle.program_laws.proofs.Lists.{filter_shorter}
 use Rattle.program_laws.proofs.ListLengths.{Few, few, per_at_most}
 use Rattle.program_laws.proofs.UsedResources.{filtered_sum, pairs_few}
@@ -188,28 +188,33 @@ preemption_there test set i accepted here others =
     where_rows_few test set i (is_lower_local set i) (interval_row set i) accepted here others (interval_of set i)
 
 pub rest_there : (p : Protocol) (set : SetDef) (i : ℕ) → IsAccepted set → i < length set.tasks
-    → length (rows_there (columns_of p set i) (own_rows p set i))
-    + length (rows_there (columns_of p set i) (indirect_rows p set i)) ≤ 319
+    → length (rows_there (columns_of p set i) (protocol_rows p set i)) ≤ 319
 rest_there protocol.FmlpPlus set i accepted here =
     let others = columns_are_of_others protocol.FmlpPlus set i in
-    omega (
+    let there : ConstraintDef → Bool = holds_some (columns_of protocol.FmlpPlus set i) in
+    let turns = per_pair (length set.tasks) (length set.resources) (turn_row set i) in
+    let queues = per (length set.tasks) (queue_row set i) in
+    rw (filter-append there turns queues, length-append (filter there turns) (filter there queues)) (omega (
       arith,
       pair_rows_few (is_column protocol.FmlpPlus set i) set (turn_row set i) accepted (columns_are_requests protocol.FmlpPlus set i)
           (turn_of set i),
       task_rows_few (is_column protocol.FmlpPlus set i) set i (queue_row set i) accepted here others
           (λ x c some. eqb-true _ _ (flagged_pair (c.task == x) (not (is_preemption c.class)) some)),
-    )
+    ))
 rest_there protocol.Mpcp set i accepted here =
     let others = columns_are_of_others protocol.Mpcp set i in
     let f : Few set = few set accepted in
-    omega (
+    let there : ConstraintDef → Bool = holds_some (columns_of protocol.Mpcp set i) in
+    let holders = per (length set.resources) (lower_holder_row set i) in
+    let holdings = per (length set.tasks) (holding_row set i) in
+    rw (filter-append there holders holdings, length-append (filter there holders) (filter there holdings)) (omega (
       arith,
-      filter_shorter (holds_some (columns_of protocol.Mpcp set i)) (per (length set.resources) (lower_holder_row set i)),
+      filter_shorter there holders,
       per_at_most (length set.resources) (lower_holder_row set i),
       f.resources,
       task_rows_few (is_column protocol.Mpcp set i) set i (holding_row set i) accepted here others
           (λ x c some. eqb-true _ _ (flagged_pair (c.task == x) (is_indirect c.class) some)),
-    )
+    ))
 rest_there protocol.Dpcp set i accepted here =
     let f : Few set = few set accepted in
     omega (
@@ -224,17 +229,14 @@ pub rows_at_most : (p : Protocol) (set : SetDef) (i : ℕ) → IsAccepted set �
 rows_at_most p set i accepted here =
     let test : ColumnDef → Bool = is_column p set i in
     let there : ConstraintDef → Bool = holds_some (columns_of p set i) in
-    let own = own_rows p set i in
-    let indirect = indirect_rows p set i in
+    let own = protocol_rows p set i in
     let preemption = preemption_rows set i in
     let common = common_rows set i in
     rw (
-      filter-append there common (preemption ++ (own ++ indirect)),
-      filter-append there preemption (own ++ indirect),
-      filter-append there own indirect,
-      length-append (filter there common) (filter there preemption ++ (filter there own ++ filter there indirect)),
-      length-append (filter there preemption) (filter there own ++ filter there indirect),
-      length-append (filter there own) (filter there indirect),
+      filter-append there common (preemption ++ own),
+      filter-append there preemption own,
+      length-append (filter there common) (filter there preemption ++ filter there own),
+      length-append (filter there preemption) (filter there own),
     ) (omega (
       arith,
       common_there test set i accepted here (columns_are_requests p set i) (columns_are_of_others p set i),

@@ -11,10 +11,10 @@ use Rattle.bounded_sums.specs.Sums.{collect_below}
 use Rattle.fragments.specs.ColumnDef.{ColumnDef, all_columns, classes_of}
 use Rattle.fragments.specs.Columns.{columns_where, is_lower_local}
 use Rattle.fragments.specs.Constraints.{ConstraintDef, per, per_pair, per_where}
-use Rattle.direct_constraints.specs.Rows.{request_row, time_row, turn_row, lower_holder_row, common_rows, own_rows}
+use Rattle.direct_constraints.specs.Rows.{request_row, time_row, turn_row, lower_holder_row, common_rows}
 use Rattle.preempt_constraints.specs.Rows.{interval_row, preemption_rows}
-use Rattle.indirect_constraints.specs.Rows.{queue_row, holding_row, home_row, indirect_rows}
-use Rattle.program_laws.specs.Programs.{rows_of}
+use Rattle.indirect_constraints.specs.Rows.{queue_row, holding_row, home_row}
+use Rattle.program_laws.specs.Programs.{protocol_rows, rows_of}
 use Rattle.program_laws.proofs.Lists.{filter_shorter, collected_at_most}
 
 -- The tasks, resources and processors of an accepted set, and pairs of the first two.
@@ -68,15 +68,24 @@ pub where_at_most : (test : ℕ → Bool) (n : ℕ) (row : ℕ → ConstraintDef
 where_at_most test n row =
     omega (arith, collected_at_most n 1 (λ k. if test k then row k ∷ [] else []) (λ k l. if_at_most (test k) (row k)))
 
-own_few : (p : Protocol) (set : SetDef) (i : ℕ) → Few set → length (own_rows p set i) ≤ 2048
-own_few protocol.FmlpPlus set i f = omega (arith, pair_at_most (length set.tasks) (length set.resources) (turn_row set i), f.pairs)
-own_few protocol.Mpcp set i f = omega (arith, per_at_most (length set.resources) (lower_holder_row set i), f.resources)
-own_few protocol.Dpcp set i f = omega arith
-
-indirect_few : (p : Protocol) (set : SetDef) (i : ℕ) → Few set → length (indirect_rows p set i) ≤ 64
-indirect_few protocol.FmlpPlus set i f = omega (arith, per_at_most (length set.tasks) (queue_row set i), f.tasks)
-indirect_few protocol.Mpcp set i f = omega (arith, per_at_most (length set.tasks) (holding_row set i), f.tasks)
-indirect_few protocol.Dpcp set i f = omega (arith, per_at_most set.processors (λ k. home_row set i (k + 1)), f.processors)
+protocol_few : (p : Protocol) (set : SetDef) (i : ℕ) → Few set → length (protocol_rows p set i) ≤ 2112
+protocol_few protocol.FmlpPlus set i f = omega (
+  arith,
+  length-append (per_pair (length set.tasks) (length set.resources) (turn_row set i)) (per (length set.tasks) (queue_row set i)),
+  pair_at_most (length set.tasks) (length set.resources) (turn_row set i),
+  per_at_most (length set.tasks) (queue_row set i),
+  f.pairs,
+  f.tasks,
+)
+protocol_few protocol.Mpcp set i f = omega (
+  arith,
+  length-append (per (length set.resources) (lower_holder_row set i)) (per (length set.tasks) (holding_row set i)),
+  per_at_most (length set.resources) (lower_holder_row set i),
+  per_at_most (length set.tasks) (holding_row set i),
+  f.resources,
+  f.tasks,
+)
+protocol_few protocol.Dpcp set i f = omega (arith, per_at_most set.processors (λ k. home_row set i (k + 1)), f.processors)
 
 pub common_few : (set : SetDef) (i : ℕ) → Few set → length (common_rows set i) ≤ 2112
 common_few set i f =
@@ -93,17 +102,12 @@ common_few set i f =
 pub rows_few : (p : Protocol) (set : SetDef) (i : ℕ) → IsAccepted set → length (rows_of p set i) ≤ 4288
 rows_few p set i accepted =
     let f = few set accepted in
-    let own = own_rows p set i in
-    let indirect = indirect_rows p set i in
-    let preemption = preemption_rows set i in
     omega (
       arith,
-      length-append (common_rows set i) (preemption ++ (own ++ indirect)),
-      length-append preemption (own ++ indirect),
-      length-append own indirect,
+      length-append (common_rows set i) (preemption_rows set i ++ protocol_rows p set i),
+      length-append (preemption_rows set i) (protocol_rows p set i),
       common_few set i f,
       where_at_most (is_lower_local set i) (length set.tasks) (interval_row set i),
       f.tasks,
-      own_few p set i f,
-      indirect_few p set i f,
+      protocol_few p set i f,
     )

@@ -11,7 +11,7 @@ use Rattle.fragments.proofs.KnownColumns.{all_collected}
 use Rattle.direct_constraints.specs.Rows.{request_row, time_row, turn_row, lower_holder_row, common_rows, own_rows}
 use Rattle.preempt_constraints.specs.Rows.{interval_row, preemption_rows}
 use Rattle.indirect_constraints.specs.Rows.{queue_row, holding_row, home_row, indirect_rows}
-use Rattle.program_laws.specs.Programs.{rows_of}
+use Rattle.program_laws.specs.Programs.{protocol_rows, rows_of}
 
 pub all_per : (P : ConstraintDef → Type 0) (n : ℕ) (row : ℕ → ConstraintDef) → ((k : ℕ) → k < n → P (row k)) → All P (per n row)
 all_per P n row each = all_collected P n (λ k. row k ∷ []) (λ k l. All-cons P (row k) [] (each k l) (All-nil P))
@@ -53,19 +53,24 @@ pub record EachKind (P : ConstraintDef → Type 0) (p : Protocol) (set : SetDef)
   pub holding : p ≡ protocol.Mpcp → (x : ℕ) → x < length set.tasks → P (holding_row set i x)
   pub home : p ≡ protocol.Dpcp → (k : ℕ) → k < set.processors → P (home_row set i (k + 1))
 
-own_each : (P : ConstraintDef → Type 0) (p : Protocol) (set : SetDef) (i : ℕ) → EachKind P p set i → All P (own_rows p set i)
-own_each P protocol.FmlpPlus set i each = all_per_pair P (length set.tasks) (length set.resources) (turn_row set i) (each.turn refl)
-own_each P protocol.Mpcp set i each = all_per P (length set.resources) (lower_holder_row set i) (each.lower_holder refl)
-own_each P protocol.Dpcp set i each = All-nil P
-
-indirect_each : (P : ConstraintDef → Type 0) (p : Protocol) (set : SetDef) (i : ℕ) → EachKind P p set i → All P (indirect_rows p set i)
-indirect_each P protocol.FmlpPlus set i each = all_per P (length set.tasks) (queue_row set i) (each.queue refl)
-indirect_each P protocol.Mpcp set i each = all_per P (length set.tasks) (holding_row set i) (each.holding refl)
-indirect_each P protocol.Dpcp set i each = all_per P set.processors (λ k. home_row set i (k + 1)) (each.home refl)
+protocol_each : (P : ConstraintDef → Type 0) (p : Protocol) (set : SetDef) (i : ℕ) → EachKind P p set i → All P (protocol_rows p set i)
+protocol_each P protocol.FmlpPlus set i each = All-append P
+    (per_pair (length set.tasks) (length set.resources) (turn_row set i)) (per (length set.tasks) (queue_row set i))
+    (all_per_pair P (length set.tasks) (length set.resources) (turn_row set i) (each.turn refl))
+    (all_per P (length set.tasks) (queue_row set i) (each.queue refl))
+protocol_each P protocol.Mpcp set i each = All-append P
+    (per (length set.resources) (lower_holder_row set i)) (per (length set.tasks) (holding_row set i))
+    (all_per P (length set.resources) (lower_holder_row set i) (each.lower_holder refl))
+    (all_per P (length set.tasks) (holding_row set i) (each.holding refl))
+protocol_each P protocol.Dpcp set i each = all_per P set.processors (λ k. home_row set i (k + 1)) (each.home refl)
 
 pub each_row : (P : ConstraintDef → Type 0) (p : Protocol) (set : SetDef) (i : ℕ) → EachKind P p set i → All P (rows_of p set i)
 each_row P p set i each =
-    All-append P (common_rows set i) (preemption_rows set i ++ (own_rows p set i ++ indirect_rows p set i))
-    (common_each P set i each.request each.time)
-    (All-append P (preemption_rows set i) (own_rows p set i ++ indirect_rows p set i) (preemption_each P set i each.interval)
-    (All-append P (own_rows p set i) (indirect_rows p set i) (own_each P p set i each) (indirect_each P p set i each)))
+    All-append P (common_rows set i) (preemption_rows set i ++ protocol_rows p set i) (common_each P set i each.request each.time)
+    (All-append P (preemption_rows set i) (protocol_rows p set i) (preemption_each P set i each.interval) (protocol_each P p set i each))
+
+-- A protocol's own rows are those of direct blocking, and behind them those of indirect blocking.
+pub direct_then_indirect : (p : Protocol) (set : SetDef) (i : ℕ) → own_rows p set i ++ indirect_rows p set i ≡ protocol_rows p set i
+direct_then_indirect protocol.FmlpPlus set i = refl
+direct_then_indirect protocol.Mpcp set i = refl
+direct_then_indirect protocol.Dpcp set i = refl

@@ -8,10 +8,8 @@ use Rattle.sporadic_model.specs.declared.ids.Protocol.{Protocol}
 use Rattle.sporadic_model.specs.declared.ids.Protocol.TheVariants as protocol
 use Rattle.program_sources.specs.Bounds.{AtMost, AreWithinDeadlines}
 use Rattle.fragments.specs.Columns.{is_column, columns_of}
-use Rattle.direct_constraints.specs.Rows.{own_rows}
 use Rattle.preempt_constraints.specs.Rows.{preemption_rows}
-use Rattle.indirect_constraints.specs.Rows.{indirect_rows}
-use Rattle.program_laws.specs.Programs.{rows_of, program_of, interfering_cost}
+use Rattle.program_laws.specs.Programs.{protocol_rows, rows_of, program_of, interfering_cost}
 use Rattle.program_laws.specs.Written.{IsSmallRow, Rises, AreWritten}
 use Rattle.program_laws.proofs.RowKinds.{each_row}
 use Rattle.program_laws.proofs.RisingLimits.{limits_rise}
@@ -28,7 +26,7 @@ programs_rise p set i r s here h =
 are_written : (p : Protocol) (set : SetDef) (i : ℕ) (r : List ℕ) → IsAccepted set → i < length set.tasks
     → AreWithinDeadlines set r → AreWritten set i (columns_of p set i) (rows_of p set i) r
 are_written p set i r accepted here within = written_where (is_column p set i) set i (rows_of p set i) r accepted
-    (λ x q a b. request_row_among set i x q (preemption_rows set i ++ (own_rows p set i ++ indirect_rows p set i)) a b)
+    (λ x q a b. request_row_among set i x q (preemption_rows set i ++ protocol_rows p set i) a b)
     (each_row (IsSmallRow r) p set i (rows_small p set i r accepted within here)) (omega (arith, rows_few p set i accepted))
 
 pub written_program : (p : Protocol) (set : SetDef) (i : ℕ) (r : List ℕ) → IsAccepted set → i < length set.tasks

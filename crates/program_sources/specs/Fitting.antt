@@ -12,24 +12,23 @@ use Rattle.program_sources.specs.Recurrence.{SourceDef, ComesUp, IsResponse}
 abbrev pub tasks_of : SourceDef → ℕ
 tasks_of f = length f.set.tasks
 
--- The latest bound of task i: its deadline less its jitter.
-abbrev pub latest_of : SourceDef → ℕ → ℕ
-latest_of f i = latest_bound (task_at f.set i)
-
 -- Do the bounds fit: is each response time that comes up at them at most its bound, and each bound at most the latest one?
 pub record AreFitting (f : SourceDef) (s : List ℕ) : Type 0 where
   pub one_each : length s ≡ tasks_of f
   pub kept : (i v : ℕ) → i < tasks_of f → ComesUp f s i v → v ≤ slice_index s i
-  pub within : (i : ℕ) → i < tasks_of f → slice_index s i ≤ latest_of f i
-
--- Are the bounds r at most every fitting vector, in each place?
-abbrev pub AreBelowAllFitting : SourceDef → List ℕ → Type 0
-AreBelowAllFitting f r = (s : List ℕ) → AreFitting f s → AtMost (tasks_of f) r s
+  pub within : (i : ℕ) → i < tasks_of f → slice_index s i ≤ latest_bound (task_at f.set i)
 
 -- Do the bounds fit, and are they at most every fitting vector in each place?
-pub record AreLeastFitting (f : SourceDef) (s : List ℕ) : Type 0 where
-  pub fitting : AreFitting f s
-  pub least : AreBelowAllFitting f s
+pub record AreLeastFitting (f : SourceDef) (r : List ℕ) : Type 0 where
+  pub fitting : AreFitting f r
+  pub least : (s : List ℕ) → AreFitting f s → AtMost (tasks_of f) r s
+
+-- The latest bound of task i, and that bounds are at most every fitting vector, as contracts name them.
+abbrev pub latest_of : SourceDef → ℕ → ℕ
+latest_of f i = latest_bound (task_at f.set i)
+
+abbrev pub AreBelowAllFitting : SourceDef → List ℕ → Type 0
+AreBelowAllFitting f r = (s : List ℕ) → AreFitting f s → AtMost (tasks_of f) r s
 
 -- Does the recurrence never fall where its bounds rise?
 abbrev pub NeverFalls : SourceDef → Type 0

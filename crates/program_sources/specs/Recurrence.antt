@@ -17,16 +17,17 @@ pub record SourceDef : Type 0 where
 abbrev pub source_at : (SetDef → SourceDef) → SetDef → SourceDef
 source_at source set = record { set = set; program = (source set).program; interfering = (source set).interfering }
 
--- What does the recurrence count, in ticks, for jobs of task h within the bound of a job of task i, where r are the bounds
--- and g are the interfering costs? After its arrival a job of h may start as late as its jitter and its bound together less its
--- interfering cost.
+-- What does the recurrence count, in ticks, for jobs of higher tasks on i's processor within the bound of a job of task i, where r are
+-- the bounds and g are the interfering costs? After its arrival a job of task h may start as late as its jitter and its bound together
+-- less its interfering cost.
+abbrev pub interference_of : (ℕ → ℕ) → SetDef → List ℕ → ℕ → ℕ
+interference_of g set r i = sum_below i (λ h. only_if (is_higher_local set i h)
+    (jobs_within (slice_index r i) (slice_index r h + (task_at set h).jitter - g h) (task_at set h).period * g h))
+
+-- What it counts for jobs of task h alone, as contracts name it.
 abbrev pub interference_by : (ℕ → ℕ) → SetDef → List ℕ → ℕ → ℕ → ℕ
 interference_by g set r i h =
     jobs_within (slice_index r i) (slice_index r h + (task_at set h).jitter - g h) (task_at set h).period * g h
-
--- And for jobs of all higher tasks on i's processor together?
-abbrev pub interference_of : (ℕ → ℕ) → SetDef → List ℕ → ℕ → ℕ
-interference_of g set r i = sum_below i (λ h. only_if (is_higher_local set i h) (interference_by g set r i h))
 
 -- What is the response time of task i where its job is blocked for b ticks?
 abbrev pub response_with : SourceDef → List ℕ → ℕ → ℕ → ℕ

@@ -2,16 +2,17 @@
 use Rattle.std.specs.Prelude.{◌≡◌, ℕ, ◌<◌, ◌≤◌, List, [], length, slice_index, slice_index_or}
 use Rattle.program_form.specs.Certificate.{DualDef, CertificateDef}
 use Rattle.program_form.specs.Duals.{IsFeasibleDual, IsOptimalDual, dual_value}
+use Rattle.sporadic_model.specs.SetDef.{task_at, latest_bound}
 use Rattle.program_sources.specs.Recurrence.{SourceDef, response_with}
-use Rattle.program_sources.specs.Fitting.{tasks_of, latest_of}
+use Rattle.program_sources.specs.Fitting.{tasks_of}
 
--- What a look-up past the last dual gives: no dual, since its denominator is 0.
+-- The dual of task i in a list of duals. Past the last one stands what is no dual, since its denominator is 0.
+abbrev pub dual_at : List DualDef → ℕ → DualDef
+dual_at duals i = slice_index_or duals i (record { den = 0; num = [] })
+
+-- That, as proofs name it.
 abbrev pub no_dual : DualDef
 no_dual = record { den = 0; num = [] }
-
--- The dual of task i in a list of duals.
-abbrev pub dual_at : List DualDef → ℕ → DualDef
-dual_at duals i = slice_index_or duals i no_dual
 
 -- The value of task i's dual, for its program at the certificate's bounds.
 abbrev pub value_at : SourceDef → CertificateDef → ℕ → ℕ
@@ -20,7 +21,7 @@ value_at f c i = dual_value (f.program i c.bounds) (dual_at c.duals i).den (λ r
 -- Does the certificate prove task i's bound? It is at most the latest one, the dual is feasible for the task's program at the
 -- certificate's bounds, and the response time with the dual's value as blocking is at most the bound.
 pub record IsProvedBound (f : SourceDef) (c : CertificateDef) (i : ℕ) : Type 0 where
-  pub within : slice_index c.bounds i ≤ latest_of f i
+  pub within : slice_index c.bounds i ≤ latest_bound (task_at f.set i)
   pub feasible : IsFeasibleDual (f.program i c.bounds) (dual_at c.duals i)
   pub enough : response_with f c.bounds i (value_at f c i) ≤ slice_index c.bounds i
 

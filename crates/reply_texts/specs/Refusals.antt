@@ -12,6 +12,8 @@ use Rattle.cert_json.specs.declared.refusal.CertPlace.{CertPlace}
 use Rattle.cert_json.specs.declared.refusal.CertPlace.TheVariants as cert_place
 use Rattle.cert_json.specs.declared.refusal.CertRefusal.{CertRefusal}
 use Rattle.cert_json.specs.declared.refusal.CertRefusal.TheVariants as cert
+use Rattle.refusal_json.specs.declared.fault.ReadFault.{ReadFault}
+use Rattle.refusal_json.specs.declared.fault.ReadFault.TheVariants as fault
 use Rattle.trace_csv.specs.declared.refusal.JobsRefusal.{JobsRefusal}
 use Rattle.trace_csv.specs.declared.refusal.JobsRefusal.TheVariants as jobs
 use Rattle.trace_csv.specs.declared.refusal.RowsRefusal.{RowsRefusal}
@@ -86,6 +88,13 @@ cert_reason_text (cert.Shape at) = codes "shape " ++ cert_place_text at
 cert_reason_text cert.Version = codes "version"
 cert_reason_text cert.OtherProtocol = codes "otherprotocol"
 cert_reason_text cert.Memory = []
+
+-- The reason why the input of a certificate of refusal is refused.
+abbrev pub refusal_reason_text : ReadFault → List ℕ
+refusal_reason_text fault.NotJson = codes "notjson"
+refusal_reason_text fault.Shape = codes "shape"
+refusal_reason_text fault.OtherProtocol = codes "otherprotocol"
+refusal_reason_text fault.Memory = []
 
 -- A reason, and the number of the line that is refused: data lines are counted from 1, and the header is line 0.
 abbrev pub line_text : List ℕ → ℕ → List ℕ

@@ -1,9 +1,10 @@
 ghost use Rattle.std.specs.Prelude.{◌≡◌, ◌++◌, string_bytes, IfOk};
 ghost use Rattle.reply_texts.specs.Refusals.{place_text, size_text, model_word, model_place, reason_text};
 ghost use Rattle.reply_texts.specs.Refusals.{cert_place_text, cert_reason_text, line_text, jobs_reason_text};
-ghost use Rattle.reply_texts.specs.Refusals.{rows_reason_text};
+ghost use Rattle.reply_texts.specs.Refusals.{rows_reason_text, refusal_reason_text};
 
 use cert_json::{CertPlace, CertRefusal};
+use refusal_json::ReadFault;
 use sporadic_model::{ModelRefusal, Place, SizeOf};
 use std::alloc::{AllocError, Global};
 use taskset_json::SetRefusal;
@@ -146,6 +147,18 @@ pub fn cert_reason(alloc: Global, refusal: CertRefusal) -> Result<String, AllocE
         CertRefusal::Version => String::from_str(alloc, "version"),
         CertRefusal::OtherProtocol => String::from_str(alloc, "otherprotocol"),
         CertRefusal::Memory => Ok(String::new(alloc)),
+    }
+}
+
+/// The reason why the input of a certificate of refusal is refused.
+pub fn refusal_reason(alloc: Global, fault: ReadFault) -> Result<String, AllocError>
+    ensures { IfOk result (λ text. string_bytes text ≡ refusal_reason_text fault) }
+{
+    match fault {
+        ReadFault::NotJson => String::from_str(alloc, "notjson"),
+        ReadFault::Shape => String::from_str(alloc, "shape"),
+        ReadFault::OtherProtocol => String::from_str(alloc, "otherprotocol"),
+        ReadFault::Memory => Ok(String::new(alloc)),
     }
 }
 

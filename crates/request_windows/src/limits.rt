@@ -1,11 +1,10 @@
 //! The limit of a row of windows.
 
-ghost use Rattle.std.specs.Prelude.{◌≡◌, ◌<◌, ◌≤◌, ◌&&◌, ◌*◌, true, length, slice_index, is_none};
+ghost use Rattle.std.specs.Prelude.{◌≡◌, ◌<◌, ◌≤◌, ◌*◌, true, length, slice_index};
 ghost use Rattle.bounded_sums.specs.Sums.{only_if};
 ghost use Rattle.sporadic_model.specs.Users.{is_user, count_of};
 ghost use Rattle.program_sources.specs.Bounds.{AreWithinDeadlines};
-ghost use Rattle.window_laws.specs.Windows.{window_of};
-ghost use Rattle.window_laws.specs.WindowRows.{meets_there, lacks_window, requests_there, requests_met, window_row};
+ghost use Rattle.window_laws.specs.WindowRows.{meets_there, requests_there, requests_met, window_row};
 ghost use Rattle.request_windows.specs.Windows.{AreWindows};
 
 use fragments::{cnt, home, uses};
@@ -21,42 +20,8 @@ fn meets(set: &TaskSet, i: TaskId, r: ResourceId, q: ResourceId) -> bool
     uses(set, i, q) && home(set, q) == home(set, r)
 }
 
-// Does it, and has its request no window?
-fn lacks_there(
-    set: &TaskSet,
-    i: TaskId,
-    r: ResourceId,
-    q: ResourceId,
-    bounds: &[u64],
-    windows: &[Option<u64>],
-) -> bool
-    requires task { i.0 < length set.now.tasks }
-    requires resource { r.0 < length set.now.resources }
-    requires other { q.0 < length set.now.resources }
-    requires windows { AreWindows set.now (slice_index bounds.now) i.0 windows.now }
-    ensures { result ≡ (meets_there set.now i.0 r.0 q.0 && is_none (window_of set.now (slice_index bounds.now) i.0 q.0)) }
-{
-    // the bounds only say what the windows are
-    let _bounds = bounds;
-    meets(set, i, r, q) && windows[q.0 as usize].is_none()
-}
-
-// Does any such request lack one?
-fn lacks(set: &TaskSet, i: TaskId, r: ResourceId, bounds: &[u64], windows: &[Option<u64>]) -> bool
-    requires task { i.0 < length set.now.tasks }
-    requires resource { r.0 < length set.now.resources }
-    requires windows { AreWindows set.now (slice_index bounds.now) i.0 windows.now }
-    ensures { result ≡ lacks_window set.now (slice_index bounds.now) i.0 r.0 }
-{
-    for q in 0..set.resources() {
-        if lacks_there(set, i, r, ResourceId(q), bounds, windows) {
-            return true;
-        }
-    }
-    false
-}
-
-// How many requests of `r` can jobs of `x` make that run within the window of a request of `q` by `i`?
+// How many requests of `r` can jobs of `x` make that run within the window of a request of `q` by `i`? Where it has none, the bound of
+// the job stands in for it.
 fn requests_there(
     set: &TaskSet,
     i: TaskId,
@@ -78,7 +43,7 @@ fn requests_there(
 {
     // no bound and jitter together pass the deadline of their task, which is within the limits of every set
     let _tasks = set.tasks();
-    let span = windows[q.0 as usize].unwrap_or(0);
+    let span = windows[q.0 as usize].unwrap_or(bounds[i.0 as usize]);
     let bound = bounds[x.0 as usize] + set.jitter(x);
     set.count(x, r) * jobs_in(span, bound, set.period(x))
 }
@@ -134,7 +99,7 @@ fn requests_met(
 }
 
 /// The limit of the row of windows for requests of the resource by the task: as many as it can make while a job of `i` runs, and no
-/// more than run within the windows of that job's requests there, where each has one.
+/// more than run within the windows of that job's requests there.
 pub(crate) fn limit(
     set: &TaskSet,
     i: TaskId,
@@ -150,10 +115,5 @@ pub(crate) fn limit(
     requires windows { AreWindows set.now (slice_index bounds.now) i.0 windows.now }
     ensures { result ≡ (window_row set.now i.0 x.0 r.0).limit (slice_index bounds.now) }
 {
-    let requests = cnt(set, i, x, r, bounds);
-    if lacks(set, i, r, bounds, windows) {
-        requests
-    } else {
-        requests.min(requests_met(set, i, x, r, bounds, windows))
-    }
+    cnt(set, i, x, r, bounds).min(requests_met(set, i, x, r, bounds, windows))
 }

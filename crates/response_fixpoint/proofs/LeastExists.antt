@@ -1,5 +1,5 @@
 -- The recurrence has a value at every vector, so the least fitting bounds are there wherever some fit.
-use Rattle.std.proofs.Common.{◌≡◌, ℕ, ◌<◌, ◌≤◌, List, map, ◌∙◌, refl, arith, inl, inr}
+use Rattle.std.proofs.Common.{◌≡◌, ℕ, ◌<◌, ◌≤◌, ◌↔◌, List, length, map, ◌∙◌, refl, arith, inl, inr}
 use Rattle.std.proofs.lemmas.Bool.{cases_lt}
 use Rattle.std.proofs.lemmas.List.{get_or-map, length-map}
 use Rattle.std.proofs.lemmas.List.FromFn.{get_or-map-range_with_len, length-range_with_len}
@@ -10,8 +10,8 @@ use Rattle.program_reach.proofs.Greatest.{greatest_exists}
 use Rattle.sporadic_model.specs.SetDef.{TaskDef, no_task, task_at}
 use Rattle.program_sources.specs.Bounds.{AtMost}
 use Rattle.program_sources.specs.Recurrence.{SourceDef, IsResponse, response_with}
-use Rattle.program_sources.specs.Fitting.{AreFitting, AreBelowAllFitting, AreLeastFitting, NeverFalls, ComesUpAbove, tasks_of}
-use Rattle.program_sources.proofs.RecurrenceLaws.{cost_below_fitting}
+use Rattle.program_sources.specs.Fitting.{AreFitting, AreBelowAllFitting, AreLeastFitting, NeverFalls, ComesUpAbove, tasks_of, latest_of}
+use Rattle.program_sources.proofs.RecurrenceLaws.{cost_below_fitting, response_comes_up, response_is_greatest}
 use Rattle.response_fixpoint.proofs.VectorLaws.{total}
 use Rattle.response_fixpoint.proofs.LeastFixpoint.{GivesNext, least_from}
 
@@ -64,3 +64,28 @@ least_exists f covered above monotone s fits =
     omega (arith, cost_at f i here, cost_below f (costs_of f) i (slice_index (next_of f covered (costs_of f)) i) (first.1 i here)) in
     least_from f (next_of f covered) above monotone (next_has f covered) s fits (total n s) (costs_of f)
     (length-map f.set.tasks (λ (t : TaskDef). t.cost)) (costs_below f) rises (omega arith)
+
+-- Is the recurrence's value of each task at most its bound, and the bound at most the latest one?
+abbrev pub KeepsValues : SourceDef → List ℕ → Type 0
+KeepsValues f s = (length s ≡ tasks_of f) × ((i : ℕ) → i < tasks_of f → (v : ℕ) × (IsResponse f s i v) × (v ≤ slice_index s i)
+    × (slice_index s i ≤ latest_of f i))
+
+-- What fits is what keeps the values: each response time that comes up is at most the value, which comes up itself.
+pub fits_by_values : (f : SourceDef) → EachIsCovered f → (s : List ℕ) → AreFitting f s ↔ KeepsValues f s
+fits_by_values f covered s = (
+  λ fits. (
+    fits.one_each,
+    λ i here.
+        let there = value_there f covered s i in
+        let is : IsResponse f s i there.0 = there.1 here in
+        (there.0, is, fits.kept i there.0 here (response_comes_up f s i there.0 is), fits.within i here),
+  ),
+  λ keeps. record {
+    one_each = keeps.0;
+    kept = λ i v here comes.
+        let value = keeps.1 i here in
+        let most : v ≤ value.0 = response_is_greatest f s i value.0 v value.1 comes in
+        omega (arith, most, value.2);
+    within = λ i here. (keeps.1 i here).3;
+  },
+)

@@ -10,7 +10,8 @@ use Rattle.response_fixpoint.proofs.RoundLaws.{passed_task}
 abbrev pub HaveOneEnd : RoundsOf → Type 0
 HaveOneEnd o = (r : List ℕ) (i left : ℕ) (e f : RunEnd) → o.runs r i left e → o.runs r i left f → e ≡ f
 
-passes_once : (o : RoundsOf) → HaveOneEnd o → (r : List ℕ) (left i : ℕ) (f g : Found) → Passes o r left i f → Passes o r left i g → f ≡ g
+pub passes_once : (o : RoundsOf) → HaveOneEnd o → (r : List ℕ) (left i : ℕ) (f g : Found) → Passes o r left i f → Passes o r left i g
+    → f ≡ g
 passes_once o one r left zero f g p q = p ∙ sym q
 passes_once o one r left (suc i) f g (b, u, v, d, p, run, within, is) (c, u', v', d', q, run', within', is') =
     let same : b ≡ c = passes_once o one r left i b c p q in
@@ -23,7 +24,7 @@ passes_once o one r left (suc i) f g (b, u, v, d, p, run, within, is) (c, u', v'
     is ∙ ap (λ x. with_task x u v d) same ∙ ap (λ x. with_task c x v d) us ∙ ap (λ x. with_task c u' x d) vs
     ∙ ap (λ x. with_task c u' v' x) ds ∙ sym is'
 
-reaches_once : (o : RoundsOf) → HaveOneEnd o → (a k u v : ℕ) (r s : List ℕ) → Reaches o a k u r → Reaches o a k v s → (u ≡ v) × (r ≡ s)
+pub reaches_once : (o : RoundsOf) → HaveOneEnd o → (a k u v : ℕ) (r s : List ℕ) → Reaches o a k u r → Reaches o a k v s → (u ≡ v) × (r ≡ s)
 reaches_once o one a zero u v r s p q = (p.0 ∙ sym q.0, p.1 ∙ sym q.1)
 reaches_once o one a (suc k) u v r s (b, q, f, reached, passed, is, differs, sum) (c, q', g, reached', passed', is', differs', sum') =
     let same = reaches_once o one a k b c q q' reached reached' in
@@ -35,15 +36,15 @@ reaches_once o one a (suc k) u v r s (b, q, f, reached, passed, is, differs, sum
     (sum ∙ ap (λ x. x + f.used) units ∙ ap (λ x. c + x.used) founds ∙ sym sum', is ∙ ap (λ x. x.values) founds ∙ sym is')
 
 -- A round that went by before another one was reached.
-record PassedRound (o : RoundsOf) (a k : ℕ) : Type 0 where
-  spent : ℕ
-  vector : List ℕ
-  found : Found
-  reached : Reaches o a k spent vector
-  passed : Passes o vector (a - spent) o.tasks found
-  differs : vector ≢ found.values
+pub record PassedRound (o : RoundsOf) (a k : ℕ) : Type 0 where
+  pub spent : ℕ
+  pub vector : List ℕ
+  pub found : Found
+  pub reached : Reaches o a k spent vector
+  pub passed : Passes o vector (a - spent) o.tasks found
+  pub differs : vector ≢ found.values
 
-passed_round : (o : RoundsOf) (a j u : ℕ) (r : List ℕ) → Reaches o a j u r → (k : ℕ) → k < j → PassedRound o a k
+pub passed_round : (o : RoundsOf) (a j u : ℕ) (r : List ℕ) → Reaches o a j u r → (k : ℕ) → k < j → PassedRound o a k
 passed_round o a zero u r reached k below = absurd (omega arith)
 passed_round o a (suc j) u r (b, q, f, reached, passed, is, differs, sum) k below =
     elim (cases_lt k j) [
@@ -56,32 +57,32 @@ passed_round o a (suc j) u r (b, q, f, reached, passed, is, differs, sum) k belo
     ]
 
 -- The end that a run's end makes of the rounds, where it makes one.
-abbrev Stops : ℕ → ℕ → RunEnd → Ending → Type 0
+abbrev pub Stops : ℕ → ℕ → RunEnd → Ending → Type 0
 Stops i latest (Valued used value dual) e = (latest < value) × (e ≡ NotShown i value)
 Stops i latest TooWide e = e ≡ Wide i
 Stops i latest OutOfUnits e = e ≡ Allowance
 
 -- A place where the rounds end in e: at a task, or behind the last task of a round.
-record AtTask (o : RoundsOf) (r : List ℕ) (i left : ℕ) (e : Ending) : Type 0 where
-  below : i < o.tasks
-  run : RunEnd
-  runs : o.runs r i left run
-  stops : Stops i (o.latest i) run e
+pub record AtTask (o : RoundsOf) (r : List ℕ) (i left : ℕ) (e : Ending) : Type 0 where
+  pub below : i < o.tasks
+  pub run : RunEnd
+  pub runs : o.runs r i left run
+  pub stops : Stops i (o.latest i) run e
 
-record AtEnd (o : RoundsOf) (r : List ℕ) (i : ℕ) (found : Found) (e : Ending) : Type 0 where
-  last : i ≡ o.tasks
-  same : found.values ≡ r
-  is : e ≡ Schedulable r found.duals
+pub record AtEnd (o : RoundsOf) (r : List ℕ) (i : ℕ) (found : Found) (e : Ending) : Type 0 where
+  pub last : i ≡ o.tasks
+  pub same : found.values ≡ r
+  pub is : e ≡ Schedulable r found.duals
 
-record Place (o : RoundsOf) (a : ℕ) (e : Ending) : Type 0 where
-  rounds : ℕ
-  spent : ℕ
-  vector : List ℕ
-  task : ℕ
-  found : Found
-  reached : Reaches o a rounds spent vector
-  passed : Passes o vector (a - spent) task found
-  ends : AtTask o vector task (a - spent - found.used) e ⊎ AtEnd o vector task found e
+pub record Place (o : RoundsOf) (a : ℕ) (e : Ending) : Type 0 where
+  pub rounds : ℕ
+  pub spent : ℕ
+  pub vector : List ℕ
+  pub task : ℕ
+  pub found : Found
+  pub reached : Reaches o a rounds spent vector
+  pub passed : Passes o vector (a - spent) task found
+  pub ends : AtTask o vector task (a - spent - found.used) e ⊎ AtEnd o vector task found e
 
 place_of : (o : RoundsOf) (a : ℕ) (r : List ℕ) (i left : ℕ) (found : Found) (e : Ending) (run : RunEnd) → i < o.tasks
     → ComesTo o a r i left found → o.runs r i left run → Stops i (o.latest i) run e → Place o a e
@@ -125,7 +126,7 @@ stops_pass i latest used value dual e (Valued u v d) same within stops = let vs 
 stops_pass i latest used value dual e TooWide same within stops = cc
 stops_pass i latest used value dual e OutOfUnits same within stops = cc
 
-task_passes : (o : RoundsOf) → HaveOneEnd o → (r : List ℕ) (left i j : ℕ) (f g : Found) (e : Ending)
+pub task_passes : (o : RoundsOf) → HaveOneEnd o → (r : List ℕ) (left i j : ℕ) (f g : Found) (e : Ending)
     → Passes o r left i f → Passes o r left j g → i < j → AtTask o r i (left - f.used) e → ⊥
 task_passes o one r left i j f g e p q below ends =
     let t = passed_task o r left j g q i below in
@@ -136,7 +137,7 @@ task_passes o one r left i j f g e p q below ends =
     stops_pass i (o.latest i) t.used t.value t.dual e ends.run is t.within ends.stops
 
 -- No end stands in a round that went by.
-round_passes : (o : RoundsOf) → HaveOneEnd o → (a : ℕ) (e : Ending) (p : Place o a e) → PassedRound o a p.rounds → ⊥
+pub round_passes : (o : RoundsOf) → HaveOneEnd o → (a : ℕ) (e : Ending) (p : Place o a e) → PassedRound o a p.rounds → ⊥
 round_passes o one a e p w =
     let both = reaches_once o one a p.rounds w.spent p.spent w.vector p.vector w.reached p.reached in
     let moved : Passes o p.vector (a - p.spent) o.tasks w.found =

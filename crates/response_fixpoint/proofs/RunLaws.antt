@@ -40,7 +40,7 @@ runs_once f r i left OutOfUnits (Valued u v d) is p q =
 runs_once f r i left OutOfUnits TooWide is p q = absurd (wide_not_more (f.program i r) left is q p)
 runs_once f r i left OutOfUnits OutOfUnits is p q = refl
 
-have_one_end : (f : SourceDef) → HaveOneEnd (rounds_of f)
+pub have_one_end : (f : SourceDef) → HaveOneEnd (rounds_of f)
 have_one_end f r i left e g p q = runs_once f r i left e g p.is_program p.ends q.ends
 
 -- The rounds of a source end in one way only.

@@ -46,14 +46,19 @@ fn entries_of(set: &TaskSet, x: TaskId) -> u64
     entries
 }
 
-/// About how many rows the program of a task goes through in the first round, of which nothing is known yet: it has about as many
-/// rows as the set has entries, and its run makes about as many exchanges.
-fn first_work(set: &TaskSet) -> u64 {
+/// How many threads are worth starting for the first round, of whose programs nothing is known yet: a program has about as many rows
+/// as the set has entries, and its run makes about as many exchanges. Where some task requests a resource two programs may have
+/// columns, and get two threads whatever their size.
+fn first_worth(set: &TaskSet) -> u64 {
     let mut entries = 0u64;
     for x in 0..set.tasks() {
         entries = entries.saturating_add(entries_of(set, TaskId(x)));
     }
-    entries.saturating_mul(entries)
+    if entries == 0 {
+        return 0;
+    }
+    let rows = entries.saturating_mul(entries);
+    (rows.saturating_mul(set.tasks() as u64) / WORTH_A_THREAD).max(2)
 }
 
 /// How many rows the programs of a round went through.
@@ -66,16 +71,16 @@ fn work_of(solutions: &[Solution]) -> u64 {
     work
 }
 
-/// How many threads are worth starting for the programs of a round, by what those of the round before took, by how many processors
-/// there are, and at most one for each task. The answer of the round is the same with any number.
+/// How many threads are worth starting for the programs of a round: for the first one by the set, for a later one by what the round
+/// before took. There are at most as many as processors, but two, and at most one for each task. The answer of the round is the same
+/// with any number.
 pub fn threads_for<R: Threads>(rt: &R, set: &TaskSet, earlier: &[Solution]) -> usize {
-    let tasks = set.tasks();
-    let work = if earlier.is_empty() {
-        first_work(set).saturating_mul(tasks as u64)
+    let worth = if earlier.is_empty() {
+        first_worth(set)
     } else {
-        work_of(earlier)
+        work_of(earlier) / WORTH_A_THREAD
     };
-    let worth = (work / WORTH_A_THREAD).min(tasks as u64);
+    let worth = worth.min(set.tasks() as u64);
     if worth < 2 {
         return 0;
     }

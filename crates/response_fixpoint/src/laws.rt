@@ -1,10 +1,10 @@
 //! What holds of the rounds and of fitting bounds. Each function is a law: it does nothing.
 
-ghost use Rattle.std.specs.Prelude.{◌≡◌, ℕ, List};
+ghost use Rattle.std.specs.Prelude.{◌≡◌, ℕ, ◌<◌, ◌≤◌, ◌↔◌, List, length, slice_index};
 ghost use Rattle.sporadic_model.specs.SetDef.{SetDef};
 ghost use Rattle.sporadic_model.specs.declared.ids.Protocol.{Protocol};
-ghost use Rattle.program_sources.specs.Recurrence.{SourceDef, source_at};
-ghost use Rattle.program_sources.specs.Fitting.{AreFitting, AreLeastFitting};
+ghost use Rattle.program_sources.specs.Recurrence.{SourceDef, IsResponse, source_at};
+ghost use Rattle.program_sources.specs.Fitting.{AreFitting, AreLeastFitting, latest_of, tasks_of};
 ghost use Rattle.program_laws.specs.Programs.{source_of};
 ghost use Rattle.response_fixpoint.specs.Rounds.{Ending, Schedulable, Allowance, Reaches, EndsIn};
 ghost use Rattle.response_fixpoint.specs.Runs.{rounds_of, HasNoColumns, RequestsNothing};
@@ -20,6 +20,15 @@ pub fn a_least_fitting_vector_exists<P: ProgramSource>()
 {
     recurrence_is_monotone::<P>();
 }
+
+/// Bounds fit exactly where the recurrence has a value for each task at them, which is at most the task's bound, and the bound is at
+/// most the latest one.
+pub fn fitting_is_by_the_values_of_the_recurrence<P: ProgramSource>()
+    ensures { (p : P) (set : SetDef) (s : List ℕ) → P.serves p set
+        → AreFitting (source_at (P.source p) set) s ↔ ((length s ≡ tasks_of (source_at (P.source p) set))
+        × ((i : ℕ) → i < tasks_of (source_at (P.source p) set) → (v : ℕ) × (IsResponse (source_at (P.source p) set) s i v)
+        × (v ≤ slice_index s i) × (slice_index s i ≤ latest_of (source_at (P.source p) set) i))) }
+{}
 
 /// The rounds end in one way only.
 pub fn the_rounds_have_one_ending()

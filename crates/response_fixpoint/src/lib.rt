@@ -12,11 +12,12 @@ mod rounds;
 mod task_run;
 mod verdict;
 
-pub use analysis::{analyse, analyse_with};
+pub use analysis::{analyse, analyse_with, costs};
 pub use laws::{
-    a_least_fitting_vector_exists, no_requests_no_columns, the_rounds_have_one_ending,
-    three_tasks_take_four_rounds,
+    a_least_fitting_vector_exists, fitting_is_by_the_values_of_the_recurrence,
+    no_requests_no_columns, the_rounds_have_one_ending, three_tasks_take_four_rounds,
 };
+pub use task_run::whole_part;
 pub use verdict::{Stop, Verdict};
 
 #[cfg(test)]

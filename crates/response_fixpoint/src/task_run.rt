@@ -33,8 +33,8 @@ pub struct TaskRun {
     pub value: u64,
 }
 
-/// The whole part of an optimum.
-fn whole_part(optimum: Frac) -> u64
+/// The whole part of an optimum: the whole ticks that a job is blocked for.
+pub fn whole_part(optimum: Frac) -> u64
     ensures value { result ≡ unsigned_abs optimum.num / unsigned_abs optimum.den }
     ensures most { result < 2 ^ 63 }
 {

@@ -71,50 +71,8 @@ const THREE: SetRow = SetRow {
     ],
 };
 
-// Two tasks, each on a processor of its own, that request each of 32 resources.
-const EACH: &[EntryRow] = entry_rows![
-    (0, 1),
-    (1, 1),
-    (2, 1),
-    (3, 1),
-    (4, 1),
-    (5, 1),
-    (6, 1),
-    (7, 1),
-    (8, 1),
-    (9, 1),
-    (10, 1),
-    (11, 1),
-    (12, 1),
-    (13, 1),
-    (14, 1),
-    (15, 1),
-    (16, 1),
-    (17, 1),
-    (18, 1),
-    (19, 1),
-    (20, 1),
-    (21, 1),
-    (22, 1),
-    (23, 1),
-    (24, 1),
-    (25, 1),
-    (26, 1),
-    (27, 1),
-    (28, 1),
-    (29, 1),
-    (30, 1),
-    (31, 1),
-];
-
 // One request of each of four resources.
 const FOUR: &[EntryRow] = entry_rows![(0, 1), (1, 1), (2, 1), (3, 1)];
-
-const BUSY: SetRow = SetRow {
-    processors: 2,
-    homes: &[None; 32],
-    tasks: &[task_row!(1, 1000, 40, EACH), task_row!(2, 1000, 40, EACH)],
-};
 
 // The tasks of `WIDE`. The first task's optimum is reached at one point alone, which holds 1 - 1/2^28 - 1/3^17 - 1/5^12.
 const WIDE_FIRST: TaskRow = task_row!(1, 1_000_000_000, 10, [(0, 1), (1, 1), (2, 1), (3, 1)]);
@@ -376,7 +334,8 @@ fn a_program_that_is_taken_over_counts_its_units(rt: HostRuntime) -> Result<(), 
     Ok(())
 }
 
-// The programs of a round are solved side by side; what is answered is the first stop in the order of the tasks.
+// The programs of each of these first rounds are solved side by side, since some task requests a resource. What is answered is the
+// first stop in the order of the tasks: a program that is too wide, a value past its latest bound, or want of units.
 #[test]
 fn the_first_stop_of_a_round_is_answered(rt: HostRuntime) -> Result<(), Fail> {
     let alloc = rt.alloc();
@@ -413,7 +372,7 @@ fn has_bounds(verdict: &Result<Verdict, Stop>, bounds: &[u64]) -> bool {
     }
 }
 
-// Each request of a task waits for one of the other's: 40 + 32. Programs of so many requests are worth threads.
+// The first round of any set in which two tasks have columns is solved by two threads.
 #[test]
 fn two_tasks_are_at_work_at_the_same_time(rt: HostRuntime) -> Result<(), Fail> {
     let (first_came, first_saw) = (AtomicBool::new(false), AtomicBool::new(false));
@@ -429,9 +388,9 @@ fn two_tasks_are_at_work_at_the_same_time(rt: HostRuntime) -> Result<(), Fail> {
         },
         written: Written(Protocol::FmlpPlus),
     };
-    let set = set_of(rt.alloc(), BUSY)?;
+    let set = set_of(rt.alloc(), PAIR)?;
     let verdict = analyse_with(&rt, rt.alloc(), &set, &meeting, MOST);
-    assert!(rt; has_bounds(&verdict, &[72, 72]));
+    assert!(rt; has_bounds(&verdict, &[5, 5]));
     assert!(rt; first_saw.load(Ordering::SeqCst));
     assert!(rt; others_saw.load(Ordering::SeqCst));
     Ok(())

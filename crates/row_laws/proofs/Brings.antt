@@ -60,6 +60,15 @@ hit_charge charges w f j t (Some c) e some = hit_phase charges w f j t c e (phas
 pub hit : (charges : Charges) (w : Trace) (f : ColumnDef → ℕ) (j t : ℕ) → 0 < brings charges w f j t → Hit charges w f j t
 hit charges w f j t some = hit_charge charges w f j t (charges w t j) refl some
 
+-- A tick that a row counts: it is charged to a request whose column passes.
+pub record Counted (charges : Charges) (w : Trace) (counts : ColumnDef → Bool) (j t : ℕ) : Type 0 where
+  pub charge : Charge
+  pub is_it : charges w t j ≡ Some charge
+  pub number : ℕ
+  pub resource : ℕ
+  pub request : phase_of w t charge.job ≡ Asking number resource
+  pub passes : counts (column_with w charge resource) ≡ true
+
 -- The job to which a tick is charged; 0 where there is none.
 abbrev pub blocker : Charges → Trace → ℕ → ℕ → ℕ
 blocker charges w j t = option_map_or (λ c. c.job) (charges w t j) 0

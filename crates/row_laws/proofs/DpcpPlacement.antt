@@ -20,15 +20,26 @@ use Rattle.schedule_laws.proofs.Segments.{open_listed, open_resource, open_user}
 use Rattle.fragments.specs.declared.columns.Class.{Class}
 use Rattle.fragments.specs.declared.columns.Class.TheVariants.{Direct, Indirect, Preemption}
 use Rattle.fragments.specs.Ceilings.{ceiling_rank}
-use Rattle.fragments.specs.Columns.{requests_beside, blocks_at_home}
-use Rattle.charge_laws.proofs.DpcpCharging.{RunsRequest, HomeBlocked, DpcpReason}
+use Rattle.fragments.specs.Columns.{requests_beside, may_block}
+use Rattle.charge_laws.proofs.DpcpCharging.{HomeBlocked, LocalBlocked, DirectAtHome, DpcpReason}
 use Rattle.row_laws.proofs.SharedPlacement.{IsPlaced, other_task, passes_not}
-use Rattle.row_laws.proofs.HomeRow.{low_runner}
+use Rattle.row_laws.proofs.HomeRow.{low_runner, runner_resource}
 use Rattle.row_laws.proofs.Ordered.{LowRunner, low_ceiling}
 
--- The resource whose request runs is the one that is named.
-pub runner_resource : (w : Trace) (t k r m q : ℕ) → (a : RunsRequest w t k r) → phase_of w t r ≡ Asking m q → a.resource ≡ q
-runner_resource w t k r m q a e = let x : Asking a.number a.resource ≡ Asking m q = sym a.request ∙ e in cc
+-- Job j requests the resource whose request runs, where it is charged directly.
+pub requested_there : (w : Trace) (t j r m q : ℕ) → AreLawfulJobs (jobs_of w) → j < length w.jobs → phase_of w t r ≡ Asking m q
+    → DirectAtHome w t j r → is_user w.set q (task_of w j) ≡ true
+requested_there w t j r m q lawful listed e a =
+    let same : a.blocked.resource ≡ q =
+    sym a.same ∙ runner_resource w t (home_of w a.blocked.resource) r m q a.blocked.runner e in
+    ap (λ k. is_user w.set k (task_of w j)) (sym same)
+    ∙ open_user w.set w t j a.blocked.number a.blocked.resource (lawful.each j listed) a.blocked.request
+
+-- The request runs on job j's processor, where it is charged by preemption.
+pub home_there : (w : Trace) (t j r m q : ℕ) → phase_of w t r ≡ Asking m q → LocalBlocked w t j r
+    → (home_of w q == processor_of w j) ≡ true
+home_there w t j r m q e a = eq-eqb (home_of w q) (processor_of w j)
+    (ap (home_of w) (sym (runner_resource w t (processor_of w j) r m q a.runner e)) ∙ a.runner.home)
 
 -- Job j requests another resource of the home at which the request runs.
 pub beside_there : (w : Trace) (t j r m q : ℕ) → AreLawfulJobs (jobs_of w) → j < length w.jobs → phase_of w t r ≡ Asking m q
@@ -60,17 +71,11 @@ lower_only w n t j r m q lawful keeps l e b = elim (cases_lt (task_of w j) (task
 
 pub blocks_there : (w : Trace) (n t j r m q : ℕ) (c : Class) → AreLawfulJobs (jobs_of w) → KeepsBefore dpcp_rule w n → t < n
     → j < length w.jobs → phase_of w t r ≡ Asking m q → DpcpReason w t j c r
-    → blocks_at_home w.set (task_of w j) (task_of w r) q c ≡ true
-blocks_there w n t j r m q Direct lawful keeps l listed e why =
-    let same : why.blocked.resource ≡ q =
-    sym why.same ∙ runner_resource w t (home_of w why.blocked.resource) r m q why.blocked.runner e in
-    ap (λ k. is_user w.set k (task_of w j)) (sym same)
-    ∙ open_user w.set w t j why.blocked.number why.blocked.resource (lawful.each j listed) why.blocked.request
+    → may_block protocol.Dpcp w.set (task_of w j) (task_of w r) q c ≡ true
+blocks_there w n t j r m q Direct lawful keeps l listed e why = requested_there w t j r m q lawful listed e why
 blocks_there w n t j r m q Indirect lawful keeps l listed e why =
-    and_from _ _ (beside_there w t j r m q lawful listed e why.blocked why.other) (lower_only w n t j r m q lawful keeps l e why.blocked)
-blocks_there w n t j r m q Preemption lawful keeps l listed e why =
-    eq-eqb (home_of w q) (processor_of w j)
-    (ap (home_of w) (sym (runner_resource w t (processor_of w j) r m q why.runner e)) ∙ why.runner.home)
+    and_from _ _ (lower_only w n t j r m q lawful keeps l e why.blocked) (beside_there w t j r m q lawful listed e why.blocked why.other)
+blocks_there w n t j r m q Preemption lawful keeps l listed e why = home_there w t j r m q e why
 
 pub runner_active : (w : Trace) (t j r : ℕ) (c : Class) → DpcpReason w t j c r → is_active w t r ≡ true
 runner_active w t j r Direct why = why.blocked.runner.active

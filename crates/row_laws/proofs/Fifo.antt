@@ -1,8 +1,11 @@
--- Where requests are served in the order of issue, what holds or runs while a job waits was issued no later than the job's own
--- request, and so was open whenever that was. Then the rows of FMLP+.
-use Rattle.std.proofs.Common.{◌≡◌, ℕ, zero, suc, ◌<◌, ◌≤◌, ◌*◌, ◌==◌, ◌&&◌, not, true, false, refl, sym, ap, ◌∙◌, arith, inl, inr, Some}
+-- Turns: where requests are served in the order of issue, what holds or runs while a job waits was issued no later than the job's own
+-- request, and so was open whenever that was. So each request of the job pays for one request. Then the rows of FMLP+.
+use Rattle.std.proofs.Common.{◌≡◌, ℕ, zero, suc, ◌<◌, ◌≤◌, ◌*◌, ◌==◌, ◌&&◌, not, Bool, true, false, length, refl, sym, ap, subst, ◌∙◌}
+use Rattle.std.proofs.Common.{arith, inl, inr, Some}
+use Rattle.std.proofs.Math.Nat.{mul-le-mul_left}
 use Rattle.std.proofs.lemmas.Bool.{cases_Bool, both_ways, and_parts, eqb-true, eq-eqb, not-true}
-use Rattle.bounded_sums.specs.Sums.{flag}
+use Rattle.bounded_sums.specs.Sums.{sum_below, flag, only_if}
+use Rattle.sporadic_model.specs.Users.{count_of, length_of}
 use Rattle.schedule_model.specs.declared.rule.Rule.TheVariants as rule
 use Rattle.schedule_model.specs.JobDef.{job_of}
 use Rattle.schedule_model.specs.LawfulJobs.{is_script, IsLawfulJob, AreLawfulJobs}
@@ -23,12 +26,12 @@ use Rattle.indirect_constraints.specs.Rows.{queue_row}
 use Rattle.charge_model.specs.Charges.{shared_charge}
 use Rattle.charge_model.specs.Windows.{window_end}
 use Rattle.charge_laws.proofs.SharedCharging.{WaitsFor, DirectBy, IndirectBy, SharedReason, shared_reason}
-use Rattle.row_laws.specs.Meeting.{Charges, TicksMeet}
-use Rattle.row_laws.proofs.Brings.{Window, Hit, flag_times-at_most, flag_times-passes}
+use Rattle.row_laws.specs.Meeting.{Charges, brings, TicksMeet}
+use Rattle.row_laws.proofs.Brings.{Window, column_with, Hit, Counted, flag_times-at_most, flag_times-passes}
 use Rattle.row_laws.proofs.JobRows.{HitJob, hit_job}
 use Rattle.row_laws.proofs.SlotRow.{OneRequest}
-use Rattle.row_laws.proofs.Requests.{DirectColumn, direct_column, direct_by, held_resource, one_open}
-use Rattle.row_laws.proofs.Numbers.{OwnRequest, by_number, by_number_of}
+use Rattle.row_laws.proofs.Requests.{direct_is, AsksAlone, tasks_ask_alone, one_open, direct_by, held_resource}
+use Rattle.row_laws.proofs.Numbers.{sum_below-only, OwnRequest, by_number}
 use Rattle.schedule_laws.proofs.Ticks.{same_true, one_resource}
 use Rattle.schedule_laws.proofs.ActiveJobs.{Requester, requester_is, requester_from, requester_listed}
 use Rattle.schedule_laws.proofs.Rows.{job_named, named_job}
@@ -99,121 +102,148 @@ fifo_holder w n (suc u) q y j lawful runs grants l holds asks = elim (cases_Bool
         omega (arith, back (requester_from w u q j mine.number active early), stays_y, stays_j)
   ]
 
--- Job j waits in a request, and the job y that the tick is charged to was issued no later.
-pub record Queued (w : Trace) (t j y : ℕ) : Type 0 where
-  pub number : ℕ
-  pub resource : ℕ
-  pub request : phase_of w t j ≡ Asking number resource
+-- Rows of turns. Job j is in a request of a resource that passes, and job y was issued no later than that.
+pub record InTurn (w : Trace) (t j y : ℕ) (ok : ℕ → Bool) : Type 0 where
+  pub own : OwnRequest w t j ok
   pub earlier : issue_tick_of w t y ≤ issue_tick_of w t j
 
-pub queued_holder : (w : Trace) (n t j y : ℕ) → AreLawfulJobs (jobs_of w) → KeepsBefore (shared_rule fmlp_plus) w n → t < n → WaitsFor w t j y
-    → Queued w t j y
-queued_holder w n t j y lawful keeps l waits = record {
-  number = waits.number;
-  resource = waits.resource;
-  request = waits.request;
-  earlier = fifo_holder w n t waits.resource y j lawful (shared_runs_active fmlp_plus w n keeps) (λ u b. keeps u b rule.Grant) l
-      waits.holder
-      (requester_from w t waits.resource j waits.number waits.active waits.request);
+-- Is each tick that a row counts charged to a job with this number that is in turn?
+abbrev pub AreTurns : Charges → Trace → ℕ → ℕ → (ColumnDef → Bool) → (ℕ → ℕ) → ℕ → (ℕ → Bool) → Type 0
+AreTurns charges w n j counts kind x ok =
+    (t : ℕ) → t < n → (c : Counted charges w counts j t) → (kind c.charge.job ≡ x) × InTurn w t j c.charge.job ok
+
+-- While job j is in one request, jobs of one number that ask alone and were issued no later are one job, in one request: it was open
+-- when j's was issued.
+pub one_turn : (w : Trace) (n u v j y z k q r p m o : ℕ) (kind : ℕ → ℕ) → RunsActiveBefore w n → AsksAlone w n kind → u ≤ v → v < n
+    → is_script (job_of w.jobs z).script ≡ true → phase_of w u j ≡ Asking k q → phase_of w v j ≡ Asking k r
+    → is_requester w u p y ≡ true → phase_of w v z ≡ Asking m o → kind y ≡ kind z
+    → issue_tick_of w v z ≤ issue_tick_of w v j → OneRequest w u v y z
+one_turn w n u v j y z k q r p m o kind runs alone order l script early late asks there same earlier =
+    one_open w n u v y z p m o kind runs alone (omega arith) script asks same
+    (open_since w u v z m o there (omega (arith, earlier, issue_no_later w u v j k q r early late)) order) there
+
+-- So what such a row counts is paid for by j's own requests that pass, whatever the protocol.
+pub turns_met : (charges : Charges) (w : Trace) (bound : ℕ → ℕ) (n j x s : ℕ) (share : ℕ → ℕ → ℕ) (counts : ColumnDef → Bool)
+    (kind : ℕ → ℕ) (ok : ℕ → Bool) → Window charges w bound n j → AsksAlone w n kind → AreTurns charges w n j counts kind x ok
+    → ((y q : ℕ) → share y q * length_of w.set y q ≤ s)
+    → sum_below (window_end w bound n j) (λ t. brings charges w (λ c. flag (counts c) * share c.task c.resource) j t)
+    ≤ s * sum_below (length w.set.resources) (λ q. only_if (ok q) (count_of w.set (task_of w j) q))
+turns_met charges w bound n j x s share counts kind ok window alone turns fair =
+    by_number charges w bound n j s share f ok window
+    (record { fair = fair; small = λ c. flag_times-at_most (counts c) (share c.task c.resource) })
+    (λ t l h. (turn t (omega arith) h).1.own) one where
+      f : ColumnDef → ℕ
+      f = λ c. flag (counts c) * share c.task c.resource
+
+      turn : (t : ℕ) → t < n → (h : Hit charges w f j t) → (kind h.charge.job ≡ x) × InTurn w t j h.charge.job ok
+      turn t l h = turns t l (record {
+        charge = h.charge;
+        is_it = h.is_it;
+        number = h.number;
+        resource = h.resource;
+        request = h.request;
+        passes = flag_times-passes (counts (column_with w h.charge h.resource)) (share (task_of w h.charge.job) h.resource) h.some;
+      })
+
+      one : (u v k q r : ℕ) → u ≤ v → v < window_end w bound n j → (a : Hit charges w f j u) → (b : Hit charges w f j v)
+          → phase_of w u j ≡ Asking k q → phase_of w v j ≡ Asking k r → OneRequest w u v a.charge.job b.charge.job
+      one u v k q r order l a b early late =
+          let there : HitJob charges w bound j u a.charge.job = hit_job charges w bound n j u f window (omega arith) a in
+          let later : HitJob charges w bound j v b.charge.job = hit_job charges w bound n j v f window l b in
+          let lawful : IsLawfulJob w.set (job_of w.jobs b.charge.job) = window.lawful.each b.charge.job later.listed in
+          let first : (kind a.charge.job ≡ x) × InTurn w u j a.charge.job ok = turn u (omega arith) a in
+          let last : (kind b.charge.job ≡ x) × InTurn w v j b.charge.job ok = turn v (omega arith) b in
+          one_turn w n u v j a.charge.job b.charge.job k q r a.resource b.number b.resource kind window.active alone order (omega arith)
+          lawful.script early late (requester_from w u a.resource a.charge.job a.number there.active a.request) b.request
+          (first.0 ∙ sym last.0) last.1.earlier
+
+-- The same for the job's requests of one resource.
+pub turns_of_met : (charges : Charges) (w : Trace) (bound : ℕ → ℕ) (n j x q s : ℕ) (share : ℕ → ℕ → ℕ) (counts : ColumnDef → Bool)
+    (kind : ℕ → ℕ) → Window charges w bound n j → AsksAlone w n kind → AreTurns charges w n j counts kind x (λ r. r == q)
+    → ((y r : ℕ) → share y r * length_of w.set y r ≤ s)
+    → sum_below (window_end w bound n j) (λ t. brings charges w (λ c. flag (counts c) * share c.task c.resource) j t)
+    ≤ s * count_of w.set (task_of w j) q
+turns_of_met charges w bound n j x q s share counts kind window alone turns fair =
+    omega (
+      arith,
+      turns_met charges w bound n j x s share counts kind (λ r. r == q) window alone turns fair,
+      mul-le-mul_left s (sum_below-only (length w.set.resources) q (count_of w.set (task_of w j))),
+    )
+
+-- The row of turns, however ticks are charged, where what is charged directly is in turn, in a request of what j itself requests.
+pub turn_row_by : (charges : Charges) (w : Trace) (bound : ℕ → ℕ) (n j x q : ℕ) → Window charges w bound n j
+    → ((t : ℕ) → t < n → (c : Counted charges w (λ d. is_direct d.class) j t) → InTurn w t j c.charge.job (λ r. r == c.resource))
+    → TicksMeet charges w bound n j (turn_row w.set (task_of w j) x q)
+turn_row_by charges w bound n j x q window direct s share fair =
+    turns_of_met charges w bound n j x q s share counts (task_of w) window (tasks_ask_alone w n) turns fair where
+      counts : ColumnDef → Bool
+      counts = λ c. ((c.task == x) && (c.resource == q)) && is_direct c.class
+
+      turns : (t : ℕ) → t < n → (c : Counted charges w counts j t)
+          → (task_of w c.charge.job ≡ x) × InTurn w t j c.charge.job (λ r. r == q)
+      turns t l c =
+          let parts : (((task_of w c.charge.job == x) && (c.resource == q)) ≡ true) × (is_direct c.charge.class ≡ true) =
+          and_parts _ _ c.passes in
+          let both : ((task_of w c.charge.job == x) ≡ true) × ((c.resource == q) ≡ true) = and_parts _ _ parts.0 in
+          let turn : InTurn w t j c.charge.job (λ r. r == c.resource) =
+          direct t l (record {
+            charge = c.charge;
+            is_it = c.is_it;
+            number = c.number;
+            resource = c.resource;
+            request = c.request;
+            passes = parts.1;
+          }) in
+          (eqb-true _ _ both.0, subst (λ (z : ℕ). InTurn w t j c.charge.job (λ r. r == z)) (eqb-true _ _ both.1) turn)
+
+-- Under FMLP+ the holder of what a job waits for is in turn,
+holder_in_turn : (w : Trace) (n t j y : ℕ) (ok : ℕ → Bool) → AreLawfulJobs (jobs_of w) → KeepsBefore (shared_rule fmlp_plus) w n → t < n
+    → (a : WaitsFor w t j y) → ok a.resource ≡ true → InTurn w t j y ok
+holder_in_turn w n t j y ok lawful keeps l a passes = record {
+  own = record { number = a.number; resource = a.resource; request = a.request; passes = passes };
+  earlier = fifo_holder w n t a.resource y j lawful (shared_runs_active fmlp_plus w n keeps) (λ u b. keeps u b rule.Grant) l a.holder
+      (requester_from w t a.resource j a.number a.active a.request);
 }
 
+-- and so is what runs before that holder.
 runs_first : (w : Trace) (t j r : ℕ) → (by : IndirectBy fmlp_plus w t j r) → issue_tick_of w t r ≤ issue_tick_of w t by.first
 unfolding fmlp_plus
 runs_first w t j r by = by.order
 
-pub queued : (w : Trace) (n t j y : ℕ) (c : Class) → AreLawfulJobs (jobs_of w) → KeepsBefore (shared_rule fmlp_plus) w n → t < n
-    → is_preemption c ≡ false → SharedReason fmlp_plus w t j c y → Queued w t j y
-queued w n t j y Direct lawful keeps l other why = queued_holder w n t j y lawful keeps l why.waits
-queued w n t j y Indirect lawful keeps l other why =
-    let first : Queued w t j why.first = queued_holder w n t j why.first lawful keeps l why.waits in
-    record {
-      number = first.number;
-      resource = first.resource;
-      request = first.request;
-      earlier = omega (arith, first.earlier, runs_first w t j y why);
-    }
-queued w n t j y Preemption lawful keeps l other why = absurd (cc)
-
--- However ticks are charged: what is charged while j is in one request, to jobs of one task that were issued no later, is one request.
-pub queued_one : (charges : Charges) (w : Trace) (bound : ℕ → ℕ) (n j u v k q r : ℕ) (f : ColumnDef → ℕ) → Window charges w bound n j
-    → u ≤ v → v < window_end w bound n j → (a : Hit charges w f j u) → (b : Hit charges w f j v)
-    → task_of w a.charge.job ≡ task_of w b.charge.job → Queued w v j b.charge.job
-    → phase_of w u j ≡ Asking k q → phase_of w v j ≡ Asking k r → OneRequest w u v a.charge.job b.charge.job
-queued_one charges w bound n j u v k q r f window order l a b tasks waits early late =
-    let late_job : HitJob charges w bound j v b.charge.job = hit_job charges w bound n j v f window l b in
-    let early_job : HitJob charges w bound j u a.charge.job = hit_job charges w bound n j u f window (omega arith) a in
-    let issued : issue_tick_of w v j ≤ u = issue_no_later w u v j k q r early late in
-    let there : phase_of w u b.charge.job ≡ Asking b.number b.resource =
-    open_since w u v b.charge.job b.number b.resource b.request (omega (arith, waits.earlier, issued)) order in
-    let lawful : IsLawfulJob w.set (job_of w.jobs b.charge.job) = window.lawful.each b.charge.job late_job.listed in
-    one_open w n u v a.charge.job b.charge.job b.number b.resource window.active (omega arith) lawful.script early_job.active
-    tasks there b.request
-
--- Under FMLP+ so is what isn't charged by preemption.
-fifo_one : (w : Trace) (bound : ℕ → ℕ) (n j x u v k q r : ℕ) (f : ColumnDef → ℕ) → Window shared_charge w bound n j
-    → KeepsBefore (shared_rule fmlp_plus) w n → u ≤ v → v < window_end w bound n j
-    → (a : Hit shared_charge w f j u) → (b : Hit shared_charge w f j v) → task_of w a.charge.job ≡ x → task_of w b.charge.job ≡ x
-    → is_preemption b.charge.class ≡ false
-    → phase_of w u j ≡ Asking k q → phase_of w v j ≡ Asking k r → OneRequest w u v a.charge.job b.charge.job
-fifo_one w bound n j x u v k q r f window keeps order l a b task_a task_b other early late =
-    queued_one shared_charge w bound n j u v k q r f window order l a b (task_a ∙ sym task_b)
-    (queued w n v j b.charge.job b.charge.class window.lawful keeps (omega arith) other
-    (shared_reason fmlp_plus w v j b.charge (keeps v (omega arith)) b.is_it)) early late
+charged_in_turn : (w : Trace) (n t j y : ℕ) (c : Class) → AreLawfulJobs (jobs_of w) → KeepsBefore (shared_rule fmlp_plus) w n → t < n
+    → is_preemption c ≡ false → SharedReason fmlp_plus w t j c y → InTurn w t j y (λ q. true)
+charged_in_turn w n t j y Direct lawful keeps l other why = holder_in_turn w n t j y (λ q. true) lawful keeps l why.waits refl
+charged_in_turn w n t j y Indirect lawful keeps l other why =
+    let first : InTurn w t j why.first (λ q. true) = holder_in_turn w n t j why.first (λ q. true) lawful keeps l why.waits refl in
+    record { own = first.own; earlier = omega (arith, first.earlier, runs_first w t j y why) }
+charged_in_turn w n t j y Preemption lawful keeps l other why = absurd (cc)
 
 -- The row of turns.
 pub turn_row_met : (w : Trace) (bound : ℕ → ℕ) (n j x q : ℕ) → Window shared_charge w bound n j → KeepsBefore (shared_rule fmlp_plus) w n
     → TicksMeet shared_charge w bound n j (turn_row w.set (task_of w j) x q)
-turn_row_met w bound n j x q window keeps s share fair =
-    by_number_of shared_charge w bound n j q s share f window
-    (record {
-      fair = fair;
-      small = λ c. flag_times-at_most (((c.task == x) && (c.resource == q)) && is_direct c.class) (share c.task c.resource);
-    }) own
-    (λ u v k a b order l g h early late. fifo_one w bound n j x u v k a b f window keeps order l g h (column u g).task (column v h).task
-    (other v h) early late) where
-      f : ColumnDef → ℕ
-      f = λ c. flag (((c.task == x) && (c.resource == q)) && is_direct c.class) * share c.task c.resource
-
-      column : (t : ℕ) → (h : Hit shared_charge w f j t) → DirectColumn w x q h.charge h.resource
-      column t h = direct_column w x q h.charge h.resource (share (task_of w h.charge.job) h.resource) h.some
-
-      other : (t : ℕ) → (h : Hit shared_charge w f j t) → is_preemption h.charge.class ≡ false
-      other t h = rw (column t h).class refl
-
-      own : (t : ℕ) → t < window_end w bound n j → (h : Hit shared_charge w f j t) → OwnRequest w t j (λ r. r == q)
-      own t l h =
-          let why : DirectBy w t j h.charge.job =
-          direct_by fmlp_plus w t j h.charge.job h.charge.class (column t h).class
-          (shared_reason fmlp_plus w t j h.charge (keeps t (omega arith)) h.is_it) in
-          record {
-            number = why.waits.number;
-            resource = why.waits.resource;
-            request = why.waits.request;
-            passes = eq-eqb why.waits.resource q
-                (held_resource w t j h.charge.job h.number h.resource why.waits h.request ∙ (column t h).same);
-          }
+turn_row_met w bound n j x q window keeps = turn_row_by shared_charge w bound n j x q window (λ t l c. direct t l c) where
+  direct : (t : ℕ) → t < n → (c : Counted shared_charge w (λ d. is_direct d.class) j t)
+      → InTurn w t j c.charge.job (λ r. r == c.resource)
+  direct t l c =
+      let why : DirectBy w t j c.charge.job =
+      direct_by fmlp_plus w t j c.charge.job c.charge.class (direct_is c.charge.class c.passes)
+      (shared_reason fmlp_plus w t j c.charge (keeps t l) c.is_it) in
+      holder_in_turn w n t j c.charge.job (λ r. r == c.resource) window.lawful keeps l why.waits
+      (eq-eqb why.waits.resource c.resource (held_resource w t j c.charge.job c.number c.resource why.waits c.request))
 
 -- The row of queues.
 pub queue_row_met : (w : Trace) (bound : ℕ → ℕ) (n j x : ℕ) → Window shared_charge w bound n j → KeepsBefore (shared_rule fmlp_plus) w n
     → TicksMeet shared_charge w bound n j (queue_row w.set (task_of w j) x)
 queue_row_met w bound n j x window keeps s share fair =
-    by_number shared_charge w bound n j s share f (λ r. true) window
-    (record { fair = fair; small = λ c. flag_times-at_most ((c.task == x) && not (is_preemption c.class)) (share c.task c.resource) }) own
-    (λ u v k a b order l g h early late. fifo_one w bound n j x u v k a b f window keeps order l g h (column u g).0 (column v h).0
-    (column v h).1 early late) where
-      f : ColumnDef → ℕ
-      f = λ c. flag ((c.task == x) && not (is_preemption c.class)) * share c.task c.resource
+    turns_met shared_charge w bound n j x s share counts (task_of w) (λ q. true) window (tasks_ask_alone w n) turns fair where
+      counts : ColumnDef → Bool
+      counts = λ c. (c.task == x) && not (is_preemption c.class)
 
-      column : (t : ℕ) → (h : Hit shared_charge w f j t) → (task_of w h.charge.job ≡ x) × (is_preemption h.charge.class ≡ false)
-      column t h =
-          let both : ((task_of w h.charge.job == x) ≡ true) × (not (is_preemption h.charge.class) ≡ true) =
-          and_parts _ _ (flag_times-passes ((task_of w h.charge.job == x) && not (is_preemption h.charge.class))
-          (share (task_of w h.charge.job) h.resource) h.some) in
-          (eqb-true _ _ both.0, not-true _ both.1)
-
-      own : (t : ℕ) → t < window_end w bound n j → (h : Hit shared_charge w f j t) → OwnRequest w t j (λ r. true)
-      own t l h =
-          let waits : Queued w t j h.charge.job =
-          queued w n t j h.charge.job h.charge.class window.lawful keeps (omega arith) (column t h).1
-          (shared_reason fmlp_plus w t j h.charge (keeps t (omega arith)) h.is_it) in
-          record { number = waits.number; resource = waits.resource; request = waits.request; passes = refl }
+      turns : (t : ℕ) → t < n → (c : Counted shared_charge w counts j t)
+          → (task_of w c.charge.job ≡ x) × InTurn w t j c.charge.job (λ q. true)
+      turns t l c =
+          let both : ((task_of w c.charge.job == x) ≡ true) × (not (is_preemption c.charge.class) ≡ true) = and_parts _ _ c.passes in (
+            eqb-true _ _ both.0,
+            charged_in_turn w n t j c.charge.job c.charge.class window.lawful keeps l (not-true _ both.1)
+                (shared_reason fmlp_plus w t j c.charge (keeps t l) c.is_it),
+          )

@@ -1,13 +1,10 @@
 -- Row of holdings, under MPCP: what is charged indirectly is parted by the resource that the job waits for and by the task
 -- that holds it; each part is paid for by the holdings of that resource by that task.
-use Rattle.std.proofs.Common.{◌≡◌, ℕ, ◌*◌, ◌<◌, ◌≤◌, ◌==◌, ◌&&◌, not, Bool, true, List, length, get_or, sym, ap, ◌∙◌, arith, Some, nat_lt}
-use Rattle.std.proofs.Math.Nat.{mul-le-mul_right}
+use Rattle.std.proofs.Common.{◌≡◌, ℕ, ◌*◌, ◌<◌, ◌≤◌, ◌==◌, ◌&&◌, not, Bool, true, length, sym, ap, ◌∙◌, arith, Some, nat_lt}
 use Rattle.std.proofs.lemmas.Bool.{eqb-true, ltb-true}
 use Rattle.bounded_sums.specs.Sums.{sum_below, only_if}
-use Rattle.bounded_sums.specs.Tests.{count_below}
 use Rattle.bounded_sums.proofs.SumLaws.{only_if-at_most}
 use Rattle.sporadic_model.specs.Users.{count_of, length_of}
-use Rattle.schedule_model.specs.JobDef.{SegmentDef, job_of, asks_for}
 use Rattle.schedule_model.specs.RowDef.{Trace, holder_in}
 use Rattle.schedule_model.specs.Phase.{phase_of}
 use Rattle.schedule_model.specs.Phase.Phase.{Asking}
@@ -15,18 +12,15 @@ use Rattle.schedule_model.specs.Activity.{task_of, processor_of}
 use Rattle.schedule_model.specs.Ranks.{mpcp}
 use Rattle.schedule_model.specs.Protocols.{shared_rule}
 use Rattle.schedule_model.specs.Keeping.{KeepsBefore}
-use Rattle.schedule_laws.specs.Counting.{no_segment}
 use Rattle.schedule_laws.proofs.Ticks.{open_between}
 use Rattle.schedule_laws.proofs.Holders.{shared_holder_stays}
-use Rattle.schedule_laws.proofs.Segments.{open_segment}
-use Rattle.schedule_laws.proofs.OwnRequests.{own_requests}
 use Rattle.fragments.specs.ColumnDef.{is_indirect}
 use Rattle.charge_model.specs.Charges.{shared_charge}
 use Rattle.charge_model.specs.Windows.{window_end}
 use Rattle.row_laws.specs.Meeting.{brings}
 use Rattle.row_laws.proofs.Brings.{Window, Hit, hit, flag_times-at_most, only_if-parts}
-use Rattle.row_laws.proofs.SlotRow.{OneRequest, Shares, parts_paid}
-use Rattle.row_laws.proofs.Numbers.{number_of}
+use Rattle.row_laws.proofs.SlotRow.{OneRequest, Shares}
+use Rattle.row_laws.proofs.Numbers.{paid_by_each}
 use Rattle.row_laws.proofs.LowerHolders.{Asks, asks_between, held_since}
 use Rattle.row_laws.proofs.Holdings.{holding_share, own_resource, first_holder, Held, held_at, holding_one}
 
@@ -83,23 +77,14 @@ for_resource_is w bound n j x s share q t c l some =
 pub low_paid : (w : Trace) (bound : ℕ → ℕ) (n j x s : ℕ) (share : ℕ → ℕ → ℕ) (q : ℕ) → Holding w bound n j x s share
     → sum_below (window_end w bound n j) (λ t. low_part w j x share q t) ≤ count_of w.set (task_of w j) q * s
 low_paid w bound n j x s share q c =
-    let paid : sum_below (window_end w bound n j) (λ t. low_part w j x share q t)
-    ≤ count_below (length script) (λ k. asks_for q (get_or script k no_segment)) * s =
-    parts_paid shared_charge w bound n j (length script) s share (holding_share x share) (λ t. low_part w j x share q t)
-    (λ t. number_of (phase_of w t j)) (λ k. asks_for q (get_or script k no_segment)) c.window
+    paid_by_each shared_charge w bound n j j q s share (holding_share x share) (λ t. low_part w j x share q t) c.window
+    (shares_of w bound n j x s share c) c.window.listed
     (record {
       below = λ t l. below t;
-      within = λ t l some h. let a : ForResource w j x share q t = (low t l some).1 in
-          rw a.facts.asks ((open_segment w t j a.facts.number (own_resource w j t) a.facts.asks).within);
-      passes = λ t l some h. let a : ForResource w j x share q t = (low t l some).1 in passes t a;
-      one = λ u v order l first second a b same. together u v order l (low u (omega arith) first).1 (low v l second).0
-          (low v l second).1 a b same;
-    })
-    (shares_of w bound n j x s share c) in
-    omega (arith, paid, mul-le-mul_right s (own_requests w.set (job_of w.jobs j) q (c.window.lawful.each j c.window.listed))) where
-      script : List SegmentDef
-      script = (job_of w.jobs j).script
-
+      asks = λ t l some h. let a : ForResource w j x share q t = (low t l some).1 in (a.facts.number, asks_q t a);
+      one = λ u v k order l first second a b early late. together u v k order l (low u (omega arith) first).1 (low v l second).0
+          (low v l second).1 a b early late;
+    }) where
       below : (t : ℕ) → low_part w j x share q t ≤ amount w j x share t
       below t = omega (
         arith,
@@ -118,20 +103,12 @@ low_paid w bound n j x s share q c =
       asks_q : (t : ℕ) → (a : ForResource w j x share q t) → phase_of w t j ≡ Asking a.facts.number q
       asks_q t a = a.facts.asks ∙ ap (Asking a.facts.number) a.resource
 
-      passes : (t : ℕ) → ForResource w j x share q t → asks_for q (get_or script (number_of (phase_of w t j)) no_segment) ≡ true
-      passes t a = ap (λ p. asks_for q (get_or script (number_of p) no_segment)) (asks_q t a)
-          ∙ (open_segment w t j a.facts.number q (asks_q t a)).asks
-
-      together : (u v : ℕ) → u ≤ v → v < window_end w bound n j → ForResource w j x share q u
+      together : (u v k : ℕ) → u ≤ v → v < window_end w bound n j → ForResource w j x share q u
           → task_of w j < task_of w (first_holder w j v) → ForResource w j x share q v
           → (a : Hit shared_charge w (holding_share x share) j u) → (b : Hit shared_charge w (holding_share x share) j v)
-          → number_of (phase_of w u j) ≡ number_of (phase_of w v j)
-          → OneRequest w u v a.charge.job b.charge.job
-      together u v order l early lower late a b same =
-          let number : early.facts.number ≡ late.facts.number =
-          sym (ap number_of early.facts.asks) ∙ same ∙ ap number_of late.facts.asks in
-          let there : phase_of w v j ≡ Asking early.facts.number q = asks_q v late ∙ ap (λ k. Asking k q) (sym number) in
-          let asks : Asks w u v q j = asks_between w u v early.facts.number q q j order early.facts.active (asks_q u early) there in
+          → phase_of w u j ≡ Asking k q → phase_of w v j ≡ Asking k q → OneRequest w u v a.charge.job b.charge.job
+      together u v k order l early lower late a b here there =
+          let asks : Asks w u v q j = asks_between w u v k q q j order early.facts.active here there in
           let holder : holder_in (w.row v) q ≡ Some (first_holder w j v) =
           ap (holder_in (w.row v)) (sym late.resource) ∙ late.facts.holder in
           let b_facts : Held w v j x b.charge.job = held_at mpcp w bound n v j x share c.window c.keeps (omega arith) b in
@@ -150,23 +127,14 @@ pub job_paid : (w : Trace) (bound : ℕ → ℕ) (n j x s : ℕ) (share : ℕ �
     → z < length w.jobs → task_of w z ≡ y
     → sum_below (window_end w bound n j) (λ t. job_part w j x share q y z t) ≤ count_of w.set y q * s
 job_paid w bound n j x s share q y z c listed task =
-    let paid : sum_below (window_end w bound n j) (λ t. job_part w j x share q y z t)
-    ≤ count_below (length script) (λ k. asks_for q (get_or script k no_segment)) * s =
-    parts_paid shared_charge w bound n j (length script) s share (holding_share x share) (λ t. job_part w j x share q y z t)
-    (λ t. number_of (phase_of w t z)) (λ k. asks_for q (get_or script k no_segment)) c.window
+    rw task at (paid_by_each shared_charge w bound n j z q s share (holding_share x share) (λ t. job_part w j x share q y z t) c.window
+    (shares_of w bound n j x s share c) listed
     (record {
       below = λ t l. below t;
-      within = λ t l some h. within t (holds t l some);
-      passes = λ t l some h. passes t (holds t l some);
-      one = λ u v order l first second a b same. together u v order l (holds u (omega arith) first) (holds v l second) a b same;
-    })
-    (shares_of w bound n j x s share c) in
-    let most : count_below (length script) (λ k. asks_for q (get_or script k no_segment)) ≤ count_of w.set y q =
-    rw task at (own_requests w.set (job_of w.jobs z) q (c.window.lawful.each z listed)) in
-    omega (arith, paid, mul-le-mul_right s most) where
-      script : List SegmentDef
-      script = (job_of w.jobs z).script
-
+      asks = λ t l some h. let a : JobHolds w j q z t = holds t l some in (a.number, a.phase);
+      one = λ u v k order l first second a b early late. together u v k order l (holds u (omega arith) first) (holds v l second) a b
+          early late;
+    })) where
       below : (t : ℕ) → job_part w j x share q y z t ≤ amount w j x share t
       below t = omega (
         arith,
@@ -195,20 +163,11 @@ job_paid w bound n j x s share q y z c listed task =
             first = job;
           }
 
-      within : (t : ℕ) → JobHolds w j q z t → number_of (phase_of w t z) < length script
-      within t a = rw a.phase ((open_segment w t z a.number q a.phase).within)
-
-      passes : (t : ℕ) → JobHolds w j q z t → asks_for q (get_or script (number_of (phase_of w t z)) no_segment) ≡ true
-      passes t a = ap (λ p. asks_for q (get_or script (number_of p) no_segment)) a.phase ∙ (open_segment w t z a.number q a.phase).asks
-
-      together : (u v : ℕ) → u ≤ v → v < window_end w bound n j → JobHolds w j q z u → JobHolds w j q z v
+      together : (u v k : ℕ) → u ≤ v → v < window_end w bound n j → JobHolds w j q z u → JobHolds w j q z v
           → (a : Hit shared_charge w (holding_share x share) j u) → (b : Hit shared_charge w (holding_share x share) j v)
-          → number_of (phase_of w u z) ≡ number_of (phase_of w v z)
-          → OneRequest w u v a.charge.job b.charge.job
-      together u v order l early late a b same =
-          let number : early.number ≡ late.number = sym (ap number_of early.phase) ∙ same ∙ ap number_of late.phase in
-          let there : phase_of w v z ≡ Asking early.number q = late.phase ∙ ap (λ k. Asking k q) (sym number) in
+          → phase_of w u z ≡ Asking k q → phase_of w v z ≡ Asking k q → OneRequest w u v a.charge.job b.charge.job
+      together u v k order l early late a b here there =
           let b_facts : Held w v j x b.charge.job = held_at mpcp w bound n v j x share c.window c.keeps (omega arith) b in
           holding_one mpcp w bound n u v q z j x share c.window c.keeps order l a b (b_facts.processor ∙ ap (processor_of w) late.first)
-          (λ t from before. shared_holder_stays mpcp w n u t q z early.number q c.keeps from (omega arith) early.phase
-          (open_between w u t v z early.number q q early.phase there from before) early.holder)
+          (λ t from before. shared_holder_stays mpcp w n u t q z k q c.keeps from (omega arith) here
+          (open_between w u t v z k q q here there from before) early.holder)

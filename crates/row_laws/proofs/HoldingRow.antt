@@ -1,30 +1,27 @@
 -- Row of holdings, under MPCP: the parts by resource and by holder, summed.
 use Rattle.std.proofs.Common.{◌≡◌, ℕ, ◌+◌, ◌*◌, ◌<◌, ◌≤◌, ◌==◌, ◌&&◌, not, Bool, true, false, length, refl, sym, ap}
 use Rattle.std.proofs.Common.{◌∙◌, arith, inl, inr, nat_lt}
-use Rattle.std.proofs.Math.Nat.{mul_comm, mul-add, mul-le-mul_right}
+use Rattle.std.proofs.Math.Nat.{mul_comm, mul-add}
 use Rattle.std.proofs.lemmas.Bool.{cases_lt, cases_Bool, both_ways, and_from, eqb-true, eq-eqb, ltb-false, not-true}
 use Rattle.bounded_sums.specs.Sums.{sum_below, only_if}
-use Rattle.bounded_sums.specs.Tests.{count_below, any_below}
+use Rattle.bounded_sums.specs.Tests.{any_below}
 use Rattle.bounded_sums.proofs.SumLaws.{sum_below-agree, sum_below-monotone, sum_below-plus, sum_below-times, sum_below-zero}
 use Rattle.bounded_sums.proofs.SlotLaws.{sum_below-slots}
 use Rattle.bounded_sums.proofs.TestLaws.{any_below-none}
 use Rattle.sporadic_model.specs.Users.{count_of, is_user}
-use Rattle.schedule_model.specs.JobDef.{job_of}
-use Rattle.schedule_model.specs.LawfulJobs.{IsLawfulJob}
 use Rattle.schedule_model.specs.RowDef.{Trace}
 use Rattle.schedule_model.specs.Activity.{task_of, is_active}
 use Rattle.schedule_model.specs.Ranks.{mpcp}
 use Rattle.schedule_model.specs.Protocols.{shared_rule}
 use Rattle.schedule_model.specs.Keeping.{KeepsBefore}
-use Rattle.schedule_laws.proofs.ActiveJobs.{Active, active_is}
 use Rattle.schedule_laws.proofs.Holders.{open_active}
 use Rattle.fragments.specs.Windows.{jobs_in, requests_in}
 use Rattle.indirect_constraints.specs.Rows.{is_beside, higher_holdings, lower_holdings, holding_row}
 use Rattle.charge_model.specs.Charges.{shared_charge}
 use Rattle.charge_model.specs.Windows.{window_end}
 use Rattle.row_laws.specs.Meeting.{TicksMeet}
-use Rattle.row_laws.proofs.Brings.{Window, only_if-parts, sum_below-passing}
-use Rattle.row_laws.proofs.JobRows.{product_turned, is_near, Near, near_is, active_near, near_jobs}
+use Rattle.row_laws.proofs.Brings.{Window, only_if-parts}
+use Rattle.row_laws.proofs.JobRows.{product_turned, paid_in_window}
 use Rattle.row_laws.proofs.Holdings.{own_resource, first_holder}
 use Rattle.row_laws.proofs.HoldingParts.{Holding, amount, for_resource, is_low, low_part, high_part, task_part}
 use Rattle.row_laws.proofs.HoldingParts.{ForResource, for_resource_is, low_paid, job_paid}
@@ -44,17 +41,12 @@ held_by_is w bound n j x s share q y t c l some =
     only_if-parts (not (is_low w j t)) (for_resource w j x share q t) two.1 in
     record { task = eqb-true _ _ two.0; low = not-true _ three.0; for = for_resource_is w bound n j x s share q t c l three.1 }
 
--- A holder is active, and so near.
-holder_near : (w : Trace) (bound : ℕ → ℕ) (n j x s : ℕ) (share : ℕ → ℕ → ℕ) (q y t : ℕ) → Holding w bound n j x s share
-    → t < window_end w bound n j → HeldBy w j x share q y t
-    → is_near w bound j y (first_holder w j t) ≡ true
-holder_near w bound n j x s share q y t c l a =
-    let own : Active w t j = active_is w t j a.for.facts.active in
-    let lawful : IsLawfulJob w.set (job_of w.jobs (first_holder w j t)) = c.window.lawful.each (first_holder w j t) a.for.facts.listed in
-    let active : is_active w t (first_holder w j t) ≡ true =
-    open_active w n t (first_holder w j t) a.for.facts.holding (own_resource w j t) c.window.active
-    (omega arith) lawful.script a.for.facts.held in
-    active_near shared_charge w bound n j y (first_holder w j t) t c.window active a.task own.released l
+-- A holder is active.
+holder_active : (w : Trace) (bound : ℕ → ℕ) (n j x s : ℕ) (share : ℕ → ℕ → ℕ) (q y t : ℕ) → Holding w bound n j x s share
+    → t < window_end w bound n j → HeldBy w j x share q y t → is_active w t (first_holder w j t) ≡ true
+holder_active w bound n j x s share q y t c l a =
+    open_active w n t (first_holder w j t) a.for.facts.holding (own_resource w j t) c.window.active (omega arith)
+    (c.window.lawful.each (first_holder w j t) a.for.facts.listed).script a.for.facts.held
 
 -- While task y holds q, there is one for each request of q that its jobs make in the window, where y is beside x.
 task_paid : (w : Trace) (bound : ℕ → ℕ) (n j x s : ℕ) (share : ℕ → ℕ → ℕ) (q y : ℕ) → Holding w bound n j x s share
@@ -68,21 +60,13 @@ task_paid w bound n j x s share q y c l = elim (cases_Bool (is_beside w.set x y)
       omega arith
   | inl on ↦
       let paid : sum_below (window_end w bound n j) (λ t. task_part w j x share q y t)
-      ≤ count_below (length w.jobs) (is_near w bound j y) * (count_of w.set y q * s) =
-      sum_below-passing (window_end w bound n j) (length w.jobs) (count_of w.set y q * s) (λ t. first_holder w j t)
-      (λ t. task_part w j x share q y t) (is_near w bound j y)
+      ≤ jobs_in w.set bound (task_of w j) y * (count_of w.set y q * s) =
+      paid_in_window shared_charge w bound n j y (count_of w.set y q * s) (λ t. first_holder w j t) (λ t. task_part w j x share q y t)
+      c.window l
       (λ t b some. let a : HeldBy w j x share q y t = held_by_is w bound n j x s share q y t c b some in
-      (a.for.facts.listed, holder_near w bound n j x s share q y t c b a))
-      (λ z b near. let a : Near w bound j y z = near_is w bound j y z near in job_paid w bound n j x s share q y z c b a.task) in
-      let jobs : count_below (length w.jobs) (is_near w bound j y) ≤ jobs_in w.set bound (task_of w j) y =
-      near_jobs shared_charge w bound n j y c.window l in
-      rw on (omega (
-        arith,
-        paid,
-        mul-le-mul_right (count_of w.set y q * s) jobs,
-        product_turned (jobs_in w.set bound (task_of w j) y)
-            (count_of w.set y q) s,
-      ))
+      (a.for.facts.active, holder_active w bound n j x s share q y t c b a, a.task))
+      (λ z b task. job_paid w bound n j x s share q y z c b task) in
+      rw on (omega (arith, paid, product_turned (jobs_in w.set bound (task_of w j) y) (count_of w.set y q) s))
 ] where
   nothing : is_beside w.set x y ≡ false → (t : ℕ) → t < window_end w bound n j → task_part w j x share q y t ≡ 0
   nothing off t b = elim (cases_lt 0 (task_part w j x share q y t)) [

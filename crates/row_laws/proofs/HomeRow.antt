@@ -1,12 +1,11 @@
 -- Row of homes, under DPCP: while a job is in a request at a processor no lower request is granted there, and of those that
 -- were granted before at most one runs.
-use Rattle.std.proofs.Common.{◌≡◌, ℕ, zero, suc, ◌*◌, ◌<◌, ◌≤◌, ◌==◌, ◌&&◌, not, true, false, refl, sym, ap, subst, ◌∙◌}
+use Rattle.std.proofs.Common.{◌≡◌, ℕ, suc, ◌*◌, ◌<◌, ◌≤◌, ◌==◌, ◌&&◌, not, true, false, refl, sym, ap, subst, ◌∙◌}
 use Rattle.std.proofs.Common.{arith, inl, inr, Some, nat_lt}
 use Rattle.std.proofs.lemmas.Bool.{cases_lt, cases_Bool, and_parts, and_from, eqb-true, eq-eqb, ltb-true, not-true, not_from_false}
 use Rattle.bounded_sums.specs.Sums.{flag}
 use Rattle.schedule_model.specs.declared.rule.Rule.TheVariants as rule
-use Rattle.schedule_model.specs.JobDef.{job_of}
-use Rattle.schedule_model.specs.LawfulJobs.{AreLawfulJobs, IsLawfulJob}
+use Rattle.schedule_model.specs.LawfulJobs.{AreLawfulJobs}
 use Rattle.schedule_model.specs.RowDef.{Trace, jobs_of, is_job, holder_in, held_before}
 use Rattle.schedule_model.specs.Phase.{phase_of}
 use Rattle.schedule_model.specs.Phase.Phase.{Local, Asking}
@@ -14,7 +13,8 @@ use Rattle.schedule_model.specs.Activity.{task_of, is_requester, holds_by}
 use Rattle.schedule_model.specs.DpcpRules.{home_of, ceiling_rank, waits_at}
 use Rattle.schedule_model.specs.Protocols.{dpcp_rule}
 use Rattle.schedule_model.specs.Keeping.{KeepsBefore}
-use Rattle.schedule_laws.proofs.ActiveJobs.{one_active, requester_listed}
+use Rattle.schedule_laws.proofs.ActiveJobs.{active_listed, one_active, requester_listed}
+use Rattle.schedule_laws.proofs.DpcpLaws.{dpcp_runs_active}
 use Rattle.schedule_laws.proofs.Ticks.{one_resource}
 use Rattle.schedule_laws.proofs.Rows.{job_named}
 use Rattle.fragments.specs.declared.columns.Class.{Class}
@@ -24,14 +24,13 @@ use Rattle.sporadic_model.specs.Homes.{home_in}
 use Rattle.indirect_constraints.specs.Rows.{home_row}
 use Rattle.charge_model.specs.Charges.{dpcp_charge}
 use Rattle.charge_model.specs.Windows.{window_end}
-use Rattle.charge_laws.proofs.DpcpCharging.{HomeBlocked, DpcpReason, dpcp_reason, request_at_from}
+use Rattle.charge_laws.proofs.DpcpCharging.{RunsRequest, HomeBlocked, DpcpReason, dpcp_reason, request_at_from}
 use Rattle.row_laws.specs.Meeting.{TicksMeet}
 use Rattle.row_laws.proofs.Brings.{Window, Hit, flag_times-at_most, flag_times-passes}
-use Rattle.row_laws.proofs.JobRows.{HitJob, hit_job}
 use Rattle.row_laws.proofs.SlotRow.{OneRequest}
 use Rattle.row_laws.proofs.Requests.{one_request}
 use Rattle.row_laws.proofs.Numbers.{by_number}
-use Rattle.row_laws.proofs.LowerHolders.{Asks, asks_between}
+use Rattle.row_laws.proofs.LowerHolders.{Asks, asks_between, held_back}
 use Rattle.row_laws.proofs.Ordered.{HoldsAt, requester_facts, holder_facts, Granted, new_granted, LowRunner, runs_first}
 use Rattle.row_laws.proofs.Ordered.{low_ceiling, ordered, kept_from}
 
@@ -55,18 +54,11 @@ no_low_grant w t k q y j lawful granted asks home lower = elim (cases_Bool (is_j
 pub held_since : (w : Trace) (n u v q r y j : ℕ) → AreLawfulJobs (jobs_of w) → KeepsBefore dpcp_rule w n → v < n → Asks w u v q j
     → home_of w q ≡ home_of w r → task_of w j < task_of w y → holder_in (w.row v) r ≡ Some y
     → (t : ℕ) → u ≤ t → t ≤ v → holder_in (w.row t) r ≡ Some y
-held_since w n u zero q r y j lawful keeps l asks home lower holds t a b = let e : t ≡ 0 = omega arith in rw e holds
-held_since w n u (suc v) q r y j lawful keeps l asks home lower holds t a b = elim (cases_lt v t) [
-  | inl last ↦ let e : t ≡ suc v = omega arith in rw e holds
-  | inr early ↦ elim (cases_Bool (is_job y (holder_in (w.row v) r))) [
-    | inr new ↦ absurd (no_low_grant w (suc v) (home_of w r) q y j lawful
-        (new_granted w (suc v) r y (keeps (suc v) l rule.Grant) holds new) (asks.asks (suc v) asks.order (omega arith)) home lower)
-    | inl old ↦
-        held_since w n u v q r y j lawful keeps (omega arith)
-        (record { order = omega arith; asks = λ s c d. asks.asks s c (omega arith) }) home lower
-        (job_named y (holder_in (w.row v) r) old) t a early
-  ]
-]
+held_since w n u v q r y j lawful keeps l asks home lower holds =
+    held_back w u v r y
+    (λ s from before held new. no_low_grant w (suc s) (home_of w r) q y j lawful
+    (new_granted w (suc s) r y (keeps (suc s) (omega arith) rule.Grant) held new) (asks.asks (suc s) (omega arith) before) home lower)
+    holds
 
 -- Why a tick that isn't charged by preemption is.
 pub home_blocked : (w : Trace) (t j r : ℕ) (c : Class) → is_preemption c ≡ false → DpcpReason w t j c r → HomeBlocked w t j r
@@ -126,6 +118,25 @@ one_holder w n u v q j i k lawful keeps l asks early late = record { job = job; 
         absurd (omega (arith, above, low, early.lower))
   ]
 
+-- So it is one request.
+pub one_low_request : (w : Trace) (n u v q j i k : ℕ) → AreLawfulJobs (jobs_of w) → KeepsBefore dpcp_rule w n → v < n → Asks w u v q j
+    → LowRunner w u (home_of w q) j i → LowRunner w v (home_of w q) j k → OneRequest w u v i k
+one_low_request w n u v q j i k lawful keeps l asks early late =
+    one_request w n u v i k late.runner.number r (dpcp_runs_active w n keeps) (omega (arith, l, asks.order)) asks.order
+    (lawful.each k (active_listed w v k late.runner.active)).script early.runner.active (ap (task_of w) o.job) late.runner.request
+    (λ t from before local runs. let a : HoldsAt w t r k =
+    holder_facts w n t r k lawful keeps (omega (arith, l, before)) (o.holds t from (omega (arith, before))) in
+    let x : Local ≡ Asking a.number r = sym local ∙ a.request in cc) where
+      r : ℕ
+      r = late.runner.resource
+
+      o : OneHolder w u v r i k
+      o = one_holder w n u v q j i k lawful keeps l asks early late
+
+-- The resource whose request runs is the one that is named.
+pub runner_resource : (w : Trace) (t k r m q : ℕ) → (a : RunsRequest w t k r) → phase_of w t r ≡ Asking m q → a.resource ≡ q
+runner_resource w t k r m q a e = let x : Asking a.number a.resource ≡ Asking m q = sym a.request ∙ e in cc
+
 -- A charge whose column is of a lower task, at home k, and not by preemption.
 pub record HomeColumn (w : Trace) (i k y r : ℕ) (c : Class) : Type 0 where
   pub class : is_preemption c ≡ false
@@ -170,21 +181,7 @@ home_row_met w bound n j k window keeps s share fair =
       blocked t l h = home_blocked w t j h.charge.job h.charge.class (column t h).class (dpcp_reason w t j h.charge (keeps t l) h.is_it)
 
       same_resource : (t : ℕ) → (h : Hit dpcp_charge w f j t) → (b : HomeBlocked w t j h.charge.job) → b.runner.resource ≡ h.resource
-      same_resource t h b = let x : Asking b.runner.number b.runner.resource ≡ Asking h.number h.resource =
-          sym b.runner.request ∙ h.request in cc
-
-      together : (u v : ℕ) → u ≤ v → v < window_end w bound n j → (g : Hit dpcp_charge w f j u) → (h : Hit dpcp_charge w f j v) → (r : ℕ)
-          → OneHolder w u v r g.charge.job h.charge.job
-          → OneRequest w u v g.charge.job h.charge.job
-      together u v order l g h r o =
-          let there : HitJob dpcp_charge w bound j u g.charge.job = hit_job dpcp_charge w bound n j u f window (omega arith) g in
-          let later : HitJob dpcp_charge w bound j v h.charge.job = hit_job dpcp_charge w bound n j v f window l h in
-          let lawful : IsLawfulJob w.set (job_of w.jobs h.charge.job) = window.lawful.each h.charge.job later.listed in
-          one_request w n u v g.charge.job h.charge.job h.number h.resource window.active (omega arith) order lawful.script there.active
-          (ap (task_of w) o.job) h.request
-          (λ t from before local runs. let a : HoldsAt w t r h.charge.job =
-          holder_facts w n t r h.charge.job window.lawful keeps (omega arith) (o.holds t from (omega arith)) in
-          let x : Local ≡ Asking a.number r = sym local ∙ a.request in cc)
+      same_resource t h b = runner_resource w t (home_of w b.resource) h.charge.job h.number h.resource b.runner h.request
 
       one : (u v m a b : ℕ) → u ≤ v → v < window_end w bound n j → (g : Hit dpcp_charge w f j u) → (h : Hit dpcp_charge w f j v)
           → phase_of w u j ≡ Asking m a → phase_of w v j ≡ Asking m b
@@ -201,6 +198,5 @@ home_row_met w bound n j k window keeps s share fair =
           let asks : Asks w u v mine.resource j = asks_between w u v m mine.resource b j order mine.active first late in
           let low : LowRunner w v (home_of w mine.resource) j h.charge.job =
           subst (λ (z : ℕ). LowRunner w v (home_of w z) j h.charge.job) same (low_runner w v j h.charge.job later (column v h).lower) in
-          together u v order l g h low.runner.resource
-          (one_holder w n u v mine.resource j g.charge.job h.charge.job window.lawful keeps (omega arith) asks
-          (low_runner w u j g.charge.job mine (column u g).lower) low)
+          one_low_request w n u v mine.resource j g.charge.job h.charge.job window.lawful keeps (omega arith) asks
+          (low_runner w u j g.charge.job mine (column u g).lower) low

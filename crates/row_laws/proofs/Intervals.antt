@@ -8,7 +8,7 @@ use Rattle.bounded_sums.specs.Sums.{sum_below, flag}
 use Rattle.bounded_sums.specs.Tests.{count_below}
 use Rattle.bounded_sums.proofs.CountLaws.{count_below-at_most}
 use Rattle.sporadic_model.specs.SetDef.{task_at}
-use Rattle.sporadic_model.specs.Users.{count_of, length_of}
+use Rattle.sporadic_model.specs.Users.{count_of}
 use Rattle.schedule_model.specs.declared.rule.Rule.TheVariants as rule
 use Rattle.schedule_model.specs.JobDef.{job_of}
 use Rattle.schedule_model.specs.LawfulJobs.{IsLawfulJob}
@@ -35,7 +35,7 @@ use Rattle.fragments.specs.declared.columns.Class.TheVariants.{Preemption}
 use Rattle.fragments.specs.ColumnDef.{ColumnDef, is_preemption}
 use Rattle.fragments.specs.Columns.{is_lower_local, have_one_processor}
 use Rattle.preempt_constraints.specs.Rows.{interval_row}
-use Rattle.charge_model.specs.Charges.{shared_charge, dpcp_charge}
+use Rattle.charge_model.specs.Charges.{shared_charge, dpcp_charge, Charge}
 use Rattle.charge_model.specs.Windows.{window_end}
 use Rattle.charge_laws.proofs.SharedCharging.{PreemptedBy, SharedReason, shared_reason, runner_holds}
 use Rattle.charge_laws.proofs.DpcpCharging.{LocalBlocked, RunsRequest, RunsAtHomes, RunsAtHomesBefore, DpcpReason}
@@ -44,6 +44,7 @@ use Rattle.row_laws.specs.Meeting.{Charges, brings, TicksMeet}
 use Rattle.row_laws.proofs.Brings.{Window, Hit, flag_times-at_most, flag_times-passes}
 use Rattle.row_laws.proofs.SlotRow.{OneRequest, slot_row}
 use Rattle.row_laws.proofs.Requests.{preemption_is, one_request}
+use Rattle.row_laws.proofs.JobRows.{HitJob, hit_job}
 
 -- A lower task of i's processor.
 pub record LowerLocal (w : Trace) (i x : ℕ) : Type 0 where
@@ -128,19 +129,23 @@ interval_hit charges w x j t share h =
     (share (task_of w h.charge.job) h.resource) h.some) in
     (eqb-true _ _ both.0, preemption_is h.charge.class both.1)
 
--- Each interval, told by the number of requests begun, is paid for once.
-pub interval_limit : (charges : Charges) (w : Trace) (bound : ℕ → ℕ) (n j x s : ℕ) (share : ℕ → ℕ → ℕ) → Window charges w bound n j
-    → ((x q : ℕ) → share x q * length_of w.set x q ≤ s)
-    → ((u v : ℕ) → u ≤ v → v < window_end w bound n j → (a : Hit charges w (interval_share x share) j u)
-    → (b : Hit charges w (interval_share x share) j v) → requests_begun w u j ≡ requests_begun w v j
-    → OneRequest w u v a.charge.job b.charge.job)
-    → sum_below (window_end w bound n j) (λ t. brings charges w (interval_share x share) j t)
-    ≤ s * (1 + sum_below (length w.set.resources) (λ q. count_of w.set (task_of w j) q))
-interval_limit charges w bound n j x s share window fair one =
-    let most : sum_below (window_end w bound n j) (λ t. brings charges w (interval_share x share) j t)
+-- A tick is charged to job y by preemption.
+pub record Preempted (charges : Charges) (w : Trace) (t j y : ℕ) : Type 0 where
+  pub charge : Charge
+  pub is_it : charges w t j ≡ Some charge
+  pub class : charge.class ≡ Preemption
+  pub job : charge.job ≡ y
+
+-- The row of intervals, however ticks are charged: each interval, told by the number of requests begun, is paid for once, where between
+-- two ticks of one that are charged by preemption the later one's job runs no Local tick.
+pub interval_row_by : (charges : Charges) (w : Trace) (bound : ℕ → ℕ) (n j x : ℕ) → Window charges w bound n j
+    → ((u v t y z : ℕ) → u ≤ t → t < v → v < n → Preempted charges w u j y → Preempted charges w v j z → task_of w z ≡ x
+    → requests_begun w u j ≡ requests_begun w v j → phase_of w t z ≡ Local → runs_in (w.row t) z ≡ true → ⊥)
+    → TicksMeet charges w bound n j (interval_row w.set (task_of w j) x)
+interval_row_by charges w bound n j x window none s share fair =
+    let most : sum_below (window_end w bound n j) (λ t. brings charges w f j t)
     ≤ count_below (suc (requests_in (job_of w.jobs j).script)) (λ k. true) * s =
-    slot_row charges w bound n j (suc (requests_in (job_of w.jobs j).script)) s share (interval_share x share) (λ t. requests_begun w t j)
-    (λ k. true) window
+    slot_row charges w bound n j (suc (requests_in (job_of w.jobs j).script)) s share f (λ t. requests_begun w t j) (λ k. true) window
     (record { within = λ t l h. omega (arith, requests_begun_at_most w t j); passes = λ t l h. refl; one = one })
     (record { fair = fair; small = λ c. flag_times-at_most ((c.task == x) && is_preemption c.class) (share c.task c.resource) }) in
     let number : count_below (suc (requests_in (job_of w.jobs j).script)) (λ k. true)
@@ -157,42 +162,48 @@ interval_limit charges w bound n j x s share window fair one =
       mul-le-mul_right s number,
       mul_comm
           (1 + sum_below (length w.set.resources) (λ q. count_of w.set (task_of w j) q)) s,
-    )
+    ) where
+      f : ColumnDef → ℕ
+      f = interval_share x share
+
+      preempted : (t : ℕ) → (h : Hit charges w f j t) → Preempted charges w t j h.charge.job
+      preempted t h = record { charge = h.charge; is_it = h.is_it; class = (interval_hit charges w x j t share h).1; job = refl }
+
+      one : (u v : ℕ) → u ≤ v → v < window_end w bound n j → (a : Hit charges w f j u) → (b : Hit charges w f j v)
+          → requests_begun w u j ≡ requests_begun w v j → OneRequest w u v a.charge.job b.charge.job
+      one u v order l a b same =
+          let there : HitJob charges w bound j u a.charge.job = hit_job charges w bound n j u f window (omega arith) a in
+          let later : HitJob charges w bound j v b.charge.job = hit_job charges w bound n j v f window l b in
+          let lawful : IsLawfulJob w.set (job_of w.jobs b.charge.job) = window.lawful.each b.charge.job later.listed in
+          let task_a : task_of w a.charge.job ≡ x = (interval_hit charges w x j u share a).0 in
+          let task_b : task_of w b.charge.job ≡ x = (interval_hit charges w x j v share b).0 in
+          one_request w n u v a.charge.job b.charge.job b.number b.resource window.active (omega arith) order lawful.script there.active
+          (task_a ∙ sym task_b) b.request
+          (λ t from before local runs. none u v t a.charge.job b.charge.job from before (omega arith) (preempted u a) (preempted v b) task_b
+          same local runs)
 
 -- The row of intervals under shared memory.
 pub shared_interval_row_met : (o : Ranks) (w : Trace) (bound : ℕ → ℕ) (n j x : ℕ) → Window shared_charge w bound n j
     → KeepsBefore (shared_rule o) w n → is_lower_local w.set (task_of w j) x ≡ true
     → TicksMeet shared_charge w bound n j (interval_row w.set (task_of w j) x)
-shared_interval_row_met o w bound n j x window keeps lower s share fair =
-    interval_limit shared_charge w bound n j x s share window fair one where
-      f : ColumnDef → ℕ
-      f = interval_share x share
-
+shared_interval_row_met o w bound n j x window keeps lower =
+    interval_row_by shared_charge w bound n j x window (λ u v t y z from before l early late task same local runs. none u v t y z from
+    before l early late task same local runs) where
       low : LowerLocal w (task_of w j) x
       low = lower_local_is w (task_of w j) x lower
 
-      by : (t : ℕ) → t < n → (h : Hit shared_charge w f j t) → PreemptedBy w t j h.charge.job
-      by t l h = preempted_by o w t j h.charge.job h.charge.class (interval_hit shared_charge w x j t share h).1
-          (shared_reason o w t j h.charge (keeps t l) h.is_it)
+      by : (t y : ℕ) → t < n → Preempted shared_charge w t j y → PreemptedBy w t j y
+      by t y l a = rw (← a.job) (preempted_by o w t j a.charge.job a.charge.class a.class
+          (shared_reason o w t j a.charge (keeps t l) a.is_it))
 
-      one : (u v : ℕ) → u ≤ v → v < window_end w bound n j → (a : Hit shared_charge w f j u) → (b : Hit shared_charge w f j v)
-          → requests_begun w u j ≡ requests_begun w v j → OneRequest w u v a.charge.job b.charge.job
-      one u v order l a b same =
-          let early : PreemptedBy w u j a.charge.job = by u (omega arith) a in
-          let late : PreemptedBy w v j b.charge.job = by v (omega arith) b in
-          let task_a : task_of w a.charge.job ≡ x = (interval_hit shared_charge w x j u share a).0 in
-          let task_b : task_of w b.charge.job ≡ x = (interval_hit shared_charge w x j v share b).0 in
-          let processor : processor_of w b.charge.job ≡ processor_of w j = ap (λ z. (task_at w.set z).processor) task_b ∙ low.processor in
-          let holder_a : ReadyHolder w u a.charge.job = ready_holder_is w u a.charge.job early.holds in
-          let listed : b.charge.job < length w.jobs =
-          active_listed w v b.charge.job (ready_active w v b.charge.job (ready_holding w v b.charge.job late.holds)) in
-          let lawful : IsLawfulJob w.set (job_of w.jobs b.charge.job) = window.lawful.each b.charge.job listed in
-          one_request w n u v a.charge.job b.charge.job b.number b.resource window.active (omega arith) order lawful.script holder_a.active
-          (task_a ∙ sym task_b) b.request
-          (λ t from before local runs. no_lower_local o w t j b.charge.job (keeps t (omega arith) rule.Run)
-          (keeps t (omega arith) rule.Priority)
-          (ready_between o w n u t v j keeps from (omega arith) (omega arith) early.ready
-          (ready_active w v j late.ready) same) late.lower processor local runs)
+      none : (u v t y z : ℕ) → u ≤ t → t < v → v < n → Preempted shared_charge w u j y → Preempted shared_charge w v j z
+          → task_of w z ≡ x → requests_begun w u j ≡ requests_begun w v j → phase_of w t z ≡ Local → runs_in (w.row t) z ≡ true → ⊥
+      none u v t y z from before l a b task same local runs =
+          let early : PreemptedBy w u j y = by u y (omega arith) a in
+          let late : PreemptedBy w v j z = by v z l b in
+          no_lower_local o w t j z (keeps t (omega arith) rule.Run) (keeps t (omega arith) rule.Priority)
+          (ready_between o w n u t v j keeps from (omega arith) l early.ready (ready_active w v j late.ready) same) late.lower
+          (ap (λ k. (task_at w.set k).processor) task ∙ low.processor) local runs
 
 -- A job that is Local at u, and begins no request up to v, is Local in between.
 pub local_between : (w : Trace) (u t v j : ℕ) → u ≤ t → t ≤ v → is_active w u j ≡ true → is_active w v j ≡ true → phase_of w u j ≡ Local
@@ -238,34 +249,24 @@ no_lower_local_home w t j y homes active waits lower processor local runs = elim
 pub home_interval_row_met : (w : Trace) (bound : ℕ → ℕ) (n j x : ℕ) → Window dpcp_charge w bound n j → RunsAtHomesBefore w n
     → is_lower_local w.set (task_of w j) x ≡ true
     → TicksMeet dpcp_charge w bound n j (interval_row w.set (task_of w j) x)
-home_interval_row_met w bound n j x window homes lower s share fair =
-    interval_limit dpcp_charge w bound n j x s share window fair one where
-      f : ColumnDef → ℕ
-      f = interval_share x share
-
+home_interval_row_met w bound n j x window homes lower =
+    interval_row_by dpcp_charge w bound n j x window (λ u v t y z from before l early late task same local runs. none u v t y z from
+    before l early late task same local runs) where
       low : LowerLocal w (task_of w j) x
       low = lower_local_is w (task_of w j) x lower
 
-      by : (t : ℕ) → t < n → (h : Hit dpcp_charge w f j t) → LocalBlocked w t j h.charge.job
-      by t l h = blocked_by w t j h.charge.job h.charge.class (interval_hit dpcp_charge w x j t share h).1
-          (home_reason w t j h.charge (homes t l) h.is_it)
+      by : (t y : ℕ) → t < n → Preempted dpcp_charge w t j y → LocalBlocked w t j y
+      by t y l a = rw (← a.job) (blocked_by w t j a.charge.job a.charge.class a.class (home_reason w t j a.charge (homes t l) a.is_it))
 
-      one : (u v : ℕ) → u ≤ v → v < window_end w bound n j → (a : Hit dpcp_charge w f j u) → (b : Hit dpcp_charge w f j v)
-          → requests_begun w u j ≡ requests_begun w v j → OneRequest w u v a.charge.job b.charge.job
-      one u v order l a b same =
-          let early : LocalBlocked w u j a.charge.job = by u (omega arith) a in
-          let late : LocalBlocked w v j b.charge.job = by v (omega arith) b in
-          let task_a : task_of w a.charge.job ≡ x = (interval_hit dpcp_charge w x j u share a).0 in
-          let task_b : task_of w b.charge.job ≡ x = (interval_hit dpcp_charge w x j v share b).0 in
-          let processor : processor_of w b.charge.job ≡ processor_of w j = ap (λ z. (task_at w.set z).processor) task_b ∙ low.processor in
-          let lawful : IsLawfulJob w.set (job_of w.jobs b.charge.job) =
-          window.lawful.each b.charge.job (active_listed w v b.charge.job late.runner.active) in
-          one_request w n u v a.charge.job b.charge.job b.number b.resource window.active
-          (omega arith) order lawful.script early.runner.active (task_a ∙ sym task_b) b.request
-          (λ t from before local runs. no_lower_local_home w t j b.charge.job (homes t (omega arith))
+      none : (u v t y z : ℕ) → u ≤ t → t < v → v < n → Preempted dpcp_charge w u j y → Preempted dpcp_charge w v j z
+          → task_of w z ≡ x → requests_begun w u j ≡ requests_begun w v j → phase_of w t z ≡ Local → runs_in (w.row t) z ≡ true → ⊥
+      none u v t y z from before l a b task same local runs =
+          let early : LocalBlocked w u j y = by u y (omega arith) a in
+          let late : LocalBlocked w v j z = by v z l b in
+          no_lower_local_home w t j z (homes t (omega arith))
           (unfinished_between w u t v j early.active late.active from (omega arith)).1
-          (local_between w u t v j from (omega arith) early.active late.active early.local same)
-          (omega (arith, low.lower, task_b)) processor local runs)
+          (local_between w u t v j from (omega arith) early.active late.active early.local same) (omega (arith, low.lower, task))
+          (ap (λ k. (task_at w.set k).processor) task ∙ low.processor) local runs
 
 -- The row under DPCP.
 pub dpcp_interval_row_met : (w : Trace) (bound : ℕ → ℕ) (n j x : ℕ) → Window dpcp_charge w bound n j → KeepsBefore dpcp_rule w n

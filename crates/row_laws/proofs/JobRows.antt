@@ -5,10 +5,10 @@ use Rattle.std.proofs.lemmas.Bool.{cases_lt, cases_Bool, and_parts, and_from, eq
 use Rattle.bounded_sums.specs.Sums.{sum_below, flag, only_if}
 use Rattle.bounded_sums.specs.Tests.{count_below}
 use Rattle.bounded_sums.proofs.CountLaws.{sum_below-counted}
-use Rattle.sporadic_model.specs.SetDef.{task_at}
+use Rattle.sporadic_model.specs.SetDef.{task_at, jobs_within}
 use Rattle.sporadic_model.specs.Users.{count_of, length_of}
 use Rattle.schedule_model.specs.JobDef.{job_of, total_ticks, number_of_requests}
-use Rattle.schedule_model.specs.LawfulJobs.{IsLawfulJob}
+use Rattle.schedule_model.specs.LawfulJobs.{IsLawfulJob, AreLawfulJobs}
 use Rattle.schedule_model.specs.RowDef.{Trace, jobs_of, runs_in}
 use Rattle.schedule_model.specs.Phase.{is_asking, executed, phase_of}
 use Rattle.schedule_model.specs.Phase.Phase.{Asking}
@@ -23,30 +23,28 @@ use Rattle.fragments.specs.ColumnDef.{ColumnDef}
 use Rattle.fragments.specs.Windows.{jobs_in}
 use Rattle.direct_constraints.specs.Rows.{request_row, time_row}
 use Rattle.charge_model.specs.Charges.{Executes}
-use Rattle.charge_model.specs.Windows.{bound_end, window_end}
+use Rattle.charge_model.specs.Windows.{bound_end, window_end, EndedBy}
 use Rattle.charge_laws.proofs.Windows.{active_after}
 use Rattle.row_laws.specs.Meeting.{Charges, brings, TicksMeet}
 use Rattle.row_laws.proofs.Brings.{Window, Hit, hit, column_with, blocker, blocker_is}
 use Rattle.row_laws.proofs.Brings.{flag_times-at_most, flag_times-passes, only_if-parts, sum_below-passing}
 
--- Is y a listed job of x that is released less than its bound before job j's window, or in it?
-abbrev pub is_near : Trace → (ℕ → ℕ) → ℕ → ℕ → ℕ → Bool
-is_near w bound j x y =
-    (nat_lt y (length w.jobs) && (task_of w y == x)) &&
-    (nat_lt (job_of w.jobs j).release (bound_end w bound y) && nat_lt (job_of w.jobs y).release (bound_end w bound j))
+-- Is y a listed job of x that is released less than its bound before tick u, or later, and before tick e?
+abbrev is_there : Trace → (ℕ → ℕ) → ℕ → ℕ → ℕ → ℕ → Bool
+is_there w bound u e x y =
+    (nat_lt y (length w.jobs) && (task_of w y == x)) && (nat_lt u (bound_end w bound y) && nat_lt (job_of w.jobs y).release e)
 
-pub record Near (w : Trace) (bound : ℕ → ℕ) (j x y : ℕ) : Type 0 where
-  pub listed : y < length w.jobs
-  pub task : task_of w y ≡ x
-  pub after : (job_of w.jobs j).release < bound_end w bound y
-  pub before : (job_of w.jobs y).release < bound_end w bound j
+record There (w : Trace) (bound : ℕ → ℕ) (u e x y : ℕ) : Type 0 where
+  listed : y < length w.jobs
+  task : task_of w y ≡ x
+  after : u < bound_end w bound y
+  before : (job_of w.jobs y).release < e
 
-pub near_is : (w : Trace) (bound : ℕ → ℕ) (j x y : ℕ) → is_near w bound j x y ≡ true → Near w bound j x y
-near_is w bound j x y h =
+there_is : (w : Trace) (bound : ℕ → ℕ) (u e x y : ℕ) → is_there w bound u e x y ≡ true → There w bound u e x y
+there_is w bound u e x y h =
     let parts : ((nat_lt y (length w.jobs) && (task_of w y == x)) ≡ true) × _ = and_parts _ _ h in
     let own : (nat_lt y (length w.jobs) ≡ true) × ((task_of w y == x) ≡ true) = and_parts _ _ parts.0 in
-    let rest : (nat_lt (job_of w.jobs j).release (bound_end w bound y) ≡ true)
-    × (nat_lt (job_of w.jobs y).release (bound_end w bound j) ≡ true) = and_parts _ _ parts.1 in
+    let rest : (nat_lt u (bound_end w bound y) ≡ true) × (nat_lt (job_of w.jobs y).release e ≡ true) = and_parts _ _ parts.1 in
     record {
       listed = ltb-true _ _ own.0;
       task = eqb-true _ _ own.1;
@@ -54,40 +52,75 @@ near_is w bound j x y h =
       before = ltb-true _ _ rest.1;
     }
 
--- A job of x that is active at a tick of the window is near.
-pub active_near : (charges : Charges) (w : Trace) (bound : ℕ → ℕ) (n j x y t : ℕ) → Window charges w bound n j → is_active w t y ≡ true
-    → task_of w y ≡ x → (job_of w.jobs j).release ≤ t
-    → t < window_end w bound n j → is_near w bound j x y ≡ true
-active_near charges w bound n j x y t window active task from before =
-    let a : Active w t y = active_is w t y active in
-    and_from _ _ (and_from _ _ (lt-ltb _ _ (active_listed w t y active)) (eq-eqb _ _ task))
-    (and_from _ _ (lt-ltb _ _ (active_after w bound (job_of w.jobs j).release t y window.ended active from))
-    (lt-ltb _ _ (omega (arith, a.released))))
+-- Job y, of task x, is active at a tick from u on, before e.
+pub record ActiveIn (w : Trace) (u e x y : ℕ) : Type 0 where
+  pub tick : ℕ
+  pub active : is_active w tick y ≡ true
+  pub task : task_of w y ≡ x
+  pub from : u ≤ tick
+  pub before : tick < e
 
--- So many jobs of x are near at most.
-pub near_jobs : (charges : Charges) (w : Trace) (bound : ℕ → ℕ) (n j x : ℕ) → Window charges w bound n j → x < length w.set.tasks
-    → count_below (length w.jobs) (is_near w bound j x) ≤ jobs_in w.set bound (task_of w j) x
-near_jobs charges w bound n j x window l =
-    arrived_within (jobs_of w) x (length w.jobs) (job_of w.jobs j).release (bound (task_of w j)) (bound x + (task_at w.set x).jitter)
-    (is_near w bound j x) window.lawful (window.periods x l) (omega arith)
-    (λ y h. let a : Near w bound j x y = near_is w bound j x y h in a.task)
+-- Then it is there, where each job whose bound had passed by u had ended.
+active_there : (w : Trace) (bound : ℕ → ℕ) (u e x y : ℕ) → EndedBy w bound u → (a : ActiveIn w u e x y) → is_there w bound u e x y ≡ true
+active_there w bound u e x y ended a =
+    let run : Active w a.tick y = active_is w a.tick y a.active in
+    and_from _ _ (and_from _ _ (lt-ltb _ _ (active_listed w a.tick y a.active)) (eq-eqb _ _ a.task))
+    (and_from _ _ (lt-ltb _ _ (active_after w bound u a.tick y ended a.active a.from)) (lt-ltb _ _ (omega (arith, run.released, a.before))))
+
+-- So many jobs of x are there at most.
+there_jobs : (w : Trace) (bound : ℕ → ℕ) (u span x : ℕ) → AreLawfulJobs (jobs_of w) → 0 < (task_at w.set x).period
+    → count_below (length w.jobs) (is_there w bound u (u + span) x)
+    ≤ jobs_within span (bound x + (task_at w.set x).jitter) (task_at w.set x).period
+there_jobs w bound u span x lawful period =
+    arrived_within (jobs_of w) x (length w.jobs) u span (bound x + (task_at w.set x).jitter) (is_there w bound u (u + span) x)
+    lawful period (omega arith)
+    (λ y h. let a : There w bound u (u + span) x y = there_is w bound u (u + span) x y h in a.task)
     (λ y h.
-    let a : Near w bound j x y = near_is w bound j x y h in
-    let job : IsLawfulJob w.set (job_of w.jobs y) = window.lawful.each y a.listed in
+    let a : There w bound u (u + span) x y = there_is w bound u (u + span) x y h in
+    let job : IsLawfulJob w.set (job_of w.jobs y) = lawful.each y a.listed in
     let late : (job_of w.jobs y).release ≤ (job_of w.jobs y).arrival + (task_at w.set x).jitter = rw a.task at job.in_time in
     let same : bound (task_of w y) ≡ bound x = ap bound a.task in
     omega (arith, a.after, late))
     (λ y h.
-    let a : Near w bound j x y = near_is w bound j x y h in
-    let job : IsLawfulJob w.set (job_of w.jobs y) = window.lawful.each y a.listed in
+    let a : There w bound u (u + span) x y = there_is w bound u (u + span) x y h in
+    let job : IsLawfulJob w.set (job_of w.jobs y) = lawful.each y a.listed in
     omega (arith, a.before, job.arrived))
 
--- The job of a tick that brings something to a row is active, listed, and active in the window.
+-- Where all that counts is of x's jobs that are active in a span, and each of them counts at most c, all count at most c for each job
+-- that can be active in it.
+pub paid_in_span : (w : Trace) (bound : ℕ → ℕ) (u span x m c : ℕ) (by g : ℕ → ℕ) → AreLawfulJobs (jobs_of w)
+    → 0 < (task_at w.set x).period → EndedBy w bound u → ((t : ℕ) → t < m → 0 < g t → ActiveIn w u (u + span) x (by t))
+    → ((y : ℕ) → y < length w.jobs → task_of w y ≡ x → sum_below m (λ t. only_if (by t == y) (g t)) ≤ c)
+    → sum_below m g ≤ jobs_within span (bound x + (task_at w.set x).jitter) (task_at w.set x).period * c
+paid_in_span w bound u span x m c by g lawful period ended active most =
+    let all : sum_below m g ≤ count_below (length w.jobs) (is_there w bound u (u + span) x) * c =
+    sum_below-passing m (length w.jobs) c by g (is_there w bound u (u + span) x)
+    (λ t l some. let a : ActiveIn w u (u + span) x (by t) = active t l some in
+    (active_listed w a.tick (by t) a.active, active_there w bound u (u + span) x (by t) ended a))
+    (λ y l there. let a : There w bound u (u + span) x y = there_is w bound u (u + span) x y there in most y l a.task) in
+    omega (arith, all, mul-le-mul_right c (there_jobs w bound u span x lawful period))
+
+-- The same in job j's window, where j is active too.
+pub paid_in_window : (charges : Charges) (w : Trace) (bound : ℕ → ℕ) (n j x c : ℕ) (by g : ℕ → ℕ) → Window charges w bound n j
+    → x < length w.set.tasks
+    → ((t : ℕ) → t < window_end w bound n j → 0 < g t
+    → (is_active w t j ≡ true) × (is_active w t (by t) ≡ true) × (task_of w (by t) ≡ x))
+    → ((y : ℕ) → y < length w.jobs → task_of w y ≡ x → sum_below (window_end w bound n j) (λ t. only_if (by t == y) (g t)) ≤ c)
+    → sum_below (window_end w bound n j) g ≤ jobs_in w.set bound (task_of w j) x * c
+paid_in_window charges w bound n j x c by g window l active most =
+    paid_in_span w bound (job_of w.jobs j).release (bound (task_of w j)) x (window_end w bound n j) c by g window.lawful
+    (window.periods x l) window.ended
+    (λ t b some.
+    let a : (is_active w t j ≡ true) × (is_active w t (by t) ≡ true) × (task_of w (by t) ≡ x) = active t b some in
+    let own : Active w t j = active_is w t j a.0 in
+    record { tick = t; active = a.1; task = a.2; from = own.released; before = omega arith })
+    most
+
+-- The job of a tick that brings something to a row runs, is active, and listed.
 pub record HitJob (charges : Charges) (w : Trace) (bound : ℕ → ℕ) (j t y : ℕ) : Type 0 where
   pub runs : runs_in (w.row t) y ≡ true
   pub active : is_active w t y ≡ true
   pub listed : y < length w.jobs
-  pub from : (job_of w.jobs j).release ≤ t
 
 pub hit_job : (charges : Charges) (w : Trace) (bound : ℕ → ℕ) (n j t : ℕ) (f : ColumnDef → ℕ) → Window charges w bound n j
     → t < window_end w bound n j → (h : Hit charges w f j t)
@@ -96,8 +129,7 @@ hit_job charges w bound n j t f window l h =
     let e : Executes w t h.charge = window.executes t h.charge (omega arith) h.is_it in
     let at : (k : ℕ) × _ = runs_where (w.row t) h.charge.job e.runs in
     let active : is_active w t h.charge.job ≡ true = window.active t at.0 h.charge.job (omega arith) at.1 in
-    let own : Active w t j = active_is w t j (window.own t h.charge (omega arith) h.is_it) in
-    record { runs = e.runs; active = active; listed = active_listed w t h.charge.job active; from = own.released }
+    record { runs = e.runs; active = active; listed = active_listed w t h.charge.job active }
 
 -- Where all that counts is of x's jobs, and each of them brings at most c, all bring at most c for each job in the window.
 pub by_job : (charges : Charges) (w : Trace) (bound : ℕ → ℕ) (n j x c : ℕ) (f : ColumnDef → ℕ) → Window charges w bound n j
@@ -107,17 +139,13 @@ pub by_job : (charges : Charges) (w : Trace) (bound : ℕ → ℕ) (n j x c : �
     → sum_below (window_end w bound n j) (λ t. only_if (blocker charges w j t == y) (brings charges w f j t)) ≤ c)
     → sum_below (window_end w bound n j) (λ t. brings charges w f j t) ≤ jobs_in w.set bound (task_of w j) x * c
 by_job charges w bound n j x c f window l of most =
-    let all : sum_below (window_end w bound n j) (λ t. brings charges w f j t) ≤ count_below (length w.jobs) (is_near w bound j x) * c =
-    sum_below-passing (window_end w bound n j) (length w.jobs) c (blocker charges w j) (λ t. brings charges w f j t) (is_near w bound j x)
-    (λ t b some. place t b (hit charges w f j t some))
-    (λ y b near. let a : Near w bound j x y = near_is w bound j x y near in most y b a.task) in
-    omega (arith, all, mul-le-mul_right c (near_jobs charges w bound n j x window l)) where
-      place : (t : ℕ) → t < window_end w bound n j → Hit charges w f j t
-          → (blocker charges w j t < length w.jobs) × (is_near w bound j x (blocker charges w j t) ≡ true)
-      place t b h =
+    paid_in_window charges w bound n j x c (blocker charges w j) (λ t. brings charges w f j t) window l
+    (λ t b some. active t b (hit charges w f j t some)) most where
+      active : (t : ℕ) → t < window_end w bound n j → Hit charges w f j t
+          → (is_active w t j ≡ true) × (is_active w t (blocker charges w j t) ≡ true) × (task_of w (blocker charges w j t) ≡ x)
+      active t b h =
           let a : HitJob charges w bound j t h.charge.job = hit_job charges w bound n j t f window b h in
-          rw (blocker_is charges w f j t h)
-          (a.listed, active_near charges w bound n j x h.charge.job t window a.active (of t b h) a.from b)
+          rw (blocker_is charges w f j t h) (window.own t h.charge (omega arith) h.is_it, a.active, of t b h)
 
 -- The ticks of a slot are those of one job that runs in requests of q, each bringing at most c.
 pub asking_term : (charges : Charges) (w : Trace) (bound : ℕ → ℕ) (n j q y c t : ℕ) (f : ColumnDef → ℕ) → Window charges w bound n j

@@ -3,6 +3,7 @@ pub mod JobRows
 pub mod SlotRow
 pub mod Requests
 pub mod Intervals
+pub mod OwnWeights
 pub mod Numbers
 pub mod Fifo
 pub mod LowerHolders

@@ -49,21 +49,33 @@ asks_between w u v k q r j order active early late =
       there : (t : ℕ) → phase_of w t j ≡ Asking k q → u ≤ t → is_requester w t q j ≡ true
       there t e a = requester_from w t q j k (active_stays w u t j active a (rw e refl)) e
 
--- A lower holder at v held the resource since u, where j was in its request since then.
-pub held_since : (w : Trace) (n u v q y j : ℕ) → KeepsBefore (shared_rule mpcp) w n → v < n → Asks w u v q j → task_of w j < task_of w y
-    → holder_in (w.row v) q ≡ Some y
-    → (t : ℕ) → u ≤ t → t ≤ v → holder_in (w.row t) q ≡ Some y
-held_since w n u zero q y j keeps l asks lower holds t a b = let e : t ≡ 0 = omega arith in rw e holds
-held_since w n u (suc v) q y j keeps l asks lower holds t a b = elim (cases_lt v t) [
+-- A holder at v held the resource since u, where it became the holder in no row after u.
+pub held_back : (w : Trace) (u v q y : ℕ)
+    → ((t : ℕ) → u ≤ t → suc t ≤ v → holder_in (w.row (suc t)) q ≡ Some y → is_job y (holder_in (w.row t) q) ≡ false → ⊥)
+    → holder_in (w.row v) q ≡ Some y → (t : ℕ) → u ≤ t → t ≤ v → holder_in (w.row t) q ≡ Some y
+held_back w u zero q y none holds t a b = let e : t ≡ 0 = omega arith in rw e holds
+held_back w u (suc v) q y none holds t a b = elim (cases_lt v t) [
   | inl last ↦ let e : t ≡ suc v = omega arith in rw e holds
   | inr early ↦ elim (cases_Bool (is_job y (holder_in (w.row v) q))) [
-    | inr new ↦ absurd (omega
-        (arith, lower, mpcp_new w (suc v) q y j (keeps (suc v) l rule.Grant) holds new (asks.asks (suc v) asks.order (omega arith))))
+    | inr new ↦ absurd (none v (omega arith) (omega arith) holds new)
     | inl old ↦
-        held_since w n u v q y j keeps (omega arith) (record { order = omega arith; asks = λ s c d. asks.asks s c (omega arith) }) lower
+        held_back w u v q y (λ s from before held new. none s from (omega arith) held new)
         (job_named y (holder_in (w.row v) q) old) t a early
   ]
 ]
+
+-- So did a lower holder, where j was in its request since then.
+pub held_since : (w : Trace) (n u v q y j : ℕ) → KeepsBefore (shared_rule mpcp) w n → v < n → Asks w u v q j → task_of w j < task_of w y
+    → holder_in (w.row v) q ≡ Some y
+    → (t : ℕ) → u ≤ t → t ≤ v → holder_in (w.row t) q ≡ Some y
+held_since w n u v q y j keeps l asks lower holds =
+    held_back w u v q y
+    (λ s from before held new. omega (
+      arith,
+      lower,
+      mpcp_new w (suc s) q y j (keeps (suc s) (omega arith) rule.Grant) held new (asks.asks (suc s) (omega arith) before),
+    ))
+    holds
 
 -- A holder of a resource is in a request of it.
 pub holder_asks : (o : Ranks) (w : Trace) (n t q y : ℕ) → KeepsBefore (shared_rule o) w n → t < n → holder_in (w.row t) q ≡ Some y

@@ -22,6 +22,7 @@ use Rattle.schedule_model.specs.SharedRules.{KeepsKeep}
 use Rattle.schedule_model.specs.DpcpRules.{home_of, ceiling_rank, has_request_at, has_requests, holds_at, is_kept}
 use Rattle.schedule_model.specs.DpcpRules.{waits_at, is_first_waiting, is_barred, is_granted, KeepsGrant}
 use Rattle.schedule_model.specs.DpcpRules.{RunsFirstHolder, KeepsPriority}
+use Rattle.schedule_model.specs.Ranks.{by_task}
 use Rattle.schedule_model.specs.Protocols.{dpcp_rule}
 use Rattle.schedule_model.specs.Keeping.{KeepsBefore}
 use Rattle.schedule_laws.proofs.ActiveJobs.{active_listed, one_active, Requester, requester_is, requester_from, requester_listed}
@@ -222,12 +223,12 @@ first_waiting w t k (suc x) j l waits most = elim (first_or_before w t k j waits
       record { job = back.job; listed = back.listed; first = back.first; higher = omega (arith, back.higher, before.higher) }
 ]
 
--- A holder whose request is at processor k holds there.
-holds_at_from : (w : Trace) (t k q y : ℕ) → HoldsAt w t q y → home_of w q ≡ k → holder_in (w.row t) q ≡ Some y → holds_at w t k y ≡ true
+-- The holder of what it requests holds at the resource's home.
+pub holds_at_home : (w : Trace) (t q y m : ℕ) → is_active w t y ≡ true → phase_of w t y ≡ Asking m q → holder_in (w.row t) q ≡ Some y
+    → holds_at w t (home_of w q) y ≡ true
 unfolding holds_at
-holds_at_from w t k q y a home holds =
-    and_from _ _ (rw (← home) (request_at_from w t y a.number q a.active a.request))
-    (holds_from (holder_in (w.row t)) y (phase_of w t y) a.number q a.request holds)
+holds_at_home w t q y m active request holds =
+    and_from _ _ (request_at_from w t y m q active request) (holds_from (holder_in (w.row t)) y (phase_of w t y) m q request holds)
 
 -- Job r runs at processor k in a request, and job j, of a higher task, is in a request there.
 pub record LowRunner (w : Trace) (t k j r : ℕ) : Type 0 where
@@ -243,16 +244,16 @@ pub record LowRunner (w : Trace) (t k j r : ℕ) : Type 0 where
 pub runs_first : (w : Trace) (n t k j r q y : ℕ) → AreLawfulJobs (jobs_of w) → KeepsBefore dpcp_rule w n → t < n → LowRunner w t k j r
     → holder_in (w.row t) q ≡ Some y → home_of w q ≡ k → task_of w r ≤ task_of w y
 runs_first w n t k j r q y lawful keeps l low holds home =
-    let priority : KeepsPriority w t = keeps t l rule.Priority in
+    let priority : KeepsPriority by_task w t = keeps t l rule.Priority in
     let requests : has_requests w t k ≡ true =
     request_among w t k j (active_listed w t j low.active)
     (rw (← low.home) (request_at_from w t j low.number low.resource low.active low.request)) in
-    let first : RunsFirstHolder w t k = priority.requests k requests in
+    let first : RunsFirstHolder by_task w t k = priority.requests k requests in
     let x : Some first.runner ≡ Some r = sym first.runs ∙ low.runner.runs in
     let same : first.runner ≡ r = cc in
     let a : HoldsAt w t q y = holder_facts w n t q y lawful keeps l holds in
     let order : task_of w first.runner ≤ task_of w y =
-    first.first y (active_listed w t y a.active) (holds_at_from w t k q y a home holds) in
+    first.first y (active_listed w t y a.active) (rw (← home) (holds_at_home w t q y a.number a.active a.request holds)) in
     rw (← same) order
 
 -- Job j waits there: it doesn't hold what it requests.

@@ -1,9 +1,10 @@
-use crate::tests::{Given, SET_A, SET_A_CERTIFICATE, answer};
+use crate::tests::{Given, PAIR_CERTIFICATE, answer};
 use block_top::{Status, run};
 use outside_ports::{MemShelf, MemSink};
 use std::alloc::{AllocError, Global};
 use std::test::Fail;
 use std::thread::Threads;
+use worked_files::PAIR;
 
 /// A shelf with a set and a certificate.
 fn shelf_of(alloc: Global, set: &str, cert: &str) -> Result<MemShelf, AllocError> {
@@ -34,7 +35,7 @@ fn judged<R: Threads + Sync>(
     cert: &str,
 ) -> Result<Given, AllocError> {
     let words = words_of(alloc, &[command, protocol, "set", "cert"])?;
-    let mut shelf = shelf_of(alloc, SET_A, cert)?;
+    let mut shelf = shelf_of(alloc, PAIR, cert)?;
     let mut sink = MemSink::new(alloc, 1_000_000, 4096, Vec::new(alloc))?;
     let status = run(rt, alloc, &words, &mut shelf, &mut sink).number();
     Ok(Given {
@@ -53,9 +54,9 @@ t2                                2         10         10          4          4 
 load 1 300000
 load 2 400000
 ";
-    let given = judged(&rt, alloc, "report", "fmlp+", SET_A_CERTIFICATE)?;
+    let given = judged(&rt, alloc, "report", "fmlp+", PAIR_CERTIFICATE)?;
     assert_eq!(rt; given, answer(alloc, 0, table)?);
-    let small = SET_A_CERTIFICATE.replacen(alloc, "[5,5]", "[4,5]", 1)?;
+    let small = PAIR_CERTIFICATE.replacen(alloc, "[5,5]", "[4,5]", 1)?;
     let given = judged(&rt, alloc, "report", "fmlp+", small.as_str())?;
     assert_eq!(rt; given, answer(alloc, 1, "invalid small t1\n")?);
     Ok(())
@@ -64,7 +65,7 @@ load 2 400000
 #[test]
 fn a_certificate_of_another_set_is_told_apart(rt: HostRuntime) -> Result<(), Fail> {
     let alloc = rt.alloc();
-    let other = SET_A_CERTIFICATE.replacen(alloc, "5fb1", "5fb2", 1)?;
+    let other = PAIR_CERTIFICATE.replacen(alloc, "5fb1", "5fb2", 1)?;
     for command in ["check", "report"] {
         let given = judged(&rt, alloc, command, "fmlp+", other.as_str())?;
         assert_eq!(rt; given, answer(alloc, 1, "invalid otherset\n")?);
@@ -78,9 +79,9 @@ fn a_certificate_of_the_version_before_gets_its_digest(rt: HostRuntime) -> Resul
     let old =
         "{\"bounds\":[5,5],\"duals\":[{\"den\":1,\"num\":[2,0,0,0]},{\"den\":1,\"num\":[1,0,0,0]}],\"protocol\":\"fmlp+\",\"verdict\":\"schedulable\",\"version\":1}\n";
     for (command, cert, status, text) in [
-        ("upgrade", old, 0, SET_A_CERTIFICATE),
+        ("upgrade", old, 0, PAIR_CERTIFICATE),
         ("check", old, 3, "refused cert version\n"),
-        ("upgrade", SET_A_CERTIFICATE, 3, "refused cert version\n"),
+        ("upgrade", PAIR_CERTIFICATE, 3, "refused cert version\n"),
     ] {
         let given = judged(&rt, alloc, command, "fmlp+", cert)?;
         assert_eq!(rt; given, answer(alloc, status, text)?);
@@ -93,14 +94,14 @@ fn what_is_analysed_is_checked(rt: HostRuntime) -> Result<(), Fail> {
     let alloc = rt.alloc();
     let first = words_of(alloc, &["analyse", "fmlp+", "set"])?;
     let second = words_of(alloc, &["check", "fmlp+", "set", "cert"])?;
-    let mut shelf = shelf_of(alloc, SET_A, "")?;
-    let mut other = shelf_of(alloc, SET_A, SET_A_CERTIFICATE)?;
+    let mut shelf = shelf_of(alloc, PAIR, "")?;
+    let mut other = shelf_of(alloc, PAIR, PAIR_CERTIFICATE)?;
     let mut sink = MemSink::new(alloc, 1000, 4096, Vec::new(alloc))?;
     let mut out = MemSink::new(alloc, 1000, 4096, Vec::new(alloc))?;
     let wrote = run(&rt, alloc, &first, &mut shelf, &mut sink);
     let checked = run(&rt, alloc, &second, &mut other, &mut out);
     assert_eq!(rt; (wrote, checked), (Status::Done, Status::Done));
-    assert_eq!(rt; sink.written(), SET_A_CERTIFICATE.as_bytes());
+    assert_eq!(rt; sink.written(), PAIR_CERTIFICATE.as_bytes());
     assert_eq!(rt; out.written(), b"valid\n".as_slice());
     Ok(())
 }

@@ -1,15 +1,10 @@
+use crate::tests::PAIR_CERTIFICATE;
 use block_top::run;
 use outside_ports::{MemShelf, MemSink};
 use std::alloc::{AllocError, Global};
 use std::test::Fail;
 use std::thread::Threads;
 use worked_files::{PAIR, PAIR_JOBS, PAIR_LOWER_FIRST};
-
-/// The least bounds of `PAIR` under FMLP+: 207 bytes.
-const CERTIFICATE: &str =
-    "{\"bounds\":[5,5],\"duals\":[{\"den\":1,\"num\":[2,0,0,0]},{\"den\":1,\"num\":[1,0,0,0]}],\
-    \"protocol\":\"fmlp+\",\"set\":\"86f607cdcb5efbf7a110a96e53138e025ae2aa95ca2a8f33559917b61bca2eda\",\
-    \"verdict\":\"schedulable\",\"version\":2}\n";
 
 const AUDITED: &str = "kept 5\nt1 5 5 2 2 2 0 0\nt2 4 5 0 1 0 0 0\n";
 
@@ -109,7 +104,7 @@ fn a_failing_read_is_a_fault_of_its_input(rt: HostRuntime) -> Result<(), Fail> {
     let words = ["audit", "fmlp+", "set", "cert", "jobs", "rows"];
     let files = [
         ("set", PAIR.as_bytes()),
-        ("cert", CERTIFICATE.as_bytes()),
+        ("cert", PAIR_CERTIFICATE.as_bytes()),
         ("jobs", PAIR_JOBS.as_bytes()),
         ("rows", PAIR_LOWER_FIRST.as_bytes()),
     ];
@@ -131,9 +126,9 @@ fn analysed<R: Threads + Sync>(rt: &R, alloc: Global, out: Out) -> Result<Given,
     ran_into(rt, alloc, &["analyse", "fmlp+", "set"], &mut shelf, out)
 }
 
-/// The first bytes of the certificate.
+/// The first bytes of the certificate, which has 207.
 fn first(count: usize) -> &'static [u8] {
-    let text = CERTIFICATE.as_bytes();
+    let text = PAIR_CERTIFICATE.as_bytes();
     &text[..count.min(text.len())]
 }
 
@@ -189,7 +184,7 @@ fn no_beginning_of_a_set_is_json(rt: HostRuntime) -> Result<(), Fail> {
 fn no_beginning_of_a_certificate_is_json(rt: HostRuntime) -> Result<(), Fail> {
     let alloc = rt.alloc();
     let words = ["check", "fmlp+", "set", "cert"];
-    let certificate = CERTIFICATE.as_bytes();
+    let certificate = PAIR_CERTIFICATE.as_bytes();
     let want = answer(alloc, 3, b"refused cert notjson\n")?;
     for end in 0..certificate.len().saturating_sub(1) {
         let files = [("set", PAIR.as_bytes()), ("cert", &certificate[..end])];

@@ -15,6 +15,8 @@ mod hostile_tests;
 #[cfg(test)]
 mod port_tests;
 #[cfg(test)]
+mod protocol_tests;
+#[cfg(test)]
 mod size_tests;
 #[cfg(test)]
 mod study_tests;

@@ -3,6 +3,7 @@ use outside_ports::{MemShelf, MemSink};
 use std::alloc::{AllocError, Global};
 use std::test::Fail;
 use std::thread::Threads;
+use worked_files::PAIR;
 
 const ONE_TASK: &str =
     r#"{"processors":1,"tasks":[{"name":"t1","processor":1,"period":1,"cost":1}]}"#;
@@ -10,11 +11,8 @@ const ONE_TASK: &str =
 const ONE_TASK_CERTIFICATE: &str =
     "{\"bounds\":[1],\"duals\":[{\"den\":1,\"num\":[]}],\"protocol\":\"fmlp+\",\"set\":\"23a88084f5b8cbda537adeb819df09340406d7688416261d7dac9d4c05a09118\",\"verdict\":\"schedulable\",\"version\":2}\n";
 
-pub(crate) const SET_A: &str =
-    r#"{"processors":2,"resources":[{"name":"q","home":2}],"tasks":[{"name":"t1","processor":1,"period":10,"cost":3,"requests":[{"resource":"q","count":1,"length":1}]},{"name":"t2","processor":2,"period":10,"cost":4,"requests":[{"resource":"q","count":1,"length":2}]}]}
-"#;
-
-pub(crate) const SET_A_CERTIFICATE: &str =
+/// The least bounds of `PAIR` under FMLP+.
+pub(crate) const PAIR_CERTIFICATE: &str =
     "{\"bounds\":[5,5],\"duals\":[{\"den\":1,\"num\":[2,0,0,0]},{\"den\":1,\"num\":[1,0,0,0]}],\"protocol\":\"fmlp+\",\"set\":\"5fb1c51fbdd430c6971fec1191669488e3ef2ae73b0ba959313a10ecc2bab6dc\",\"verdict\":\"schedulable\",\"version\":2}\n";
 
 /// What a run gave: its status, and the bytes that the sink took.
@@ -97,7 +95,7 @@ fn analyses_sets(rt: HostRuntime) -> Result<(), Fail> {
         (ONE_TASK, 0, ONE_TASK_CERTIFICATE),
         (three, 0, three_certificate),
         (full, 1, "not shown t2 3 2\n"),
-        (SET_A, 0, SET_A_CERTIFICATE),
+        (PAIR, 0, PAIR_CERTIFICATE),
     ] {
         let given = ran(&rt, alloc, &["analyse", "fmlp+", "set"], set.as_bytes())?;
         assert_eq!(rt; given, answer(alloc, status, text)?);
@@ -216,17 +214,17 @@ fn ran_with<R: Threads + Sync>(
 fn each_input_is_read_after_the_one_before_it(rt: HostRuntime) -> Result<(), Fail> {
     let alloc = rt.alloc();
     for (set, jobs, failing, status, text) in [
-        (SET_A, JOBS_A, [3], 4, "fault read set\n"),
-        (SET_A, JOBS_A, [4], 4, "fault read jobs\n"),
-        (SET_A, JOBS_A, [9], 4, "fault read rows\n"),
-        (SET_A, "task,release\n", [7], 3, "refused jobs fields 0\n"),
+        (PAIR, JOBS_A, [3], 4, "fault read set\n"),
+        (PAIR, JOBS_A, [4], 4, "fault read jobs\n"),
+        (PAIR, JOBS_A, [9], 4, "fault read rows\n"),
+        (PAIR, "task,release\n", [7], 3, "refused jobs fields 0\n"),
         ("", JOBS_A, [3], 3, "refused set notjson\n"),
     ] {
         let given = conformed(&rt, alloc, set, jobs, ROWS_A, &failing)?;
         assert_eq!(rt; given, answer(alloc, status, text)?);
     }
     let absent = ["conform", "fmlp+", "set", "jobs", "rows"];
-    let given = ran(&rt, alloc, &absent, SET_A.as_bytes())?;
+    let given = ran(&rt, alloc, &absent, PAIR.as_bytes())?;
     assert_eq!(rt; given, answer(alloc, 3, "refused jobs absent\n")?);
     Ok(())
 }
@@ -248,11 +246,11 @@ fn simulates_and_judges_under_each_protocol(rt: HostRuntime) -> Result<(), Fail>
     ] {
         let simulate = ["simulate", protocol, "set", "jobs", "5"];
         let conform = ["conform", protocol, "set", "jobs", "rows"];
-        let made = ran_with(&rt, alloc, &simulate, [SET_A, JOBS_A, ""], &[])?;
+        let made = ran_with(&rt, alloc, &simulate, [PAIR, JOBS_A, ""], &[])?;
         assert_eq!(rt; made, answer(alloc, 0, rows)?);
-        let judged = ran_with(&rt, alloc, &conform, [SET_A, JOBS_A, rows], &[])?;
+        let judged = ran_with(&rt, alloc, &conform, [PAIR, JOBS_A, rows], &[])?;
         assert_eq!(rt; judged, lawful);
-        let other = ran_with(&rt, alloc, &conform, [SET_A, JOBS_A, ROWS_A], &[])?;
+        let other = ran_with(&rt, alloc, &conform, [PAIR, JOBS_A, ROWS_A], &[])?;
         assert_eq!(rt; other, answer(alloc, status, text)?);
     }
     Ok(())

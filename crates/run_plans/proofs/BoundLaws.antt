@@ -1,5 +1,5 @@
 -- What is written and what is checked lists bounds that every lawful schedule keeps.
-use Rattle.std.proofs.Common.{◌≡◌, ℕ, ◌<◌, ◌≤◌, List, length, map, refl, sym, ap, subst, arith, IsUtf8}
+use Rattle.std.proofs.Common.{◌≡◌, ℕ, ◌<◌, ◌≤◌, List, length, map, sym, ap, subst, arith}
 use Rattle.std.specs.Prelude.{codes, slice_index, slice_index_or}
 use Rattle.std.specs.List.{range_with_len}
 use Rattle.std.proofs.lemmas.List.{get_or_default}
@@ -26,10 +26,9 @@ use Rattle.cert_json.proofs.ReadBack.{is_value, formed, file-written}
 use Rattle.cert_json.specs.FileDef.{FileDef}
 use Rattle.set_digests.proofs.Bytes.{is_digest}
 use Rattle.sha2.specs.Sha256.{sha256}
-use Rattle.json.proofs.Printed.Utf8.{IsUtf8-are_ascii}
 use Rattle.protocol_names.specs.Names.{word_of}
 use Rattle.run_plans.specs.Inputs.{IsFileText}
-use Rattle.run_plans.specs.Headline.{Call, ReadsSome, IsProvedCheck}
+use Rattle.run_plans.specs.Headline.{Call, ReadsSome, ReadsValid}
 use Rattle.run_plans.specs.Bounding.{AreKept, ListsBounds}
 use Rattle.named_protocols.proofs.EachName.{named_sound, named_word_is_text}
 
@@ -115,7 +114,7 @@ analysis_bounds call protocol name bytes set c read best =
     lists_bounds call protocol name (certificate_text (word_of protocol) (sha256 bytes) c) set c text.0 read best.valid text.1
     (ap (λ (f : FileDef). f.certificate) text.3)
 
-pub check_bounds : (call : Call) (protocol : ProtocolName) (name cert : List ℕ) (p : IsProvedCheck call protocol name cert)
+pub check_bounds : (call : Call) (protocol : ProtocolName) (name cert : List ℕ) (p : ReadsValid call protocol name cert)
     → ListsBounds call protocol name p.bytes
 check_bounds call protocol name cert p = lists_bounds call protocol name p.bytes p.set p.certificate p.reads.0 p.read p.valid p.reads.1
     (ap (λ (f : FileDef). f.certificate) p.reads.3)

@@ -8,12 +8,14 @@ use Rattle.named_protocols.specs.Named.{source_of}
 use Rattle.response_fixpoint.proofs.RunLaws.{one_ending}
 use Rattle.report.specs.Table.{table_text}
 use Rattle.run_plans.specs.Plans.{Answer, Plan, Working, Reading, Known, IsOutcomeOf}
-use Rattle.command_words.specs.Words.{Form, Analyse, Check, Upgrade, Report, FullReport, Conform, Simulate, Study, Audit}
+use Rattle.command_words.specs.Words.{Form, Analyse, Refute, Check, Confirm, Upgrade, Report, FullReport, Conform, Simulate, Study, Audit}
 use Rattle.run_plans.specs.Commands.{ending_answer, IsAnalysis, analysis_of, IsTable, table_of}
 use Rattle.run_plans.specs.Commands.{upgraded_answer, conformance_of, plan_of}
 use Rattle.sha2.specs.Sha256.{sha256}
 use Rattle.run_plans.specs.Inputs.{set_input}
-use Rattle.run_plans.specs.Run.{AnalysisEnds, IsWideEnding, IsAllowanceEnding}
+use Rattle.refusal_cert.specs.Refuting.{refuting}
+use Rattle.refusal_cert.specs.Steps.{refusal_of}
+use Rattle.run_plans.specs.Run.{RoundsEnd, IsWideEnding, IsAllowanceEnding}
 use Rattle.run_plans.proofs.PlanLaws.{IsPlain, IsLawfulWork, IsLawful, plain_at, plain_same, stopped_status}
 use Rattle.schedule_model.specs.JobDef.{JobsDef}
 use Rattle.schedule_model.specs.Fitting.{RowsDef}
@@ -26,6 +28,8 @@ use Rattle.run_plans.proofs.CertInputLaws.{cert_reads_once, old_cert_reads_once}
 use Rattle.run_plans.proofs.SimulationLaws.{simulation_lawful, simulation_quiet}
 use Rattle.run_plans.proofs.StudyLaws.{study_lawful, study_quiet}
 use Rattle.run_plans.proofs.AuditLaws.{audit_lawful, audit_quiet}
+use Rattle.run_plans.proofs.RefusalInputLaws.{refusal_reads_once}
+use Rattle.run_plans.proofs.RefusalLaws.{refutation_lawful, confirmation_lawful, confirmation_quiet, wide_refutation, short_refutation}
 
 one_analysis : (protocol : ProtocolName) (digest : List ℕ) (set : SetDef) (allowance : ℕ) (a b : Answer) → IsAnalysis protocol digest set allowance a
     → IsAnalysis protocol digest set allowance b → a ≡ b
@@ -69,8 +73,13 @@ table_lawful set = record {
 -- Every command is lawful.
 pub lawful : (form : Form) → IsLawful (plan_of form)
 lawful (Analyse protocol name allowance) = (set_reads_once protocol, λ bytes set. analysis_lawful protocol (sha256 bytes) set allowance)
+lawful (Refute protocol name allowance) = (set_reads_once protocol, λ bytes set. refutation_lawful protocol (sha256 bytes) set allowance)
 lawful (Check protocol set cert) =
     (set_reads_once protocol, λ bytes tasks. (cert_reads_once protocol, λ text file. check_lawful protocol (sha256 bytes) tasks file))
+lawful (Confirm protocol set cert) = (
+  set_reads_once protocol,
+  λ bytes tasks. (refusal_reads_once protocol, λ text file. confirmation_lawful protocol (sha256 bytes) tasks file),
+)
 lawful (Upgrade protocol set cert) = (
   set_reads_once protocol,
   λ bytes tasks. (
@@ -149,6 +158,9 @@ report_quiet p name = λ bytes set. table_quiet set
 check_quiet : (p : ProtocolName) (set cert : List ℕ) → IsQuiet (plan_of (Check p set cert))
 check_quiet p set cert = λ bytes tasks text file a is. check_at_most_one p (sha256 bytes) tasks file a is
 
+confirm_quiet : (p : ProtocolName) (set cert : List ℕ) → IsQuiet (plan_of (Confirm p set cert))
+confirm_quiet p set cert = λ bytes tasks text file a is. confirmation_quiet p (sha256 bytes) tasks file a is
+
 upgrade_quiet : (p : ProtocolName) (set cert : List ℕ) → IsQuiet (plan_of (Upgrade p set cert))
 upgrade_quiet p set cert = λ bytes tasks text c a is. judgement_quiet p tasks c (upgraded_answer p (sha256 bytes) c) a refl is
 
@@ -167,23 +179,37 @@ study_form_quiet seed sets = study_quiet seed sets
 audits_quiet : (p : ProtocolName) (set cert jobs rows : List ℕ) → IsQuiet (plan_of (Audit p set cert jobs rows))
 audits_quiet p set cert jobs rows = λ bytes tasks text file d list e schedule. audit_quiet p (sha256 bytes) file list schedule
 
-pub only_wide : (k : Known) (form : Form) (a : Answer) → IsOutcomeOf k (plan_of form) a → a.status ≡ 5 → AnalysisEnds k form IsWideEnding
+pub only_wide : (k : Known) (form : Form) (a : Answer) → IsOutcomeOf k (plan_of form) a → a.status ≡ 5 → RoundsEnd k form IsWideEnding
 only_wide k (Analyse protocol name allowance) a (inl stopped) five =
     absurd (omega (arith, stopped_status k (set_input protocol) name a stopped, five))
 only_wide k (Analyse protocol name allowance) a (inr (bytes, set, read, last, (e, ends, is))) five = record {
   protocol = protocol;
   name = name;
   allowance = allowance;
-  form_is = refl;
   bytes = bytes;
   set = set;
   read = read;
   ending = e;
-  ends = ends;
+  ends = inl (refl, ends);
   is = wide_ending protocol (sha256 bytes) set e a is five;
+}
+only_wide k (Refute protocol name allowance) a (inl stopped) five =
+    absurd (omega (arith, stopped_status k (set_input protocol) name a stopped, five))
+only_wide k (Refute protocol name allowance) a (inr (bytes, set, read, last, (e, ends, is))) five = record {
+  protocol = protocol;
+  name = name;
+  allowance = allowance;
+  bytes = bytes;
+  set = set;
+  read = read;
+  ending = e;
+  ends = inr (refl, ends);
+  is = wide_refutation protocol (sha256 bytes) set e (refusal_of (refuting (source_of protocol set)) allowance e ends) a is five;
 }
 only_wide k (Check protocol set cert) a out five =
     absurd (not_quiet k (plan_of (Check protocol set cert)) a 5 (check_quiet protocol set cert) out five (omega arith))
+only_wide k (Confirm protocol set cert) a out five =
+    absurd (not_quiet k (plan_of (Confirm protocol set cert)) a 5 (confirm_quiet protocol set cert) out five (omega arith))
 only_wide k (Upgrade protocol set cert) a out five =
     absurd (not_quiet k (plan_of (Upgrade protocol set cert)) a 5 (upgrade_quiet protocol set cert) out five (omega arith))
 only_wide k (FullReport protocol set cert) a out five =
@@ -200,23 +226,37 @@ only_wide k (Audit protocol set cert jobs rows) a out five =
     absurd (not_quiet k (plan_of (Audit protocol set cert jobs rows)) a 5 (audits_quiet protocol set cert jobs rows) out five (omega arith))
 
 pub only_short : (k : Known) (form : Form) (a : Answer) → IsOutcomeOf k (plan_of form) a → a.status ≡ 6
-    → AnalysisEnds k form IsAllowanceEnding
+    → RoundsEnd k form IsAllowanceEnding
 only_short k (Analyse protocol name allowance) a (inl stopped) six =
     absurd (omega (arith, stopped_status k (set_input protocol) name a stopped, six))
 only_short k (Analyse protocol name allowance) a (inr (bytes, set, read, last, (e, ends, is))) six = record {
   protocol = protocol;
   name = name;
   allowance = allowance;
-  form_is = refl;
   bytes = bytes;
   set = set;
   read = read;
   ending = e;
-  ends = ends;
+  ends = inl (refl, ends);
   is = short_ending protocol (sha256 bytes) set e a is six;
+}
+only_short k (Refute protocol name allowance) a (inl stopped) six =
+    absurd (omega (arith, stopped_status k (set_input protocol) name a stopped, six))
+only_short k (Refute protocol name allowance) a (inr (bytes, set, read, last, (e, ends, is))) six = record {
+  protocol = protocol;
+  name = name;
+  allowance = allowance;
+  bytes = bytes;
+  set = set;
+  read = read;
+  ending = e;
+  ends = inr (refl, ends);
+  is = short_refutation protocol (sha256 bytes) set e (refusal_of (refuting (source_of protocol set)) allowance e ends) a is six;
 }
 only_short k (Check protocol set cert) a out six =
     absurd (not_quiet k (plan_of (Check protocol set cert)) a 6 (check_quiet protocol set cert) out six (omega arith))
+only_short k (Confirm protocol set cert) a out six =
+    absurd (not_quiet k (plan_of (Confirm protocol set cert)) a 6 (confirm_quiet protocol set cert) out six (omega arith))
 only_short k (Upgrade protocol set cert) a out six =
     absurd (not_quiet k (plan_of (Upgrade protocol set cert)) a 6 (upgrade_quiet protocol set cert) out six (omega arith))
 only_short k (FullReport protocol set cert) a out six =

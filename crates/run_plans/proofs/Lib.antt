@@ -4,8 +4,11 @@ pub mod TraceLaws
 pub mod ConformLaws
 pub mod SimulationLaws
 pub mod StudyLaws
+pub mod RefusalInputLaws
+pub mod RefusalLaws
 pub mod CommandLaws
 pub mod ReplyLaws
+pub mod RefusalReplyLaws
 pub mod RunLaws
 pub mod TwiceLaws
 pub mod JudgementLaws
@@ -13,8 +16,13 @@ pub mod TiedLaws
 pub mod CertInputLaws
 pub mod SoundLaws
 pub mod ShownLaws
+pub mod RefusedLaws
 pub mod BoundLaws
 pub mod CheckedLaws
+pub mod WritableRefusal
+pub mod ConfirmedLaws
 pub mod SetTextLaws
 pub mod AuditLaws
+pub mod JobsLaws
+pub mod KeptLaws
 pub mod Examples

@@ -17,27 +17,33 @@ use Rattle.named_protocols.proofs.EachName.{named_above, named_no_columns}
 use Rattle.response_fixpoint.proofs.RunLaws.{rounds_never_wide}
 use Rattle.program_sources.specs.Fitting.{AreFitting}
 use Rattle.run_plans.specs.Plans.{Answer, Working, refused, IsWorking, IsOutcomeOf}
-use Rattle.command_words.specs.Words.{Form, Analyse, Check, form_of}
+use Rattle.command_words.specs.Words.{Form, Analyse, Refute, Check, Confirm, Audit, form_of}
+use Rattle.command_words.specs.Spelled.{analyse_words, refute_words, check_words, confirm_words}
+use Rattle.command_words.proofs.SpelledLaws.{analyse_has_form, analyse_is_form, refute_has_form, check_is_form, confirm_is_form}
+use Rattle.command_words.proofs.SpelledLaws.{audit_is_form}
 use Rattle.run_plans.specs.Inputs.{set_input}
 use Rattle.run_plans.specs.Commands.{ending_answer, IsAnalysis, analysis_of, plan_of}
 use Rattle.run_plans.specs.Outcome.{Shown, shown_by, told, refused_words, IsOutcome, IsReplyOf, IsReply}
 use Rattle.run_plans.specs.Headline.{Call, RanOut, WritesSchedulable, Analyses, IsHeadline, IsProvedAnalysis, IsProvedCheck}
-use Rattle.run_plans.specs.Run.{shelf_of, Gives, FailsToWrite, Replies, GivesOutcome, IsRun, AnalysisEnds, IsWideEnding, IsAllowanceEnding}
+use Rattle.run_plans.specs.Run.{shelf_of, Gives, FailsToWrite, Replies, GivesOutcome, IsRun, RoundsEnd, IsWideEnding, IsAllowanceEnding}
 use Rattle.run_plans.proofs.PlanLaws.{told_implied, outcome_implied, rest_of, one_of_plan, plan_plain, plan_well, plan_longer, fault_status}
 use Rattle.run_plans.proofs.InputLaws.{set_reads_once}
 use Rattle.run_plans.proofs.CommandLaws.{lawful, wide_ending, only_wide, only_short}
 use Rattle.run_plans.proofs.SoundLaws.{sound_outcome}
 use Rattle.run_plans.proofs.ShownLaws.{best_writes, proved_analysis, bounded_analysis, proved_check}
 use Rattle.run_plans.proofs.BoundLaws.{check_bounds}
-use Rattle.run_plans.proofs.SetTextLaws.{reads_text}
+use Rattle.run_plans.proofs.KeptLaws.{proved_audit}
+use Rattle.run_plans.proofs.RefusedLaws.{proved_refutation, proved_confirmation}
+use Rattle.run_plans.specs.Refused.{IsProvedRefutation, IsProvedConfirmation}
+use Rattle.run_plans.proofs.SetTextLaws.{told_reads}
 
 -- What follows from a reply to words of this form, or of none.
 pub record Replied (shelf : Shown) (o : Option Form) (a : Answer) : Type 0 where
   pub two : a.status ≡ 2 → o ≡ None
   pub none : o ≡ None → a ≡ refused_words
   pub four : a.status ≡ 4 → Rose shelf.before shelf.now
-  pub five : a.status ≡ 5 → (form : Form) × (o ≡ Some form) × AnalysisEnds (shown_by shelf) form IsWideEnding
-  pub six : a.status ≡ 6 → (form : Form) × (o ≡ Some form) × AnalysisEnds (shown_by shelf) form IsAllowanceEnding
+  pub five : a.status ≡ 5 → (form : Form) × (o ≡ Some form) × RoundsEnd (shown_by shelf) form IsWideEnding
+  pub six : a.status ≡ 6 → (form : Form) × (o ≡ Some form) × RoundsEnd (shown_by shelf) form IsAllowanceEnding
   pub most : a.status ≤ 6
   pub long : (form : Form) → o ≡ Some form → (IsWorking (plan_of form) → ⊥) → GREATEST_INPUT_BYTES < shelf.given
       → (word : List ℕ) × (a ≡ refused word (codes "toolong"))
@@ -120,12 +126,13 @@ record Ended (protocol : ProtocolName) (digest : List ℕ) (set : SetDef) (allow
 ended : (call : Call) (protocol : ProtocolName) (set : SetDef) (analyses : Analyses call protocol set) (a : Answer)
     → IsOutcome analyses.inputs call.words a → Ended protocol (sha256 analyses.read.bytes) set analyses.allowance a
 ended call protocol set analyses a out =
-    let plan = of_form analyses.inputs call.words (Analyse protocol analyses.name analyses.allowance) a analyses.form_is out in
+    let form = analyse_is_form call.words protocol analyses.name analyses.more analyses.allowance analyses.words analyses.allows in
+    let plan = of_form analyses.inputs call.words (Analyse protocol analyses.name analyses.allowance) a form out in
     let read = analyses.read in
     let analysis : IsAnalysis protocol (sha256 read.bytes) set analyses.allowance a =
     rest_of analyses.inputs (set_input protocol) analyses.name
     (λ bytes x. Working (analysis_of protocol (sha256 bytes) x analyses.allowance)) read.bytes set a (set_reads_once protocol)
-    ((read.named, read.short), reads_text protocol read.bytes set read.text) plan in
+    (told_reads call analyses.inputs protocol analyses.name set analyses.told read) plan in
     record { ending = analysis.0; ends = analysis.1; is = analysis.2 }
 
 writes : (call : Call) (protocol : ProtocolName) (digest : List ℕ) (set : SetDef) (allowance : ℕ) (bounds : List ℕ) (duals : List DualDef)
@@ -233,28 +240,52 @@ gave_run call replies r gives =
       ];
       sound = λ protocol set c checks zero. elim (r.outcome checks.inputs checks.told) [
         | inl mine ↦ sound_outcome call protocol set c checks a
-            (of_form checks.inputs call.words (Check protocol checks.name checks.cert) a checks.form_is mine)
+            (of_form checks.inputs call.words (Check protocol checks.name checks.cert) a
+            (check_is_form call.words protocol checks.name checks.cert checks.words) mine)
             (sym is ∙ zero)
         | inr fault ↦ absurd (omega (arith, is, fault.1, zero))
       ];
       analysed = analysed;
       checked = checked;
       bounding = record {
-        analysed = λ protocol name allowance form zero. bounded_analysis call protocol name allowance a
-            (r.shows (Analyse protocol name allowance) form (sym is ∙ zero)) gives zero;
-        checked = λ protocol name cert form zero. (
-            let p = checked protocol name cert form zero in (p.bytes, p.named, check_bounds call protocol name cert p));
+        analysed = λ protocol name more words zero. (
+            let form = analyse_has_form call.words protocol name more words (some_form zero) in
+            bounded_analysis call protocol name form.0 a (r.shows (Analyse protocol name form.0) form.1 (sym is ∙ zero)) gives zero);
+        checked = λ protocol name cert words zero. (
+            let p = (checked protocol name cert words zero).proved in (p.bytes, p.named, check_bounds call protocol name cert p));
       };
+      audited = λ protocol name cert jobs rows words zero. proved_audit call protocol name cert jobs rows a
+          (r.shows (Audit protocol name cert jobs rows) (audit_is_form call.words protocol name cert jobs rows words) (sym is ∙ zero))
+          gives zero;
+      refuted = refuted;
+      confirmed = confirmed;
     } where
-      analysed : (protocol : ProtocolName) (name : List ℕ) (allowance : ℕ) → form_of call.words ≡ Some (Analyse protocol name allowance)
-          → call.status ≡ 0 → IsProvedAnalysis call protocol name
-      analysed protocol name allowance form zero = proved_analysis call protocol name allowance replies.reply
-          (r.shows (Analyse protocol name allowance) form (sym gives.0 ∙ zero)) gives zero
+      some_form : call.status ≡ 0 → form_of call.words ≡ None → ⊥
+      some_form zero none = let two : call.status ≡ 2 = gives.0 ∙ ap (λ x. x.status) (r.none none) in absurd (omega (arith, two, zero))
 
-      checked : (protocol : ProtocolName) (name cert : List ℕ) → form_of call.words ≡ Some (Check protocol name cert)
+      analysed : (protocol : ProtocolName) (name : List ℕ) (more : List (List ℕ)) → call.words ≡ analyse_words protocol name more
+          → call.status ≡ 0 → IsProvedAnalysis call protocol name
+      analysed protocol name more words zero =
+          let form = analyse_has_form call.words protocol name more words (some_form zero) in
+          proved_analysis call protocol name form.0 replies.reply
+          (r.shows (Analyse protocol name form.0) form.1 (sym gives.0 ∙ zero)) gives zero
+
+      checked : (protocol : ProtocolName) (name cert : List ℕ) → call.words ≡ check_words protocol name cert
           → call.status ≡ 0 → IsProvedCheck call protocol name cert
-      checked protocol name cert form zero = proved_check call protocol name cert replies.reply
-          (r.shows (Check protocol name cert) form (sym gives.0 ∙ zero)) gives zero
+      checked protocol name cert words zero = proved_check call protocol name cert replies.reply
+          (r.shows (Check protocol name cert) (check_is_form call.words protocol name cert words) (sym gives.0 ∙ zero)) gives zero
+
+      refuted : (protocol : ProtocolName) (name : List ℕ) (more : List (List ℕ)) → call.words ≡ refute_words protocol name more
+          → call.status ≡ 0 → IsProvedRefutation call protocol name
+      refuted protocol name more words zero =
+          let form = refute_has_form call.words protocol name more words (some_form zero) in
+          proved_refutation call protocol name form.0 replies.reply
+          (r.shows (Refute protocol name form.0) form.1 (sym gives.0 ∙ zero)) gives zero
+
+      confirmed : (protocol : ProtocolName) (name cert : List ℕ) → call.words ≡ confirm_words protocol name cert
+          → call.status ≡ 0 → IsProvedConfirmation call protocol name cert
+      confirmed protocol name cert words zero = proved_confirmation call protocol name cert replies.reply
+          (r.shows (Confirm protocol name cert) (confirm_is_form call.words protocol name cert words) (sym gives.0 ∙ zero)) gives zero
 
       well : (inputs : Inputs) (form : Form) → form_of call.words ≡ Some form
           → IsOutcome inputs call.words replies.reply → (replies.reply.status ≡ 0) ⊎ (replies.reply.status ≡ 1)
@@ -280,12 +311,15 @@ cut_run call replies r fails =
       complete = λ inputs form premise. absurd (premise.sink fails.rose);
       headline = λ protocol set analyses. other_headline call protocol (sha256 analyses.read.bytes) set (inl four) (inr (inl fails.rose));
       sound = λ protocol set c checks zero. absurd (omega (arith, four, zero));
-      analysed = λ protocol name allowance form zero. absurd (omega (arith, four, zero));
-      checked = λ protocol name cert form zero. absurd (omega (arith, four, zero));
+      analysed = λ protocol name more words zero. absurd (omega (arith, four, zero));
+      checked = λ protocol name cert words zero. absurd (omega (arith, four, zero));
       bounding = record {
-        analysed = λ protocol name allowance form zero. absurd (omega (arith, four, zero));
-        checked = λ protocol name cert form zero. absurd (omega (arith, four, zero));
+        analysed = λ protocol name more words zero. absurd (omega (arith, four, zero));
+        checked = λ protocol name cert words zero. absurd (omega (arith, four, zero));
       };
+      audited = λ protocol name cert jobs rows words zero. absurd (omega (arith, four, zero));
+      refuted = λ protocol name more words zero. absurd (omega (arith, four, zero));
+      confirmed = λ protocol name cert words zero. absurd (omega (arith, four, zero));
     }
 
 -- A call that had no memory.
@@ -305,12 +339,15 @@ run_ran_out call ran =
       complete = λ inputs form premise. inr ran;
       headline = λ protocol set analyses. other_headline call protocol (sha256 analyses.read.bytes) set (inr ran) (inr (inr ran));
       sound = λ protocol set c checks zero. absurd (omega (arith, seven, zero));
-      analysed = λ protocol name allowance form zero. absurd (omega (arith, seven, zero));
-      checked = λ protocol name cert form zero. absurd (omega (arith, seven, zero));
+      analysed = λ protocol name more words zero. absurd (omega (arith, seven, zero));
+      checked = λ protocol name cert words zero. absurd (omega (arith, seven, zero));
       bounding = record {
-        analysed = λ protocol name allowance form zero. absurd (omega (arith, seven, zero));
-        checked = λ protocol name cert form zero. absurd (omega (arith, seven, zero));
+        analysed = λ protocol name more words zero. absurd (omega (arith, seven, zero));
+        checked = λ protocol name cert words zero. absurd (omega (arith, seven, zero));
       };
+      audited = λ protocol name cert jobs rows words zero. absurd (omega (arith, seven, zero));
+      refuted = λ protocol name more words zero. absurd (omega (arith, seven, zero));
+      confirmed = λ protocol name cert words zero. absurd (omega (arith, seven, zero));
     }
 
 -- What the sink promised for a reply that is this long.

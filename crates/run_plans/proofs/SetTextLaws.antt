@@ -14,8 +14,11 @@ use Rattle.protocol_names.specs.declared.ProtocolName.{ProtocolName}
 use Rattle.sporadic_model.specs.declared.ids.Protocol.TheVariants as protocol
 use Rattle.taskset_json.specs.Answers.{first_homeless}
 use Rattle.taskset_json.proofs.Lists.{position_none}
-use Rattle.run_plans.specs.Inputs.{ReadsSet}
-use Rattle.run_plans.specs.Headline.{IsSetText}
+use Rattle.outside_ports.specs.Names.{Inputs, IsNamed}
+use Rattle.run_plans.specs.Plans.{IsRead}
+use Rattle.run_plans.specs.Inputs.{ReadsSet, set_input}
+use Rattle.run_plans.specs.Outcome.{told}
+use Rattle.run_plans.specs.Headline.{Call, IsSetText, ReadsSome}
 
 not_missing : (o : Option ℕ) → IsSome o → is_none o ≡ false
 not_missing None some = sym some
@@ -31,6 +34,12 @@ none_homeless protocol.Dpcp set homes =
 pub reads_text : (p : ProtocolName) (bytes : List ℕ) (set : SetDef) → IsSetText p bytes set → ReadsSet p bytes (Ok set)
 reads_text p bytes set t =
     ((t.value, t.is_value, (t.form, subst IsAccepted t.set_is t.accepted, t.set_is)), none_homeless (homes_as p) set t.homes)
+
+-- So what a call read under a name is what its inputs hold, where they are told.
+pub told_reads : (call : Call) (inputs : Inputs) (p : ProtocolName) (name : List ℕ) (set : SetDef)
+    → call.shelf_before.names ≡ Some inputs → (read : ReadsSome call p name set) → IsRead (told inputs) (set_input p) name read.bytes set
+told_reads call inputs p name set tells read =
+    ((subst (λ (o : Option Inputs). IsNamed o name read.bytes) tells read.named, read.short), reads_text p read.bytes set read.text)
 
 -- Where no home is missed all are there.
 no_place : (b : Bool) (n : ℕ) → (if b then Some n else None) ≡ None → b ≡ false

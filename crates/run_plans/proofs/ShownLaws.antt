@@ -21,7 +21,7 @@ use Rattle.run_plans.specs.Plans.{Answer, Known, IsRead, IsOutcomeOf}
 use Rattle.run_plans.specs.Inputs.{set_input, cert_input}
 use Rattle.run_plans.specs.Commands.{ending_answer, IsCheck, plan_of}
 use Rattle.run_plans.specs.Outcome.{shown_by}
-use Rattle.run_plans.specs.Headline.{Call, WritesSchedulable, ReadsSome, IsProvedAnalysis, IsProvedCheck}
+use Rattle.run_plans.specs.Headline.{Call, WritesSchedulable, ReadsSome, ReadsValid, IsProvedAnalysis, IsProvedCheck}
 use Rattle.run_plans.specs.Bounding.{ListsBounds}
 use Rattle.run_plans.specs.Run.{shelf_of, Gives}
 use Rattle.run_plans.proofs.PlanLaws.{stopped_status}
@@ -106,7 +106,7 @@ found_valid known protocol name cert a (inr (bytes, set, read, none, inr (text, 
     }
 
 -- A set that was read under a name.
-some_read : (call : Call) (protocol : ProtocolName) (name bytes : List ℕ) (set : SetDef)
+abbrev pub some_read : (call : Call) (protocol : ProtocolName) (name bytes : List ℕ) (set : SetDef)
     → IsRead (shown_by (shelf_of call)) (set_input protocol) name bytes set → ReadsSome call protocol name set
 some_read call protocol name bytes set (has, reads) =
     record { bytes = bytes; named = has.0; short = has.1; text = is_text protocol bytes set reads }
@@ -127,7 +127,6 @@ best_writes call protocol digest set c accepted best done text = record {
 pub proved_analysis : (call : Call) (protocol : ProtocolName) (name : List ℕ) (allowance : ℕ) (a : Answer)
     → IsOutcomeOf (shown_by (shelf_of call)) (plan_of (Analyse protocol name allowance)) a
     → Gives call a → call.status ≡ 0 → IsProvedAnalysis call protocol name
-unfolding some_read
 proved_analysis call protocol name allowance a out gives zero =
     let zero' : a.status ≡ 0 = omega (arith, gives.0, zero) in
     let w = wrote_best (shown_by (shelf_of call)) protocol name allowance a out zero' in
@@ -151,23 +150,30 @@ bounded_analysis call protocol name allowance a out gives zero =
       analysis_bounds call protocol name w.bytes w.set w.certificate (some_read call protocol name w.bytes w.set w.read) w.best,
     )
 
+-- A set and a valid certificate of it that were read.
+abbrev pub reads_valid : (call : Call) (protocol : ProtocolName) (name cert bytes text : List ℕ) (set : SetDef) (c : CertificateDef)
+    → IsRead (shown_by (shelf_of call)) (set_input protocol) name bytes set
+    → IsRead (shown_by (shelf_of call)) (cert_input protocol) cert text (record { certificate = c; digest = sha256 bytes })
+    → IsValid (source_of protocol set) c → ReadsValid call protocol name cert
+reads_valid call protocol name cert bytes text set c read also valid = record {
+  set = set;
+  read = some_read call protocol name bytes set read;
+  certificate = c;
+  bytes = text;
+  named = also.0.0;
+  short = also.0.1;
+  reads = also.1;
+  valid = valid;
+  sound = λ values are. named_sound protocol set c values (accepted_of protocol bytes set read.1) valid are;
+}
+
 pub proved_check : (call : Call) (protocol : ProtocolName) (name cert : List ℕ) (a : Answer)
     → IsOutcomeOf (shown_by (shelf_of call)) (plan_of (Check protocol name cert)) a
     → Gives call a → call.status ≡ 0 → IsProvedCheck call protocol name cert
-unfolding some_read
 proved_check call protocol name cert a out gives zero =
     let zero' : a.status ≡ 0 = omega (arith, gives.0, zero) in
     let f = found_valid (shown_by (shelf_of call)) protocol name cert a out zero' in
     record {
-      set = f.set;
-      read = some_read call protocol name f.bytes f.set f.read;
-      certificate = f.certificate;
-      bytes = f.text;
-      named = f.also.0.0;
-      short = f.also.0.1;
+      proved = reads_valid call protocol name cert f.bytes f.text f.set f.certificate f.read f.also f.valid;
       given = f.last;
-      reads = f.also.1;
-      valid = f.valid;
-      sound = λ values are.
-          named_sound protocol f.set f.certificate values (accepted_of protocol f.bytes f.set f.read.1) f.valid are;
     }

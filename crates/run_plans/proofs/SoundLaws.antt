@@ -20,7 +20,7 @@ use Rattle.run_plans.proofs.CertInputLaws.{cert_reads_once}
 use Rattle.run_plans.proofs.TiedLaws.{tied_at_zero}
 use Rattle.cert_json.specs.FileDef.{FileDef}
 use Rattle.sha2.specs.Sha256.{sha256}
-use Rattle.run_plans.proofs.SetTextLaws.{reads_text}
+use Rattle.run_plans.proofs.SetTextLaws.{told_reads}
 
 -- A set that is read is accepted.
 pub accepted_of : (protocol : ProtocolName) (bytes : List ℕ) (set : SetDef) → ReadsSet protocol bytes (Ok set) → IsAccepted set
@@ -42,7 +42,7 @@ sound_outcome call p set c checks a out zero values are =
     let later : IsOutcomeOf (told checks.inputs) (with_certificate p checks.cert (check_of p digest set)) a =
     rest_of checks.inputs (set_input p) checks.name
     (λ bytes tasks. with_certificate p checks.cert (check_of p (sha256 bytes) tasks)) read.bytes set a
-    (set_reads_once p) ((read.named, read.short), reads_text p read.bytes set read.text) out in
+    (set_reads_once p) (told_reads call checks.inputs p checks.name set checks.told read) out in
     let tied : IfTied digest file (IsCheck p set) a =
     rest_of checks.inputs (cert_input p) checks.cert (λ bytes d. Working (check_of p digest set d)) checks.bytes file a
     (cert_reads_once p) ((checks.named, checks.short), checks.reads) later in

@@ -1,5 +1,5 @@
 -- The promise on bounds alone, in which no program, dual or row of one stands.
-use Rattle.std.specs.Prelude.{◌≡◌, ℕ, ◌<◌, ◌≤◌, List, length, Some, codes}
+use Rattle.std.specs.Prelude.{◌≡◌, ℕ, ◌<◌, ◌≤◌, List, length, codes}
 use Rattle.std.specs.Io.KnownBytes.{Appends}
 use Rattle.serde_json.specs.Data.{Data}
 use Rattle.outside_ports.specs.Names.{IsNamed}
@@ -11,7 +11,7 @@ use Rattle.schedule_model.specs.Phase.Phase.{Finished}
 use Rattle.soundness_laws.specs.Sound.{IsLawfulSchedule, due_tick}
 use Rattle.named_protocols.specs.Named.{rules_of}
 use Rattle.program_sources.specs.Bounds.{AreWithinDeadlines}
-use Rattle.command_words.specs.Words.{Analyse, Check, form_of}
+use Rattle.command_words.specs.Spelled.{analyse_words, check_words}
 use Rattle.taskset_json.specs.Answers.{IsValue}
 use Rattle.taskset_json.specs.Members.{list_at}
 use Rattle.cert_json.specs.Written.{numbers_written}
@@ -35,7 +35,7 @@ pub record ListsBounds (call : Call) (protocol : ProtocolName) (name : List ℕ)
 
 -- With status 0, what `analyse` writes lists such bounds, and so does the certificate that `check` read.
 pub record IsBounding (call : Call) : Type 0 where
-  pub analysed : (protocol : ProtocolName) (name : List ℕ) (allowance : ℕ) → form_of call.words ≡ Some (Analyse protocol name allowance)
+  pub analysed : (protocol : ProtocolName) (name : List ℕ) (more : List (List ℕ)) → call.words ≡ analyse_words protocol name more
       → call.status ≡ 0 → (text : List ℕ) × Appends call.sink_before.written call.sink_now.written text × ListsBounds call protocol name text
-  pub checked : (protocol : ProtocolName) (name cert : List ℕ) → form_of call.words ≡ Some (Check protocol name cert)
+  pub checked : (protocol : ProtocolName) (name cert : List ℕ) → call.words ≡ check_words protocol name cert
       → call.status ≡ 0 → (text : List ℕ) × IsNamed call.shelf_before.names cert text × ListsBounds call protocol name text

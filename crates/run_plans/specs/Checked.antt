@@ -5,12 +5,12 @@ use Rattle.outside_ports.specs.Counts.{Rose}
 use Rattle.outside_ports.specs.Names.{Inputs, bytes_of}
 use Rattle.outside_ports.specs.declared.whole.TheConstants.{GREATEST_INPUT_BYTES}
 use Rattle.protocol_names.specs.declared.ProtocolName.{ProtocolName}
-use Rattle.command_words.specs.Words.{Analyse, Check, form_of}
+use Rattle.command_words.specs.Spelled.{analyse_words, check_words}
 use Rattle.sha2.specs.Sha256.{sha256}
 use Rattle.sporadic_model.specs.SetDef.{SetDef}
 use Rattle.run_plans.specs.Plans.{Answer}
 use Rattle.run_plans.specs.Commands.{checked_answer, other_set_answer}
-use Rattle.run_plans.specs.Headline.{Call, RanOut, HasRead}
+use Rattle.run_plans.specs.Headline.{Call, RanOut, ReadsSome}
 use Rattle.run_plans.specs.Run.{Gives}
 
 -- Does the second call check what the first one wrote? The first analyses a set, writes to a sink that tells its bytes, and ends
@@ -19,9 +19,9 @@ use Rattle.run_plans.specs.Run.{Gives}
 pub record ChecksWhatWasWritten (first second : Call) : Type 0 where
   pub protocol : ProtocolName
   pub set : List ℕ
-  pub allowance : ℕ
+  pub more : List (List ℕ)
   pub inputs : Inputs
-  pub analyses : form_of first.words ≡ Some (Analyse protocol set allowance)
+  pub analyses : first.words ≡ analyse_words protocol set more
   pub told : first.shelf_before.names ≡ Some inputs
   pub tells : IsSome first.sink_before.written
   pub schedulable : first.status ≡ 0
@@ -31,7 +31,7 @@ pub record ChecksWhatWasWritten (first second : Call) : Type 0 where
   pub same_set : List ℕ
   pub certificate : List ℕ
   pub later : Inputs
-  pub checks : form_of second.words ≡ Some (Check protocol same_set certificate)
+  pub checks : second.words ≡ check_words protocol same_set certificate
   pub told_later : second.shelf_before.names ≡ Some later
   pub set_again : bytes_of later same_set ≡ bytes_of inputs set
   pub text_again : bytes_of later certificate ≡ Some text
@@ -41,9 +41,9 @@ pub record ChecksWhatWasWritten (first second : Call) : Type 0 where
 pub record ChecksForAnotherSet (first second : Call) : Type 0 where
   pub protocol : ProtocolName
   pub set : List ℕ
-  pub allowance : ℕ
+  pub more : List (List ℕ)
   pub inputs : Inputs
-  pub analyses : form_of first.words ≡ Some (Analyse protocol set allowance)
+  pub analyses : first.words ≡ analyse_words protocol set more
   pub told : first.shelf_before.names ≡ Some inputs
   pub tells : IsSome first.sink_before.written
   pub schedulable : first.status ≡ 0
@@ -55,10 +55,10 @@ pub record ChecksForAnotherSet (first second : Call) : Type 0 where
   pub other_set : List ℕ
   pub certificate : List ℕ
   pub later : Inputs
-  pub checks : form_of second.words ≡ Some (Check protocol other_set certificate)
+  pub checks : second.words ≡ check_words protocol other_set certificate
   pub told_later : second.shelf_before.names ≡ Some later
   pub tasks : SetDef
-  pub read : HasRead later protocol other_set tasks
+  pub read : ReadsSome second protocol other_set tasks
   pub apart : sha256 read.bytes ≢ sha256 bytes
   pub text_again : bytes_of later certificate ≡ Some text
 

@@ -1,12 +1,12 @@
 -- The commands: what each form of words does.
-use Rattle.std.specs.Prelude.{◌≡◌, ◌≢◌, ℕ, ◌⊎◌, Bool, List, slice_index}
+use Rattle.std.specs.Prelude.{◌≡◌, ◌≢◌, ℕ, ◌⊎◌, Bool, List}
 use Rattle.program_form.specs.Certificate.{CertificateDef}
 use Rattle.program_sources.specs.Valid.{IsValid, value_at}
 use Rattle.sporadic_model.specs.SetDef.{SetDef, latest_bound, task_at}
 use Rattle.protocol_names.specs.declared.ProtocolName.{ProtocolName}
 use Rattle.response_fixpoint.specs.Rounds.{Ending, Schedulable, NotShown, Wide, Allowance, EndsIn}
 use Rattle.response_fixpoint.specs.Runs.{rounds_of}
-use Rattle.named_protocols.specs.Named.{charges_of, choice_of, interference_of, rules_of, source_of}
+use Rattle.named_protocols.specs.Named.{choice_of, interference_of, rules_of, source_of}
 use Rattle.cert_json.specs.FileDef.{FileDef}
 use Rattle.cert_json.specs.Text.{certificate_text}
 use Rattle.sha2.specs.Sha256.{sha256}
@@ -26,11 +26,13 @@ use Rattle.study_gen.specs.Counts.{IsStudy}
 use Rattle.study_gen.specs.declared.counting.StudyCounts.{StudyCounts}
 use Rattle.run_plans.specs.Plans.{Answer, Work, Plan, Working, Reading}
 use Rattle.protocol_names.specs.Names.{word_of}
-use Rattle.command_words.specs.Words.{Form, Analyse, Check, Upgrade, Report, FullReport, Conform, Simulate, Study, Audit}
+use Rattle.command_words.specs.Words.{Form, Analyse, Refute, Check, Confirm, Upgrade, Report, FullReport, Conform, Simulate, Study, Audit}
 use Rattle.reply_texts.specs.Texts.{not_shown_text, wide_text, allowance_text, lawful_text, broken_text, valid_text}
 use Rattle.reply_texts.specs.Texts.{other_set_text, invalid_text, study_text, kept_text}
-use Rattle.audit_figures.specs.Figures.{figures_of}
-use Rattle.run_plans.specs.Inputs.{set_input, cert_input, old_cert_input, jobs_input, rows_input}
+use Rattle.named_protocols.specs.Audited.{figures_under}
+use Rattle.run_plans.specs.Inputs.{set_input, cert_input, old_cert_input, refusal_input, jobs_input, rows_input}
+use Rattle.run_plans.specs.RefusalDef.{RefusalDef}
+use Rattle.run_plans.specs.Refuting.{refutation_of, IsConfirmation}
 
 -- What goes out where the rounds of the set end so, whose bytes have this digest.
 abbrev pub ending_answer : ProtocolName → List ℕ → SetDef → Ending → Answer
@@ -163,11 +165,7 @@ IsKept keeps w n kept answer =
 
 -- The figures of all tasks over n rows.
 abbrev pub kept_answer : ProtocolName → CertificateDef → Trace → ℕ → Answer
-kept_answer protocol c w n = record {
-  status = 0;
-  text = kept_text w.set n (figures_of (charges_of protocol) (interference_of protocol) w (slice_index c.bounds)
-      (value_at (source_of protocol w.set) c) n);
-}
+kept_answer protocol c w n = record { status = 0; text = kept_text w.set n (figures_under protocol c w n) }
 
 -- The answer on a certificate and n rows: where the certificate is valid, that on the rows; else its first failure.
 abbrev pub IsAudit : ProtocolName → CertificateDef → Trace → ℕ → Answer → Type 0
@@ -195,12 +193,29 @@ abbrev pub auditing : ProtocolName → List ℕ → List ℕ → List ℕ → Li
 auditing protocol cert jobs rows digest set =
     Reading (cert_input protocol) cert (λ bytes file. auditing_jobs protocol digest file jobs rows set)
 
+-- The answer on a refusal's file beside a set whose bytes have this digest: the file names another set; or else what is said of its
+-- refusal. There always is one.
+abbrev pub IsTiedConfirmation : ProtocolName → List ℕ → SetDef → RefusalDef → Answer → Type 0
+IsTiedConfirmation protocol digest set file answer =
+    ((file.digest ≢ digest) × (answer ≡ other_set_answer)) ⊎ ((file.digest ≡ digest) × IsConfirmation protocol set file.steps answer)
+
+abbrev pub confirmation_of : ProtocolName → List ℕ → SetDef → RefusalDef → Work
+confirmation_of protocol digest set file = record { answers = IsTiedConfirmation protocol digest set file; ends = Unit {0} }
+
+-- Reading a refusal for the protocol, and judging it.
+abbrev pub confirming : ProtocolName → List ℕ → List ℕ → SetDef → Plan
+confirming protocol cert digest set =
+    Reading (refusal_input protocol) cert (λ bytes file. Working (confirmation_of protocol digest set file))
+
 -- What each form of words does.
 abbrev pub plan_of : Form → Plan
 plan_of (Analyse protocol name allowance) =
     Reading (set_input protocol) name (λ bytes set. Working (analysis_of protocol (sha256 bytes) set allowance))
+plan_of (Refute protocol name allowance) =
+    Reading (set_input protocol) name (λ bytes set. Working (refutation_of protocol (sha256 bytes) set allowance))
 plan_of (Check protocol set cert) =
     Reading (set_input protocol) set (λ bytes tasks. with_certificate protocol cert (check_of protocol (sha256 bytes) tasks))
+plan_of (Confirm protocol set cert) = Reading (set_input protocol) set (λ bytes tasks. confirming protocol cert (sha256 bytes) tasks)
 plan_of (Upgrade protocol set cert) = Reading (set_input protocol) set (λ bytes tasks. upgrading protocol cert (sha256 bytes) tasks)
 plan_of (FullReport protocol set cert) =
     Reading (set_input protocol) set (λ bytes tasks. with_certificate protocol cert (full_table_of protocol (sha256 bytes) tasks))

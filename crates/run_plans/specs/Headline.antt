@@ -14,7 +14,7 @@ use Rattle.program_sources.specs.Fitting.{AreFitting, AreLeastFitting}
 use Rattle.program_sources.specs.Valid.{IsValid, AreOptimalDuals}
 use Rattle.soundness_laws.specs.Analyses.{AreValues}
 use Rattle.protocol_names.specs.Names.{word_of}
-use Rattle.command_words.specs.Words.{Analyse, Check, form_of}
+use Rattle.command_words.specs.Spelled.{analyse_words, allowance_of, check_words}
 use Rattle.serde_json.specs.Data.{Data}
 use Rattle.taskset_json.specs.Answers.{IsValue}
 use Rattle.taskset_json.specs.Form.{has_set_form}
@@ -39,8 +39,9 @@ pub record RanOut (call : Call) : Type 0 where
   pub faults : call.sink_now.faults ≡ call.sink_before.faults
   pub room : call.sink_before.room ≤ call.sink_now.room
 
--- Does the call write "schedulable", as the text of a certificate for the set of this digest? Its bounds are the least within all deadlines that satisfy the
--- recurrence, and its duals are optimal. And its bounds and the values of its duals are sound: every lawful schedule keeps them.
+-- Does the call write "schedulable", as the text of a certificate for the set of this digest? Its bounds are the least within all
+-- deadlines that satisfy the recurrence, and its duals are optimal. And its bounds and the values of its duals are sound: every lawful
+-- schedule keeps them.
 pub record WritesSchedulable (call : Call) (protocol : ProtocolName) (digest : List ℕ) (set : SetDef) : Type 0 where
   pub certificate : CertificateDef
   pub done : call.status ≡ 0
@@ -59,21 +60,24 @@ pub record IsSetText (protocol : ProtocolName) (bytes : List ℕ) (set : SetDef)
   pub accepted : IsAccepted set
   pub homes : HasHomes protocol set
 
--- The bytes of the name are there, and are the text of this set.
-pub record HasRead (inputs : Inputs) (protocol : ProtocolName) (name : List ℕ) (set : SetDef) : Type 0 where
+-- The call read a set under this name: some bytes are the text of the set. Where the shelf tells its inputs, they are the bytes of
+-- the name.
+pub record ReadsSome (call : Call) (protocol : ProtocolName) (name : List ℕ) (set : SetDef) : Type 0 where
   pub bytes : List ℕ
-  pub named : bytes_of inputs name ≡ Some bytes
+  pub named : IsNamed call.shelf_before.names name bytes
   pub short : length bytes ≤ GREATEST_INPUT_BYTES
   pub text : IsSetText protocol bytes set
 
--- The call analyses the set: its words are those of `analyse`, and the bytes of the name are the set.
+-- The call analyses the set: its words are those of `analyse`, with an allowance or none, and the told bytes of the name are the set.
 pub record Analyses (call : Call) (protocol : ProtocolName) (set : SetDef) : Type 0 where
   pub inputs : Inputs
   pub name : List ℕ
+  pub more : List (List ℕ)
   pub allowance : ℕ
-  pub form_is : form_of call.words ≡ Some (Analyse protocol name allowance)
+  pub words : call.words ≡ analyse_words protocol name more
+  pub allows : allowance_of more ≡ Some allowance
   pub told : call.shelf_before.names ≡ Some inputs
-  pub read : HasRead inputs protocol name set
+  pub read : ReadsSome call protocol name set
 
 -- The headline: the call writes "schedulable" exactly where some bounds within all deadlines satisfy the recurrence, giving the
 -- least such bounds with optimal duals. Its premises: no count of faults rose in the call, memory did not run out, and the status
@@ -86,14 +90,14 @@ pub record IsHeadline (call : Call) (protocol : ProtocolName) (digest : List ℕ
   pub least : call.status ≡ 0 → WritesSchedulable call protocol digest set
   pub none : call.status ≡ 1 → (s : List ℕ) → AreFitting (source_of protocol set) s → ⊥
 
--- The call checks a certificate of the set: its words are those of `check`, and the bytes of the names are the two.
+-- The call checks a certificate of the set: its words are those of `check`, and the told bytes of the names are the two.
 pub record Checks (call : Call) (protocol : ProtocolName) (set : SetDef) (c : CertificateDef) : Type 0 where
   pub inputs : Inputs
   pub name : List ℕ
   pub cert : List ℕ
-  pub form_is : form_of call.words ≡ Some (Check protocol name cert)
+  pub words : call.words ≡ check_words protocol name cert
   pub told : call.shelf_before.names ≡ Some inputs
-  pub read : HasRead inputs protocol name set
+  pub read : ReadsSome call protocol name set
   pub bytes : List ℕ
   pub named : bytes_of inputs cert ≡ Some bytes
   pub short : length bytes ≤ GREATEST_INPUT_BYTES
@@ -106,14 +110,6 @@ abbrev pub IsSoundCheck : Call → ProtocolName → SetDef → CertificateDef �
 IsSoundCheck call protocol set c = call.status ≡ 0 → (values : List ℕ) → AreValues (source_of protocol set) c values
     → SoundUnder protocol set c.bounds values
 
--- The call read a set under this name: some bytes are the text of the set. Where the shelf tells its inputs, they are the bytes of
--- the name.
-pub record ReadsSome (call : Call) (protocol : ProtocolName) (name : List ℕ) (set : SetDef) : Type 0 where
-  pub bytes : List ℕ
-  pub named : IsNamed call.shelf_before.names name bytes
-  pub short : length bytes ≤ GREATEST_INPUT_BYTES
-  pub text : IsSetText protocol bytes set
-
 -- What status 0 says of words of `analyse`, whatever the shelf tells: of the set that was read, of as many bytes as were given, the
 -- call writes "schedulable".
 pub record IsProvedAnalysis (call : Call) (protocol : ProtocolName) (name : List ℕ) : Type 0 where
@@ -122,16 +118,19 @@ pub record IsProvedAnalysis (call : Call) (protocol : ProtocolName) (name : List
   pub given : length read.bytes ≡ call.shelf_now.given
   pub writes : WritesSchedulable call protocol (sha256 read.bytes) set
 
--- What status 0 says of words of `check`, whatever the shelf tells: of the set that was read, the bounds and the values of the
--- certificate that was read, of as many bytes as were given last, are sound.
-pub record IsProvedCheck (call : Call) (protocol : ProtocolName) (name cert : List ℕ) : Type 0 where
+-- The call read a set and a certificate of it, which is valid. So its bounds and the values of its duals are sound.
+pub record ReadsValid (call : Call) (protocol : ProtocolName) (name cert : List ℕ) : Type 0 where
   pub set : SetDef
   pub read : ReadsSome call protocol name set
   pub certificate : CertificateDef
   pub bytes : List ℕ
   pub named : IsNamed call.shelf_before.names cert bytes
   pub short : length bytes ≤ GREATEST_INPUT_BYTES
-  pub given : length bytes ≡ call.shelf_now.given
   pub reads : IsFileText protocol bytes (record { certificate = certificate; digest = sha256 read.bytes })
   pub valid : IsValid (source_of protocol set) certificate
   pub sound : (values : List ℕ) → AreValues (source_of protocol set) certificate values → SoundUnder protocol set certificate.bounds values
+
+-- What status 0 says of words of `check`, whatever the shelf tells: such a certificate was read, of as many bytes as were given last.
+pub record IsProvedCheck (call : Call) (protocol : ProtocolName) (name cert : List ℕ) : Type 0 where
+  pub proved : ReadsValid call protocol name cert
+  pub given : length proved.bytes ≡ call.shelf_now.given

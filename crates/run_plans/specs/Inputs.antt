@@ -1,5 +1,5 @@
 -- The inputs of commands.
-use Rattle.std.specs.Prelude.{◌≡◌, ℕ, true, List, codes, None, Some, Result, Ok, Err}
+use Rattle.std.specs.Prelude.{◌≡◌, ℕ, true, false, List, codes, None, Some, Result, Ok, Err}
 use Rattle.serde_json.specs.Data.{Data}
 use Rattle.program_form.specs.Certificate.{CertificateDef}
 use Rattle.sporadic_model.specs.SetDef.{SetDef}
@@ -9,6 +9,7 @@ use Rattle.taskset_json.specs.declared.refusal.SetRefusal.{SetRefusal}
 use Rattle.taskset_json.specs.declared.refusal.SetRefusal.TheVariants as refusal
 use Rattle.cert_json.specs.FileDef.{FileDef}
 use Rattle.cert_json.specs.Form.{has_form}
+use Rattle.cert_json.specs.Versions.{has_form_of}
 use Rattle.cert_json.specs.Refusals.{first_refusal}
 use Rattle.cert_json.specs.Written.{certificate_written, file_written}
 use Rattle.cert_json.specs.declared.version.Version.{Version}
@@ -24,8 +25,15 @@ use Rattle.trace_csv.specs.declared.refusal.JobsRefusal.{JobsRefusal}
 use Rattle.trace_csv.specs.declared.refusal.JobsRefusal.TheVariants as jobs
 use Rattle.trace_csv.specs.declared.refusal.RowsRefusal.{RowsRefusal}
 use Rattle.trace_csv.specs.declared.refusal.RowsRefusal.TheVariants as rows
+use Rattle.cert_json.specs.FormParts.{is_for}
+use Rattle.cert_json.specs.Written.{digest_written}
+use Rattle.refusal_json.specs.Form.{is_refusal}
+use Rattle.refusal_json.specs.Written.{steps_written}
+use Rattle.refusal_json.specs.declared.fault.ReadFault.{ReadFault}
+use Rattle.refusal_json.specs.declared.fault.ReadFault.TheVariants as fault
+use Rattle.run_plans.specs.RefusalDef.{RefusalDef}
 use Rattle.run_plans.specs.Plans.{Input}
-use Rattle.reply_texts.specs.Refusals.{reason_text, cert_reason_text, jobs_reason_text, rows_reason_text}
+use Rattle.reply_texts.specs.Refusals.{reason_text, cert_reason_text, refusal_reason_text, jobs_reason_text, rows_reason_text}
 
 -- A task set for a protocol: an accepted set in which each resource has the home that the protocol asks for.
 abbrev pub ReadsSet : ProtocolName → List ℕ → Result SetDef SetRefusal → Type 0
@@ -37,22 +45,17 @@ ReadsSet protocol bytes (Err r) = Reads (Err r) bytes
 abbrev pub set_input : ProtocolName → Input
 set_input protocol = record { Value = SetDef; Refusal = SetRefusal; word = codes "set"; reads = ReadsSet protocol; reason = reason_text }
 
--- The bytes are the text of a certificate of this version for a protocol, and this is what its value writes.
-abbrev pub IsCertText : {A : Type 0} → Version → (Data → A) → ProtocolName → List ℕ → A → Type 0
-IsCertText v writes protocol bytes c =
-    (d : Data) × IsValue bytes d × (has_form v (word_of protocol) d ≡ true) × (c ≡ writes d)
-
--- A certificate of this version for a protocol: the bytes are the text of one, or this is why their value is refused first. Only
--- want of memory is no reading.
+-- A certificate of this version for a protocol: the bytes are the text of one, and this is what their value writes; or this is why
+-- their value is refused first. Only want of memory is no reading.
 abbrev pub ReadsCert : {A : Type 0} → Version → (Data → A) → ProtocolName → List ℕ → Result A CertRefusal → Type 0
-ReadsCert v writes protocol bytes (Ok c) = IsCertText v writes protocol bytes c
+ReadsCert v writes protocol bytes (Ok c) = (d : Data) × IsValue bytes d × (has_form_of v (word_of protocol) d ≡ true) × (c ≡ writes d)
 ReadsCert v writes protocol bytes (Err cert.NotJson) = (d : Data) → IsValue bytes d → ⊥
 ReadsCert v writes protocol bytes (Err cert.Memory) = ⊥
 ReadsCert v writes protocol bytes (Err r) = (d : Data) × IsValue bytes d × (first_refusal v (word_of protocol) d ≡ Some r)
 
--- A certificate with its set's digest.
+-- The bytes are the text of a certificate with its set's digest, for a protocol, and this is what their value writes.
 abbrev pub IsFileText : ProtocolName → List ℕ → FileDef → Type 0
-IsFileText protocol bytes file = IsCertText version.Second file_written protocol bytes file
+IsFileText protocol bytes file = (d : Data) × IsValue bytes d × (has_form (word_of protocol) d ≡ true) × (file ≡ file_written d)
 
 abbrev pub cert_input : ProtocolName → Input
 cert_input protocol = record {
@@ -71,6 +74,29 @@ old_cert_input protocol = record {
   word = codes "cert";
   reads = ReadsCert version.First certificate_written protocol;
   reason = cert_reason_text;
+}
+
+-- The bytes are the text of a certificate of refusal with its set's digest, for a protocol, and this is what their value writes.
+abbrev pub IsRefusalText : ProtocolName → List ℕ → RefusalDef → Type 0
+IsRefusalText protocol bytes file = (d : Data) × IsValue bytes d × (is_refusal d ≡ true) × (is_for (word_of protocol) d ≡ true)
+    × (file ≡ record { steps = steps_written d; digest = digest_written d })
+
+-- One for a protocol, or why it is refused first. Only want of memory is no reading.
+abbrev pub ReadsRefusal : ProtocolName → List ℕ → Result RefusalDef ReadFault → Type 0
+ReadsRefusal protocol bytes (Ok file) = IsRefusalText protocol bytes file
+ReadsRefusal protocol bytes (Err fault.NotJson) = (d : Data) → IsValue bytes d → ⊥
+ReadsRefusal protocol bytes (Err fault.Shape) = (d : Data) × IsValue bytes d × (is_refusal d ≡ false)
+ReadsRefusal protocol bytes (Err fault.OtherProtocol) =
+    (d : Data) × IsValue bytes d × (is_refusal d ≡ true) × (is_for (word_of protocol) d ≡ false)
+ReadsRefusal protocol bytes (Err fault.Memory) = ⊥
+
+abbrev pub refusal_input : ProtocolName → Input
+refusal_input protocol = record {
+  Value = RefusalDef;
+  Refusal = ReadFault;
+  word = codes "cert";
+  reads = ReadsRefusal protocol;
+  reason = refusal_reason_text;
 }
 
 -- Jobs of a task set. Only want of memory is no reading.

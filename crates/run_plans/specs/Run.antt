@@ -11,14 +11,18 @@ use Rattle.protocol_names.specs.declared.ProtocolName.{ProtocolName}
 use Rattle.sha2.specs.Sha256.{sha256}
 use Rattle.response_fixpoint.specs.Rounds.{Ending, Wide, Allowance, EndsIn}
 use Rattle.response_fixpoint.specs.Runs.{rounds_of, RequestsNothing}
+use Rattle.refusal_cert.specs.Refuting.{refuting}
 use Rattle.named_protocols.specs.Named.{source_of}
 use Rattle.run_plans.specs.Plans.{Answer, Known, refused, IsWorking, IsRead, EndsWell}
-use Rattle.command_words.specs.Words.{Form, Analyse, Check, form_of}
+use Rattle.command_words.specs.Words.{Form, Analyse, Refute, form_of}
+use Rattle.command_words.specs.Spelled.{analyse_words, refute_words, check_words, confirm_words, audit_words}
 use Rattle.run_plans.specs.Inputs.{set_input}
 use Rattle.run_plans.specs.Commands.{plan_of}
 use Rattle.run_plans.specs.Outcome.{Shown, shown, shown_by, told, refused_words, IsOutcome, IsReply}
 use Rattle.run_plans.specs.Headline.{Call, RanOut, Analyses, IsHeadline, Checks, IsSoundCheck, IsProvedAnalysis, IsProvedCheck}
 use Rattle.run_plans.specs.Bounding.{IsBounding}
+use Rattle.run_plans.specs.Auditing.{IsProvedAudit}
+use Rattle.run_plans.specs.Refused.{IsProvedRefutation, IsProvedConfirmation}
 
 -- What the shelf shows of the call.
 abbrev pub shelf_of : Call → Shown
@@ -72,17 +76,18 @@ abbrev pub IsComplete : Call → Type 0
 IsComplete call = (inputs : Inputs) (form : Form) → IsCompletePremise call inputs form
     → (((call.status ≡ 0) ⊎ (call.status ≡ 1)) × GivesOutcome call inputs) ⊎ RanOut call
 
--- The words are those of `analyse`, and the named input may be a set whose rounds end so.
-pub record AnalysisEnds (known : Known) (form : Form) (IsEnding : Ending → Type 0) : Type 0 where
+-- The words are those of `analyse`, or of `refute`, and the named input may be a set whose rounds end so: those of an analysis, or
+-- those that refuse.
+pub record RoundsEnd (known : Known) (form : Form) (IsEnding : Ending → Type 0) : Type 0 where
   pub protocol : ProtocolName
   pub name : List ℕ
   pub allowance : ℕ
-  pub form_is : form ≡ Analyse protocol name allowance
   pub bytes : List ℕ
   pub set : SetDef
   pub read : IsRead known (set_input protocol) name bytes set
   pub ending : Ending
-  pub ends : EndsIn (rounds_of (source_of protocol set)) allowance ending
+  pub ends : ((form ≡ Analyse protocol name allowance) × EndsIn (rounds_of (source_of protocol set)) allowance ending)
+      ⊎ ((form ≡ Refute protocol name allowance) × EndsIn (refuting (source_of protocol set)) allowance ending)
   pub is : IsEnding ending
 
 abbrev pub IsWideEnding : Ending → Type 0
@@ -105,20 +110,28 @@ pub record IsRun (call : Call) : Type 0 where
   -- memory ran out.
   pub exactly : (inputs : Inputs) (answer : Answer) → call.shelf_before.names ≡ Some inputs → IsOutcome inputs call.words answer
       → Gives call answer ⊎ ((call.status ≡ 4) ⊎ RanOut call)
-  -- Status 5 comes only for words of `analyse` where the rounds end in a run that is too wide, and so not for a set that
-  -- requests nothing; status 6 only where they end with the allowance.
-  pub wide : call.status ≡ 5 → (form : Form) × (form_of call.words ≡ Some form) × AnalysisEnds (shown_by (shelf_of call)) form IsWideEnding
+  -- Status 5 comes only for words of `analyse` or of `refute`, where the rounds end in a run that is too wide, and so of `analyse`
+  -- not for a set that requests nothing; status 6 only where they end with the allowance.
+  pub wide : call.status ≡ 5 → (form : Form) × (form_of call.words ≡ Some form) × RoundsEnd (shown_by (shelf_of call)) form IsWideEnding
   pub never_wide : (protocol : ProtocolName) (set : SetDef) → Analyses call protocol set → RequestsNothing set → call.status ≢ 5
   pub allowance : call.status ≡ 6 → (form : Form) × (form_of call.words ≡ Some form)
-      × AnalysisEnds (shown_by (shelf_of call)) form IsAllowanceEnding
+      × RoundsEnd (shown_by (shelf_of call)) form IsAllowanceEnding
   pub complete : IsComplete call
   pub headline : (protocol : ProtocolName) (set : SetDef) → (a : Analyses call protocol set) → IsHeadline call protocol (sha256 a.read.bytes) set
   -- And what `check` accepts is sound.
   pub sound : (protocol : ProtocolName) (set : SetDef) (c : CertificateDef) → Checks call protocol set c → IsSoundCheck call protocol set c
   -- With status 0 both say of whatever set was read what is proved of it; and `bounding` says of the bounds alone the least that
   -- matters.
-  pub analysed : (protocol : ProtocolName) (name : List ℕ) (allowance : ℕ) → form_of call.words ≡ Some (Analyse protocol name allowance)
+  pub analysed : (protocol : ProtocolName) (name : List ℕ) (more : List (List ℕ)) → call.words ≡ analyse_words protocol name more
       → call.status ≡ 0 → IsProvedAnalysis call protocol name
-  pub checked : (protocol : ProtocolName) (name cert : List ℕ) → form_of call.words ≡ Some (Check protocol name cert)
+  pub checked : (protocol : ProtocolName) (name cert : List ℕ) → call.words ≡ check_words protocol name cert
       → call.status ≡ 0 → IsProvedCheck call protocol name cert
   pub bounding : IsBounding call
+  -- And what `audit` writes with status 0 are figures of a lawful schedule, within what a valid certificate proves.
+  pub audited : (protocol : ProtocolName) (name cert jobs rows : List ℕ) → call.words ≡ audit_words protocol name cert jobs rows
+      → call.status ≡ 0 → IsProvedAudit call protocol name cert jobs rows
+  -- What `refute` writes with status 0 is a refusal that holds, and what `confirm` finds confirmed is one: so nothing fits.
+  pub refuted : (protocol : ProtocolName) (name : List ℕ) (more : List (List ℕ)) → call.words ≡ refute_words protocol name more
+      → call.status ≡ 0 → IsProvedRefutation call protocol name
+  pub confirmed : (protocol : ProtocolName) (name cert : List ℕ) → call.words ≡ confirm_words protocol name cert
+      → call.status ≡ 0 → IsProvedConfirmation call protocol name cert

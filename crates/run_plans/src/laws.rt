@@ -3,6 +3,7 @@
 ghost use Rattle.run_plans.specs.Headline.{Call};
 ghost use Rattle.run_plans.specs.Run.{IsRun};
 ghost use Rattle.run_plans.specs.Checked.{ChecksWhatWasWritten, ChecksForAnotherSet, FindsValid, FindsOtherSet};
+ghost use Rattle.run_plans.specs.Confirmed.{ConfirmsWhatWasWritten, FindsConfirmed, ChecksAndConfirms};
 ghost use Rattle.run_plans.specs.Twice.{AreSteady, IsCompleteCall};
 
 /// Of two calls: where the first analyses a set and writes "schedulable", the second, which checks the written bytes for the same
@@ -15,6 +16,18 @@ pub fn analysed_then_checked()
 /// other bytes with another digest, answers that the certificate is of another set; or a count of faults rises, or memory runs out.
 pub fn checked_for_another_set()
     ensures { (first second : Call) → IsRun first → IsRun second → ChecksForAnotherSet first second → FindsOtherSet second }
+{}
+
+/// Of two calls: where the first refutes a set and writes a refusal, the second, which confirms the written bytes for the same bytes of
+/// the set, answers `confirmed`; or a count of faults rises, or memory runs out.
+pub fn refuted_then_confirmed()
+    ensures { (first second : Call) → IsRun first → IsRun second → ConfirmsWhatWasWritten first second → FindsConfirmed second }
+{}
+
+/// No two calls exist of which one finds a certificate valid and the other a refusal confirmed, for the same protocol and the same bytes
+/// of a set, over shelves that tell their inputs.
+pub fn never_accepted_and_refused()
+    ensures { (first second : Call) → IsRun first → IsRun second → ChecksAndConfirms first second → ⊥ }
 {}
 
 /// Of two calls over one shelf, which promises that no call fails, as a `MemShelf` with no failing call does, and one sink that

@@ -6,5 +6,8 @@ mod laws;
 mod status;
 
 pub use halt::{Halt, Reply, fault, refusal, settled};
-pub use laws::{analysed_then_checked, checked_for_another_set, two_runs};
+pub use laws::{
+    analysed_then_checked, checked_for_another_set, never_accepted_and_refused,
+    refuted_then_confirmed, two_runs,
+};
 pub use status::Status;

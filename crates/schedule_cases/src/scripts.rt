@@ -1,6 +1,6 @@
 ghost use Rattle.std.specs.Prelude.{◌≡◌, map};
 ghost use Rattle.std.specs.List.{list_all};
-ghost use Rattle.schedule_model.specs.LawfulJobs.{is_resource_in, are_resources_in};
+ghost use Rattle.schedule_model.specs.LawfulJobs.{is_resource_in};
 ghost use Rattle.schedule_model.specs.Seen.{segment_seen};
 
 use schedule_model::{Job, Segment};
@@ -68,7 +68,7 @@ fn each_requests_below(script: &[Segment], resources: u32) -> bool
 
 /// Is each request of a script for one of the resources below this number?
 pub(crate) fn request_below(script: &[Segment], resources: u32) -> bool
-    ensures { result ≡ are_resources_in resources (map segment_seen script.now) }
+    ensures { result ≡ list_all (is_resource_in resources) (map segment_seen script.now) }
 {
     each_requests_below(script, resources)
 }

@@ -14,6 +14,7 @@ use Rattle.schedule_model.specs.Activity.{task_of, processor_of, is_active, is_r
 use Rattle.schedule_model.specs.DpcpRules.{home_of, ceiling_rank, is_at, has_request_at, has_requests, holds_at}
 use Rattle.schedule_model.specs.DpcpRules.{is_kept, waits_at, is_first_waiting, is_barred, is_granted, KeepsRun}
 use Rattle.schedule_model.specs.DpcpRules.{KeepsGrant, KeepsIdle, RunsFirstHolder, KeepsPriority}
+use Rattle.schedule_model.specs.Ranks.{by_task}
 use Rattle.schedule_model.specs.Protocols.{dpcp_rule}
 use Rattle.schedule_model.specs.Chosen.{IsDpcpChoice}
 use Rattle.schedule_laws.specs.Agreement.{AgreeBefore, RulesReadUpTo, ChoiceReadsUpTo}
@@ -149,21 +150,24 @@ dpcp_idle_agree v w n t a l idle = record {
       ∙ idle.locals k (running_agree v w n t k a l ∙ e) i (listed_back v w n i a b) (processor_agree v w n i a ∙ c);
 }
 
-first_holder_agree : (v w : Trace) (n t k : ℕ) → AgreeBefore v w n → t < n → RunsFirstHolder v t k → RunsFirstHolder w t k
-first_holder_agree v w n t k a l f = record {
+-- Where the order of holders agrees, the first holder is the same.
+first_holder_agree : (rank : Trace → ℕ → ℕ → ℕ) (v w : Trace) (n t k : ℕ) → AgreeBefore v w n → t < n
+    → ((j : ℕ) → rank v t j ≡ rank w t j) → RunsFirstHolder rank v t k → RunsFirstHolder rank w t k
+first_holder_agree rank v w n t k a l ranks f = record {
   runner = f.runner;
   runs = sym (running_agree v w n t k a l) ∙ f.runs;
   holds = sym (holds_at_agree v w n t k f.runner a l) ∙ f.holds;
   first = λ i b h. first i b h;
 } where
-  first : (i : ℕ) → i < length w.jobs → holds_at w t k i ≡ true → task_of w f.runner ≤ task_of w i
+  first : (i : ℕ) → i < length w.jobs → holds_at w t k i ≡ true → rank w t f.runner ≤ rank w t i
   first i b h =
-      let order : task_of v f.runner ≤ task_of v i = f.first i (listed_back v w n i a b) (holds_at_agree v w n t k i a l ∙ h) in
-      omega (arith, order, task_agree v w n f.runner a, task_agree v w n i a)
+      let order : rank v t f.runner ≤ rank v t i = f.first i (listed_back v w n i a b) (holds_at_agree v w n t k i a l ∙ h) in
+      omega (arith, order, ranks f.runner, ranks i)
 
-pub dpcp_priority_agree : (v w : Trace) (n t : ℕ) → AgreeBefore v w n → t < n → KeepsPriority v t → KeepsPriority w t
-dpcp_priority_agree v w n t a l priority = record {
-  requests = λ k h. first_holder_agree v w n t k a l (priority.requests k (has_requests_agree v w n t k a (omega arith) ∙ h));
+pub home_priority_agree : (rank : Trace → ℕ → ℕ → ℕ) (v w : Trace) (n t : ℕ) → AgreeBefore v w n → t < n
+    → ((j : ℕ) → rank v t j ≡ rank w t j) → KeepsPriority rank v t → KeepsPriority rank w t
+home_priority_agree rank v w n t a l ranks priority = record {
+  requests = λ k h. first_holder_agree rank v w n t k a l ranks (priority.requests k (has_requests_agree v w n t k a (omega arith) ∙ h));
   locals = λ k r e none i b c h. locals k r e none i b c h;
 } where
   locals : (k r : ℕ) → running_on (w.row t) k ≡ Some r → has_requests w t k ≡ false → (i : ℕ) → i < length w.jobs
@@ -180,7 +184,7 @@ dpcp_rules_read rule.Run v w n t a l h = dpcp_run_agree v w n t a l h
 dpcp_rules_read rule.Keep v w n t a l h = keep_agree v w n t a l h
 dpcp_rules_read rule.Grant v w n t a l h = dpcp_grant_agree v w n t a l h
 dpcp_rules_read rule.Idle v w n t a l h = dpcp_idle_agree v w n t a l h
-dpcp_rules_read rule.Priority v w n t a l h = dpcp_priority_agree v w n t a l h
+dpcp_rules_read rule.Priority v w n t a l h = home_priority_agree by_task v w n t a l (λ j. task_agree v w n j a) h
 
 -- And so the chosen row.
 pub dpcp_choice_reads : ChoiceReadsUpTo IsDpcpChoice

@@ -1,5 +1,6 @@
 -- The requests of a job: those of one resource, and those of all.
 use Rattle.std.proofs.Common.{◌≡◌, ℕ, ◌+◌, ◌≤◌, ◌==◌, true, false, List, [], ◌∷◌, length, get_or, refl, sym, arith}
+use Rattle.std.specs.List.{list_all}
 use Rattle.std.proofs.Common.{Option, Some, None, is_some, nat_lt}
 use Rattle.std.specs.Option.{option_map_or}
 use Rattle.std.proofs.lemmas.Bool.{and_parts, ltb-true}
@@ -11,7 +12,7 @@ use Rattle.bounded_sums.proofs.ListCounts.{count_by-first, count_by-places}
 use Rattle.sporadic_model.specs.SetDef.{SetDef}
 use Rattle.sporadic_model.specs.Users.{count_of}
 use Rattle.schedule_model.specs.JobDef.{SegmentDef, JobDef, asks_for, number_of_requests}
-use Rattle.schedule_model.specs.LawfulJobs.{is_resource_in, are_resources_in, IsLawfulJob}
+use Rattle.schedule_model.specs.LawfulJobs.{is_resource_in, IsLawfulJob}
 use Rattle.schedule_laws.specs.Counting.{no_segment, requests_in}
 
 -- The segments that ask for q, counted by their numbers, are as many as the requests of q.
@@ -33,11 +34,11 @@ asks_once n s h = go s.request h where
   go (Some r) g = sym (count_below-equal n r.0 (ltb-true r.0 n g))
 
 -- The requests of a script are those of each resource, summed.
-pub requests_by_resource : (n : ℕ) (script : List SegmentDef) → are_resources_in n script ≡ true
+pub requests_by_resource : (n : ℕ) (script : List SegmentDef) → list_all (is_resource_in n) script ≡ true
     → requests_in script ≡ sum_below n (λ q. number_of_requests script q)
 requests_by_resource n [] h = sym (sum_below-zero n (λ q. 0) (λ k l. refl))
 requests_by_resource n (s ∷ script) h =
-    let parts : (is_resource_in n s ≡ true) × (are_resources_in n script ≡ true) = and_parts _ _ h in
+    let parts : (is_resource_in n s ≡ true) × (list_all (is_resource_in n) script ≡ true) = and_parts _ _ h in
     let total : requests_in (s ∷ script) ≡ flag (is_some s.request) + requests_in script =
     count_by-first (λ r. is_some r.request) s script in
     let each : sum_below n (λ q. number_of_requests (s ∷ script) q) ≡ sum_below n (λ q. flag (asks_for q s) + number_of_requests script q) =

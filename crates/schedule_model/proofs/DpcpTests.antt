@@ -14,6 +14,7 @@ use Rattle.schedule_model.specs.Phase.Phase.{Local, Asking, Finished}
 use Rattle.schedule_model.specs.Activity.{task_of, processor_of, is_active, is_requester, is_active_local}
 use Rattle.schedule_model.specs.DpcpRules.{home_of, is_at, has_request_at, has_requests, holds_at, is_granted, KeepsRun}
 use Rattle.schedule_model.specs.DpcpRules.{KeepsGrant, KeepsIdle, RunsFirstHolder, KeepsPriority}
+use Rattle.schedule_model.specs.Ranks.{by_task}
 use Rattle.schedule_model.proofs.RuleTests.{each_place, each_running, place_named, running_named, is_job-true}
 use Rattle.schedule_model.proofs.RuleTests.{then_true, or_other, not_true, passes_keep, keep_from}
 
@@ -157,7 +158,7 @@ passes_priority w t = each_request w t (runs_first_holder w t) && all_below (len
     (is_active_local w t i) || option_map_or (yields_to_higher w t i) (running_on (w.row t) (processor_of w i)) true)
 
 first_holder_of : (w : Trace) (t k : ℕ) (o : Option ℕ) → running_on (w.row t) k ≡ o
-    → option_map_or (is_first_holder w t k) o false ≡ true → RunsFirstHolder w t k
+    → option_map_or (is_first_holder w t k) o false ≡ true → RunsFirstHolder by_task w t k
 first_holder_of w t k None e h = absurd (cc)
 first_holder_of w t k (Some r) e h =
     let parts : (holds_at w t k r ≡ true)
@@ -172,7 +173,7 @@ first_holder_of w t k (Some r) e h =
           held);
     }
 
-pub priority_from : (w : Trace) (t : ℕ) → passes_priority w t ≡ true → KeepsPriority w t
+pub priority_from : (w : Trace) (t : ℕ) → passes_priority w t ≡ true → KeepsPriority by_task w t
 priority_from w t h = record {
   requests = λ k some. first_holder_of w t k (running_on (w.row t) k) refl (request_told w t k (runs_first_holder w t) parts.0 some);
   locals = λ k r e none i l p local. locals k r e none i l p local;

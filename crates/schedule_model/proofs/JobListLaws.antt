@@ -13,7 +13,7 @@ use Rattle.bounded_sums.proofs.TestLaws.{all_below-each}
 use Rattle.sporadic_model.specs.SetDef.{SetDef, task_at}
 use Rattle.sporadic_model.specs.Users.{count_of}
 use Rattle.schedule_model.specs.JobDef.{JobDef, JobsDef, job_of, total_ticks, local_ticks, number_of_requests}
-use Rattle.schedule_model.specs.LawfulJobs.{is_length_kept, are_resources_in, IsLawfulJob, AreLawfulJobs}
+use Rattle.schedule_model.specs.LawfulJobs.{is_length_kept, is_resource_in, IsLawfulJob, AreLawfulJobs}
 use Rattle.schedule_model.specs.JobLists.{is_listed_script, is_within_budget, last_arrival, is_too_close, is_too_many, is_late}
 use Rattle.schedule_model.specs.JobLists.{segment_count, first_refusal, with_job, IsJobList}
 use Rattle.schedule_model.specs.declared.limits.TheConstants.{MOST_JOBS, MOST_SEGMENTS}
@@ -90,7 +90,7 @@ in_time_from set job h =
     (ltb-false _ _ parts.0, ltb-false _ _ parts.1)
 
 lawful_from : (jobs : JobsDef) (job : JobDef) → job.task < length jobs.set.tasks
-    → are_resources_in (length jobs.set.resources) job.script ≡ true → IsFree jobs job → IsLawfulJob jobs.set job
+    → list_all (is_resource_in (length jobs.set.resources)) job.script ≡ true → IsFree jobs job → IsLawfulJob jobs.set job
 lawful_from jobs job task resources accepted =
     let within = within_from jobs.set job accepted.budget in
     let time = in_time_from jobs.set job accepted.time in
@@ -192,7 +192,7 @@ apart_more jobs job lawful apart a b l w = elim (cases_lt b (length jobs.jobs)) 
 
 -- The list stays lawful with the job at its end.
 pub lawful_more : (jobs : JobsDef) (job : JobDef) → AreLawfulJobs jobs → job.task < length jobs.set.tasks
-    → are_resources_in (length jobs.set.resources) job.script ≡ true
+    → list_all (is_resource_in (length jobs.set.resources)) job.script ≡ true
     → first_refusal jobs job ≡ None → AreLawfulJobs (with_job jobs job)
 lawful_more jobs job lawful task resources none =
     let accepted = accepted_from jobs job none in

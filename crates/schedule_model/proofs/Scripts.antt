@@ -13,7 +13,7 @@ use Rattle.sporadic_model.proofs.Mapped.{take-map}
 use Rattle.sporadic_model.specs.declared.ids.ResourceId.{ResourceId}
 use Rattle.sporadic_model.specs.declared.limits.TheConstants.{MOST_TICKS}
 use Rattle.schedule_model.specs.JobDef.{SegmentDef, asks_for, number_of_requests}
-use Rattle.schedule_model.specs.LawfulJobs.{is_segment, is_script, is_resource_in, are_resources_in}
+use Rattle.schedule_model.specs.LawfulJobs.{is_segment, is_script, is_resource_in}
 use Rattle.schedule_model.specs.JobLists.{is_listed_segment, is_listed_script}
 use Rattle.schedule_model.specs.Seen.{segment_seen}
 use Rattle.schedule_model.specs.declared.job.Segment.{Segment}
@@ -55,7 +55,7 @@ is_listed_script-from xs b c d e f g = is_listed_script-seen xs ∙ rw (e, f, g)
 
 -- The resource that a segment requests is in range where all are.
 pub resource_at-each : (n : ℕ) (xs : List Segment) (i : ℕ) (d : Segment) → i < length xs
-    → are_resources_in n (map segment_seen xs) ≡ true → is_resource_in n (segment_seen (get_or xs i d)) ≡ true
+    → list_all (is_resource_in n) (map segment_seen xs) ≡ true → is_resource_in n (segment_seen (get_or xs i d)) ≡ true
 resource_at-each n xs i d l h =
     list_all-each (λ (s : Segment). is_resource_in n (segment_seen s)) xs i d l (sym (list_all-map (is_resource_in n) segment_seen xs) ∙ h)
 
@@ -70,12 +70,12 @@ asks_for-past n q (Some r) l h =
     ]
 
 -- A script doesn't request a resource past those that it names.
-pub number_of_requests-past : (n q : ℕ) (script : List SegmentDef) → n ≤ q → are_resources_in n script ≡ true
+pub number_of_requests-past : (n q : ℕ) (script : List SegmentDef) → n ≤ q → list_all (is_resource_in n) script ≡ true
     → number_of_requests script q ≡ 0
 number_of_requests-past n q [] l h = refl
 number_of_requests-past n q (s ∷ script) l h =
-    let parts : (is_resource_in n s ≡ true) × (are_resources_in n script ≡ true) =
-    and_parts (is_resource_in n s) (are_resources_in n script) h in
+    let parts : (is_resource_in n s ≡ true) × (list_all (is_resource_in n) script ≡ true) =
+    and_parts (is_resource_in n s) (list_all (is_resource_in n) script) h in
     let here : asks_for q s ≡ false = asks_for-past n q s.request l parts.0 in
     sum_by-cons (λ (r : SegmentDef). cond (asks_for q r) 1 0) s script ∙ rw (here, number_of_requests-past n q script l parts.1) refl
 

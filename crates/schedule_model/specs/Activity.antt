@@ -1,5 +1,5 @@
 -- Which jobs may run, which wait, and since when.
-use Rattle.std.specs.Prelude.{ℕ, ◌==◌, ◌&&◌, ◌||◌, not, Bool, false, nat_le, Option, length}
+use Rattle.std.specs.Prelude.{◌≡◌, ℕ, ◌<◌, ◌≤◌, ◌==◌, ◌&&◌, ◌||◌, not, Bool, true, false, nat_le, Option, length}
 use Rattle.bounded_sums.specs.Tests.{all_below, first_below, found_below}
 use Rattle.sporadic_model.specs.SetDef.{task_at}
 use Rattle.schedule_model.specs.JobDef.{job_of}
@@ -60,3 +60,11 @@ is_ready_holder w t j = is_active w t j && holds_by (holder_in (w.row t)) j (pha
 -- Is job j ready at tick t: active, and Local or in this row the holder of the resource that it requests?
 unfoldable pub is_ready : Trace → ℕ → ℕ → Bool
 is_ready w t j = is_active_local w t j || is_ready_holder w t j
+
+-- Is this true of each job of processor k's tasks?
+abbrev pub EachJobOf : Trace → ℕ → (ℕ → Type 0) → Type 0
+EachJobOf w k P = (i : ℕ) → i < length w.jobs → processor_of w i ≡ k → P i
+
+-- Is no active Local job of processor k's tasks of a higher task than job r?
+abbrev pub NoLocalIsHigher : Trace → ℕ → ℕ → ℕ → Type 0
+NoLocalIsHigher w t k r = EachJobOf w k (λ i. is_active_local w t i ≡ true → task_of w r ≤ task_of w i)

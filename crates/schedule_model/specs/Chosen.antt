@@ -13,14 +13,18 @@ pub record IsSized (set : SetDef) (row : RowDef) : Type 0 where
   pub processors : length row.running ≡ set.processors
   pub resources : length row.holders ≡ length set.resources
 
+-- Of the requesters of a resource that go equally first, is the one that becomes the holder of the highest task?
+abbrev pub GrantsHighest : (Trace → ℕ → ℕ → ℕ) → Trace → ℕ → Type 0
+GrantsHighest rank w t = (q j : ℕ) → holder_in (w.row t) q ≡ Some j → held_before w t q ≢ Some j
+    → (i : ℕ) → i < length w.jobs → is_requester w t q i ≡ true → rank w t i ≡ rank w t j → task_of w j ≤ task_of w i
+
 -- Under an order of grants and runs: of the requesters of a resource that go equally first, the one of the
 -- highest task becomes the holder; of the ready holders on a processor that go equally first, the one of the
 -- highest task runs. All else is settled by the rules.
 pub record IsSharedChoice (o : Ranks) (w : Trace) (t : ℕ) : Type 0 where
   pub sized : IsSized w.set (w.row t)
   pub keeps : KeepsRow (shared_rule o) w t
-  pub grants : (q j : ℕ) → holder_in (w.row t) q ≡ Some j → held_before w t q ≢ Some j
-      → (i : ℕ) → i < length w.jobs → is_requester w t q i ≡ true → o.grant w t i ≡ o.grant w t j → task_of w j ≤ task_of w i
+  pub grants : GrantsHighest o.grant w t
   pub runs : (k r : ℕ) → running_on (w.row t) k ≡ Some r → is_ready_holder w t r ≡ true
       → (i : ℕ) → i < length w.jobs → processor_of w i ≡ k → is_ready_holder w t i ≡ true → o.run w t i ≡ o.run w t r
       → task_of w r ≤ task_of w i

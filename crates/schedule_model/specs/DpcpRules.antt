@@ -1,5 +1,5 @@
--- The five rules of a row under DPCP, where a request runs on its resource's home. Keep is the rule of
--- SharedRules.
+-- The rules of a row where a request runs on its resource's home. Keep is the rule of SharedRules, Grant is that of DPCP, and
+-- Priority is written over the order in which holders run: by task under DPCP.
 use Rattle.std.specs.Prelude.{◌≡◌, ◌≢◌, ℕ, ◌<◌, ◌≤◌, ◌==◌, ◌&&◌, ◌||◌, not, Bool, true, false, nat_le, length, None, Some, unwrap_or}
 use Rattle.std.specs.Option.{option_map_or}
 use Rattle.bounded_sums.specs.Tests.{all_below, any_below}
@@ -9,6 +9,7 @@ use Rattle.schedule_model.specs.RowDef.{Trace, running_on, holder_in, held_befor
 use Rattle.schedule_model.specs.Phase.{Phase, is_local, is_asking, phase_of}
 use Rattle.schedule_model.specs.Phase.Phase.{Asking}
 use Rattle.schedule_model.specs.Activity.{task_of, processor_of, is_active, is_requester, is_active_local, holds_by}
+use Rattle.schedule_model.specs.Activity.{EachJobOf, NoLocalIsHigher}
 
 -- The processor at which requests of resource q run; 0, which is no processor, where q has no home. A set suits these
 -- rules where each resource has one (`EachHasHome`).
@@ -76,19 +77,17 @@ pub record KeepsGrant (w : Trace) (t : ℕ) : Type 0 where
 -- Idle: a processor that runs nothing has no request at it and no active Local job of its tasks.
 pub record KeepsIdle (w : Trace) (t : ℕ) : Type 0 where
   pub requests : (k : ℕ) → running_on (w.row t) k ≡ None → has_requests w t k ≡ false
-  pub locals : (k : ℕ) → running_on (w.row t) k ≡ None
-      → (i : ℕ) → i < length w.jobs → processor_of w i ≡ k → is_active_local w t i ≡ false
+  pub locals : (k : ℕ) → running_on (w.row t) k ≡ None → EachJobOf w k (λ i. is_active_local w t i ≡ false)
 
--- Does processor k run, of the jobs that hold there, one of the highest task?
-pub record RunsFirstHolder (w : Trace) (t k : ℕ) : Type 0 where
+-- Does processor k run, of the jobs that hold there, one that goes first?
+pub record RunsFirstHolder (rank : Trace → ℕ → ℕ → ℕ) (w : Trace) (t k : ℕ) : Type 0 where
   pub runner : ℕ
   pub runs : running_on (w.row t) k ≡ Some runner
   pub holds : holds_at w t k runner ≡ true
-  pub first : (i : ℕ) → i < length w.jobs → holds_at w t k i ≡ true → task_of w runner ≤ task_of w i
+  pub first : (i : ℕ) → i < length w.jobs → holds_at w t k i ≡ true → rank w t runner ≤ rank w t i
 
--- Priority: where requests are at a processor, its holder of the highest task runs. Else it runs an active
--- Local job of its highest task that has one.
-pub record KeepsPriority (w : Trace) (t : ℕ) : Type 0 where
-  pub requests : (k : ℕ) → has_requests w t k ≡ true → RunsFirstHolder w t k
-  pub locals : (k r : ℕ) → running_on (w.row t) k ≡ Some r → has_requests w t k ≡ false
-      → (i : ℕ) → i < length w.jobs → processor_of w i ≡ k → is_active_local w t i ≡ true → task_of w r ≤ task_of w i
+-- Priority: where requests are at a processor, its holder that goes first runs. Else it runs an active Local job of its highest task
+-- that has one.
+pub record KeepsPriority (rank : Trace → ℕ → ℕ → ℕ) (w : Trace) (t : ℕ) : Type 0 where
+  pub requests : (k : ℕ) → has_requests w t k ≡ true → RunsFirstHolder rank w t k
+  pub locals : (k r : ℕ) → running_on (w.row t) k ≡ Some r → has_requests w t k ≡ false → NoLocalIsHigher w t k r

@@ -19,9 +19,6 @@ is_script script =
 abbrev pub is_resource_in : ℕ → SegmentDef → Bool
 is_resource_in n s = option_map_or (λ r. nat_lt r.0 n) s.request true
 
-abbrev pub are_resources_in : ℕ → List SegmentDef → Bool
-are_resources_in n script = list_all (is_resource_in n) script
-
 -- Is the segment's request, where it has one, no longer than a job of task x may request its resource?
 abbrev pub is_length_kept : SetDef → ℕ → SegmentDef → Bool
 is_length_kept set x s = option_map_or (λ r. nat_le r.1 (length_of set x r.0)) s.request true
@@ -33,14 +30,18 @@ pub record IsLawfulJob (set : SetDef) (job : JobDef) : Type 0 where
   pub arrived : job.arrival ≤ job.release
   pub in_time : job.release ≤ job.arrival + (task_at set job.task).jitter
   pub script : is_script job.script ≡ true
-  pub resources : are_resources_in (length set.resources) job.script ≡ true
+  pub resources : list_all (is_resource_in (length set.resources)) job.script ≡ true
   pub cost : total_ticks job.script ≤ (task_at set job.task).cost
   pub local : local_ticks job.script ≤ (task_at set job.task).local
   pub count : (q : ℕ) → number_of_requests job.script q ≤ count_of set job.task q
   pub lengths : list_all (is_length_kept set job.task) job.script ≡ true
 
--- Lawful jobs: each is lawful, and those of one task arrive at least a period apart, all pairs of them.
-pub record AreLawfulJobs (jobs : JobsDef) : Type 0 where
-  pub each : (j : ℕ) → j < length jobs.jobs → IsLawfulJob jobs.set (job_of jobs.jobs j)
-  pub apart : (a b : ℕ) → a < b → b < length jobs.jobs → (job_of jobs.jobs a).task ≡ (job_of jobs.jobs b).task
-      → (job_of jobs.jobs a).arrival + (task_at jobs.set (job_of jobs.jobs a).task).period ≤ (job_of jobs.jobs b).arrival
+-- Lawful jobs of a set: each is lawful, and those of one task arrive at least a period apart, all pairs of them.
+pub record AreLawfulIn (set : SetDef) (jobs : List JobDef) : Type 0 where
+  pub each : (j : ℕ) → j < length jobs → IsLawfulJob set (job_of jobs j)
+  pub apart : (a b : ℕ) → a < b → b < length jobs → (job_of jobs a).task ≡ (job_of jobs b).task
+      → (job_of jobs a).arrival + (task_at set (job_of jobs a).task).period ≤ (job_of jobs b).arrival
+
+-- Are the jobs of a list lawful jobs of its set?
+abbrev pub AreLawfulJobs : JobsDef → Type 0
+AreLawfulJobs list = AreLawfulIn list.set list.jobs

@@ -1,5 +1,6 @@
 -- How far a job has come.
-use Rattle.std.specs.Prelude.{ℕ, suc, ◌-◌, ◌==◌, Bool, true, false, nat_lt, if◌then◌else◌, List, [], ◌∷◌, Option, None, Some}
+use Rattle.std.specs.Prelude.{ℕ, suc, ◌-◌, ◌==◌, Bool, true, false, nat_lt, if◌then◌else◌, List, [], ◌∷◌, Option}
+use Rattle.std.specs.Option.{option_map_or}
 use Rattle.bounded_sums.specs.Tests.{count_below}
 use Rattle.schedule_model.specs.JobDef.{SegmentDef, job_of, segment_ticks}
 use Rattle.schedule_model.specs.RowDef.{Trace, runs_in}
@@ -31,8 +32,7 @@ is_same_request _ _ = false
 
 -- The phase in the request of segment number n, where the segment has one.
 abbrev pub asking : ℕ → Option (ℕ × ℕ) → Phase
-asking n None = Finished
-asking n (Some request) = Asking n request.0
+asking n request = option_map_or (λ r. Asking n r.0) request Finished
 
 -- Where is the script after d executed ticks, if the first of these segments is number n?
 unfoldable pub phase_from : ℕ → List SegmentDef → ℕ → Phase

@@ -4,25 +4,26 @@ use Rattle.sporadic_model.specs.SetDef.{SetDef}
 use Rattle.schedule_model.specs.RowDef.{Trace}
 use Rattle.schedule_model.specs.SharedRules as shared
 use Rattle.schedule_model.specs.SharedRules.{Ranks}
+use Rattle.schedule_model.specs.Ranks.{by_task}
 use Rattle.schedule_model.specs.DpcpRules as distributed
 use Rattle.schedule_model.specs.declared.rule.Rule.{Rule}
 use Rattle.schedule_model.specs.declared.rule.Rule.TheVariants as rule
 
+-- Five rules, by the name of the rule. Keep is the same in each protocol.
+abbrev pub five_rules : (run grant idle priority : Trace → ℕ → Type 0) → Rule → Trace → ℕ → Type 0
+five_rules run grant idle priority rule.Run = run
+five_rules run grant idle priority rule.Keep = shared.KeepsKeep
+five_rules run grant idle priority rule.Grant = grant
+five_rules run grant idle priority rule.Idle = idle
+five_rules run grant idle priority rule.Priority = priority
+
 -- The rules of a protocol that grants and runs in this order.
 abbrev pub shared_rule : Ranks → Rule → Trace → ℕ → Type 0
-shared_rule o rule.Run w t = shared.KeepsRun w t
-shared_rule o rule.Keep w t = shared.KeepsKeep w t
-shared_rule o rule.Grant w t = shared.KeepsGrant o w t
-shared_rule o rule.Idle w t = shared.KeepsIdle w t
-shared_rule o rule.Priority w t = shared.KeepsPriority o w t
+shared_rule o r = five_rules shared.KeepsRun (shared.KeepsGrant o) shared.KeepsIdle (shared.KeepsPriority o) r
 
 -- The rules of DPCP.
 abbrev pub dpcp_rule : Rule → Trace → ℕ → Type 0
-dpcp_rule rule.Run w t = distributed.KeepsRun w t
-dpcp_rule rule.Keep w t = shared.KeepsKeep w t
-dpcp_rule rule.Grant w t = distributed.KeepsGrant w t
-dpcp_rule rule.Idle w t = distributed.KeepsIdle w t
-dpcp_rule rule.Priority w t = distributed.KeepsPriority w t
+dpcp_rule r = five_rules distributed.KeepsRun distributed.KeepsGrant distributed.KeepsIdle (distributed.KeepsPriority by_task) r
 
 -- Which sets suit a protocol that asks for no homes? All of them. DPCP suits those whose resources each have a home
 -- (`EachHasHome`).

@@ -1,4 +1,4 @@
--- The orders in which MPCP and FMLP+ grant requests and run holders.
+-- The orders in which protocols grant requests and run holders.
 use Rattle.std.specs.Prelude.{ℕ, length, unwrap_or}
 use Rattle.sporadic_model.specs.Users.{remote_ceiling_of}
 use Rattle.schedule_model.specs.RowDef.{Trace}
@@ -6,6 +6,10 @@ use Rattle.schedule_model.specs.Phase.{Phase, phase_of}
 use Rattle.schedule_model.specs.Phase.Phase.{Asking}
 use Rattle.schedule_model.specs.Activity.{task_of, processor_of, issue_tick_of}
 use Rattle.schedule_model.specs.SharedRules.{Ranks}
+
+-- The order of tasks: a higher one goes first.
+abbrev pub by_task : Trace → ℕ → ℕ → ℕ
+by_task w t j = task_of w j
 
 -- With what priority does a job on processor k run in this phase, once it holds what it requests? With that
 -- of the resource's highest user on the other processors (of its highest user, where all are on k).
@@ -15,7 +19,7 @@ boost_in w k _ = length w.set.tasks
 
 -- MPCP grants to the highest task, and runs the holder with the highest boost.
 unfoldable pub mpcp : Ranks
-mpcp = record { grant = λ w t j. task_of w j; run = λ w t j. boost_in w (processor_of w j) (phase_of w t j) }
+mpcp = record { grant = by_task; run = λ w t j. boost_in w (processor_of w j) (phase_of w t j) }
 
 -- FMLP+ grants and runs in the order of issue.
 unfoldable pub fmlp_plus : Ranks

@@ -2,7 +2,7 @@
 -- the order in which they grant requests and run holders, so the rules are written once over that order.
 use Rattle.std.specs.Prelude.{◌≡◌, ◌≢◌, ℕ, ◌<◌, ◌≤◌, true, false, length, None, Some}
 use Rattle.schedule_model.specs.RowDef.{Trace, running_on, holder_in, held_before}
-use Rattle.schedule_model.specs.Activity.{task_of, processor_of, is_requester, is_active_local, is_ready_holder, is_ready}
+use Rattle.schedule_model.specs.Activity.{processor_of, is_requester, is_ready_holder, is_ready, EachJobOf, NoLocalIsHigher}
 
 -- In which order does a protocol grant, and in which order does it run holders? Both give a job, at a tick
 -- at which it is in a request, a number; the lower number goes first.
@@ -29,15 +29,11 @@ pub record KeepsGrant (o : Ranks) (w : Trace) (t : ℕ) : Type 0 where
 
 -- Idle: a processor that runs nothing has no ready job.
 abbrev pub KeepsIdle : Trace → ℕ → Type 0
-KeepsIdle w t = (k : ℕ) → running_on (w.row t) k ≡ None
-    → (i : ℕ) → i < length w.jobs → processor_of w i ≡ k → is_ready w t i ≡ false
+KeepsIdle w t = (k : ℕ) → running_on (w.row t) k ≡ None → EachJobOf w k (λ i. is_ready w t i ≡ false)
 
 -- Priority: where a processor that runs a job has ready holders, it runs one that goes first among them; else it runs a job
 -- such that no active Local job there is of a higher task.
 pub record KeepsPriority (o : Ranks) (w : Trace) (t : ℕ) : Type 0 where
-  pub holders : (k r : ℕ) → running_on (w.row t) k ≡ Some r
-      → (i : ℕ) → i < length w.jobs → processor_of w i ≡ k → is_ready_holder w t i ≡ true
-      → (is_ready_holder w t r ≡ true) × (o.run w t r ≤ o.run w t i)
-  pub locals : (k r : ℕ) → running_on (w.row t) k ≡ Some r
-      → ((i : ℕ) → i < length w.jobs → processor_of w i ≡ k → is_ready_holder w t i ≡ false)
-      → (i : ℕ) → i < length w.jobs → processor_of w i ≡ k → is_active_local w t i ≡ true → task_of w r ≤ task_of w i
+  pub holders : (k r : ℕ) → running_on (w.row t) k ≡ Some r → EachJobOf w k (λ i. is_ready_holder w t i ≡ true
+      → (is_ready_holder w t r ≡ true) × (o.run w t r ≤ o.run w t i))
+  pub locals : (k r : ℕ) → running_on (w.row t) k ≡ Some r → EachJobOf w k (λ i. is_ready_holder w t i ≡ false) → NoLocalIsHigher w t k r

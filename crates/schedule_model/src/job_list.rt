@@ -1,6 +1,7 @@
 ghost use Rattle.std.specs.Prelude.{◌≡◌, ◌<◌, ◌≤◌, [], length, IsTrue, option_map, map};
+ghost use Rattle.std.specs.List.{list_all};
 ghost use Rattle.schedule_model.specs.JobDef.{job_of};
-ghost use Rattle.schedule_model.specs.LawfulJobs.{AreLawfulJobs, are_resources_in};
+ghost use Rattle.schedule_model.specs.LawfulJobs.{AreLawfulJobs, is_resource_in};
 ghost use Rattle.schedule_model.specs.JobLists.{JobJudged, IsJobList};
 ghost use Rattle.schedule_model.specs.Seen.{job_seen};
 
@@ -49,7 +50,7 @@ impl<'a> JobList<'a> {
     /// which they stand in [`JobRefusal`]. After a refusal the list is as it was.
     pub fn push(&mut self, job: Job) -> Result<(), JobRefusal>
         requires task { job.task.0 < length self.old.set.tasks }
-        requires resources { IsTrue (are_resources_in (length self.old.set.resources) (job_seen job).script) }
+        requires resources { IsTrue (list_all (is_resource_in (length self.old.set.resources)) (job_seen job).script) }
         ensures value { JobJudged result self.old self.new (job_seen job) }
         ensures set { self.new.set ≡ self.old.set }
     {

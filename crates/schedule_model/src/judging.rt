@@ -1,6 +1,7 @@
 ghost use Rattle.std.specs.Prelude.{◌≡◌, ◌<◌, ◌≤◌, ◌+◌, false, IsTrue, nat_lt, map, length};
+ghost use Rattle.std.specs.List.{list_all};
 ghost use Rattle.std.specs.Option.{option_map_or};
-ghost use Rattle.schedule_model.specs.LawfulJobs.{are_resources_in};
+ghost use Rattle.schedule_model.specs.LawfulJobs.{is_resource_in};
 ghost use Rattle.schedule_model.specs.JobLists.{last_arrival, segment_count, is_too_close, is_too_many, is_late, first_refusal};
 ghost use Rattle.schedule_model.specs.Seen.{job_seen};
 
@@ -84,7 +85,7 @@ pub(crate) fn refusal_of(
     job: &Job,
 ) -> Option<JobRefusal>
     requires task { job.now.task.0 < length set.now.tasks }
-    requires resources { IsTrue (are_resources_in (length set.now.resources) (job_seen job.now).script) }
+    requires resources { IsTrue (list_all (is_resource_in (length set.now.resources)) (job_seen job.now).script) }
     requires most { segments ≤ MOST_SEGMENTS }
     requires counted { segments ≡ segment_count (map job_seen jobs.now) }
     ensures { result ≡ first_refusal (record { set = set.now; jobs = map job_seen jobs.now }) (job_seen job.now) }

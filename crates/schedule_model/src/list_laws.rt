@@ -1,8 +1,9 @@
 //! Laws of lists of jobs and of rows. Each function here does nothing: what it ensures holds for all lists.
 
 ghost use Rattle.std.specs.Prelude.{◌≡◌, ◌<◌, ◌↔◌, IsTrue, length, None};
+ghost use Rattle.std.specs.List.{list_all};
 ghost use Rattle.schedule_model.specs.JobDef.{JobDef, JobsDef};
-ghost use Rattle.schedule_model.specs.LawfulJobs.{AreLawfulJobs, are_resources_in};
+ghost use Rattle.schedule_model.specs.LawfulJobs.{AreLawfulJobs, is_resource_in};
 ghost use Rattle.schedule_model.specs.JobLists.{IsJobList, first_refusal, with_job};
 
 use crate::limits::{MOST_JOBS, MOST_SEGMENTS};
@@ -11,7 +12,7 @@ use crate::limits::{MOST_JOBS, MOST_SEGMENTS};
 /// it at its end is lawful and within the limits.
 pub fn job_refusals_are_exact()
     ensures { (jobs : JobsDef) (job : JobDef) → AreLawfulJobs jobs → IsJobList jobs → job.task < length jobs.set.tasks
-        → IsTrue (are_resources_in (length jobs.set.resources) job.script)
+        → IsTrue (list_all (is_resource_in (length jobs.set.resources)) job.script)
         → (first_refusal jobs job ≡ None) ↔ (AreLawfulJobs (with_job jobs job) × IsJobList (with_job jobs job)) }
 {}
 

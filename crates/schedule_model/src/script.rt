@@ -4,7 +4,7 @@ ghost use Rattle.std.specs.List.{list_all};
 ghost use Rattle.bounded_sums.specs.Tests.{all_below};
 ghost use Rattle.sporadic_model.specs.Users.{count_of};
 ghost use Rattle.schedule_model.specs.JobDef.{total_ticks, local_ticks, number_of_requests, request_ticks, asks_for};
-ghost use Rattle.schedule_model.specs.LawfulJobs.{is_length_kept, is_resource_in, are_resources_in};
+ghost use Rattle.schedule_model.specs.LawfulJobs.{is_length_kept, is_resource_in};
 ghost use Rattle.schedule_model.specs.JobLists.{is_listed_segment, is_listed_script, is_within_budget};
 ghost use Rattle.schedule_model.specs.Seen.{segment_seen, job_seen};
 
@@ -143,7 +143,7 @@ fn keeps_length(set: &TaskSet, x: TaskId, segment: &Segment) -> bool
 /// Is each request of the script at most as long as one of a job of the task may be?
 fn keeps_lengths(set: &TaskSet, x: TaskId, script: &[Segment]) -> bool
     requires task { x.0 < length set.now.tasks }
-    requires resources { IsTrue (are_resources_in (length set.now.resources) (map segment_seen script.now)) }
+    requires resources { IsTrue (list_all (is_resource_in (length set.now.resources)) (map segment_seen script.now)) }
     ensures { result ≡ list_all (is_length_kept set.now x.0) (map segment_seen script.now) }
 {
     for segment in script {
@@ -158,7 +158,7 @@ fn keeps_lengths(set: &TaskSet, x: TaskId, script: &[Segment]) -> bool
 #[tactic(auto, unfolding(crate::specs::JobLists::is_within_budget))]
 pub(crate) fn stays_within_budget(set: &TaskSet, job: &Job) -> bool
     requires task { job.now.task.0 < length set.now.tasks }
-    requires resources { IsTrue (are_resources_in (length set.now.resources) (job_seen job.now).script) }
+    requires resources { IsTrue (list_all (is_resource_in (length set.now.resources)) (job_seen job.now).script) }
     ensures { result ≡ is_within_budget set.now (job_seen job.now) }
 {
     if !takes_at_most(&job.script, set.cost(job.task)) {

@@ -3,7 +3,7 @@ use Rattle.std.specs.Prelude.{◌≡◌, ℕ, ◌<◌, ◌≤◌, Bool, List, le
 use Rattle.bounded_sums.specs.Tests.{count_below}
 use Rattle.program_form.specs.Certificate.{CertificateDef}
 use Rattle.program_form.specs.Duals.{Covers, dual_value}
-use Rattle.sporadic_model.specs.SetDef.{SetDef, task_at}
+use Rattle.sporadic_model.specs.SetDef.{task_at}
 use Rattle.schedule_model.specs.RowDef.{Trace}
 use Rattle.schedule_model.specs.Activity.{task_of}
 use Rattle.schedule_model.specs.BlockedTicks.{is_blocked}

@@ -4,20 +4,19 @@ use Rattle.std.specs.Prelude.{◌≡◌, ℕ, ◌+◌, ◌<◌, ◌≤◌, ◌&&
 use Rattle.bounded_sums.specs.Tests.{count_below}
 use Rattle.sporadic_model.specs.SetDef.{SetDef}
 use Rattle.schedule_model.specs.JobDef.{job_of}
-use Rattle.schedule_model.specs.LawfulJobs.{AreLawfulJobs}
-use Rattle.schedule_model.specs.RowDef.{Trace, jobs_of}
+use Rattle.schedule_model.specs.LawfulJobs.{AreLawfulIn}
+use Rattle.schedule_model.specs.RowDef.{Trace}
 use Rattle.schedule_model.specs.Phase.{phase_of}
 use Rattle.schedule_model.specs.Phase.Phase.{Finished}
 use Rattle.schedule_model.specs.Activity.{task_of}
 use Rattle.schedule_model.specs.BlockedTicks.{is_blocked}
-use Rattle.schedule_model.specs.Keeping.{KeepsBefore}
 use Rattle.schedule_model.specs.declared.rule.Rule.{Rule}
 
--- A lawful schedule of n rows: lawful jobs of the set, and rows before tick n that keep the protocol's rules.
+-- A lawful schedule of n rows: lawful jobs of the set, and rows before tick n each of which keeps each rule of the protocol.
 pub record IsLawfulSchedule (keeps : Rule → Trace → ℕ → Type 0) (set : SetDef) (w : Trace) (n : ℕ) : Type 0 where
   pub set_is : w.set ≡ set
-  pub jobs : AreLawfulJobs (jobs_of w)
-  pub rows : KeepsBefore keeps w n
+  pub jobs : AreLawfulIn w.set w.jobs
+  pub rows : (t : ℕ) → t < n → (r : Rule) → keeps r w t
 
 -- By when is job j to be finished: its release plus the bound of its task.
 abbrev pub due_tick : Trace → List ℕ → ℕ → ℕ

@@ -1,5 +1,5 @@
 -- The row of lower requests, and the rows of the job's own spinning.
-use Rattle.std.proofs.Common.{◌≡◌, ℕ, ◌*◌, ◌<◌, ◌≤◌, ◌==◌, ◌&&◌, true, refl, sym, subst, ◌∙◌, arith}
+use Rattle.std.proofs.Common.{◌≡◌, ℕ, ◌*◌, ◌<◌, ◌≤◌, ◌==◌, ◌&&◌, Bool, true, refl, sym, subst, ◌∙◌, arith}
 use Rattle.std.proofs.lemmas.Bool.{and_parts, eqb-true, eq-eqb}
 use Rattle.bounded_sums.specs.Sums.{flag}
 use Rattle.schedule_model.specs.declared.rule.Rule.TheVariants as rule
@@ -17,16 +17,16 @@ use Rattle.fragments.specs.ColumnDef.{ColumnDef, is_direct, is_preemption}
 use Rattle.charge_model.specs.Charges.{Charge}
 use Rattle.charge_model.specs.Windows.{window_end}
 use Rattle.row_laws.specs.Meeting.{TicksMeet}
-use Rattle.row_laws.proofs.Brings.{Window, Hit, flag_times-at_most, flag_times-passes}
+use Rattle.row_laws.proofs.Brings.{Window, column_with, Hit, Counted, flag_times-at_most, flag_times-passes}
 use Rattle.row_laws.proofs.SlotRow.{OneRequest, slot_row}
 use Rattle.row_laws.proofs.Requests.{direct_is, preemption_is}
-use Rattle.row_laws.proofs.Numbers.{OwnRequest, by_number_of}
+use Rattle.row_laws.proofs.Fifo.{InTurn, turns_of_met}
 use Rattle.spin_rules.specs.SpinRules.{spin_rule}
 use Rattle.spin_rules.proofs.InRequests.{in_request_from}
 use Rattle.spin_charging.specs.SpinCharges.{spin_charge}
 use Rattle.spin_charging.specs.SpinPrograms.{lower_request_row, is_from, own_spinning_row}
 use Rattle.spin_charging.proofs.SpinCharging.{RunsBelow, SpunBy, SpinReason, spin_reason}
-use Rattle.spin_charging.proofs.OneSpin.{holder_asks, spun_one, lower_one}
+use Rattle.spin_charging.proofs.OneSpin.{holder_asks, processors_ask_alone, spun_earlier, lower_one}
 
 -- Why ticks of these classes are charged.
 below_by : (w : Trace) (t j y : ℕ) (c : Class) → c ≡ Preemption → SpinReason w t j c y → RunsBelow w t j y
@@ -96,47 +96,26 @@ from_column w k q charge resource h =
 pub own_spinning_row_met : (w : Trace) (bound : ℕ → ℕ) (n j k q : ℕ) → Window spin_charge w bound n j → KeepsBefore spin_rule w n
     → TicksMeet spin_charge w bound n j (own_spinning_row w.set (task_of w j) k q)
 own_spinning_row_met w bound n j k q window keeps s share fair =
-    by_number_of spin_charge w bound n j q s share f window
-    (record {
-      fair = fair;
-      small = λ c. flag_times-at_most (is_from w.set k q c && is_direct c.class) (share c.task c.resource);
-    }) own
-    (λ u v m a b order l g h early late. one u v m a b order l g h early late) where
-      f : ColumnDef → ℕ
-      f = λ c. flag (is_from w.set k q c && is_direct c.class) * share c.task c.resource
+    turns_of_met spin_charge w bound n j k q s share counts (processor_of w) window (processors_ask_alone w n window.lawful keeps) turns
+    fair where
+      counts : ColumnDef → Bool
+      counts = λ c. is_from w.set k q c && is_direct c.class
 
-      both : (t : ℕ) → (h : Hit spin_charge w f j t)
-          → (FromColumn w k q h.charge h.resource) × (is_direct h.charge.class ≡ true)
-      both t h =
-          let c : ColumnDef = record { task = task_of w h.charge.job; resource = h.resource; class = h.charge.class } in
-          let parts : (is_from w.set k q c ≡ true) × (is_direct h.charge.class ≡ true) =
-          and_parts _ _ (flag_times-passes (is_from w.set k q c && is_direct h.charge.class)
-          (share (task_of w h.charge.job) h.resource) h.some) in
-          (from_column w k q h.charge h.resource parts.0, parts.1)
-
-      by : (t : ℕ) → t < n → (h : Hit spin_charge w f j t) → SpunBy w t (processor_of w j) j h.charge.job
-      by t l h = own_by w t j h.charge.job h.charge.class (direct_is h.charge.class (both t h).1)
-          (spin_reason w t j h.charge window.lawful (keeps t l) h.is_it)
-
-      own : (t : ℕ) → t < window_end w bound n j → (h : Hit spin_charge w f j t) → OwnRequest w t j (λ r. r == q)
-      own t l h =
-          let a : SpunBy w t (processor_of w j) j h.charge.job = by t (omega arith) h in
-          record {
-            number = a.number;
-            resource = a.resource;
-            request = a.request;
-            passes = eq-eqb a.resource q
-                (spun_resource w n t (processor_of w j) j h.charge.job h.number h.resource keeps (omega arith) a h.request ∙ (both t h).0.same);
-          }
-
-      one : (u v m a b : ℕ) → u ≤ v → v < window_end w bound n j → (g : Hit spin_charge w f j u) → (h : Hit spin_charge w f j v)
-          → phase_of w u j ≡ Asking m a → phase_of w v j ≡ Asking m b → OneRequest w u v g.charge.job h.charge.job
-      one u v m a b order l g h early late =
-          let first : SpunBy w u (processor_of w j) j g.charge.job = by u (omega arith) g in
-          let second : SpunBy w v (processor_of w j) j h.charge.job = by v (omega arith) h in
-          let x : Asking first.number first.resource ≡ Asking m a = sym first.request ∙ early in
-          let y : Asking second.number second.resource ≡ Asking m b = sym second.request ∙ late in
-          let one_number : first.number ≡ m = cc in
-          let two_number : second.number ≡ m = cc in
-          spun_one w n u v (processor_of w j) j g.charge.job h.charge.job window.lawful keeps order (omega arith) first second
-          (one_number ∙ sym two_number) ((both u g).0.processor ∙ sym (both v h).0.processor)
+      turns : (t : ℕ) → t < n → (c : Counted spin_charge w counts j t)
+          → (processor_of w c.charge.job ≡ k) × InTurn w t j c.charge.job (λ r. r == q)
+      turns t l c =
+          let y : ℕ = c.charge.job in
+          let parts : (is_from w.set k q (column_with w c.charge c.resource) ≡ true) × (is_direct c.charge.class ≡ true) =
+          and_parts _ _ c.passes in
+          let from : FromColumn w k q c.charge c.resource = from_column w k q c.charge c.resource parts.0 in
+          let a : SpunBy w t (processor_of w j) j y =
+          own_by w t j y c.charge.class (direct_is c.charge.class parts.1)
+          (spin_reason w t j c.charge window.lawful (keeps t l) c.is_it) in
+          let resource : a.resource ≡ q =
+          spun_resource w n t (processor_of w j) j y c.number c.resource keeps l a c.request ∙ from.same in (
+            from.processor,
+            record {
+              own = record { number = a.number; resource = a.resource; request = a.request; passes = eq-eqb a.resource q resource };
+              earlier = spun_earlier w n t (processor_of w j) j y window.lawful keeps l a;
+            },
+          )

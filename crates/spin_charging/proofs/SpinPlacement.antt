@@ -1,6 +1,6 @@
 -- The column in which a charged tick lies is one of the blocked job's program.
 use Rattle.std.proofs.Common.{◌≡◌, ℕ, ◌<◌, ◌==◌, ◌&&◌, not, true, length, sym, ap, ◌∙◌, arith}
-use Rattle.std.proofs.lemmas.Bool.{and_parts, and_from, eq-eqb, ne_eqb, lt-ltb, not_from_false}
+use Rattle.std.proofs.lemmas.Bool.{and_parts, and_from, eq-eqb, lt-ltb}
 use Rattle.bounded_sums.proofs.TestLaws.{any_below-from}
 use Rattle.sporadic_model.specs.SetDef.{SetDef, task_at}
 use Rattle.sporadic_model.specs.Users.{is_user}
@@ -22,6 +22,7 @@ use Rattle.fragments.specs.Columns.{have_one_processor, AreRequests}
 use Rattle.charge_model.specs.Charges.{Executes}
 use Rattle.charge_model.specs.ChargedTicks.{IsCharged}
 use Rattle.row_laws.proofs.Brings.{column_with}
+use Rattle.row_laws.proofs.SharedPlacement.{passes_not}
 use Rattle.row_laws.proofs.Joined.{passing_among, column_from}
 use Rattle.spin_rules.specs.SpinRules.{spin_rule}
 use Rattle.spin_rules.proofs.InRequests.{in_request_from}
@@ -35,9 +36,6 @@ use Rattle.spin_charging.proofs.PlainRows.{spun_resource}
 -- The columns are requests by users of their resources.
 pub spin_requests : (set : SetDef) (i : ℕ) → AreRequests (is_spin_column set i) set
 spin_requests set i c h = (and_parts _ _ (and_parts _ _ h).0).1
-
-passes_not : (a b : ℕ) → ((a ≡ b) → ⊥) → not (a == b) ≡ true
-passes_not a b h = not_from_false (a == b) (ne_eqb a b h)
 
 -- What is spun for is on another processor.
 elsewhere : (w : Trace) (n t k s y : ℕ) → AreLawfulJobs (jobs_of w) → KeepsBefore spin_rule w n → t < n → SpunBy w t k s y

@@ -1,31 +1,25 @@
 -- What the ticks of a window bring to a row of spinning, parted by the job that spins: the analysed job, a job of a higher task of
 -- its processor, one of a lower task. What one job spins for is paid by its requests.
-use Rattle.std.proofs.Common.{◌≡◌, ℕ, ◌*◌, ◌<◌, ◌≤◌, ◌==◌, ◌&&◌, not, true, false, List, length, get_or, sym}
+use Rattle.std.proofs.Common.{◌≡◌, ℕ, ◌*◌, ◌<◌, ◌≤◌, ◌==◌, ◌&&◌, not, true, false, length, sym}
 use Rattle.std.proofs.Common.{ap, subst, ◌∙◌, arith, Option}
 use Rattle.std.specs.Option.{option_map_or}
-use Rattle.std.proofs.Math.Nat.{mul-le-mul_right}
 use Rattle.std.proofs.lemmas.Bool.{and_parts, not-true, eqb-true}
 use Rattle.bounded_sums.specs.Sums.{sum_below, flag, only_if}
-use Rattle.bounded_sums.specs.Tests.{count_below}
 use Rattle.bounded_sums.proofs.SumLaws.{only_if-at_most}
 use Rattle.sporadic_model.specs.Users.{count_of, length_of}
-use Rattle.schedule_model.specs.JobDef.{SegmentDef, job_of, asks_for}
 use Rattle.schedule_model.specs.RowDef.{Trace}
 use Rattle.schedule_model.specs.Phase.{phase_of}
 use Rattle.schedule_model.specs.Phase.Phase.{Asking}
 use Rattle.schedule_model.specs.Activity.{task_of, processor_of}
 use Rattle.schedule_model.specs.Keeping.{KeepsBefore}
-use Rattle.schedule_laws.specs.Counting.{no_segment}
-use Rattle.schedule_laws.proofs.Segments.{open_segment}
-use Rattle.schedule_laws.proofs.OwnRequests.{own_requests}
 use Rattle.fragments.specs.declared.columns.Class.{Class}
 use Rattle.fragments.specs.declared.columns.Class.TheVariants.{Direct, Indirect, Preemption}
 use Rattle.fragments.specs.ColumnDef.{ColumnDef, is_preemption}
 use Rattle.charge_model.specs.Windows.{window_end}
 use Rattle.row_laws.specs.Meeting.{brings}
 use Rattle.row_laws.proofs.Brings.{Window, Hit, flag_times-at_most, flag_times-passes, only_if-parts}
-use Rattle.row_laws.proofs.SlotRow.{OneRequest, Shares, parts_paid}
-use Rattle.row_laws.proofs.Numbers.{number_of}
+use Rattle.row_laws.proofs.SlotRow.{OneRequest, Shares}
+use Rattle.row_laws.proofs.Numbers.{paid_by_each}
 use Rattle.spin_rules.specs.SpinRules.{spin_rule}
 use Rattle.spin_charging.specs.SpinCharges.{spinner_on, spin_charge}
 use Rattle.spin_charging.specs.SpinPrograms.{is_from}
@@ -123,47 +117,19 @@ pub spinner_paid : (w : Trace) (bound : ℕ → ℕ) (n j k q s : ℕ) (share : 
     → ((t : ℕ) → g t ≤ amount w j k q share t) → z < length w.jobs
     → sum_below (window_end w bound n j) (λ t. spun_part w j z g t) ≤ count_of w.set (task_of w z) q * s
 spinner_paid w bound n j k q s share g z c part listed =
-    let paid : sum_below (window_end w bound n j) (λ t. spun_part w j z g t)
-    ≤ count_below (length script) (λ m. asks_for q (get_or script m no_segment)) * s =
-    parts_paid spin_charge w bound n j (length script) s share (spinning_share w k q share) (λ t. spun_part w j z g t)
-    (λ t. number_of (phase_of w t z)) (λ m. asks_for q (get_or script m no_segment)) c.window
+    paid_by_each spin_charge w bound n j z q s share (spinning_share w k q share) (λ t. spun_part w j z g t) c.window
+    (shares_of w bound n j k q s share c) listed
     (record {
       below = λ t l. omega (arith, only_if-at_most (spinner_at w j t == z) (g t), part t);
-      within = λ t l some h. let a : SpunTick w j k q t h.charge.job = at t l h in
-          rw (asks t l some h) ((open_segment w t z a.spun.number q (asks t l some h)).within);
-      passes = λ t l some h. let a : SpunTick w j k q t h.charge.job = at t l h in
-          ap (λ p. asks_for q (get_or script (number_of p) no_segment)) (asks t l some h)
-          ∙ (open_segment w t z a.spun.number q (asks t l some h)).asks;
-      one = λ u v order l first second a b same. one u v order l first second a b same;
-    })
-    (shares_of w bound n j k q s share c) in
-    omega (arith, paid, mul-le-mul_right s (own_requests w.set (job_of w.jobs z) q (c.window.lawful.each z listed))) where
-      script : List SegmentDef
-      script = (job_of w.jobs z).script
-
+      asks = λ t l some h. let a : SpunTick w j k q t h.charge.job = at t l h in
+          (a.spun.number, ap (phase_of w t) (sym (is_z t some)) ∙ a.spun.request ∙ ap (Asking a.spun.number) a.resource);
+      one = λ u v m order l first second a b early late. one_spin w bound n j k q s share u v a.charge.job b.charge.job c order
+          (omega arith) (at u (omega arith) a) (at v l b) (is_z u first ∙ sym (is_z v second))
+          (ap (phase_of w u) (is_z u first) ∙ early ∙ sym late ∙ ap (phase_of w v) (sym (is_z v second)));
+    }) where
       at : (t : ℕ) → t < window_end w bound n j → (h : Hit spin_charge w (spinning_share w k q share) j t)
           → SpunTick w j k q t h.charge.job
       at t l h = spun_tick w bound n j k q s share t c (omega arith) h
 
       is_z : (t : ℕ) → 0 < spun_part w j z g t → spinner_at w j t ≡ z
       is_z t some = eqb-true _ _ (only_if-parts (spinner_at w j t == z) (g t) some).0
-
-      asks : (t : ℕ) → (l : t < window_end w bound n j) → 0 < spun_part w j z g t
-          → (h : Hit spin_charge w (spinning_share w k q share) j t) → phase_of w t z ≡ Asking (at t l h).spun.number q
-      asks t l some h =
-          let a : SpunTick w j k q t h.charge.job = at t l h in
-          ap (phase_of w t) (sym (is_z t some)) ∙ a.spun.request ∙ ap (Asking a.spun.number) a.resource
-
-      one : (u v : ℕ) → u ≤ v → v < window_end w bound n j → 0 < spun_part w j z g u → 0 < spun_part w j z g v
-          → (a : Hit spin_charge w (spinning_share w k q share) j u) → (b : Hit spin_charge w (spinning_share w k q share) j v)
-          → number_of (phase_of w u z) ≡ number_of (phase_of w v z) → OneRequest w u v a.charge.job b.charge.job
-      one u v order l first second a b same =
-          let early : SpunTick w j k q u a.charge.job = at u (omega arith) a in
-          let late : SpunTick w j k q v b.charge.job = at v l b in
-          let number : early.spun.number ≡ late.spun.number =
-          sym (ap number_of (asks u (omega arith) first a)) ∙ same ∙ ap number_of (asks v l second b) in
-          let phase : phase_of w u z ≡ phase_of w v z =
-          asks u (omega arith) first a ∙ ap (λ m. Asking m q) number ∙ sym (asks v l second b) in
-          one_spin w bound n j k q s share u v a.charge.job b.charge.job c order (omega arith) early late
-          (is_z u first ∙ sym (is_z v second))
-          (ap (phase_of w u) (is_z u first) ∙ phase ∙ ap (phase_of w v) (sym (is_z v second)))

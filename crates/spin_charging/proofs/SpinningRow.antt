@@ -1,10 +1,9 @@
 -- The rows of spinning: each request of q from j's processor pays for one request of processor k.
 use Rattle.std.proofs.Common.{◌≡◌, ℕ, ◌+◌, ◌*◌, ◌<◌, ◌≤◌, ◌==◌, ◌&&◌, true, length, sym}
 use Rattle.std.proofs.Common.{ap, ◌∙◌, arith, inl, inr, nat_lt}
-use Rattle.std.proofs.Math.Nat.{mul_assoc, mul_comm, mul-le-mul_right}
+use Rattle.std.proofs.Math.Nat.{mul_assoc, mul_comm}
 use Rattle.std.proofs.lemmas.Bool.{cases_lt, and_from, eq-eqb, eqb-true, lt-ltb, ltb-true}
 use Rattle.bounded_sums.specs.Sums.{sum_below, flag, only_if}
-use Rattle.bounded_sums.specs.Tests.{count_below}
 use Rattle.bounded_sums.proofs.SumLaws.{sum_below-monotone, sum_below-plus, sum_below-times_right, sum_below-none_or_some}
 use Rattle.bounded_sums.proofs.SumLaws.{only_if-at_most, only_if-true}
 use Rattle.bounded_sums.proofs.TestLaws.{any_below-from}
@@ -15,14 +14,14 @@ use Rattle.schedule_model.specs.RowDef.{Trace}
 use Rattle.schedule_model.specs.Phase.Phase.{Asking}
 use Rattle.schedule_model.specs.Activity.{task_of, is_active}
 use Rattle.schedule_model.specs.Keeping.{KeepsBefore}
-use Rattle.schedule_laws.proofs.ActiveJobs.{Active, active_is, active_listed, one_active}
+use Rattle.schedule_laws.proofs.ActiveJobs.{active_listed, one_active}
 use Rattle.schedule_laws.proofs.Segments.{open_user}
 use Rattle.fragments.specs.Columns.{have_one_processor, is_lower_local}
 use Rattle.fragments.specs.Windows.{jobs_in, requests_in}
 use Rattle.charge_model.specs.Windows.{window_end}
 use Rattle.row_laws.specs.Meeting.{TicksMeet}
-use Rattle.row_laws.proofs.Brings.{Window, Hit, hit, only_if-parts, sum_below-passing}
-use Rattle.row_laws.proofs.JobRows.{is_near, Near, near_is, active_near, near_jobs}
+use Rattle.row_laws.proofs.Brings.{Window, Hit, hit, only_if-parts}
+use Rattle.row_laws.proofs.JobRows.{paid_in_window}
 use Rattle.row_laws.proofs.SlotRow.{OneRequest, parts_paid}
 use Rattle.spin_rules.specs.SpinRules.{spin_rule}
 use Rattle.spin_rules.proofs.InRequests.{in_request_from}
@@ -65,19 +64,15 @@ counts w bound n j k q s share t c l some =
 near_paid : (w : Trace) (bound : ℕ → ℕ) (n j k q s : ℕ) (share : ℕ → ℕ → ℕ) (h : ℕ) → Spins w bound n j s share → h < length w.set.tasks
     → sum_below (window_end w bound n j) (λ t. task_part w j k q share h t) ≤ requests_in w.set bound (task_of w j) h q * s
 near_paid w bound n j k q s share h c there =
-    let all : sum_below (window_end w bound n j) (λ t. task_part w j k q share h t)
-    ≤ count_below (length w.jobs) (is_near w bound j h) * (count_of w.set h q * s) =
-    sum_below-passing (window_end w bound n j) (length w.jobs) (count_of w.set h q * s) (spinner_at w j)
-    (λ t. task_part w j k q share h t) (is_near w bound j h) (λ t l some. place t l some)
-    (λ z b near. each z b (near_is w bound j h z near)) in
-    let most : count_below (length w.jobs) (is_near w bound j h) * (count_of w.set h q * s)
+    let paid : sum_below (window_end w bound n j) (λ t. task_part w j k q share h t)
     ≤ jobs_in w.set bound (task_of w j) h * (count_of w.set h q * s) =
-    mul-le-mul_right (count_of w.set h q * s) (near_jobs spin_charge w bound n j h c.window there) in
+    paid_in_window spin_charge w bound n j h (count_of w.set h q * s) (spinner_at w j) (λ t. task_part w j k q share h t) c.window there
+    (λ t l some. active t l some) (λ z b task. each z b task) in
     let turned : jobs_in w.set bound (task_of w j) h * (count_of w.set h q * s)
     ≡ count_of w.set h q * jobs_in w.set bound (task_of w j) h * s =
     sym (mul_assoc (jobs_in w.set bound (task_of w j) h) (count_of w.set h q) s)
     ∙ ap (λ z. z * s) (mul_comm (jobs_in w.set bound (task_of w j) h) (count_of w.set h q)) in
-    omega (arith, all, most, turned) where
+    omega (arith, paid, turned) where
       small : (t : ℕ) → task_part w j k q share h t ≤ amount w j k q share t
       small t = omega (
         arith,
@@ -85,20 +80,17 @@ near_paid w bound n j k q s share h c there =
         only_if-at_most (nat_lt (task_of w (spinner_at w j t)) (task_of w j)) (amount w j k q share t),
       )
 
-      place : (t : ℕ) → t < window_end w bound n j → 0 < task_part w j k q share h t
-          → (spinner_at w j t < length w.jobs) × (is_near w bound j h (spinner_at w j t) ≡ true)
-      place t l some =
+      active : (t : ℕ) → t < window_end w bound n j → 0 < task_part w j k q share h t
+          → (is_active w t j ≡ true) × (is_active w t (spinner_at w j t) ≡ true) × (task_of w (spinner_at w j t) ≡ h)
+      active t l some =
           let a : Counts w j k q t = counts w bound n j k q s share t c l (omega (arith, some, small t)) in
           let task : ((task_of w (spinner_at w j t) == h) ≡ true) × (0 < high_part w j k q share t) =
           only_if-parts (task_of w (spinner_at w j t) == h) (high_part w j k q share t) some in
-          let own : Active w t j = active_is w t j a.own in (
-            a.listed,
-            active_near spin_charge w bound n j h (spinner_at w j t) t c.window a.spun.spun.active (eqb-true _ _ task.0) own.released l,
-          )
+          (a.own, a.spun.spun.active, eqb-true _ _ task.0)
 
-      each : (z : ℕ) → z < length w.jobs → Near w bound j h z
+      each : (z : ℕ) → z < length w.jobs → task_of w z ≡ h
           → sum_below (window_end w bound n j) (λ t. spun_part w j z (λ u. task_part w j k q share h u) t) ≤ count_of w.set h q * s
-      each z b near = rw near.task at (spinner_paid w bound n j k q s share (λ u. task_part w j k q share h u) z c small b)
+      each z b task = rw task at (spinner_paid w bound n j k q s share (λ u. task_part w j k q share h u) z c small b)
 
 -- A job that spins beside j is of a task that shares its processor, so the requests of others count nothing.
 task_paid : (w : Trace) (bound : ℕ → ℕ) (n j k q s : ℕ) (share : ℕ → ℕ → ℕ) (h : ℕ) → Spins w bound n j s share → h < length w.set.tasks

@@ -1,6 +1,6 @@
 -- The columns and rows of blocking programs under spin locks. In each, i is the analysed task.
 use Rattle.std.specs.Prelude.{ℕ, ◌+◌, ◌==◌, ◌&&◌, not, Bool, List, ◌∷◌, ◌++◌, length}
-use Rattle.bounded_sums.specs.Sums.{sum_below, flag, only_if}
+use Rattle.bounded_sums.specs.Sums.{flag}
 use Rattle.bounded_sums.specs.Tests.{any_below}
 use Rattle.program_form.specs.Program.{ProgramDef}
 use Rattle.sporadic_model.specs.SetDef.{SetDef, task_at}
@@ -8,12 +8,12 @@ use Rattle.sporadic_model.specs.Users.{count_of, is_user}
 use Rattle.program_sources.specs.Recurrence.{SourceDef}
 use Rattle.fragments.specs.declared.columns.Class.{Class}
 use Rattle.fragments.specs.declared.columns.Class.TheVariants as class
-use Rattle.fragments.specs.ColumnDef.{ColumnDef, is_direct, is_preemption}
-use Rattle.fragments.specs.Columns.{have_one_processor, is_lower_local, columns_where}
-use Rattle.fragments.specs.Constraints.{ConstraintDef, per_pair}
-use Rattle.fragments.specs.Windows.{requests_in}
+use Rattle.fragments.specs.ColumnDef.{ColumnDef, is_class}
+use Rattle.fragments.specs.Columns.{have_one_processor, is_lower_local, is_column_by, columns_by}
+use Rattle.fragments.specs.Constraints.{ConstraintDef, counting, per_pair}
+use Rattle.fragments.specs.Windows.{requests_by_higher}
 use Rattle.direct_constraints.specs.Rows.{common_rows}
-use Rattle.program_laws.specs.Programs.{program_with}
+use Rattle.program_laws.specs.Programs.{program_with, source_with}
 
 -- Does another task of i's processor use q?
 abbrev pub is_used_beside : SetDef → ℕ → ℕ → Bool
@@ -26,16 +26,9 @@ blocks_by_spinning set i x q class.Direct = not (have_one_processor set x i) && 
 blocks_by_spinning set i x q class.Indirect = not (have_one_processor set x i) && is_used_beside set i q
 blocks_by_spinning set i x q class.Preemption = is_lower_local set i x
 
--- Is it a column of task i: another task's requests of a resource that it uses, which may block i in this way?
-abbrev pub is_spin_column : SetDef → ℕ → ColumnDef → Bool
-is_spin_column set i c = (not (c.task == i) && is_user set c.resource c.task) && blocks_by_spinning set i c.task c.resource c.class
-
-abbrev pub spin_columns : SetDef → ℕ → List ColumnDef
-spin_columns set i = columns_where (is_spin_column set i) set
-
 -- Lower requests: a request of a lower task that runs or spins after a job's release was open at it, and one is open at most.
 abbrev pub lower_request_row : ConstraintDef
-lower_request_row = record { coefficient = λ c. flag (is_preemption c.class); limit = λ bounds. 1 }
+lower_request_row = counting (λ c. is_class class.Preemption c.class) (λ bounds. 1)
 
 -- Is it a column of requests of q from processor k?
 abbrev pub is_from : SetDef → ℕ → ℕ → ColumnDef → Bool
@@ -45,25 +38,16 @@ is_from set k q c = ((task_at set c.task).processor == k) && (c.resource == q)
 abbrev pub is_used_below : SetDef → ℕ → ℕ → Bool
 is_used_below set i q = any_below (length set.tasks) (λ x. is_lower_local set i x && is_user set q x)
 
--- How many requests of q can the higher tasks of i's processor make while a job of i runs?
-abbrev pub higher_requests : SetDef → (ℕ → ℕ) → ℕ → ℕ → ℕ
-higher_requests set bounds i q = sum_below i (λ h. only_if (have_one_processor set h i) (requests_in set bounds i h q))
-
 -- Spinning: each request of q from i's processor spins for at most one request of processor k, since that has one job in a request
 -- at a time. From i's processor come the job's own requests, those of higher tasks, and one of a lower task, which was open at its
 -- release.
 abbrev pub spinning_row : SetDef → ℕ → ℕ → ℕ → ConstraintDef
-spinning_row set i k q = record {
-  coefficient = λ c. flag (is_from set k q c && not (is_preemption c.class));
-  limit = λ bounds. count_of set i q + (higher_requests set bounds i q + flag (is_used_below set i q));
-}
+spinning_row set i k q = counting (λ c. is_from set k q c && not (is_class class.Preemption c.class)) (λ bounds.
+    count_of set i q + (requests_by_higher set bounds i (λ h. have_one_processor set h i) q + flag (is_used_below set i q)))
 
 -- Own spinning: each request of q by i itself spins for at most one request of processor k.
 abbrev pub own_spinning_row : SetDef → ℕ → ℕ → ℕ → ConstraintDef
-own_spinning_row set i k q = record {
-  coefficient = λ c. flag (is_from set k q c && is_direct c.class);
-  limit = λ bounds. count_of set i q;
-}
+own_spinning_row set i k q = counting (λ c. is_from set k q c && is_class class.Direct c.class) (λ bounds. count_of set i q)
 
 -- The rows that spin locks have of their own. No column is of requests from i's processor but by preemption, so a row of that
 -- processor isn't there.
@@ -75,10 +59,20 @@ spinning_rows set i = per_pair set.processors (length set.resources) (λ k q. sp
 abbrev pub spin_rows : SetDef → ℕ → List ConstraintDef
 spin_rows set i = common_rows set i ++ (lower_request_row ∷ spinning_rows set i)
 
--- The program of task i at bounds.
+-- The source of these programs for a set. A higher job interferes for up to its task's cost: its spin ticks are none of these.
+abbrev pub spin_source : SetDef → SourceDef
+spin_source set = source_with set (blocks_by_spinning set) (spin_rows set) (λ h. (task_at set h).cost)
+
+-- The columns, the program of task i at bounds, and what higher tasks of i's processor request while a job of i runs, as contracts name
+-- them.
+abbrev pub is_spin_column : SetDef → ℕ → ColumnDef → Bool
+is_spin_column set i = is_column_by (blocks_by_spinning set i) set i
+
+abbrev pub spin_columns : SetDef → ℕ → List ColumnDef
+spin_columns set i = columns_by (blocks_by_spinning set i) set i
+
 abbrev pub spin_program : SetDef → ℕ → List ℕ → ProgramDef
 spin_program set i bounds = program_with set (spin_columns set i) (spin_rows set i) bounds
 
--- The source of these programs for a set. A higher job interferes for up to its task's cost: its spin ticks are none of these.
-abbrev pub spin_source : SetDef → SourceDef
-spin_source set = record { set = set; program = spin_program set; interfering = λ h. (task_at set h).cost }
+abbrev pub higher_requests : SetDef → (ℕ → ℕ) → ℕ → ℕ → ℕ
+higher_requests set bounds i q = requests_by_higher set bounds i (λ h. have_one_processor set h i) q

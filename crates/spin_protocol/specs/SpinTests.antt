@@ -3,14 +3,12 @@ use Rattle.std.specs.Prelude.{ℕ, ◌==◌, ◌&&◌, ◌||◌, not, Bool, true
 use Rattle.schedule_model.specs.RowDef.{RowDef, running_on, holder_in}
 use Rattle.schedule_model.specs.declared.rule.Rule.{Rule}
 use Rattle.phase_machine.specs.MachineDef.{MachineDef, task_in}
-use Rattle.phase_machine.specs.Now.{phase_now}
 use Rattle.shared_rules.specs.RowTests.{processor_now, is_local_now, holds_now, may_run_now, each_current}
 use Rattle.shared_rules.specs.RowTests.{passes_run, passes_keep, passes_grant, first_of}
-use Rattle.spin_rules.specs.SpinRules.{is_request_phase}
 
 -- Is job j in a request, and with these holders, does it spin, if it is active?
 abbrev pub is_request_now : MachineDef → ℕ → Bool
-is_request_now m j = is_request_phase (phase_now m j)
+is_request_now m j = not (is_local_now m j)
 
 abbrev pub spins_now : MachineDef → (ℕ → Option ℕ) → ℕ → Bool
 spins_now m held j = is_request_now m j && not (holds_now m held j)

@@ -14,7 +14,7 @@ ghost use Rattle.spin_protocol.specs.SpinTests.{is_request_now, spins_now, is_qu
 ghost use Rattle.spin_protocol.specs.SpinTests.{passes_idle, may_run_beside, priority_passes, passes_priority, first_failed};
 
 use fmlp_rules::FmlpPlus;
-use phase_machine::{Machine, Phase};
+use phase_machine::Machine;
 use schedule_model::{JobId, Row, Rule};
 use shared_rules::judging::{holders_pass, passes_keep, passes_run, requests_pass};
 use shared_rules::lookup::{holds, is_local, may_run, processor_of, running_beside, task_of};
@@ -25,10 +25,7 @@ fn is_asking(machine: &Machine, j: JobId) -> bool
     requires { j.0 < length machine.now.list.jobs }
     ensures { result ≡ is_request_now machine.now j.0 }
 {
-    match machine.phase(j) {
-        Phase::Asking(_, _) => true,
-        _ => false,
-    }
+    !is_local(machine, j)
 }
 
 /// With these holders: does the job spin, if it is active?

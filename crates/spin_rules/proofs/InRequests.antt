@@ -3,12 +3,12 @@ use Rattle.std.proofs.Common.{◌≡◌, ℕ, ◌<◌, ◌==◌, ◌&&◌, not, 
 use Rattle.std.proofs.lemmas.Bool.{both_ways, and_parts, and_from, not-true, not_from_false, eq-eqb, eqb-true, false_from_ne_true}
 use Rattle.bounded_sums.proofs.TestLaws.{any_below-from, any_below-some}
 use Rattle.schedule_model.specs.RowDef.{Trace, holder_in}
-use Rattle.schedule_model.specs.Phase.{Phase, is_finished, phase_of}
+use Rattle.schedule_model.specs.Phase.{Phase, is_local, is_finished, phase_of}
 use Rattle.schedule_model.specs.Phase.Phase.{Local, Asking, Finished}
 use Rattle.schedule_model.specs.Activity.{processor_of, is_active, holds_by, is_active_local, is_ready_holder, is_ready}
 use Rattle.schedule_laws.proofs.ActiveJobs.{Active, active_is, active_listed, active_local_from}
 use Rattle.schedule_laws.proofs.Rows.{holds_true, holds_from, ready_local, ready_holding, ready_holder_from}
-use Rattle.spin_rules.specs.SpinRules.{is_request_phase, is_in_request, spins, has_spinner}
+use Rattle.spin_rules.specs.SpinRules.{is_in_request, spins, has_spinner}
 
 -- What it is to be in a request.
 pub record InRequest (w : Trace) (t j : ℕ) : Type 0 where
@@ -17,17 +17,18 @@ pub record InRequest (w : Trace) (t j : ℕ) : Type 0 where
   pub resource : ℕ
   pub phase : phase_of w t j ≡ Asking number resource
 
-request_phase : (p : Phase) → is_request_phase p ≡ true → (m : ℕ) × (q : ℕ) × (p ≡ Asking m q)
-request_phase (Asking m q) h = (m, q, refl)
-request_phase Local h = absurd (cc)
-request_phase Finished h = absurd (cc)
+request_phase : (p : Phase) → not (is_local p) ≡ true → is_finished p ≡ false → (m : ℕ) × (q : ℕ) × (p ≡ Asking m q)
+request_phase (Asking m q) h f = (m, q, refl)
+request_phase Local h f = absurd (cc)
+request_phase Finished h f = absurd (cc)
 
 -- A job in a request is active, and asks.
 pub in_request_is : (w : Trace) (t j : ℕ) → is_in_request w t j ≡ true → InRequest w t j
 unfolding is_in_request
 in_request_is w t j h =
-    let parts : (is_active w t j ≡ true) × (is_request_phase (phase_of w t j) ≡ true) = and_parts _ _ h in
-    let a : (m : ℕ) × (q : ℕ) × (phase_of w t j ≡ Asking m q) = request_phase (phase_of w t j) parts.1 in
+    let parts : (is_active w t j ≡ true) × (not (is_local (phase_of w t j)) ≡ true) = and_parts _ _ h in
+    let active : Active w t j = active_is w t j parts.0 in
+    let a : (m : ℕ) × (q : ℕ) × (phase_of w t j ≡ Asking m q) = request_phase (phase_of w t j) parts.1 active.unfinished in
     record { active = parts.0; number = a.0; resource = a.1; phase = a.2 }
 
 -- An active job that asks is in a request.

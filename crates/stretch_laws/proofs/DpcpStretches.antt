@@ -24,6 +24,7 @@ use Rattle.schedule_model.specs.SharedRules.{KeepsKeep}
 use Rattle.schedule_model.specs.DpcpRules.{home_of, ceiling_rank, is_at, has_request_at, has_requests, holds_at}
 use Rattle.schedule_model.specs.DpcpRules.{is_kept, waits_at, is_first_waiting, is_barred, is_granted, KeepsRun}
 use Rattle.schedule_model.specs.DpcpRules.{KeepsGrant, KeepsIdle, RunsFirstHolder, KeepsPriority}
+use Rattle.schedule_model.specs.Ranks.{by_task}
 use Rattle.schedule_model.specs.Protocols.{dpcp_rule}
 use Rattle.schedule_model.specs.Keeping.{KeepsRow}
 use Rattle.schedule_model.specs.Chosen.{IsDpcpChoice}
@@ -338,17 +339,27 @@ idle_again w t u a idle = record {
   locals = λ k e i b c. active_local_alike w t u i a ∙ idle.locals k (sym (running_alike w t u k a) ∙ e) i b c;
 }
 
-pub first_holder_again : (w : Trace) (t u k : ℕ) → IsAlike w t u → RunsFirstHolder w t k → RunsFirstHolder w u k
-first_holder_again w t u k a f = record {
+-- Does an order go on by the same number of a job that holds at a processor?
+abbrev pub HoldsAlike : (Trace → ℕ → ℕ → ℕ) → Trace → ℕ → ℕ → Type 0
+HoldsAlike rank w t u = (k j : ℕ) → holds_at w t k j ≡ true → rank w u j ≡ rank w t j
+
+first_holder_again : (rank : Trace → ℕ → ℕ → ℕ) (w : Trace) (t u k : ℕ) → IsAlike w t u → HoldsAlike rank w t u
+    → RunsFirstHolder rank w t k → RunsFirstHolder rank w u k
+first_holder_again rank w t u k a ranks f = record {
   runner = f.runner;
   runs = running_alike w t u k a ∙ f.runs;
   holds = holds_at_alike w t u k f.runner a ∙ f.holds;
-  first = λ i b h. f.first i b (sym (holds_at_alike w t u k i a) ∙ h);
-}
+  first = λ i b h. first i b h;
+} where
+  first : (i : ℕ) → i < length w.jobs → holds_at w u k i ≡ true → rank w u f.runner ≤ rank w u i
+  first i b h =
+      let old : holds_at w t k i ≡ true = sym (holds_at_alike w t u k i a) ∙ h in
+      omega (arith, f.first i b old, ranks k f.runner f.holds, ranks k i old)
 
-priority_again : (w : Trace) (t u : ℕ) → IsAlike w t u → KeepsPriority w t → KeepsPriority w u
-priority_again w t u a priority = record {
-  requests = λ k h. first_holder_again w t u k a (priority.requests k (sym (has_requests_alike w t u k a) ∙ h));
+pub priority_again : (rank : Trace → ℕ → ℕ → ℕ) (w : Trace) (t u : ℕ) → IsAlike w t u → HoldsAlike rank w t u
+    → KeepsPriority rank w t → KeepsPriority rank w u
+priority_again rank w t u a ranks priority = record {
+  requests = λ k h. first_holder_again rank w t u k a ranks (priority.requests k (sym (has_requests_alike w t u k a) ∙ h));
   locals = λ k r e none i b c h. priority.locals k r (sym (running_alike w t u k a) ∙ e)
       (sym (has_requests_alike w t u k a) ∙ none) i b c (sym (active_local_alike w t u i a) ∙ h);
 }
@@ -358,7 +369,7 @@ row_again w t u lawful a keeps rule.Run = run_again w t u a (keeps rule.Run)
 row_again w t u lawful a keeps rule.Keep = keep_again w t u a
 row_again w t u lawful a keeps rule.Grant = grant_again w t u lawful a (keeps rule.Keep) (keeps rule.Grant)
 row_again w t u lawful a keeps rule.Idle = idle_again w t u a (keeps rule.Idle)
-row_again w t u lawful a keeps rule.Priority = priority_again w t u a (keeps rule.Priority)
+row_again w t u lawful a keeps rule.Priority = priority_again by_task w t u a (λ k j h. refl) (keeps rule.Priority)
 
 choice_again : (w : Trace) (t u : ℕ) → AreLawfulJobs (jobs_of w) → IsAlike w t u → IsDpcpChoice w t → IsDpcpChoice w u
 choice_again w t u lawful a chosen = record { sized = sized_again w t u a chosen.sized; keeps = row_again w t u lawful a chosen.keeps }

@@ -8,7 +8,7 @@ ghost use Rattle.study_gen.specs.Tallies.{IsOutcome, tally_with, Adds, AddsSet, 
 
 use crate::parts::make_set;
 use response_fixpoint::{Stop, Verdict, analyse};
-use sporadic_model::{Parts, Protocol, TaskSet};
+use sporadic_model::{ModelRefusal, Parts, Protocol, TaskSet, refusals_are_exact};
 use std::alloc::{AllocError, Global};
 use std::thread::Threads;
 
@@ -115,9 +115,11 @@ fn set_of(alloc: Global, parts: Parts) -> Result<TaskSet, AllocError>
     requires { IsAccepted (parts_seen parts) }
     ensures { IfOk result (λ set. set ≡ parts_seen parts) }
 {
+    refusals_are_exact();
     match TaskSet::new(alloc, parts) {
         Ok(set) => Ok(set),
-        Err(_) => Err(AllocError),
+        Err(ModelRefusal::Memory) => Err(AllocError),
+        Err(_) => unreachable!(),
     }
 }
 

@@ -59,6 +59,7 @@ abbrev pub is_of_kind : Kind → Data → Bool
 is_of_kind kind.Text d = is_some (as_str d)
 is_of_kind kind.Whole d = is_some (whole d)
 is_of_kind kind.List d = is_some (as_array d)
+is_of_kind kind.Object d = is_some (as_object d)
 
 -- Does the value give the member as it must be: of its kind, or not at all where it may be absent?
 abbrev pub gives : Data → MemberDef → Bool

@@ -21,6 +21,8 @@ pub enum Kind {
     Whole,
     /// An array.
     List,
+    /// An object.
+    Object,
 }
 
 /// A member that objects of a form have.
@@ -63,6 +65,7 @@ fn is_of_kind(value: &Value, kind: Kind) -> bool
         Kind::Text => value.is_string(),
         Kind::Whole => value.is_u64(),
         Kind::List => value.is_array(),
+        Kind::Object => value.is_object(),
     }
 }
 

@@ -6,6 +6,8 @@ mod arrival_tests;
 #[cfg(test)]
 mod certificate_tests;
 #[cfg(test)]
+mod refusal_tests;
+#[cfg(test)]
 mod schedule_tests;
 #[cfg(test)]
 mod set_tests;

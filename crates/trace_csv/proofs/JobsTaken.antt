@@ -1,5 +1,5 @@
 -- One more line of a file of jobs.
-use Rattle.std.proofs.Common.{◌≡◌, ◌<◌, ◌+◌, ℕ, List, [], ◌∷◌, length, take, None, Some, Err, sym, ap, ◌∙◌}
+use Rattle.std.proofs.Common.{◌≡◌, ◌<◌, ◌+◌, ℕ, Bool, true, false, List, [], ◌∷◌, length, take, None, Some, Err, refl, sym, ap, ◌∙◌, arith}
 use Rattle.std.proofs.lemmas.List.{map-append, take_more}
 use Rattle.sporadic_model.specs.SetDef.{SetDef}
 use Rattle.schedule_model.specs.JobDef.{JobsDef}
@@ -7,7 +7,7 @@ use Rattle.schedule_model.specs.JobLists.{with_job}
 use Rattle.trace_csv.specs.Records.{Fields, line_at}
 use Rattle.trace_csv.specs.declared.refusal.JobsRefusal.{JobsRefusal}
 use Rattle.trace_csv.specs.declared.refusal.JobsRefusal.TheVariants as refusal
-use Rattle.trace_csv.specs.JobLines.{job_written, jobs_written, line_refusal, refusal_at}
+use Rattle.trace_csv.specs.JobLines.{completed, job_written, jobs_written, line_refusal, refusal_at}
 use Rattle.trace_csv.specs.JobAnswers.{LineTaken}
 use Rattle.trace_csv.specs.JobsFile.{IsFirstRefused, LinesRead}
 
@@ -56,3 +56,14 @@ lines_refused set lines i line before after (refusal.TooMany k) within at list e
 lines_refused set lines i line before after (refusal.Late k) within at list earlier taken =
     first_refused set lines i line before (refusal.Late k) within at list earlier taken
 lines_refused set lines i line before after refusal.Memory within at list earlier taken = tt
+
+-- A line of more fields than four is refused for its fields, with an arrival and without.
+pub long_refused : (before : JobsDef) (b : Bool) (line : Fields) (k : ℕ) → 4 < length line
+    → line_refusal before (completed b line) k ≡ Some (refusal.Fields k)
+long_refused before b [] k more = absurd (omega arith)
+long_refused before b (f1 ∷ []) k more = absurd (omega arith)
+long_refused before b (f1 ∷ f2 ∷ []) k more = absurd (omega arith)
+long_refused before b (f1 ∷ f2 ∷ f3 ∷ []) k more = absurd (omega arith)
+long_refused before b (f1 ∷ f2 ∷ f3 ∷ f4 ∷ []) k more = absurd (omega arith)
+long_refused before true (f1 ∷ f2 ∷ f3 ∷ f4 ∷ f5 ∷ line) k more = refl
+long_refused before false (f1 ∷ f2 ∷ f3 ∷ f4 ∷ f5 ∷ line) k more = refl

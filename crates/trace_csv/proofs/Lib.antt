@@ -1,10 +1,14 @@
 pub mod Fields
-pub mod Rests
 pub mod Sized
 pub mod Reading
+pub mod Stepping
+pub mod Lines
+pub mod Marks
+pub mod Quoting
 pub mod Examples
 pub mod Dividing
 pub mod Tokens
+pub mod Headers
 pub mod JobsTaken
 pub mod RowsTaken
 pub mod Runs

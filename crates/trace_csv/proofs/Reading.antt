@@ -1,11 +1,12 @@
--- The records that a reader gave one after another are the records of the text.
-use Rattle.std.proofs.Common.{◌≡◌, ◌<◌, ◌≤◌, ◌+◌, ◌++◌, ℕ, zero, suc, List, [], ◌∷◌, length, true, false, None, Some}
+-- The records of a text, one after another.
+use Rattle.std.proofs.Common.{◌≡◌, ◌<◌, ◌≤◌, ◌+◌, ◌++◌, ℕ, zero, suc, List, [], ◌∷◌, length, true, false, Option, None, Some}
 use Rattle.std.proofs.Common.{refl, sym, ap, ◌∙◌, arith, ◌==◌, inl, inr}
 use Rattle.std.proofs.lemmas.Bool.{cases_Bool, false≢true}
 use Rattle.csv.specs.Machine.{Read, next_record, step, is_end, ends_at_end, fields_after, field_after}
-use Rattle.csv.specs.Reading.{AreRecords, Reached, default_config, records, records_from}
+use Rattle.csv.specs.Reading.{default_config, records_from}
 use Rattle.csv.specs.declared.parser.State.{State}
 use Rattle.csv.specs.declared.parser.State.TheVariants as st
+use Rattle.trace_csv.specs.RecordAnswers.{record_next, records_left}
 
 -- After the byte that ends a record a reader stands between records.
 abbrev EndsBetween : State → ℕ → Type 0
@@ -115,26 +116,67 @@ takes s fields field (c ∷ rest) p e = elim (cases_Bool (is_end (step default_c
       record { between = more.between; some = λ stays. omega (arith, more.most); most = omega (arith, more.most) }
 ]
 
--- Between records each record takes a byte, so there are no more records than bytes.
-pub most_records : (s : State) (xs : List ℕ) (rows : List (List (List ℕ))) (t : State) (ys : List ℕ) → ends_at_end s ≡ false
-    → Reached default_config s xs rows t ys → length rows + length ys ≤ length xs
-unfolding Reached
-most_records s xs [] t ys between h = omega (arith, ap length h.1)
-most_records s xs (row ∷ rows) t ys between h =
-    let taken = takes s [] [] xs h.0 h.1 in
-    omega (arith, taken.some between, most_records h.0.1 h.0.2 rows t ys taken.between h.3)
+-- With turns enough the records from a state on are the same ones.
+same_next : (n m : ℕ) (s : State) (xs : List ℕ) (o : Option Read) → next_record default_config s [] [] xs ≡ o
+    → ((p : Read) → next_record default_config s [] [] xs ≡ Some p
+    → records_from default_config n p.1 p.2 ≡ records_from default_config m p.1 p.2)
+    → records_from default_config (suc n) s xs ≡ records_from default_config (suc m) s xs
+unfolding records_from
+same_next n m s xs None e more = rw e refl
+same_next n m s xs (Some p) e more = rw e (ap (λ (rest : List (List (List ℕ))). p.0 ∷ rest) (more p e))
 
--- All records of a text, read with turns enough.
-all_from : (n : ℕ) (s : State) (xs : List ℕ) (rows : List (List (List ℕ))) (t : State) (ys : List ℕ) → length rows < n
-    → Reached default_config s xs rows t ys → next_record default_config t [] [] ys ≡ None → records_from default_config n s xs ≡ rows
-unfolding Reached records_from
-all_from zero s xs rows t ys below h none = absurd (omega arith)
-all_from (suc n) s xs [] t ys below h none = rw (h.0, h.1, none) refl
-all_from (suc n) s xs (row ∷ rows) t ys below h none =
-    rw (h.1) (ap (λ (f : List (List ℕ)). f ∷ records_from default_config n h.0.1 h.0.2) (sym h.2)
-    ∙ ap (λ (more : List (List (List ℕ))). row ∷ more) (all_from n h.0.1 h.0.2 rows t ys (omega arith) h.3 none))
+enough : (n m : ℕ) (s : State) (xs : List ℕ) → ends_at_end s ≡ false → length xs < n → length xs < m
+    → records_from default_config n s xs ≡ records_from default_config m s xs
+enough zero m s xs between h k = absurd (omega arith)
+enough (suc n) zero s xs between h k = absurd (omega arith)
+enough (suc n) (suc m) s xs between h k = same_next n m s xs (next_record default_config s [] [] xs) refl (λ p e.
+    let taken = takes s [] [] xs p e in
+    enough n m p.1 p.2 taken.between (omega (arith, taken.some between)) (omega (arith, taken.some between)))
 
-pub records_are : (xs : List ℕ) (rows : List (List (List ℕ))) → AreRecords default_config st.StartRecord xs rows
-    → records default_config xs ≡ rows
-records_are xs rows h =
-    all_from (length xs + 1) st.StartRecord xs rows h.0 h.1 (omega (arith, most_records st.StartRecord xs rows h.0 h.1 refl h.2)) h.2 h.3
+-- The first record, and those behind it; or there is none.
+from_more : (n : ℕ) (s : State) (xs : List ℕ) (p : Read) → next_record default_config s [] [] xs ≡ Some p
+    → records_from default_config (suc n) s xs ≡ p.0 ∷ records_from default_config n p.1 p.2
+unfolding records_from
+from_more n s xs p e = rw e refl
+
+from_none : (n : ℕ) (s : State) (xs : List ℕ) → next_record default_config s [] [] xs ≡ None
+    → records_from default_config (suc n) s xs ≡ []
+unfolding records_from
+from_none n s xs e = rw e refl
+
+turns : (s : State) (xs : List ℕ) → records_left s xs ≡ records_from default_config (suc (length xs)) s xs
+turns s xs = ap (λ n. records_from default_config n s xs) (let more : length xs + 1 ≡ suc (length xs) = omega arith in more)
+
+pub left_more : (s : State) (xs : List ℕ) (p : Read) → ends_at_end s ≡ false → record_next s xs ≡ Some p
+    → records_left s xs ≡ p.0 ∷ records_left p.1 p.2
+left_more s xs p between e =
+    let taken = takes s [] [] xs p e in
+    turns s xs
+    ∙ from_more (length xs) s xs p e
+    ∙ ap (λ (more : List (List (List ℕ))). p.0 ∷ more)
+    (enough (length xs) (length p.2 + 1) p.1 p.2 taken.between (taken.some between) (omega arith))
+
+pub left_none : (s : State) (xs : List ℕ) → record_next s xs ≡ None → records_left s xs ≡ []
+left_none s xs e = turns s xs ∙ from_none (length xs) s xs e
+
+-- Behind a record a reader stands between records.
+pub left_between : (s : State) (xs : List ℕ) (p : Read) → record_next s xs ≡ Some p → ends_at_end p.1 ≡ false
+left_between s xs p e = (takes s [] [] xs p e).between
+
+-- There are no more records than bytes.
+few_next : (n : ℕ) (s : State) (xs : List ℕ) (o : Option Read) → next_record default_config s [] [] xs ≡ o
+    → ((p : Read) → next_record default_config s [] [] xs ≡ Some p
+    → length (records_from default_config n p.1 p.2) < length xs)
+    → length (records_from default_config (suc n) s xs) ≤ length xs
+few_next n s xs None e more = omega (arith, ap length (from_none n s xs e))
+few_next n s xs (Some p) e more = omega (arith, ap length (from_more n s xs p e), more p e)
+
+few_from : (n : ℕ) (s : State) (xs : List ℕ) → ends_at_end s ≡ false → length (records_from default_config n s xs) ≤ length xs
+unfolding records_from
+few_from zero s xs between = omega arith
+few_from (suc n) s xs between = few_next n s xs (next_record default_config s [] [] xs) refl (λ p e.
+    let taken = takes s [] [] xs p e in
+    omega (arith, taken.some between, few_from n p.1 p.2 taken.between))
+
+pub few_left : (s : State) (xs : List ℕ) → ends_at_end s ≡ false → length (records_left s xs) ≤ length xs
+few_left s xs between = few_from (length xs + 1) s xs between

@@ -9,7 +9,7 @@ use Rattle.std.proofs.lemmas.List.{length-append, length-map}
 use Rattle.std.proofs.lemmas.List.Sums.{sum_by_more_le}
 use Rattle.std.proofs.lemmas.List.Folds.{list_all-append}
 use Rattle.csv.specs.Machine.{next_record}
-use Rattle.csv.specs.Reading.{AreRecords, Reached, default_config, strip_bom}
+use Rattle.csv.specs.Reading.{strip_bom}
 use Rattle.csv.specs.Writing.{read_back}
 use Rattle.csv.specs.declared.parser.State.TheVariants as st
 use Rattle.csv.proofs.RoundTrip.{read-write}
@@ -26,19 +26,21 @@ use Rattle.trace_csv.specs.RowLines.{line_refusal, refusal_at}
 use Rattle.trace_csv.specs.declared.refusal.RowsRefusal.{RowsRefusal}
 use Rattle.trace_csv.specs.RowsFile.{rows_header, AreRowsRecords}
 use Rattle.trace_csv.specs.Written.{cell_of, line_of, text_of, rows_text}
-use Rattle.trace_csv.proofs.Reading.{records_are}
+use Rattle.trace_csv.specs.RecordAnswers.{record_next, records_left}
+use Rattle.trace_csv.proofs.Reading.{left_more, left_none}
 use Rattle.trace_csv.proofs.Decimals.{between_of_decimal, jobs_of_cells, cells_form, cells_listed}
 use Rattle.trace_csv.proofs.Runs.{none_due}
 
 -- Records that are written one after another are read as the same records.
-reached_text : (rows : List Fields) → Reached default_config st.StartRecord (text_of rows) (map read_back rows) st.StartRecord []
-unfolding Reached
-reached_text [] = (refl, refl)
-reached_text (row ∷ rows) = ((read_back row, st.StartRecord, text_of rows), read-write row (text_of rows), refl, reached_text rows)
-
-are_text : (rows : List Fields) → AreRecords default_config st.StartRecord (text_of rows) (map read_back rows)
+no_record : record_next st.StartRecord [] ≡ None
 unfolding next_record
-are_text rows = (st.StartRecord, [], reached_text rows, refl)
+no_record = refl
+
+text_back : (rows : List Fields) → records_left st.StartRecord (text_of rows) ≡ map read_back rows
+text_back [] = left_none st.StartRecord [] no_record
+text_back (row ∷ rows) =
+    left_more st.StartRecord (text_of (row ∷ rows)) (read_back row, st.StartRecord, text_of rows) refl (read-write row (text_of rows))
+    ∙ ap (λ (rest : List Fields). read_back row ∷ rest) (text_back rows)
 
 -- A line of a run, and the header, are read as they stand.
 lines_back : (runs : List RunDef) → map read_back (map line_of runs) ≡ map line_of runs
@@ -51,8 +53,7 @@ unmarked set runs = refl
 
 pub records_written : (set : SetDef) (runs : List RunDef) → records_in (rows_text set runs) ≡ rows_header set ∷ map line_of runs
 records_written set runs =
-    rw (unmarked set runs) (records_are (rows_text set runs) (map read_back (rows_header set ∷ map line_of runs))
-    (are_text (rows_header set ∷ map line_of runs)))
+    rw (unmarked set runs) (text_back (rows_header set ∷ map line_of runs))
     ∙ ap (λ (rest : List Fields). rows_header set ∷ rest) (lines_back runs)
 
 -- The first part of two lists together, and the other.

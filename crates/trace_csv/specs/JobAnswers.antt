@@ -5,7 +5,7 @@ use Rattle.std.specs.declared.vec.Vec.{Vec}
 use Rattle.std.specs.Global.{Global}
 use Rattle.sporadic_model.specs.SetDef.{SetDef}
 use Rattle.schedule_model.specs.JobDef.{JobDef, JobsDef}
-use Rattle.schedule_model.specs.LawfulJobs.{is_resource_in, are_resources_in}
+use Rattle.schedule_model.specs.LawfulJobs.{is_resource_in}
 use Rattle.schedule_model.specs.JobLists.{with_job}
 use Rattle.schedule_model.specs.Seen.{segment_seen, job_seen}
 use Rattle.schedule_model.specs.declared.job.Segment.{Segment}
@@ -30,7 +30,7 @@ SegmentOf (Some s) set part =
 abbrev pub SegmentsRead : Result (Vec Segment Global) SegmentFault → SetDef → List PartDef → Type 0
 SegmentsRead (Ok segments) set parts =
     (list_all (has_known_resource set) parts ≡ true) × (map segment_seen segments.items ≡ map (segment_written set) parts)
-    × (are_resources_in (length set.resources) (map segment_seen segments.items) ≡ true)
+    × (list_all (is_resource_in (length set.resources)) (map segment_seen segments.items) ≡ true)
 SegmentsRead (Err fault.Form) set parts = ⊥
 SegmentsRead (Err fault.UnknownName) set parts = list_all (has_known_resource set) parts ≡ false
 SegmentsRead (Err fault.Memory) set parts = Unit {0}
@@ -44,7 +44,7 @@ ScriptRead answer set text = (parts : List PartDef) × (script_in text ≡ Some 
 -- Are the job's task and its resources the set's?
 pub record IsOfSet (set : SetDef) (job : JobDef) : Type 0 where
   pub task : job.task < length set.tasks
-  pub resources : are_resources_in (length set.resources) job.script ≡ true
+  pub resources : list_all (is_resource_in (length set.resources)) job.script ≡ true
 
 -- The job that the line writes, or why it is refused for its form and names.
 abbrev pub FieldsRead : Result Job JobsRefusal → SetDef → List ℕ → List ℕ → List ℕ → List ℕ → ℕ → Type 0

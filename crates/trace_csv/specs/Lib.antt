@@ -1,4 +1,7 @@
 pub mod Records
+pub mod Places
+pub mod RecordAnswers
+pub mod RecordsView
 pub mod Scripts
 pub mod PartsSeen
 pub mod JobLines

@@ -1,5 +1,7 @@
 -- The records of a text in CSV, and the lines of a file that begins with a header.
-use Rattle.std.specs.Prelude.{ℕ, List, [], slice_index_or}
+use Rattle.std.specs.Prelude.{ℕ, List, [], map, slice_index_or}
+use Rattle.std.specs.declared.vec.Vec.{Vec}
+use Rattle.std.specs.Global.{Global}
 use Rattle.csv.specs.Reading.{default_config, records, strip_bom}
 
 -- A record: its fields, each the list of its bytes.
@@ -14,3 +16,7 @@ records_in bytes = records default_config (strip_bom bytes)
 -- Line i, counted from 0.
 abbrev pub line_at : List Fields → ℕ → Fields
 line_at lines i = slice_index_or lines i []
+
+-- The record whose fields these are.
+abbrev pub fields_seen : List (Vec ℕ Global) → Fields
+fields_seen fields = map (λ field. field.items) fields

@@ -1,10 +1,7 @@
 -- The text of rows in CSV.
-use Rattle.std.specs.Prelude.{◌≡◌, ◌≤◌, ℕ, ◌+◌, Bool, true, false, decimal, List, [], ◌∷◌, ◌++◌, map, length, Option, None, Some}
+use Rattle.std.specs.Prelude.{◌≡◌, ◌≤◌, ℕ, ◌+◌, Bool, true, decimal, List, [], ◌∷◌, ◌++◌, map, length, Option, None, Some, if◌then◌else◌}
 use Rattle.std.specs.List.{list_all}
-use Rattle.std.specs.declared.vec.Vec.{Vec}
-use Rattle.std.specs.Global.{Global}
-use Rattle.csv.specs.Writing.{default_writer, row_text, writer_setup, fields_written, has_written, text_written}
-use Rattle.csv.specs.declared.writer.Writer.{Writer}
+use Rattle.csv.specs.Writing.{default_writer, row_body, row_text, is_blank, quote_mark}
 use Rattle.sporadic_model.specs.SetDef.{SetDef}
 use Rattle.schedule_model.specs.RowDef.{RunDef}
 use Rattle.schedule_model.specs.JobDef.{JobsDef}
@@ -21,6 +18,10 @@ cell_of (Some j) = decimal (j + 1)
 -- The line of a run: its ticks, per processor the job that runs, per resource the job that holds it.
 abbrev pub line_of : RunDef → Fields
 line_of run = decimal run.ticks ∷ (map cell_of run.row.running ++ map cell_of run.row.holders)
+
+-- The text of a record up to the end of its line: two quotes where it would show no byte.
+abbrev pub body_text : Fields → List ℕ
+body_text fields = row_body default_writer fields ++ (if is_blank default_writer fields then quote_mark ∷ quote_mark ∷ [] else [])
 
 -- The text of records, each ended by a line feed, as `csv` writes it.
 abbrev pub text_of : List Fields → List ℕ
@@ -43,18 +44,3 @@ pub record ReadsBack (rows : RowsDef) (text : List ℕ) (jobs : JobsDef) : Type 
 abbrev pub ReadsBackIfFitting : SetDef → RowsDef → List ℕ → Type 0
 ReadsBackIfFitting set rows text =
     (jobs : JobsDef) → jobs.set ≡ set → length jobs.jobs ≤ MOST_JOBS → is_fitting rows jobs ≡ true → ReadsBack rows text jobs
-
--- A writer that stands between two records.
-pub record IsBetween (w : Writer (Vec ℕ Global)) : Type 0 where
-  pub setup : writer_setup w ≡ default_writer
-  pub fields : fields_written w ≡ 0
-  pub clean : has_written w ≡ false
-
--- The text that a writer holds.
-abbrev pub held : Writer (Vec ℕ Global) → Option (List ℕ)
-held w = text_written (λ v. Some v.items) w
-
--- The record stands at the end of the text, and the writer between two records.
-pub record IsPut (before after : Writer (Vec ℕ Global)) (fields : Fields) : Type 0 where
-  pub between : IsBetween after
-  pub text : (done : List ℕ) → held before ≡ Some done → held after ≡ Some (done ++ row_text default_writer fields)

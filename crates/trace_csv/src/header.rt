@@ -3,7 +3,7 @@ ghost use Rattle.std.specs.List.{range_with_len};
 ghost use Rattle.csv.specs.Records.{fields_of, partial_of};
 ghost use Rattle.trace_csv.specs.RowsFile.{processor_field, processor_fields, rows_header};
 
-use crate::table::fields_in;
+use crate::slices::fields_in;
 use csv::ByteRecord;
 use itoa::Buffer;
 use sporadic_model::{ResourceId, TaskSet};
@@ -52,16 +52,15 @@ pub(crate) fn rows_header(alloc: Global, set: &TaskSet) -> Result<ByteRecord, Al
     Ok(header)
 }
 
-/// Is the record the header of a file of rows?
+/// Are the fields the header of a file of rows?
 pub(crate) fn is_rows_header(
     alloc: Global,
     set: &TaskSet,
-    row: &ByteRecord,
+    fields: &[&[u8]],
 ) -> Result<bool, AllocError>
-    ensures { IfOk result (λ same. IsTrue same ↔ (fields_of row.now ≡ rows_header set.now)) }
+    ensures { IfOk result (λ same. IsTrue same ↔ (map (λ f. f.now) fields.now ≡ rows_header set.now)) }
 {
-    let fields = fields_in(alloc, row)?;
     let header = rows_header(alloc, set)?;
     let others = fields_in(alloc, &header)?;
-    Ok(are_same(&fields, &others))
+    Ok(are_same(fields, &others))
 }

@@ -1,19 +1,22 @@
-ghost use Rattle.std.specs.Prelude.{◌≡◌, ◌↔◌, false, map, IfOk, IsTrue};
-ghost use Rattle.csv.specs.Records.{fields_of};
+ghost use Rattle.std.specs.Prelude.{◌≡◌, ◌<◌, ◌^◌, ◌↔◌, false, length, map, IsTrue};
+ghost use Rattle.trace_csv.specs.Records.{fields_seen};
 ghost use Rattle.trace_csv.specs.PartsSeen.{part_seen};
 ghost use Rattle.trace_csv.specs.JobLines.{at_line, completed};
 ghost use Rattle.trace_csv.specs.JobsFile.{jobs_header, arrivals_header, IsJobsFile, LinesRead, RecordsRead, JobsRead, IsUnrefused};
 ghost use Rattle.trace_csv.specs.JobAnswers.{SegmentOf, SegmentsRead, ScriptRead, FieldsRead, LineRead, LineTaken};
 
 use crate::header::are_same;
+use crate::records::{Next, Records};
 use crate::refusal::JobsRefusal;
 use crate::script::{Part, Request, ScriptFault, parts_in};
-use crate::table::{fields_in, records_of};
-use csv::ByteRecord;
+use crate::slices::slices_of;
 use schedule_model::{Job, JobList, JobRefusal, Segment};
 use sporadic_model::{MOST_TICKS, ResourceId, TaskId, TaskSet};
-use std::alloc::{AllocError, AllocFailed, Global};
+use std::alloc::{AllocFailed, Global};
 use text_pieces::number_between;
+
+/// The fields of a line with an arrival: no line has more.
+const MOST_FIELDS: usize = 4;
 
 /// Why a script is not read as segments.
 #[derive(Clone, Copy, Debug, PartialEq, Eq)]
@@ -152,12 +155,12 @@ fn job_of(
     alloc: Global,
     set: &TaskSet,
     has_arrivals: bool,
-    row: &ByteRecord,
+    fields: &[Vec<u8>],
     line: u64,
 ) -> Result<Job, JobsRefusal>
-    ensures { LineRead result set.now (completed has_arrivals (fields_of row.now)) line }
+    ensures { LineRead result set.now (completed has_arrivals (fields_seen fields.now)) line }
 {
-    let fields = fields_in(alloc, row)?;
+    let fields = slices_of(alloc, fields)?;
     if has_arrivals {
         job_with_arrival(alloc, set, &fields, line)
     } else {
@@ -184,71 +187,78 @@ fn take_line(
     jobs: &mut JobList,
     alloc: Global,
     has_arrivals: bool,
-    row: &ByteRecord,
+    fields: &[Vec<u8>],
     line: u64,
 ) -> Result<(), JobsRefusal>
-    ensures { LineTaken result jobs.old jobs.new (completed has_arrivals (fields_of row.now)) line }
+    ensures { LineTaken result jobs.old jobs.new (completed has_arrivals (fields_seen fields.now)) line }
 {
-    let job = job_of(alloc, jobs.set(), has_arrivals, row, line)?;
+    let job = job_of(alloc, jobs.set(), has_arrivals, fields, line)?;
     match jobs.push(job) {
         Ok(()) => Ok(()),
         Err(refusal) => Err(refused_at(line, refusal)),
     }
 }
 
-/// The jobs that lines write, or the first line that is refused.
+/// The jobs that lines write, or the first line that is refused, behind which nothing is read.
 fn jobs_of<'a>(
     alloc: Global,
     set: &'a TaskSet,
     has_arrivals: bool,
-    lines: &[ByteRecord],
+    mut lines: Records,
 ) -> Result<JobList<'a>, JobsRefusal>
-    ensures { LinesRead result set.now (map (completed has_arrivals) (map fields_of lines.now)) }
+    requires { length lines < 2 ^ 64 }
+    ensures { LinesRead result set.now (map (completed has_arrivals) lines.entry) }
 {
     let mut jobs = JobList::new(alloc, set);
-    for (i, row) in lines.iter().enumerate() {
-        match take_line(&mut jobs, alloc, has_arrivals, row, i as u64 + 1) {
+    let mut line = 0;
+    'lines: loop {
+        let fields = match lines.next(alloc, MOST_FIELDS)? {
+            Next::Record(fields) => fields,
+            Next::Long => return Err(JobsRefusal::Fields(line + 1)),
+            Next::End => return Ok(jobs),
+        };
+        line += 1;
+        match take_line(&mut jobs, alloc, has_arrivals, &fields, line) {
             Ok(()) => {}
             Err(refusal) => return Err(refusal),
         }
     }
-    Ok(jobs)
 }
 
-/// Is the record the header of a file of jobs without arrivals?
-fn is_jobs_header(alloc: Global, row: &ByteRecord) -> Result<bool, AllocError>
-    ensures { IfOk result (λ same. IsTrue same ↔ (fields_of row.now ≡ jobs_header)) }
+/// Are the fields the header of a file of jobs without arrivals?
+fn is_jobs_header(fields: &[&[u8]]) -> bool
+    ensures { IsTrue result ↔ (map (λ f. f.now) fields.now ≡ jobs_header) }
 {
-    let fields = fields_in(alloc, row)?;
     let header: [&[u8]; 3] = [b"task", b"release", b"script"];
-    Ok(are_same(&fields, &header))
+    are_same(fields, &header)
 }
 
-/// Is the record the header of a file of jobs with arrivals?
-fn is_arrivals_header(alloc: Global, row: &ByteRecord) -> Result<bool, AllocError>
-    ensures { IfOk result (λ same. IsTrue same ↔ (fields_of row.now ≡ arrivals_header)) }
+/// Are the fields the header of a file of jobs with arrivals?
+fn is_arrivals_header(fields: &[&[u8]]) -> bool
+    ensures { IsTrue result ↔ (map (λ f. f.now) fields.now ≡ arrivals_header) }
 {
-    let fields = fields_in(alloc, row)?;
     let header: [&[u8]; 4] = [b"task", b"arrival", b"release", b"script"];
-    Ok(are_same(&fields, &header))
+    are_same(fields, &header)
 }
 
 /// The jobs that a file's records write, or why it is refused.
 fn jobs_under_header<'a>(
     alloc: Global,
     set: &'a TaskSet,
-    rows: &[ByteRecord],
+    mut records: Records,
 ) -> Result<JobList<'a>, JobsRefusal>
-    ensures { RecordsRead result set.now (map fields_of rows.now) }
+    requires { length records < 2 ^ 64 }
+    ensures { RecordsRead result set.now records.entry }
 {
-    let [header, lines @ ..] = rows else {
+    let Next::Record(header) = records.next(alloc, MOST_FIELDS)? else {
         return Err(JobsRefusal::Fields(0));
     };
-    let has_arrivals = is_arrivals_header(alloc, header)?;
-    if !has_arrivals && !is_jobs_header(alloc, header)? {
+    let header = slices_of(alloc, &header)?;
+    let has_arrivals = is_arrivals_header(&header);
+    if !has_arrivals && !is_jobs_header(&header) {
         return Err(JobsRefusal::Fields(0));
     }
-    jobs_of(alloc, set, has_arrivals, lines)
+    jobs_of(alloc, set, has_arrivals, records)
 }
 
 /// Reads jobs of a task set from CSV: the header `task,arrival,release,script`, and then a line for each job,
@@ -265,6 +275,5 @@ pub fn read_jobs<'a>(
     ensures read { JobsRead result set.now bytes.now }
     ensures accepts { IsJobsFile set.now bytes.now → IsUnrefused result }
 {
-    let rows = records_of(alloc, bytes)?;
-    jobs_under_header(alloc, set, &rows)
+    jobs_under_header(alloc, set, Records::new(bytes))
 }

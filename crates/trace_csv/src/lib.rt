@@ -1,12 +1,14 @@
 //! Jobs and rows in CSV: reading them with the number of the first line that is refused, and writing rows.
 #![tactic(auto)]
 
+mod bytes;
 mod header;
 mod jobs;
+mod records;
 mod refusal;
 mod rows;
 mod script;
-mod table;
+mod slices;
 mod writing;
 
 pub use jobs::read_jobs;

@@ -1,15 +1,15 @@
-ghost use Rattle.std.specs.Prelude.{◌≡◌, ◌≤◌, map, length, IfOk};
+ghost use Rattle.std.specs.Prelude.{◌≡◌, ◌<◌, ◌≤◌, ◌+◌, ◌^◌, map, length, IfOk};
 ghost use Rattle.std.specs.List.{list_all};
-ghost use Rattle.csv.specs.Records.{fields_of};
 ghost use Rattle.schedule_model.specs.Seen.{place_seen, row_seen};
-ghost use Rattle.trace_csv.specs.RowLines.{is_cell, is_listed, job_in, row_of_cells};
+ghost use Rattle.trace_csv.specs.Records.{fields_seen};
+ghost use Rattle.trace_csv.specs.RowLines.{is_cell, is_listed, job_in, row_of_cells, processor_count, resource_count};
 ghost use Rattle.trace_csv.specs.RowsFile.{IsRowsFile, LinesRead, RecordsRead, RowsRead, IsUnrefused};
 ghost use Rattle.trace_csv.specs.RowAnswers.{CellsRead, LineRead, LineTaken, at_line, IsMade};
 
 use crate::header::is_rows_header;
+use crate::records::{Next, Records};
 use crate::refusal::RowsRefusal;
-use crate::table::{fields_in, records_of};
-use csv::ByteRecord;
+use crate::slices::slices_of;
 use schedule_model::{JobId, JobList, Row, RowList, RowRefusal, RowRun};
 use sporadic_model::MOST_TICKS;
 use std::alloc::{AllocError, Global};
@@ -69,7 +69,7 @@ fn are_listed(cells: &[&[u8]], jobs: u32) -> bool
 fn places_of(alloc: Global, cells: &[&[u8]], jobs: u32) -> Result<Vec<Option<JobId>>, AllocError>
     ensures { IfOk result (λ places. map place_seen places.items ≡ map (job_in jobs) (map (λ c. c.now) cells.now)) }
 {
-    let mut places = Vec::new(alloc);
+    let mut places = Vec::with_capacity(alloc, cells.len())?;
     for cell in cells {
         places.push(job_in(cell, jobs))?;
     }
@@ -114,10 +114,15 @@ fn run_of_cells(
 }
 
 /// The run that a line writes, or why the line, which has this number, is refused for what stands on it.
-fn run_of(alloc: Global, jobs: &JobList, row: &ByteRecord, line: u64) -> Result<RowRun, RowsRefusal>
-    ensures { LineRead result jobs.now (fields_of row.now) line }
+fn run_of(
+    alloc: Global,
+    jobs: &JobList,
+    fields: &[Vec<u8>],
+    line: u64,
+) -> Result<RowRun, RowsRefusal>
+    ensures { LineRead result jobs.now (fields_seen fields.now) line }
 {
-    let fields = fields_in(alloc, row)?;
+    let fields = slices_of(alloc, fields)?;
     match fields.as_slice() {
         [ticks, cells @ ..] => run_of_cells(alloc, jobs, ticks, cells, line),
         [] => Err(RowsRefusal::Fields(line)),
@@ -141,45 +146,67 @@ fn take_line(
     rows: &mut RowList,
     alloc: Global,
     jobs: &JobList,
-    row: &ByteRecord,
+    fields: &[Vec<u8>],
     line: u64,
 ) -> Result<(), RowsRefusal>
     requires { IsMade rows.old jobs.now }
-    ensures { LineTaken result jobs.now rows.old rows.new (fields_of row.now) line }
+    ensures { LineTaken result jobs.now rows.old rows.new (fields_seen fields.now) line }
 {
-    let run = run_of(alloc, jobs, row, line)?;
+    let run = run_of(alloc, jobs, fields, line)?;
     match rows.push(run) {
         Ok(()) => Ok(()),
         Err(refusal) => Err(refused_at(line, refusal)),
     }
 }
 
-/// The runs that lines write, or the first line that is refused.
-fn rows_of(alloc: Global, jobs: &JobList, lines: &[ByteRecord]) -> Result<RowList, RowsRefusal>
-    ensures { LinesRead result jobs.now (map fields_of lines.now) }
+/// How many fields a line has: the ticks, one per processor and one per resource.
+fn fields_per_line(jobs: &JobList) -> usize
+    ensures { result ≡ 1 + (processor_count jobs.now + resource_count jobs.now) }
 {
+    1 + (jobs.set().processors() as usize + jobs.set().resources() as usize)
+}
+
+/// The runs that lines write, or the first line that is refused, behind which nothing is read.
+fn rows_of(alloc: Global, jobs: &JobList, mut lines: Records) -> Result<RowList, RowsRefusal>
+    requires { length lines < 2 ^ 64 }
+    ensures { LinesRead result jobs.now lines.entry }
+{
+    let most = fields_per_line(jobs);
     let mut rows = RowList::new(alloc, jobs);
-    for (i, row) in lines.iter().enumerate() {
-        take_line(&mut rows, alloc, jobs, row, i as u64 + 1)?;
+    let mut line = 0;
+    'lines: loop {
+        let fields = match lines.next(alloc, most)? {
+            Next::Record(fields) => fields,
+            Next::Long => return Err(RowsRefusal::Fields(line + 1)),
+            Next::End => return Ok(rows),
+        };
+        line += 1;
+        match take_line(&mut rows, alloc, jobs, &fields, line) {
+            Ok(()) => {}
+            Err(refusal) => return Err(refusal),
+        }
     }
-    Ok(rows)
 }
 
 /// The rows that a file's records write, or why it is refused.
 fn rows_under_header(
     alloc: Global,
     jobs: &JobList,
-    records: &[ByteRecord],
+    mut records: Records,
 ) -> Result<RowList, RowsRefusal>
-    ensures { RecordsRead result jobs.now (map fields_of records.now) }
+    requires { length records < 2 ^ 64 }
+    ensures { RecordsRead result jobs.now records.entry }
 {
-    let [header, lines @ ..] = records else {
-        return Err(RowsRefusal::Fields(0));
+    let header = match records.next(alloc, fields_per_line(jobs))? {
+        Next::Record(header) => header,
+        Next::Long => return Err(RowsRefusal::Fields(0)),
+        Next::End => return Err(RowsRefusal::Fields(0)),
     };
-    if !is_rows_header(alloc, jobs.set(), header)? {
+    let header = slices_of(alloc, &header)?;
+    if !is_rows_header(alloc, jobs.set(), &header)? {
         return Err(RowsRefusal::Fields(0));
     }
-    rows_of(alloc, jobs, lines)
+    rows_of(alloc, jobs, records)
 }
 
 /// Reads rows of jobs from CSV: the header, and then a line for each run of equal rows, with its number of
@@ -191,6 +218,5 @@ pub fn read_rows(alloc: Global, jobs: &JobList, bytes: &[u8]) -> Result<RowList,
     ensures read { RowsRead result jobs.now bytes.now }
     ensures accepts { IsRowsFile jobs.now bytes.now → IsUnrefused result }
 {
-    let records = records_of(alloc, bytes)?;
-    rows_under_header(alloc, jobs, &records)
+    rows_under_header(alloc, jobs, Records::new(bytes))
 }

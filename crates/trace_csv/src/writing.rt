@@ -1,11 +1,13 @@
 ghost use Rattle.std.specs.Prelude.{◌≡◌, ◌≤◌, ◌++◌, ◌∷◌, [], map, length, IfOk, OnOk, IsTrue};
 ghost use Rattle.csv.specs.Records.{fields_of, partial_of};
+ghost use Rattle.csv.specs.Writing.{default_writer, needs_byte, needs_quotes, quoted, field_text, fields_text, row_text};
 ghost use Rattle.schedule_model.specs.Fitting.{IsRowList};
 ghost use Rattle.schedule_model.specs.Seen.{place_seen, run_seen};
-ghost use Rattle.trace_csv.specs.Written.{cell_of, line_of, rows_text, are_sized, IsBetween, IsPut, ReadsBackIfFitting};
+ghost use Rattle.trace_csv.specs.Written.{cell_of, line_of, body_text, rows_text, are_sized, ReadsBackIfFitting};
 
 use crate::header::rows_header;
-use csv::{ByteRecord, Writer, WriterBuilder};
+use crate::slices::fields_in;
+use csv::ByteRecord;
 use itoa::Buffer;
 use schedule_model::{JobId, RowList, RowRun};
 use sporadic_model::TaskSet;
@@ -50,15 +52,80 @@ fn line_of(alloc: Global, run: &RowRun) -> Result<ByteRecord, AllocError>
     Ok(row)
 }
 
-/// Writes a record at the end of the text.
-fn put(writer: &mut Writer<Vec<u8>>, row: &ByteRecord) -> Result<(), AllocError>
-    requires { IsBetween writer.old }
-    ensures { OnOk result (IsPut writer.old writer.new (fields_of row.now)) }
+/// Does the byte put its field between quotes?
+fn is_special(byte: u8) -> bool
+    ensures { result ≡ needs_byte default_writer byte }
 {
-    match writer.write_byte_record(row) {
-        Ok(()) => Ok(()),
-        Err(_) => Err(AllocError),
+    byte == b',' || byte == b'"' || byte == b'\r' || byte == b'\n'
+}
+
+/// Does the field need quotes?
+fn needs_quotes(field: &[u8]) -> bool
+    ensures { result ≡ needs_quotes default_writer field.now }
+{
+    field.iter().any(|byte| is_special(*byte))
+}
+
+/// Adds a field between quotes, each quote in it twice.
+fn push_quoted(text: &mut Vec<u8>, field: &[u8]) -> Result<(), AllocError>
+    ensures { OnOk result (text.new.items ≡ text.old.items ++ quoted default_writer field.now) }
+{
+    text.push(b'"')?;
+    for byte in field {
+        if *byte == b'"' {
+            text.push(b'"')?;
+        }
+        text.push(*byte)?;
     }
+    text.push(b'"')?;
+    Ok(())
+}
+
+/// Adds a field, between quotes where it needs them.
+fn push_field(text: &mut Vec<u8>, field: &[u8]) -> Result<(), AllocError>
+    ensures { OnOk result (text.new.items ≡ text.old.items ++ field_text default_writer field.now) }
+{
+    if needs_quotes(field) {
+        push_quoted(text, field)
+    } else {
+        text.extend_from_slice(field)
+    }
+}
+
+/// Adds fields, each behind a comma.
+fn push_fields(text: &mut Vec<u8>, fields: &[&[u8]]) -> Result<(), AllocError>
+    ensures { OnOk result (text.new.items
+        ≡ text.old.items ++ fields_text default_writer (map (λ f. f.now) fields.now)) }
+{
+    for field in fields {
+        text.push(b',')?;
+        push_field(text, field)?;
+    }
+    Ok(())
+}
+
+/// Adds the fields of a record, with a comma between two. One empty field is two quotes, and so is none.
+fn push_body(text: &mut Vec<u8>, fields: &[&[u8]]) -> Result<(), AllocError>
+    ensures { OnOk result (text.new.items ≡ text.old.items ++ body_text (map (λ f. f.now) fields.now)) }
+{
+    let [first, rest @ ..] = fields else {
+        return push_quoted(text, b"");
+    };
+    if first.is_empty() && rest.is_empty() {
+        return push_quoted(text, b"");
+    }
+    push_field(text, first)?;
+    push_fields(text, rest)
+}
+
+/// Adds a record and the end of its line.
+fn push_record(alloc: Global, text: &mut Vec<u8>, row: &ByteRecord) -> Result<(), AllocError>
+    ensures { OnOk result (text.new.items ≡ text.old.items ++ row_text default_writer (fields_of row.now)) }
+{
+    let fields = fields_in(alloc, row)?;
+    push_body(text, &fields)?;
+    text.push(b'\n')?;
+    Ok(())
 }
 
 /// The text of rows of a task set.
@@ -67,15 +134,12 @@ fn text_of_rows(alloc: Global, set: &TaskSet, rows: &RowList) -> Result<Vec<u8>,
     ensures text { IfOk result (λ text. text.items ≡ rows_text set.now rows.now.runs) }
     ensures listed { OnOk result (IsRowList rows.now) }
 {
-    let mut writer = WriterBuilder::new().from_writer(Vec::new(alloc));
-    put(&mut writer, &rows_header(alloc, set)?)?;
+    let mut text = Vec::new(alloc);
+    push_record(alloc, &mut text, &rows_header(alloc, set)?)?;
     for run in rows.runs() {
-        put(&mut writer, &line_of(alloc, run)?)?;
+        push_record(alloc, &mut text, &line_of(alloc, run)?)?;
     }
-    match writer.into_inner() {
-        Ok(text) => Ok(text),
-        Err(_) => Err(AllocError),
-    }
+    Ok(text)
 }
 
 /// Writes rows of a task set as CSV: the header, and a line for each run, each ended by one line feed.

@@ -17,6 +17,7 @@ use Rattle.schedule_model.specs.DpcpRules.{home_of}
 use Rattle.schedule_model.specs.Protocols.{dpcp_rule}
 use Rattle.schedule_model.specs.Keeping.{KeepsBefore}
 use Rattle.schedule_laws.proofs.ActiveJobs.{active_listed}
+use Rattle.schedule_laws.proofs.DpcpLaws.{dpcp_runs_active}
 use Rattle.schedule_laws.proofs.Holders.{open_active}
 use Rattle.schedule_laws.proofs.Issues.{issue_at_most, open_at_issue}
 use Rattle.schedule_laws.proofs.Segments.{open_listed}
@@ -24,7 +25,7 @@ use Rattle.charge_model.specs.Windows.{EndedBy}
 use Rattle.row_laws.proofs.Joined.{periods_from}
 use Rattle.window_laws.specs.Windows.{ticks_by, ticks_there, is_enough, window_of}
 use Rattle.window_laws.proofs.Rising.{enough_is}
-use Rattle.window_laws.proofs.OpenRequests.{Open, runs_active, is_by, span_parts}
+use Rattle.window_laws.proofs.OpenRequests.{Open, is_by, span_parts}
 use Rattle.window_laws.proofs.OwnTicks.{own_ticks}
 use Rattle.window_laws.proofs.LowerTicks.{lower_ticks}
 use Rattle.window_laws.proofs.HigherTicks.{higher_ticks}
@@ -73,7 +74,8 @@ open_since_issue w bound n t j m q b accepted lawful keeps l here ended window =
       ended = ended;
       order = issue_at_most w t j;
       within = l;
-      active = open_active w n (issue_tick_of w t j) j m q (runs_active w n keeps) (omega (arith, l, issue_at_most w t j)) job.script issued;
+      active = open_active w n (issue_tick_of w t j) j m q (dpcp_runs_active w n keeps) (omega (arith, l, issue_at_most w t j))
+          job.script issued;
       early = issued;
       late = here;
     })

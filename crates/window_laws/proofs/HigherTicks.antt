@@ -1,77 +1,32 @@
 -- While a request is open few jobs of a higher task run at its home, each for as long as its requests there may last.
 use Rattle.std.proofs.Common.{◌≡◌, ℕ, ◌+◌, ◌*◌, ◌<◌, ◌≤◌, ◌==◌, ◌&&◌, Bool, true, false, length, refl, sym, ap, ◌∙◌, arith, inl, inr}
-use Rattle.std.proofs.Common.{nat_lt, Some}
+use Rattle.std.proofs.Common.{Some}
 use Rattle.std.specs.Option.{option_map_or}
 use Rattle.std.proofs.Math.Nat.{mul-le-mul_right}
-use Rattle.std.proofs.lemmas.Bool.{cases_lt, cases_Bool, and_parts, and_from, eq-eqb, eqb-true, lt-ltb, ltb-true}
+use Rattle.std.proofs.lemmas.Bool.{cases_lt, cases_Bool, and_from, eq-eqb, eqb-true}
 use Rattle.bounded_sums.specs.Sums.{sum_below, flag, only_if}
 use Rattle.bounded_sums.specs.Tests.{count_below}
 use Rattle.bounded_sums.proofs.SumLaws.{sum_below-monotone, sum_below-swap, sum_below-term, sum_below-zero}
 use Rattle.bounded_sums.proofs.CountLaws.{count_below-split}
-use Rattle.sporadic_model.specs.SetDef.{task_at, jobs_within}
 use Rattle.sporadic_model.specs.Users.{count_of, length_of}
 use Rattle.sporadic_model.specs.Homes.{home_in}
 use Rattle.schedule_model.specs.JobDef.{job_of, number_of_requests}
 use Rattle.schedule_model.specs.LawfulJobs.{IsLawfulJob}
-use Rattle.schedule_model.specs.RowDef.{Trace, jobs_of, running_on, runs_in}
+use Rattle.schedule_model.specs.RowDef.{Trace, running_on, runs_in}
 use Rattle.schedule_model.specs.Phase.{is_asking, phase_of}
 use Rattle.schedule_model.specs.Activity.{task_of}
 use Rattle.schedule_model.specs.DpcpRules.{home_of}
 use Rattle.schedule_laws.specs.Counting.{executed_in}
-use Rattle.schedule_laws.proofs.ActiveJobs.{Active, active_is, active_listed}
+use Rattle.schedule_laws.proofs.ActiveJobs.{active_listed}
 use Rattle.schedule_laws.proofs.Counts.{asking_at_most}
 use Rattle.schedule_laws.proofs.Rows.{runs_from}
 use Rattle.schedule_laws.proofs.Segments.{open_resource}
-use Rattle.schedule_laws.proofs.Spacing.{arrived_within}
 use Rattle.schedule_laws.proofs.Ticks.{asking_is}
-use Rattle.charge_model.specs.Windows.{bound_end}
 use Rattle.charge_laws.proofs.DpcpCharging.{RunsRequest}
-use Rattle.charge_laws.proofs.Windows.{active_after}
-use Rattle.row_laws.proofs.Brings.{only_if-parts, sum_below-passing}
+use Rattle.row_laws.proofs.Brings.{only_if-parts}
+use Rattle.row_laws.proofs.JobRows.{ActiveIn, paid_in_span}
 use Rattle.window_laws.specs.Windows.{time_at, ticks_by}
-use Rattle.window_laws.proofs.OpenRequests.{Open, request_runs, is_by, by_is, RunBy}
-
--- Is y a listed job of x that is released less than its bound before tick u, or later, and before tick e?
-abbrev pub is_there : Trace → (ℕ → ℕ) → ℕ → ℕ → ℕ → ℕ → Bool
-is_there w bound u e x y =
-    (nat_lt y (length w.jobs) && (task_of w y == x)) && (nat_lt u (bound_end w bound y) && nat_lt (job_of w.jobs y).release e)
-
-pub record There (w : Trace) (bound : ℕ → ℕ) (u e x y : ℕ) : Type 0 where
-  pub listed : y < length w.jobs
-  pub task : task_of w y ≡ x
-  pub after : u < bound_end w bound y
-  pub before : (job_of w.jobs y).release < e
-
-pub there_is : (w : Trace) (bound : ℕ → ℕ) (u e x y : ℕ) → is_there w bound u e x y ≡ true → There w bound u e x y
-there_is w bound u e x y h =
-    let parts : ((nat_lt y (length w.jobs) && (task_of w y == x)) ≡ true) × _ = and_parts _ _ h in
-    let own : (nat_lt y (length w.jobs) ≡ true) × ((task_of w y == x) ≡ true) = and_parts _ _ parts.0 in
-    let rest : (nat_lt u (bound_end w bound y) ≡ true) × (nat_lt (job_of w.jobs y).release e ≡ true) = and_parts _ _ parts.1 in
-    record {
-      listed = ltb-true _ _ own.0;
-      task = eqb-true _ _ own.1;
-      after = ltb-true _ _ rest.0;
-      before = ltb-true _ _ rest.1;
-    }
-
--- So many jobs of x are there at most.
-pub there_jobs : (w : Trace) (bound : ℕ → ℕ) (n u v j m q span x : ℕ) → Open w bound n u v j m q → x < length w.set.tasks
-    → count_below (length w.jobs) (is_there w bound u (u + span) x)
-    ≤ jobs_within span (bound x + (task_at w.set x).jitter) (task_at w.set x).period
-there_jobs w bound n u v j m q span x stays l =
-    arrived_within (jobs_of w) x (length w.jobs) u span (bound x + (task_at w.set x).jitter) (is_there w bound u (u + span) x)
-    stays.lawful (stays.periods x l) (omega arith)
-    (λ y h. let a : There w bound u (u + span) x y = there_is w bound u (u + span) x y h in a.task)
-    (λ y h.
-    let a : There w bound u (u + span) x y = there_is w bound u (u + span) x y h in
-    let job : IsLawfulJob w.set (job_of w.jobs y) = stays.lawful.each y a.listed in
-    let late : (job_of w.jobs y).release ≤ (job_of w.jobs y).arrival + (task_at w.set x).jitter = rw a.task at job.in_time in
-    let same : bound (task_of w y) ≡ bound x = ap bound a.task in
-    omega (arith, a.after, late))
-    (λ y h.
-    let a : There w bound u (u + span) x y = there_is w bound u (u + span) x y h in
-    let job : IsLawfulJob w.set (job_of w.jobs y) = stays.lawful.each y a.listed in
-    omega (arith, a.before, job.arrived))
+use Rattle.window_laws.proofs.OpenRequests.{Open, request_runs, is_by, by_is, RunBy, flag_passes}
 
 -- The job that runs on the processor; 0 where none does.
 abbrev runner_of : Trace → ℕ → ℕ → ℕ
@@ -88,12 +43,8 @@ job_term w bound n u v j m q x y t stays a b =
       | inl some ↦
           let parts : ((runner_of w (home_of w q) t == y) ≡ true) × (0 < flag (is_by w (home_of w q) x t)) =
           only_if-parts (runner_of w (home_of w q) t == y) (flag (is_by w (home_of w q) x t)) some in
-          go (eqb-true (runner_of w (home_of w q) t) y parts.0) (passes (is_by w (home_of w q) x t) parts.1)
+          go (eqb-true (runner_of w (home_of w q) t) y parts.0) (flag_passes (is_by w (home_of w q) x t) parts.1)
     ] where
-      passes : (c : Bool) → 0 < flag c → c ≡ true
-      passes true h = refl
-      passes false h = absurd (omega arith)
-
       one : (c d : Bool) → only_if c (flag d) ≤ 1
       one true true = omega arith
       one true false = omega arith
@@ -170,36 +121,15 @@ pub higher_ticks : (w : Trace) (bound : ℕ → ℕ) (n u v j m q span x : ℕ) 
     → x < length w.set.tasks
     → count_below span (λ d. is_by w (home_of w q) x (u + d)) ≤ ticks_by w.set bound (home_of w q) span x
 higher_ticks w bound n u v j m q span x stays long l =
-    let all : count_below span (λ d. is_by w (home_of w q) x (u + d))
-    ≤ count_below (length w.jobs) (is_there w bound u (u + span) x) * time_at w.set x (home_of w q) =
-    sum_below-passing span (length w.jobs) (time_at w.set x (home_of w q)) (λ d. runner_of w (home_of w q) (u + d))
-    (λ d. flag (is_by w (home_of w q) x (u + d))) (is_there w bound u (u + span) x)
-    (λ d b some. place d b (passes (is_by w (home_of w q) x (u + d)) some))
-    (λ y b there.
-    let a : There w bound u (u + span) x y = there_is w bound u (u + span) x y there in
-    job_ticks w bound n u v j m q span x y stays long b a.task) in
-    omega (
-      arith,
-      all,
-      mul-le-mul_right (time_at w.set x (home_of w q)) (there_jobs w bound n u v j m q span x stays l),
-    ) where
-      passes : (c : Bool) → 0 < flag c → c ≡ true
-      passes true h = refl
-      passes false h = absurd (omega arith)
-
-      place : (d : ℕ) → d < span → is_by w (home_of w q) x (u + d) ≡ true
-          → (runner_of w (home_of w q) (u + d) < length w.jobs)
-          × (is_there w bound u (u + span) x (runner_of w (home_of w q) (u + d)) ≡ true)
-      place d b h =
+    paid_in_span w bound u span x span (time_at w.set x (home_of w q)) (λ d. runner_of w (home_of w q) (u + d))
+    (λ d. flag (is_by w (home_of w q) x (u + d))) stays.lawful (stays.periods x l) stays.ended
+    (λ d b some. runs d b (flag_passes (is_by w (home_of w q) x (u + d)) some))
+    (λ y b task. job_ticks w bound n u v j m q span x y stays long b task) where
+      runs : (d : ℕ) → d < span → is_by w (home_of w q) x (u + d) ≡ true
+          → ActiveIn w u (u + span) x (runner_of w (home_of w q) (u + d))
+      runs d b h =
           let at : (r : RunBy w (home_of w q) (u + d)) × (task_of w r.job ≡ x) = by_is w (home_of w q) x (u + d) h in
           let request : RunsRequest w (u + d) (home_of w q) at.0.job =
           request_runs w bound n u v j m q (u + d) at.0.job stays (omega arith) (omega (arith, b, long)) at.0.runs in
-          let listed : at.0.job < length w.jobs = active_listed w (u + d) at.0.job request.active in
-          let active : Active w (u + d) at.0.job = active_is w (u + d) at.0.job request.active in
-          let later : u < bound_end w bound at.0.job =
-          active_after w bound u (u + d) at.0.job stays.ended request.active (omega arith) in
           let same : runner_of w (home_of w q) (u + d) ≡ at.0.job = rw at.0.runs refl in
-          let there : is_there w bound u (u + span) x at.0.job ≡ true =
-          and_from _ _ (and_from _ _ (lt-ltb _ _ listed) (eq-eqb _ _ at.1))
-          (and_from _ _ (lt-ltb _ _ later) (lt-ltb _ _ (omega (arith, active.released, b)))) in
-          rw same (listed, there)
+          rw same (record { tick = u + d; active = request.active; task = at.1; from = omega arith; before = omega (arith, b) })

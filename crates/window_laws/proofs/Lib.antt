@@ -6,7 +6,6 @@ pub mod OwnTicks
 pub mod LowerTicks
 pub mod HigherTicks
 pub mod Ending
-pub mod OwnWeights
 pub mod WindowRow
 pub mod Points
 pub mod MoreRows

@@ -1,5 +1,5 @@
 -- While a request is open at most one request of a lower task runs at its home.
-use Rattle.std.proofs.Common.{◌≡◌, ℕ, ◌+◌, ◌<◌, ◌≤◌, ◌&&◌, Bool, true, false, length, refl, sym, ap, ◌∙◌, arith, inl, inr}
+use Rattle.std.proofs.Common.{◌≡◌, ℕ, ◌+◌, ◌<◌, ◌≤◌, ◌&&◌, Bool, true, length, refl, sym, ap, ◌∙◌, arith, inl, inr}
 use Rattle.std.proofs.lemmas.Bool.{cases_lt, and_from, eq-eqb, lt-ltb, le-leb}
 use Rattle.bounded_sums.specs.Sums.{flag, only_if}
 use Rattle.bounded_sums.specs.Tests.{count_below}
@@ -12,7 +12,7 @@ use Rattle.schedule_model.specs.LawfulJobs.{IsLawfulJob}
 use Rattle.schedule_model.specs.Measures.{greatest_below}
 use Rattle.schedule_model.specs.RowDef.{Trace, runs_in}
 use Rattle.schedule_model.specs.Phase.{phase_of}
-use Rattle.schedule_model.specs.Phase.Phase.{Local, Asking}
+use Rattle.schedule_model.specs.Phase.Phase.{Asking}
 use Rattle.schedule_model.specs.Activity.{task_of}
 use Rattle.schedule_model.specs.DpcpRules.{home_of, ceiling_rank}
 use Rattle.schedule_laws.specs.Counting.{executed_in, is_request}
@@ -20,14 +20,13 @@ use Rattle.schedule_laws.proofs.ActiveJobs.{active_listed}
 use Rattle.schedule_laws.proofs.Counts.{request_at_most}
 use Rattle.schedule_laws.proofs.Rows.{runs_from}
 use Rattle.schedule_laws.proofs.Segments.{open_resource, open_user}
-use Rattle.row_laws.proofs.LowerHolders.{Asks, asks_between}
-use Rattle.row_laws.proofs.Ordered.{HoldsAt, holder_facts, LowRunner, low_ceiling}
-use Rattle.row_laws.proofs.HomeRow.{OneHolder, one_holder}
+use Rattle.row_laws.proofs.LowerHolders.{asks_between}
+use Rattle.row_laws.proofs.Ordered.{LowRunner, low_ceiling}
+use Rattle.row_laws.proofs.HomeRow.{one_low_request}
 use Rattle.row_laws.proofs.SlotRow.{OneRequest}
-use Rattle.row_laws.proofs.Requests.{one_request}
 use Rattle.window_laws.specs.Windows.{may_hold_up, longest_lower}
 use Rattle.window_laws.proofs.Least.{greatest_below-term}
-use Rattle.window_laws.proofs.OpenRequests.{Open, runs_active, open_request, open_active, request_runs, is_by_lower, lower_is, RunBy}
+use Rattle.window_laws.proofs.OpenRequests.{Open, open_request, open_active, request_runs, is_by_lower, lower_is, RunBy, flag_passes}
 
 -- A lower job that runs there.
 record Lower (w : Trace) (t k j : ℕ) : Type 0 where
@@ -55,21 +54,9 @@ lower_runs w bound n u v j m q t stays a b h =
 one_lower : (w : Trace) (bound : ℕ → ℕ) (n u v j m q s t a b : ℕ) → Open w bound n u v j m q → u ≤ s → s ≤ t → t ≤ v
     → LowRunner w s (home_of w q) j a → LowRunner w t (home_of w q) j b → OneRequest w s t a b
 one_lower w bound n u v j m q s t a b stays from order to early late =
-    one_request w n s t a b late.runner.number r (runs_active w n stays.keeps) (omega (arith, stays.within, order, to)) order
-    (stays.lawful.each b (active_listed w t b late.runner.active)).script early.runner.active (ap (task_of w) o.job) late.runner.request
-    (λ x c before local runs.
-    let h : HoldsAt w x r b =
-    holder_facts w n x r b stays.lawful stays.keeps (omega (arith, stays.within, before, to)) (o.holds x c (omega (arith, before))) in
-    let y : Local ≡ Asking h.number r = sym local ∙ h.request in cc) where
-      r : ℕ
-      r = late.runner.resource
-
-      asks : Asks w s t q j
-      asks = asks_between w s t m q q j order early.active (open_request w bound n u v j m q s stays from (omega (arith, order, to)))
-          (open_request w bound n u v j m q t stays (omega (arith, from, order)) to)
-
-      o : OneHolder w s t r a b
-      o = one_holder w n s t q j a b stays.lawful stays.keeps (omega (arith, stays.within, to)) asks early late
+    one_low_request w n s t q j a b stays.lawful stays.keeps (omega (arith, stays.within, to))
+    (asks_between w s t m q q j order early.active (open_request w bound n u v j m q s stays from (omega (arith, order, to)))
+    (open_request w bound n u v j m q t stays (omega (arith, from, order)) to)) early late
 
 -- It is one that the window counts.
 lower_length : (w : Trace) (bound : ℕ → ℕ) (n u v j m q t y : ℕ) → Open w bound n u v j m q → t ≤ v
@@ -108,13 +95,9 @@ pub lower_ticks : (w : Trace) (bound : ℕ → ℕ) (n u v j m q span : ℕ) →
 unfolding executed_in
 lower_ticks w bound n u v j m q span stays long =
     sum_below-none_or_some span (longest_lower w.set (task_of w j) (home_in w.set q))
-    (λ d. flag (is_by_lower w (home_of w q) (task_of w j) (u + d))) (λ d l some. from d l (passes (low d) some)) where
+    (λ d. flag (is_by_lower w (home_of w q) (task_of w j) (u + d))) (λ d l some. from d l (flag_passes (low d) some)) where
       low : ℕ → Bool
       low = λ d. is_by_lower w (home_of w q) (task_of w j) (u + d)
-
-      passes : (b : Bool) → 0 < flag b → b ≡ true
-      passes true h = refl
-      passes false h = absurd (omega arith)
 
       from : (d : ℕ) → d < span → low d ≡ true → count_below span low ≤ longest_lower w.set (task_of w j) (home_in w.set q)
       from d l h =

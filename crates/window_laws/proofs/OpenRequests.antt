@@ -15,7 +15,6 @@ use Rattle.schedule_model.specs.Activity.{task_of, is_active}
 use Rattle.schedule_model.specs.DpcpRules.{home_of, has_requests}
 use Rattle.schedule_model.specs.Protocols.{dpcp_rule}
 use Rattle.schedule_model.specs.Keeping.{KeepsBefore}
-use Rattle.schedule_laws.specs.Agreement.{RunsActiveBefore}
 use Rattle.schedule_laws.proofs.Ticks.{open_between}
 use Rattle.schedule_laws.proofs.ActiveJobs.{active_listed, active_stays}
 use Rattle.schedule_laws.proofs.RuleUses.{requests_busy, request_among}
@@ -33,9 +32,6 @@ pub record Open (w : Trace) (bound : ℕ → ℕ) (n u v j m q : ℕ) : Type 0 w
   pub active : is_active w u j ≡ true
   pub early : phase_of w u j ≡ Asking m q
   pub late : phase_of w v j ≡ Asking m q
-
-pub runs_active : (w : Trace) (n : ℕ) → KeepsBefore dpcp_rule w n → RunsActiveBefore w n
-runs_active w n keeps t k j l e = let homes : RunsAtHomes w t = dpcp_at_homes w t (keeps t l) in homes.run.active k j e
 
 pub open_request : (w : Trace) (bound : ℕ → ℕ) (n u v j m q t : ℕ) → Open w bound n u v j m q → u ≤ t → t ≤ v → phase_of w t j ≡ Asking m q
 open_request w bound n u v j m q t stays a b = open_between w u t v j m q q stays.early stays.late a b
@@ -85,6 +81,10 @@ lower_is w k i t h = go (running_on (w.row t) k) refl h where
       → (r : RunBy w k t) × (i < task_of w r.job)
   go None e g = absurd (cc)
   go (Some y) e g = (record { job = y; runs = e }, ltb-true i (task_of w y) g)
+
+pub flag_passes : (b : Bool) → 0 < flag b → b ≡ true
+flag_passes true h = refl
+flag_passes false h = absurd (omega arith)
 
 -- At each tick a job of task i, of a lower task or of one of the higher ones runs there.
 one_runs : (w : Trace) (k i t y : ℕ) → running_on (w.row t) k ≡ Some y

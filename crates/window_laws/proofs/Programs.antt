@@ -14,13 +14,11 @@ use Rattle.program_sources.specs.Fitting.{ComesUpAbove}
 use Rattle.program_sources.proofs.RecurrenceLaws.{comes_up_above}
 use Rattle.program_sources.specs.Bounds.{AtMost, AreWithinDeadlines}
 use Rattle.fragments.specs.Columns.{is_column, columns_of}
-use Rattle.fragments.specs.Windows.{requests_in}
 use Rattle.fragments.specs.Constraints.{ConstraintDef}
 use Rattle.fragments.proofs.KnownColumns.{passing_known}
-use Rattle.direct_constraints.specs.Rows.{common_rows, request_row, own_rows}
+use Rattle.direct_constraints.specs.Rows.{common_rows, request_row}
 use Rattle.preempt_constraints.specs.Rows.{preemption_rows}
-use Rattle.indirect_constraints.specs.Rows.{indirect_rows}
-use Rattle.program_laws.specs.Programs.{rows_of}
+use Rattle.program_laws.specs.Programs.{protocol_rows, rows_of}
 use Rattle.program_laws.specs.Written.{IsSmallRow, Rises}
 use Rattle.program_laws.proofs.RowKinds.{each_row, all_per_pair}
 use Rattle.program_laws.proofs.RisingLimits.{limits_rise}
@@ -28,8 +26,8 @@ use Rattle.program_laws.proofs.SmallNumbers.{rows_small, requests_small, flag_sm
 use Rattle.program_laws.proofs.CoveredColumns.{covered_by, request_row_among}
 use Rattle.program_laws.proofs.ListLengths.{Few, few, pair_at_most, rows_few}
 use Rattle.program_laws.proofs.GivenPrograms.{limits_at_most, is_program, written_where}
-use Rattle.window_laws.specs.WindowRows.{lacks_window, requests_met, window_row, window_rows, windowed_rows, windowed_program, windowed_source}
-use Rattle.window_laws.proofs.Rising.{window_limit_rises, limit_most}
+use Rattle.window_laws.specs.WindowRows.{window_row, window_rows, windowed_rows, windowed_program, windowed_source}
+use Rattle.window_laws.proofs.Rising.{window_limit_rises}
 
 -- Whatever is true of each row of DPCP and of each row of windows is true of all.
 pub windowed_each : (P : ConstraintDef → Type 0) (set : SetDef) (i : ℕ) → All P (rows_of protocol.Dpcp set i)
@@ -48,12 +46,7 @@ window_small : (set : SetDef) (i x p : ℕ) (r : List ℕ) → IsAccepted set �
     → IsSmallRow r (window_row set i x p)
 window_small set i x p r accepted within here l = record {
   coefficients = λ c. flag_small _;
-  limit = omega (
-    arith,
-    limit_most (lacks_window set (slice_index r) i p) (requests_in set (slice_index r) i x p)
-        (requests_met set (slice_index r) i x p),
-    requests_small set r i x p accepted within here (omega arith),
-  );
+  limit = omega (arith, requests_small set r i x p accepted within here (omega arith));
 }
 
 rows_to : (set : SetDef) (i : ℕ) → IsAccepted set → i < length set.tasks → length (windowed_rows set i) < 4294967296
@@ -72,8 +65,7 @@ rows_to set i accepted here =
 among : (set : SetDef) (i x q : ℕ) → x < length set.tasks → q < length set.resources
     → Contains (windowed_rows set i) (request_row set i x q)
 among set i x q a b =
-    let rest : List ConstraintDef =
-    preemption_rows set i ++ (own_rows protocol.Dpcp set i ++ indirect_rows protocol.Dpcp set i) in
+    let rest : List ConstraintDef = preemption_rows set i ++ protocol_rows protocol.Dpcp set i in
     rw (append_assoc (common_rows set i) rest (window_rows set i)) (request_row_among set i x q (rest ++ window_rows set i) a b)
 
 pub windowed_is_program : (set : SetDef) (i : ℕ) (r : List ℕ) → IsAccepted set → i < length set.tasks → AreWithinDeadlines set r

@@ -1,13 +1,13 @@
 -- Windows never shrink where bounds rise, and no limit of a row of windows falls.
-use Rattle.std.proofs.Common.{◌≡◌, ℕ, suc, ◌+◌, ◌*◌, ◌<◌, ◌≤◌, ◌&&◌, Bool, true, false, length, refl, arith, inl, inr}
-use Rattle.std.proofs.Common.{Option, Some, None, nat_lt, nat_le, min, cond, is_none}
+use Rattle.std.proofs.Common.{◌≡◌, ℕ, suc, ◌+◌, ◌*◌, ◌<◌, ◌≤◌, ◌==◌, ◌&&◌, Bool, true, false, length, refl, arith, inl, inr}
+use Rattle.std.proofs.Common.{Option, Some, None, nat_lt, nat_le, is_none}
 use Rattle.std.proofs.Math.Nat.{mul-le-mul_left, mul-le-mul_right}
-use Rattle.std.proofs.lemmas.Bool.{cases_Bool, and_parts, and_from, leb-true, le-leb}
+use Rattle.std.proofs.lemmas.Bool.{cases_Bool, and_parts, and_from, leb-true, le-leb, ltb-true}
 use Rattle.bounded_sums.specs.Sums.{sum_below, only_if}
-use Rattle.bounded_sums.proofs.SumLaws.{sum_below-monotone}
-use Rattle.bounded_sums.proofs.TestLaws.{any_below-none, any_below-none_from, found_below-is}
+use Rattle.bounded_sums.proofs.SumLaws.{sum_below-monotone, sum_below-term}
+use Rattle.bounded_sums.proofs.TestLaws.{any_below-none, any_below-some, found_below-is}
 use Rattle.sporadic_model.specs.SetDef.{SetDef, task_at}
-use Rattle.sporadic_model.specs.Users.{count_of}
+use Rattle.sporadic_model.specs.Users.{count_of, is_user}
 use Rattle.sporadic_model.specs.Homes.{home_in}
 use Rattle.program_sources.proofs.RecurrenceLaws.{div_ceil_rises}
 use Rattle.fragments.specs.Windows.{requests_in}
@@ -94,41 +94,41 @@ met_rise set r s i x p h l none =
     let at : (c : ℕ) × (window_of set s i q ≡ Some c) = window_there set s i p q b none meets in
     mul-le-mul_left (count_of set i q) (there_rise set r s i x p q h l at.0 at.1)))
 
--- Where no window is lacking at the greater bounds, none is.
-pub lacks_none : (set : SetDef) (r s : ℕ → ℕ) (i p : ℕ) → ((y : ℕ) → y < i → r y ≤ s y) → lacks_window set s i p ≡ false
-    → lacks_window set r i p ≡ false
-lacks_none set r s i p h none =
-    any_below-none_from (length set.resources) (λ q. meets_there set i p q && is_none (window_of set r i q)) (λ q b. at q b) where
-      at : (q : ℕ) → q < length set.resources → (meets_there set i p q && is_none (window_of set r i q)) ≡ false
-      at q b = elim (cases_Bool (meets_there set i p q)) [
-        | inr away ↦ rw away refl
-        | inl meets ↦
-            let some : (c : ℕ) × (window_of set s i q ≡ Some c) = window_there set s i p q b none meets in
-            let low : Found (suc (task_at set i).deadline) (is_enough set r i q) some.0 = window_below set r s i q some.0 h some.1 in
-            let lesser : window_of set r i q ≡ Some low.least = low.is_it in
-            rw (meets, lesser) refl
-      ]
-
 requests_rise : (set : SetDef) (r s : ℕ → ℕ) (i x p : ℕ) → i < length set.tasks → x < i → IsBelow set r s
     → requests_in set r i x p ≤ requests_in set s i x p
 requests_rise set r s i x p here l below = mul-le-mul_left (count_of set x p)
     (div_ceil_rises (r i + (r x + (task_at set x).jitter)) (s i + (s x + (task_at set x).jitter)) (task_at set x).period
     (omega (arith, below i here, below x (omega arith))))
 
-pub limit_most : (b : Bool) (m n : ℕ) → cond b m (min m n) ≤ m
-limit_most true m n = omega arith
-limit_most false m n = omega arith
+none_of : {A : Type 0} (o : Option A) → is_none o ≡ true → o ≡ None
+none_of None h = refl
+none_of (Some a) h = absurd (cc)
+
+-- Where a request at p's home has no window, the requests met are no fewer than those that x makes while the job runs: the bound stands
+-- in for that window, and the job makes at least one such request.
+pub lacking : (set : SetDef) (bounds : ℕ → ℕ) (i x p : ℕ) → lacks_window set bounds i p ≡ true
+    → requests_in set bounds i x p ≤ requests_met set bounds i x p
+lacking set bounds i x p lacks =
+    let some = any_below-some (length set.resources) (λ q. meets_there set i p q && is_none (window_of set bounds i q)) lacks in
+    let parts = and_parts (meets_there set i p some.0) (is_none (window_of set bounds i some.0)) some.2 in
+    let asked : 0 < count_of set i some.0 =
+    ltb-true 0 (count_of set i some.0) (and_parts (is_user set some.0 i) (home_in set some.0 == home_in set p) parts.0).0 in
+    let none : window_of set bounds i some.0 ≡ None = none_of (window_of set bounds i some.0) parts.1 in
+    let whole : requests_there set bounds i x p some.0 ≡ requests_in set bounds i x p = rw none refl in
+    let one : only_if (meets_there set i p some.0) (count_of set i some.0 * requests_there set bounds i x p some.0)
+    ≡ count_of set i some.0 * requests_in set bounds i x p = rw (parts.0, whole) refl in
+    let term = sum_below-term (length set.resources)
+    (λ q. only_if (meets_there set i p q) (count_of set i q * requests_there set bounds i x p q)) some.0 some.1 in
+    let more : 1 * requests_in set bounds i x p ≤ count_of set i some.0 * requests_in set bounds i x p =
+    mul-le-mul_right (requests_in set bounds i x p) asked in
+    omega (arith, one, term, more)
 
 -- No limit of a row of windows falls where bounds rise.
 pub window_limit_rises : (set : SetDef) (r s : ℕ → ℕ) (i x p : ℕ) → i < length set.tasks → x < i → IsBelow set r s
     → (window_row set i x p).limit r ≤ (window_row set i x p).limit s
 window_limit_rises set r s i x p here l below = elim (cases_Bool (lacks_window set s i p)) [
-  | inl lacks ↦
-      let most : (window_row set i x p).limit r ≤ requests_in set r i x p =
-      limit_most (lacks_window set r i p) (requests_in set r i x p) (requests_met set r i x p) in
-      rw lacks (omega (arith, most, requests_rise set r s i x p here l below))
+  | inl lacks ↦ omega (arith, lacking set s i x p lacks, requests_rise set r s i x p here l below)
   | inr none ↦
       let h : (y : ℕ) → y < i → r y ≤ s y = λ y b. below y (omega arith) in
-      let lower : lacks_window set r i p ≡ false = lacks_none set r s i p h none in
-      rw (none, lower) (omega (arith, requests_rise set r s i x p here l below, met_rise set r s i x p h l none))
+      omega (arith, requests_rise set r s i x p here l below, met_rise set r s i x p h l none)
 ]

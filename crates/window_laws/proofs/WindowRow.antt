@@ -2,10 +2,9 @@
 -- the job's requests there.
 use Rattle.std.proofs.Common.{◌≡◌, ℕ, ◌+◌, ◌*◌, ◌<◌, ◌≤◌, ◌==◌, ◌&&◌, not, Bool, true, false, length, List, get_or, refl, sym, ap}
 use Rattle.std.proofs.Common.{◌∙◌, arith, inl, inr, Option, Some, None, min}
-use Rattle.std.proofs.Math.Nat.{mul_assoc, mul_comm, mul-le-mul_right}
+use Rattle.std.proofs.Math.Nat.{mul_assoc, mul_comm, mul-le-mul_left, mul-le-mul_right}
 use Rattle.std.proofs.lemmas.Bool.{cases_lt, cases_Bool, and_parts, and_from, eq-eqb, eqb-true, lt-ltb, not-true}
 use Rattle.bounded_sums.specs.Sums.{sum_below, flag, only_if}
-use Rattle.bounded_sums.specs.Tests.{count_below}
 use Rattle.bounded_sums.proofs.SumLaws.{sum_below-monotone, sum_below-agree, sum_below-times, sum_below-none_or_some, only_if-at_most}
 use Rattle.bounded_sums.proofs.SlotLaws.{sum_below-slots}
 use Rattle.sporadic_model.specs.SetDef.{task_at, jobs_within}
@@ -20,7 +19,6 @@ use Rattle.schedule_model.specs.DpcpRules.{home_of}
 use Rattle.schedule_model.specs.Protocols.{dpcp_rule}
 use Rattle.schedule_model.specs.Keeping.{KeepsBefore}
 use Rattle.schedule_laws.specs.Counting.{no_segment}
-use Rattle.schedule_laws.proofs.ActiveJobs.{Active, active_is}
 use Rattle.schedule_laws.proofs.Holders.{open_active}
 use Rattle.schedule_laws.proofs.Issues.{issue_at_most, issue_no_later, open_at_issue}
 use Rattle.schedule_laws.proofs.Segments.{RequestAt, open_segment, open_resource, open_user, asks_some}
@@ -30,20 +28,18 @@ use Rattle.fragments.specs.Windows.{requests_in}
 use Rattle.charge_model.specs.Charges.{dpcp_charge}
 use Rattle.charge_model.specs.Windows.{bound_end, window_end, EndedWithin}
 use Rattle.charge_laws.proofs.DpcpCharging.{HomeBlocked, dpcp_reason}
-use Rattle.charge_laws.proofs.Windows.{active_after}
 use Rattle.row_laws.specs.Meeting.{brought, brings, TicksMeet}
 use Rattle.row_laws.proofs.Brings.{Window, Hit, hit, column_with, blocker, blocker_is}
-use Rattle.row_laws.proofs.Brings.{flag_times-at_most, flag_times-passes, only_if-parts, sum_below-passing}
-use Rattle.row_laws.proofs.HomeRow.{home_blocked}
-use Rattle.row_laws.proofs.JobRows.{HitJob, hit_job, job_requests, request_row_met}
+use Rattle.row_laws.proofs.Brings.{flag_times-at_most, flag_times-passes, only_if-parts}
+use Rattle.row_laws.proofs.HomeRow.{home_blocked, runner_resource}
+use Rattle.row_laws.proofs.JobRows.{ActiveIn, paid_in_span, HitJob, hit_job, job_requests, product_turned, request_row_met}
+use Rattle.row_laws.proofs.OwnWeights.{weighed, own_weights}
 use Rattle.row_laws.proofs.Numbers.{number_of}
 use Rattle.window_laws.specs.Windows.{window_of}
 use Rattle.window_laws.specs.WindowRows.{meets_there, lacks_window, requests_there, requests_met, window_row}
-use Rattle.window_laws.proofs.Rising.{window_there}
+use Rattle.window_laws.proofs.Rising.{window_there, lacking}
 use Rattle.window_laws.proofs.OpenRequests.{Open}
-use Rattle.window_laws.proofs.HigherTicks.{is_there, There, there_is, there_jobs}
 use Rattle.window_laws.proofs.Ending.{ends_in_window}
-use Rattle.window_laws.proofs.OwnWeights.{weighed, own_weights}
 
 -- What the row counts of a column, where the column has this share.
 abbrev counted : ℕ → ℕ → (ℕ → ℕ → ℕ) → ColumnDef → ℕ
@@ -92,8 +88,7 @@ met_is w n j x p t share keeps l h = record {
   blocked = home_blocked w t j h.charge.job h.charge.class (not-true _ parts.1) (dpcp_reason w t j h.charge (keeps t l) h.is_it)
 
   same : blocked.runner.resource ≡ h.resource
-  same = let e : Asking blocked.runner.number blocked.runner.resource ≡ Asking h.number h.resource =
-      sym blocked.runner.request ∙ h.request in cc
+  same = runner_resource w t (home_of w blocked.resource) h.charge.job h.number h.resource blocked.runner h.request
 
 -- The premises of the row, all together.
 record Premises (w : Trace) (bound : ℕ → ℕ) (n j x : ℕ) : Type 0 where
@@ -135,17 +130,15 @@ request_met : (w : Trace) (bound : ℕ → ℕ) (n j x p s m v q b : ℕ) (share
     (λ t. only_if (number_of (phase_of w t j) == m) (brings dpcp_charge w (counted x p share) j t))
     ≤ s * requests_there w.set bound (task_of w j) x p q
 request_met w bound n j x p s m v q b share a fair within active here window =
-    let all : sum_below e term ≤ count_below (length w.jobs) (is_there w bound u (u + b) x) * (count_of w.set x p * s) =
-    sum_below-passing e (length w.jobs) (count_of w.set x p * s) (blocker dpcp_charge w j) term (is_there w bound u (u + b) x)
-    (λ t l some. place t l some) (λ y listed there. job_brings y listed there) in
-    let jobs : count_below (length w.jobs) (is_there w bound u (u + b) x)
-    ≤ jobs_within b (bound x + (task_at w.set x).jitter) (task_at w.set x).period =
-    there_jobs w bound n u v j m q b x (opened w bound n j x v v m q q a within within active here here) a.known in
+    let now : Open w bound n u v j m q = opened w bound n j x v v m q q a within within active here here in
+    let all : sum_below e term
+    ≤ jobs_within b (bound x + (task_at w.set x).jitter) (task_at w.set x).period * (count_of w.set x p * s) =
+    paid_in_span w bound u b x e (count_of w.set x p * s) (blocker dpcp_charge w j) term a.window.lawful (a.window.periods x a.known)
+    now.ended (λ t l some. inside t l some) (λ y listed task. job_brings y listed task) in
     rw window (omega (
       arith,
       all,
-      mul-le-mul_right (count_of w.set x p * s) jobs,
-      turned (jobs_within b (bound x + (task_at w.set x).jitter) (task_at w.set x).period) (count_of w.set x p) s,
+      product_turned (jobs_within b (bound x + (task_at w.set x).jitter) (task_at w.set x).period) (count_of w.set x p) s,
     )) where
       e : ℕ
       e = window_end w bound n j
@@ -159,12 +152,8 @@ request_met w bound n j x p s m v q b share a fair within active here window =
       term : ℕ → ℕ
       term = λ t. only_if (number_of (phase_of w t j) == m) (brings dpcp_charge w f j t)
 
-      turned : (c d z : ℕ) → c * (d * z) ≡ z * (d * c)
-      turned c d z = mul_comm c (d * z) ∙ ap (λ k. k * c) (mul_comm d z) ∙ mul_assoc z d c
-
-      place : (t : ℕ) → t < e → 0 < term t
-          → (blocker dpcp_charge w j t < length w.jobs) × (is_there w bound u (u + b) x (blocker dpcp_charge w j t) ≡ true)
-      place t l some =
+      inside : (t : ℕ) → t < e → 0 < term t → ActiveIn w u (u + b) x (blocker dpcp_charge w j t)
+      inside t l some =
           let parts : ((number_of (phase_of w t j) == m) ≡ true) × (0 < brings dpcp_charge w f j t) =
           only_if-parts (number_of (phase_of w t j) == m) (brings dpcp_charge w f j t) some in
           let h : Hit dpcp_charge w f j t = hit dpcp_charge w f j t parts.1 in
@@ -174,28 +163,26 @@ request_met w bound n j x p s m v q b share a fair within active here window =
           met.blocked.request ∙ ap (λ k. Asking k met.blocked.resource) number in
           let stays : Open w bound n u t j m q = opened w bound n j x v t m q met.blocked.resource a within l active here there in
           let at : HitJob dpcp_charge w bound j t h.charge.job = hit_job dpcp_charge w bound n j t f a.window l h in
-          let run : Active w t h.charge.job = active_is w t h.charge.job at.active in
-          let later : u < bound_end w bound h.charge.job =
-          active_after w bound u t h.charge.job stays.ended at.active stays.order in
-          let inside : t < u + b = ends_in_window w bound n u t j m q b stays window in
-          let is : is_there w bound u (u + b) x h.charge.job ≡ true =
-          and_from _ _ (and_from _ _ (lt-ltb _ _ at.listed) (eq-eqb _ _ met.task))
-          (and_from _ _ (lt-ltb _ _ later) (lt-ltb _ _ (omega (arith, run.released, inside)))) in
-          rw (blocker_is dpcp_charge w f j t h) (at.listed, is)
+          rw (blocker_is dpcp_charge w f j t h) (record {
+            tick = t;
+            active = at.active;
+            task = met.task;
+            from = stays.order;
+            before = ends_in_window w bound n u t j m q b stays window;
+          })
 
-      job_brings : (y : ℕ) → y < length w.jobs → is_there w bound u (u + b) x y ≡ true
+      job_brings : (y : ℕ) → y < length w.jobs → task_of w y ≡ x
           → sum_below e (λ t. only_if (blocker dpcp_charge w j t == y) (term t)) ≤ count_of w.set x p * s
-      job_brings y listed there =
+      job_brings y listed task =
           let less : sum_below e (λ t. only_if (blocker dpcp_charge w j t == y) (term t))
           ≤ sum_below e (λ t. only_if (blocker dpcp_charge w j t == y) (brings dpcp_charge w f j t)) =
           sum_below-monotone e (λ t. only_if (blocker dpcp_charge w j t == y) (term t))
           (λ t. only_if (blocker dpcp_charge w j t == y) (brings dpcp_charge w f j t))
           (λ t l. within_term (blocker dpcp_charge w j t == y) (number_of (phase_of w t j) == m) (brings dpcp_charge w f j t)) in
-          let is : There w bound u (u + b) x y = there_is w bound u (u + b) x y there in
           omega (
             arith,
             less,
-            job_requests dpcp_charge w bound n j x p y s (share x p) f a.window listed is.task fair (λ t l h.
+            job_requests dpcp_charge w bound n j x p y s (share x p) f a.window listed task fair (λ t l h.
                 let met : Met w j x p t share h = met_is w n j x p t share a.keeps (omega (arith, l)) h in (met.resource, met.most)),
           ) where
             within_term : (c d : Bool) (z : ℕ) → only_if c (only_if d z) ≤ only_if c z
@@ -314,9 +301,10 @@ pub window_row_met : (w : Trace) (bound : ℕ → ℕ) (n j x p : ℕ) → Windo
     → EndedWithin w bound (bound_end w bound j) n → x < task_of w j
     → TicksMeet dpcp_charge w bound n j (window_row w.set (task_of w j) x p)
 window_row_met w bound n j x p window keeps ended higher s share fair = elim (cases_Bool (lacks_window w.set bound (task_of w j) p)) [
-  | inl lacks ↦ rw lacks requests
-  | inr none ↦ rw none (lesser (requests_in w.set bound (task_of w j) x p) (requests_met w.set bound (task_of w j) x p) requests
-      (windows_met w bound n j x p s share a (fair x p) none))
+  | inl lacks ↦ lesser (requests_in w.set bound (task_of w j) x p) (requests_met w.set bound (task_of w j) x p) requests
+      (omega (arith, requests, mul-le-mul_left s (lacking w.set bound (task_of w j) x p lacks)))
+  | inr none ↦ lesser (requests_in w.set bound (task_of w j) x p) (requests_met w.set bound (task_of w j) x p) requests
+      (windows_met w bound n j x p s share a (fair x p) none)
 ] where
   ticks : ℕ
   ticks = sum_below (window_end w bound n j) (λ t. brings dpcp_charge w (counted x p share) j t)

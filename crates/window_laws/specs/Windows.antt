@@ -2,11 +2,12 @@
 use Rattle.std.specs.Prelude.{ℕ, suc, ◌+◌, ◌*◌, ◌==◌, ◌&&◌, Bool, nat_lt, nat_le, length, Option}
 use Rattle.bounded_sums.specs.Sums.{sum_below, only_if}
 use Rattle.bounded_sums.specs.Tests.{found_below}
-use Rattle.sporadic_model.specs.SetDef.{SetDef, task_at, jobs_within}
+use Rattle.sporadic_model.specs.SetDef.{SetDef, task_at}
 use Rattle.sporadic_model.specs.Users.{count_of, length_of, is_user}
 use Rattle.sporadic_model.specs.Homes.{home_in}
 use Rattle.schedule_model.specs.Measures.{greatest_below}
 use Rattle.fragments.specs.Ceilings.{ceiling_rank}
+use Rattle.fragments.specs.Windows.{jobs_during}
 
 -- For how many ticks may the requests of one job of task x run on processor k, all together?
 abbrev pub time_at : SetDef → ℕ → ℕ → ℕ
@@ -22,16 +23,15 @@ abbrev pub longest_lower : SetDef → ℕ → ℕ → ℕ
 longest_lower set i k = greatest_below (length set.tasks)
     (λ x. greatest_below (length set.resources) (λ q. only_if (may_hold_up set i k x q) (length_of set x q)))
 
--- For how many ticks may requests run on processor k in w ticks, by jobs of task x? One that arrived as early as its bound and its
--- jitter together before these ticks may still run in them.
-abbrev pub ticks_by : SetDef → (ℕ → ℕ) → ℕ → ℕ → ℕ → ℕ
-ticks_by set bounds k w x = jobs_within w (bounds x + (task_at set x).jitter) (task_at set x).period * time_at set x k
-
 -- For how many ticks may requests run at q's home in the w ticks from the issue of a request of q by task i on, while it is open: that
 -- request, one of a lower task, and those of all higher tasks?
 abbrev pub ticks_there : SetDef → (ℕ → ℕ) → ℕ → ℕ → ℕ → ℕ
-ticks_there set bounds i q w =
-    length_of set i q + longest_lower set i (home_in set q) + sum_below i (ticks_by set bounds (home_in set q) w)
+ticks_there set bounds i q w = length_of set i q + longest_lower set i (home_in set q)
+    + sum_below i (λ x. jobs_during set bounds w x * time_at set x (home_in set q))
+
+-- What jobs of task x run on processor k, as contracts name it.
+abbrev pub ticks_by : SetDef → (ℕ → ℕ) → ℕ → ℕ → ℕ → ℕ
+ticks_by set bounds k w x = jobs_during set bounds w x * time_at set x k
 
 -- Are w ticks enough for the request: one at least, and as many as may run there in them?
 abbrev pub is_enough : SetDef → (ℕ → ℕ) → ℕ → ℕ → ℕ → Bool

@@ -19,10 +19,10 @@ pub fn set_from(alloc: Global, text: &str) -> Result<TaskSet, Fail>
     Ok(taskset_json::read(alloc, text.as_bytes())?)
 }
 
-/// Two tasks on two processors that share `q`, which is at home on the second.
-pub const PAIR: &str = r#"{"processors":2,"resources":[{"name":"q","home":2}],"tasks":[
-{"name":"t1","processor":1,"period":10,"cost":3,"requests":[{"resource":"q","count":1,"length":1}]},
-{"name":"t2","processor":2,"period":10,"cost":4,"requests":[{"resource":"q","count":1,"length":2}]}]}
+/// Two tasks on two processors that share `q`, which is at home on the second. Certificates of it name the digest of these very
+/// bytes.
+pub const PAIR: &str =
+    r#"{"processors":2,"resources":[{"name":"q","home":2}],"tasks":[{"name":"t1","processor":1,"period":10,"cost":3,"requests":[{"resource":"q","count":1,"length":1}]},{"name":"t2","processor":2,"period":10,"cost":4,"requests":[{"resource":"q","count":1,"length":2}]}]}
 "#;
 
 /// Both tasks request `q` at tick 1.

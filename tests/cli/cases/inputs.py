@@ -34,6 +34,8 @@ FILES = [
     Case("a link to nothing", ANALYSE, "refused set absent\n", 3, {"set": Link("real")}),
     Case("an empty path", ["analyse", "fmlp+", ""], "refused set absent\n", 3),
     Case("a path outside ASCII", ["analyse", "fmlp+", "Anlage \u2116 5"], PAIR_CERTIFICATE, 0, {"Anlage \u2116 5": PAIR}),
+    Case("a path that begins and ends with a space", ["analyse", "fmlp+", " set "], PAIR_CERTIFICATE, 0, {" set ": PAIR}),
+    Case("no file of the name without its spaces", ["analyse", "fmlp+", " set "], "refused set absent\n", 3, {"set": PAIR}),
     Case("a path that looks like an option", "analyse fmlp+ --set", PAIR_CERTIFICATE, 0, {"--set": PAIR}),
     Case("no standard input", ANALYSE, PAIR_CERTIFICATE, 0, {"set": PAIR}, without_input=True),
     unread("links in a loop", {"set": Link("other"), "other": Link("set")}),

@@ -3,16 +3,16 @@ from commands import COMMANDS, FILES
 from setting import Case, Fifo, Folder, Unreadable, Zeros
 
 TOO_LONG = Zeros(67_108_865)
-EMPTY = {"set": "notjson", "cert": "notjson", "old": "notjson", "jobs": "fields 0", "rows": "fields 0"}
+EMPTY = {"set": "notjson", "short": "notjson", "cert": "notjson", "old": "notjson", "refusal": "notjson", "jobs": "fields 0", "rows": "fields 0"}
 
 # how many bytes are cut off at its end, and why what is left is refused
-CUTS = {"set": (3, "notjson"), "cert": (2, "notjson"), "old": (2, "notjson"), "jobs": (9, "fields 2"), "rows": (3, "fields 4")}
+CUTS = {"set": (3, "notjson"), "short": (3, "notjson"), "cert": (2, "notjson"), "old": (2, "notjson"), "refusal": (2, "notjson"), "jobs": (9, "fields 2"), "rows": (3, "fields 4")}
 
 
 def spoilt(command, name):
     """The cases of one input."""
     plain = command.files()
-    which = "cert" if name == "old" else name
+    which = {"old": "cert", "refusal": "cert", "short": "set"}.get(name, name)
 
     def case(shows, files, says, status, **more):
         return Case(f"{shows} in the place of {name}: {command.words}", command.words, says, status, files, **more)

@@ -1,4 +1,4 @@
-use Rattle.std.proofs.Common.{refl}
+use Rattle.std.proofs.Common.{refl, ◌∙◌}
 use Rattle.std.specs.Prelude.{slice_index}
 use Rattle.program_form.specs.Certificate.{CertificateDef, certificate_seen}
 use Rattle.sporadic_model.specs.Accepted.{IsAccepted}
@@ -9,6 +9,7 @@ use Rattle.soundness_laws.specs.Analyses.{AreValues}
 use Rattle.soundness_laws.specs.Sound.{IsLawfulSchedule, Sound}
 use Rattle.audit_figures.specs.Figures.{AreFigures}
 use Rattle.audit_figures.proofs.Lawful.{valid_bounds, same_values, lie_within, add_up}
+use Rattle.audit_figures.proofs.AllInside.{all_inside}
 use Rattle.audit_figures.proofs.auditing.audit_with.Goals as goal
 
 pub sound_figures-requires-clause-bounds : goal.sound_figures-requires-clause-bounds
@@ -71,3 +72,15 @@ returns-clause-adds_up g c =
     let a = g.met.P.ChargedProtocol.charges_blocked c.args.protocol.now w (ticks_of c.args.rows.now.runs) t j c.requires.suits
     c.keeps_its_rules.ensures.lawful c.in-Ok-conform_with.ensures.0 l blocked in
     (a.charge, a.is_it)) are
+
+pub returns-clause-adds_up_to_all : goal.returns-clause-adds_up_to_all
+returns-clause-adds_up_to_all g c =
+    let cert : CertificateDef = certificate_seen c.args.certificate.now in
+    let w : Trace = trace_in c.args.jobs.now c.args.rows.now.runs in
+    let n = ticks_of c.args.rows.now.runs in
+    let sound : Sound (g.P.BlockingProtocol.keeps c.args.protocol.now) (g.P.BlockingProtocol.interferes c.args.protocol.now)
+    c.args.jobs.now.set cert.bounds c.in-Ok.valid.values.items = rw c.set-2.ensures at c.in-Ok.ensures.sound in
+    let lawful : IsLawfulSchedule (g.P.BlockingProtocol.keeps c.args.protocol.now) c.args.jobs.now.set w n =
+    record { set_is = refl; jobs = c.keeps_its_rules.ensures.lawful; rows = c.in-Ok-conform_with.ensures.0 } in
+    λ x l. returns-clause-adds_up g c x l
+    ∙ all_inside (g.P.BlockingProtocol.interferes c.args.protocol.now) w n cert.bounds c.in-Ok.valid.values.items x (sound w n lawful)

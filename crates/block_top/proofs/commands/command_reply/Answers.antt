@@ -1,4 +1,4 @@
-use Rattle.std.proofs.Common.{ℕ, sym, ap, subst, inr}
+use Rattle.std.proofs.Common.{sym, ap, subst, inr}
 use Rattle.command_words.specs.Words.{Form, Study}
 use Rattle.run_plans.specs.Commands.{IsStudyAnswer, plan_of}
 use Rattle.command_words.specs.FormSeen.{form_seen}

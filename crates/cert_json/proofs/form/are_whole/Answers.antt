@@ -1,7 +1,7 @@
 use Rattle.std.proofs.Common.{◌∙◌, sym}
 use Rattle.std.proofs.lemmas.List.Folds.{list_all-map}
 use Rattle.serde_json.specs.View.{view}
-use Rattle.cert_json.specs.Form.{is_whole}
+use Rattle.cert_json.specs.FormParts.{is_whole}
 use Rattle.cert_json.proofs.form.are_whole.Goals as goal
 
 pub returns : goal.returns

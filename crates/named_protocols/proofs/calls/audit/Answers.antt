@@ -12,3 +12,12 @@ returns-in-Base-clause-audits c =
     (certificate_seen c.args.certificate.now) (trace_in c.args.jobs.now c.args.rows.now.runs) (ticks_of c.args.rows.now.runs)
     c.audit.result)
     (sym c.in-Base.is) c.audit.ensures.audits
+
+pub returns-in-Dflp-clause-audits : goal.returns-in-Dflp-clause-audits
+returns-in-Dflp-clause-audits c = rw c.in-Dflp.is c.audit_with.ensures.audits
+
+pub returns-in-Spin-clause-audits : goal.returns-in-Spin-clause-audits
+returns-in-Spin-clause-audits c = rw c.in-Spin.is c.audit_with-in-Spin.ensures.audits
+
+pub returns-in-DpcpWindows-clause-audits : goal.returns-in-DpcpWindows-clause-audits
+returns-in-DpcpWindows-clause-audits c = rw c.in-DpcpWindows.is c.audit_with-in-DpcpWindows.ensures.audits

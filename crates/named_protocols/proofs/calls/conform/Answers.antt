@@ -10,3 +10,12 @@ returns-in-Base c =
     subst (λ (n : ProtocolName). Conforms (rules_of n) (interference_of n) (trace_in c.args.jobs.now c.args.rows.now.runs)
     (ticks_of c.args.rows.now.runs) c.conform.result)
     (sym c.in-Base.is) c.conform.ensures
+
+pub returns-in-Dflp : goal.returns-in-Dflp
+returns-in-Dflp c = rw c.in-Dflp.is c.conform_with.ensures
+
+pub returns-in-Spin : goal.returns-in-Spin
+returns-in-Spin c = rw c.in-Spin.is c.conform_with-in-Spin.ensures
+
+pub returns-in-DpcpWindows : goal.returns-in-DpcpWindows
+returns-in-DpcpWindows c = rw c.in-DpcpWindows.is c.conform_with-in-DpcpWindows.ensures

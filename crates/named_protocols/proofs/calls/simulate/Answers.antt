@@ -10,3 +10,12 @@ pub returns-in-Base-clause-keeps : goal.returns-in-Base-clause-keeps
 returns-in-Base-clause-keeps c =
     subst (λ (n : ProtocolName). IfOk c.simulate.result (λ rows. KeepsBefore (rules_of n) (trace_in c.args.jobs.now rows.runs) c.args.ticks))
     (sym c.in-Base.is) c.simulate.ensures.keeps
+
+pub returns-in-Dflp-clause-keeps : goal.returns-in-Dflp-clause-keeps
+returns-in-Dflp-clause-keeps c = rw c.in-Dflp.is c.simulate_with.ensures.keeps
+
+pub returns-in-Spin-clause-keeps : goal.returns-in-Spin-clause-keeps
+returns-in-Spin-clause-keeps c = rw c.in-Spin.is c.simulate_with-in-Spin.ensures.keeps
+
+pub returns-in-DpcpWindows-clause-keeps : goal.returns-in-DpcpWindows-clause-keeps
+returns-in-DpcpWindows-clause-keeps c = rw c.in-DpcpWindows.is c.simulate_with-in-DpcpWindows.ensures.keeps

@@ -1,6 +1,6 @@
 use Rattle.std.proofs.Common.{◌≡◌, ◌++◌, true, map, drop, length}
 use Rattle.std.specs.List.{list_all}
-use Rattle.schedule_model.specs.LawfulJobs.{are_resources_in}
+use Rattle.schedule_model.specs.LawfulJobs.{is_resource_in}
 use Rattle.schedule_model.specs.Seen.{segment_seen}
 use Rattle.trace_csv.specs.JobLines.{segment_written, has_known_resource}
 use Rattle.trace_csv.specs.PartsSeen.{part_seen}
@@ -12,5 +12,5 @@ invariant-loop-part l = record {
       ≡ list_all (has_known_resource l.set) (map part_seen l.parts);
   written : map segment_seen l.segments.items ++ map (segment_written l.set) (map part_seen (drop l.part-index l.parts))
       ≡ map (segment_written l.set) (map part_seen l.parts);
-  inside : are_resources_in (length l.set.resources) (map segment_seen l.segments.items) ≡ true;
+  inside : list_all (is_resource_in (length l.set.resources)) (map segment_seen l.segments.items) ≡ true;
 }

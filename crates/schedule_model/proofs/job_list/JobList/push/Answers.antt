@@ -1,7 +1,8 @@
 use Rattle.std.proofs.Common.{◌≡◌, ◌<◌, ◌∙◌, ◌++◌, [], ◌∷◌, map, sym, ap, subst, arith, None, List, length, true}
+use Rattle.std.specs.List.{list_all}
 use Rattle.std.proofs.lemmas.List.{map-append, length-map}
 use Rattle.schedule_model.specs.JobDef.{JobDef, JobsDef}
-use Rattle.schedule_model.specs.LawfulJobs.{AreLawfulJobs, are_resources_in}
+use Rattle.schedule_model.specs.LawfulJobs.{AreLawfulJobs, is_resource_in}
 use Rattle.schedule_model.specs.JobLists.{IsJobList, first_refusal, with_job, segment_count}
 use Rattle.schedule_model.specs.declared.job.Job.{Job}
 use Rattle.schedule_model.specs.ListViews.{jobs_view}
@@ -20,8 +21,8 @@ invariant_of-self-2 c =
     c.deref.ensures.value (sym c.refusal_of.ensures ∙ c.in-None.is) in
     let task : job.task < length (jobs_view old).set.tasks =
     subst (λ (js : JobsDef). job.task < length js.set.tasks) (sym c.self.view_is) c.requires.task in
-    let resources : are_resources_in (length (jobs_view old).set.resources) job.script ≡ true =
-    subst (λ (js : JobsDef). are_resources_in (length js.set.resources) job.script ≡ true) (sym c.self.view_is)
+    let resources : list_all (is_resource_in (length (jobs_view old).set.resources)) job.script ≡ true =
+    subst (λ (js : JobsDef). list_all (is_resource_in (length js.set.resources)) job.script ≡ true) (sym c.self.view_is)
     c.requires.resources in
     let more : AreLawfulJobs (with_job (jobs_view old) job) = lawful_more (jobs_view old) job c.self.invariant.lawful task resources none in
     let within : IsJobList (with_job (jobs_view old) job) = listed_more (jobs_view old) job c.self.invariant.listed none in

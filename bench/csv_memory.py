@@ -1,0 +1,131 @@
+#!/usr/bin/env python3
+"""Runs `conform` on large files of jobs and of rows, and prints the most memory that each run holds.
+
+    python3 bench/csv_memory.py [--program PROGRAM] [--size MIB] [KIND ..]
+
+Each KIND is a file of MIB mebibytes (64 where none is given, the longest input that is read), made in a folder that is removed again;
+without KIND all are tried. A line of the table has the kind, the size of its file, the most memory that was resident, how often the
+file would fit into it, the seconds, and what was answered. The first line is of a small run: what the program takes without a large
+file. PROGRAM is what `rt ci` or `./block` built, where none is given.
+
+It needs Python's standard library on a system that has wait4. It is no test: no gate runs it, and it bounds nothing.
+"""
+import argparse
+import json
+import os
+import subprocess
+import sys
+import tempfile
+import time
+from pathlib import Path
+
+TOP = Path(__file__).resolve().parent.parent
+BUILT = TOP / "crates" / "block_cli" / "out" / "block_cli"
+MIB = 1 << 20
+
+SET = {
+    "processors": 1,
+    "resources": [{"name": "a"}],
+    "tasks": [{"name": "t", "processor": 1, "period": 10, "cost": 5, "requests": [{"resource": "a", "count": 2, "length": 1}]}],
+}
+LONG = {
+    "processors": 1,
+    "resources": [{"name": "a"}],
+    "tasks": [{"name": "t", "processor": 1, "period": 10**9, "cost": 10**9, "requests": [{"resource": "a", "count": 1000, "length": 1}]}],
+}
+JOBS = b"task,release,script\n"
+ROWS = b"ticks,P1,a\n"
+
+
+def filled(start, piece, size):
+    """The start, and then as many pieces as fit."""
+    return start + piece * ((size - len(start)) // len(piece))
+
+
+def numbered(start, line, size):
+    """The start, and then lines that have their numbers, as many as fit."""
+    parts, length, number = [start], len(start), 0
+    while length < size:
+        part = b"".join(line(n) for n in range(number, number + 10000))
+        parts.append(part)
+        length += len(part)
+        number += 10000
+    text = b"".join(parts)[:size]
+    return text[: text.rindex(b"\n") + 1]
+
+
+def kinds(size):
+    """Each kind: the file that is large, how it is made, and the set."""
+    quoted = size - 64
+    return {
+        "jobs-good": ("jobs", lambda: numbered(JOBS, lambda n: b"t,%d,1 a:1\n" % (10 * n), size), SET),
+        "jobs-bad-first": ("jobs", lambda: numbered(JOBS + b"t,x,1\n", lambda n: b"t,%d,1 a:1\n" % (10 * n), size), SET),
+        "jobs-no-header": ("jobs", lambda: numbered(b"", lambda n: b"t,%d,1 a:1\n" % (10 * n), size), SET),
+        "jobs-commas": ("jobs", lambda: filled(b"", b",", size), SET),
+        "jobs-commas-in-line": ("jobs", lambda: filled(JOBS, b",", size), SET),
+        "jobs-comma-lines": ("jobs", lambda: filled(JOBS, b",\n", size), SET),
+        "jobs-blank": ("jobs", lambda: filled(JOBS, b"\n", size), SET),
+        "jobs-quoted-header": ("jobs", lambda: b'"' + b"x" * quoted + b'"\n', SET),
+        "jobs-quoted-name": ("jobs", lambda: JOBS + b'"' + b"x" * quoted + b'",0,1\n', SET),
+        "jobs-quoted-script": ("jobs", lambda: JOBS + b't,0,"' + b"x" * quoted + b'"\n', SET),
+        "jobs-open-quote": ("jobs", lambda: filled(JOBS + b't,0,"', b'""', size), SET),
+        "jobs-long-number": ("jobs", lambda: JOBS + b"t," + b"1" * quoted + b",1\n", SET),
+        "jobs-long-script": ("jobs", lambda: filled(JOBS + b"t,0,1 a:1", b" 1 a:1", size), LONG),
+        "rows-one-tick": ("rows", lambda: filled(ROWS, b"1,1,\n1,,\n", size), SET),
+        "rows-bad-first": ("rows", lambda: filled(ROWS + b"0,,\n", b"1,1,\n1,,\n", size), SET),
+        "rows-commas": ("rows", lambda: filled(b"", b",", size), SET),
+        "rows-commas-in-line": ("rows", lambda: filled(ROWS + b"1", b",", size), SET),
+        "rows-quoted-cell": ("rows", lambda: ROWS + b'1,"' + b"1" * quoted + b'",\n', SET),
+    }
+
+
+def run(program, words):
+    """The first line that a run writes, the most memory that it held, in bytes, and its seconds."""
+    began = time.monotonic()
+    ran = subprocess.Popen([program, *words], stdin=subprocess.DEVNULL, stdout=subprocess.PIPE)
+    text = ran.stdout.read()
+    _, status, used = os.wait4(ran.pid, 0)
+    ran.returncode = os.waitstatus_to_exitcode(status)
+    answer = text.split(b"\n", 1)[0].decode() or f"status {ran.returncode}"
+    return answer, used.ru_maxrss * 1024, time.monotonic() - began
+
+
+def shown(kind, size, held, seconds, answer):
+    times = f"{held / size:5.2f}" if size >= MIB else "    -"
+    print(f"{kind:20} {size / MIB:7.1f} MiB {held / MIB:8.1f} MiB {times} {seconds:7.2f} s  {answer}", flush=True)
+
+
+def try_kind(program, folder, kind, made):
+    """Makes the file of a kind, runs the program on it, and prints the line."""
+    which, text, parts = made
+    files = {"set": json.dumps(parts).encode(), "jobs": JOBS + b"t,0,1 a:1\n", "rows": ROWS + b"1,1,\n1,1,1\n"}
+    if which:
+        files[which] = text()
+    size = len(files[which]) if which else 0
+    for name, content in files.items():
+        (folder / name).write_bytes(content)
+    files.clear()
+    answer, held, seconds = run(program, ["conform", "fmlp+", *(str(folder / name) for name in ("set", "jobs", "rows"))])
+    shown(kind, size, held, seconds, answer)
+
+
+def main():
+    given = argparse.ArgumentParser()
+    given.add_argument("--program", default=str(BUILT))
+    given.add_argument("--size", type=int, default=64)
+    given.add_argument("kinds", nargs="*")
+    given = given.parse_args()
+    program = str(Path(given.program).resolve())
+    if not Path(program).is_file():
+        sys.exit(f"{program} is missing: ./block builds it, and so does rt ci")
+    every = kinds(given.size * MIB)
+    unknown = [kind for kind in given.kinds if kind not in every]
+    if unknown:
+        sys.exit(f"no such kind: {' '.join(unknown)}; there are {' '.join(every)}")
+    with tempfile.TemporaryDirectory(prefix="csv-memory-") as name:
+        try_kind(program, Path(name), "small", (None, None, SET))
+        for kind in given.kinds or every:
+            try_kind(program, Path(name), kind, every[kind])
+
+
+main()

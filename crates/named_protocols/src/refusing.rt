@@ -1,0 +1,79 @@
+ghost use Rattle.std.specs.Prelude.{◌≡◌, ℕ, List, IfOk, IfErr};
+ghost use Rattle.program_sources.specs.Fitting.{AreFitting};
+ghost use Rattle.response_fixpoint.specs.Rounds.{Ending, EndsIn};
+ghost use Rattle.refusal_laws.specs.Steps.{HasDenominators, Holds};
+ghost use Rattle.refusal_laws.specs.Seen.{steps_seen};
+ghost use Rattle.refusal_confirm.specs.Faults.{IsFault, Confirms, Names};
+ghost use Rattle.refusal_cert.specs.Refuting.{refuting};
+ghost use Rattle.refusal_cert.specs.Steps.{refusal_of};
+ghost use Rattle.refusal_cert.specs.Answers.{Refutes, IsAnswerOf, FollowsAnalysis, IsRight};
+ghost use Rattle.named_protocols.specs.Named.{HasHomes, source_of};
+
+use dflp_protocol::Dflp;
+use protocol_names::ProtocolName;
+use protocol_programs::Written;
+use refusal_cert::{Answer, RefuteStop};
+use refusal_confirm::Fault;
+use refusal_laws::Refusal;
+use request_windows::DpcpWindows;
+use spin_protocol::Spin;
+use sporadic_model::TaskSet;
+use std::alloc::Global;
+use std::thread::Threads;
+
+/// Steps that show that no bounds fit under the protocol of this name, or that some do, as `refute` of `refusal_cert` finds them.
+pub fn refute(
+    alloc: Global,
+    set: &TaskSet,
+    protocol: ProtocolName,
+    allowance: u64,
+) -> Result<Answer, RefuteStop>
+    requires suits { HasHomes protocol set.now }
+    ensures rounds { Refutes result (source_of protocol set.now) allowance }
+    ensures only { (e : Ending) (ends : EndsIn (refuting (source_of protocol set.now)) allowance e)
+        → IsAnswerOf result e (refusal_of (refuting (source_of protocol set.now)) allowance e ends) }
+    ensures follows { FollowsAnalysis result (source_of protocol set.now) allowance }
+    ensures right { IfOk result (λ answer. IsRight answer (source_of protocol set.now)) }
+{
+    match protocol {
+        ProtocolName::Base(base) => refusal_cert::refute(alloc, set, &Written(base), allowance),
+        ProtocolName::Dflp => refusal_cert::refute(alloc, set, &Dflp, allowance),
+        ProtocolName::Spin => refusal_cert::refute(alloc, set, &Spin, allowance),
+        ProtocolName::DpcpWindows => refusal_cert::refute(alloc, set, &DpcpWindows, allowance),
+    }
+}
+
+/// Whether the refusal holds under the protocol of this name, as `confirm` of `refusal_confirm` judges it.
+pub fn confirm<R: Threads + Sync>(
+    rt: &R,
+    alloc: Global,
+    set: &TaskSet,
+    protocol: ProtocolName,
+    refusal: &Refusal,
+) -> Result<(), Fault>
+    requires suits { HasHomes protocol set.now }
+    requires denominators { HasDenominators (steps_seen refusal.now) }
+    ensures confirms { Confirms result (source_of protocol set.now) (steps_seen refusal.now) }
+    ensures accepts { Holds (source_of protocol set.now) (steps_seen refusal.now) → IfErr result (λ e. e ≡ Fault.Memory) }
+    ensures only { (e : Fault) → IsFault e (source_of protocol set.now) (steps_seen refusal.now) → Names result e }
+    ensures fits_none { IfOk result (λ done. (s : List ℕ) → AreFitting (source_of protocol set.now) s → ⊥) }
+{
+    match protocol {
+        ProtocolName::Base(base) => refusal_confirm::confirm(
+            rt,
+            alloc,
+            set,
+            &Written(base),
+            refusal,
+        ),
+        ProtocolName::Dflp => refusal_confirm::confirm(rt, alloc, set, &Dflp, refusal),
+        ProtocolName::Spin => refusal_confirm::confirm(rt, alloc, set, &Spin, refusal),
+        ProtocolName::DpcpWindows => refusal_confirm::confirm(
+            rt,
+            alloc,
+            set,
+            &DpcpWindows,
+            refusal,
+        ),
+    }
+}

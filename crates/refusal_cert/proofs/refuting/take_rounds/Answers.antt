@@ -1,0 +1,54 @@
+use Rattle.std.proofs.Common.{◌≡◌, ◌≢◌, ℕ, ◌+◌, ◌-◌, List, map, sym, ◌∙◌, refl, subst, arith, Ok, Err, true, false}
+use Rattle.std.specs.Str.{bytes_eq}
+use Rattle.std.proofs.lemmas.Slice.Eq.{bytes_eq-Decides}
+use Rattle.program_sources.specs.Recurrence.{SourceDef, source_at}
+use Rattle.refusal_laws.specs.Seen.{step_seen}
+use Rattle.refusal_laws.specs.Steps.{StepDef}
+use Rattle.refusal_cert.specs.Answers.{GivesRound}
+use Rattle.refusal_cert.proofs.AnswerLaws.{ended_answers, settled_answers, next_in_range, stands_more}
+use Rattle.refusal_cert.proofs.refuting.take_rounds.Goals as goal
+
+-- What a test of two vectors says.
+same_vectors : (xs ys : List ℕ) → true ≡ bytes_eq xs ys → xs ≡ ys
+same_vectors xs ys e = (bytes_eq-Decides xs ys).0 (sym e)
+
+other_vectors : (xs ys : List ℕ) → false ≡ bytes_eq xs ys → ys ≢ xs
+other_vectors xs ys e = λ same. (let yes = (bytes_eq-Decides xs ys).1 (sym same) in let both : false ≡ true = e ∙ yes in cc)
+
+pub returns-in-Err : goal.returns-in-Err
+returns-in-Err g c =
+    let f : SourceDef = source_at (g.P.ProgramSource.source c.args.protocol.now) c.args.set.now in
+    let s = c.loop-next.invariant.stands in
+    let left : ℕ = c.args.allowance - c.loop-next.spent in
+    let given : GivesRound (Err c.in-Err.end) f c.loop-next.bounds.items left (map step_seen c.loop-next.steps.items) =
+    rw (c.in-Err.is, c.deref.ensures.value) at c.take_round.ensures in
+    rw (c.ended.ensures) (ended_answers f c.args.allowance s.rounds c.loop-next.spent c.loop-next.bounds.items c.in-Err.end s.way
+    (subst (λ (xs : List StepDef). GivesRound (Err c.in-Err.end) f c.loop-next.bounds.items left xs) s.steps_are given))
+
+pub returns-then-eq : goal.returns-then-eq
+returns-then-eq g c =
+    let f : SourceDef = source_at (g.P.ProgramSource.source c.args.protocol.now) c.args.set.now in
+    let s = c.loop-next.invariant.stands in
+    let steps : List StepDef = map step_seen c.loop-next.steps.items in
+    let next = c.in-Ok.next in
+    let given : GivesRound (Ok next) f c.loop-next.bounds.items (c.args.allowance - c.loop-next.spent) steps =
+    rw (c.in-Ok.is, c.deref.ensures.value) at c.take_round.ensures in
+    settled_answers f c.args.allowance s.rounds c.loop-next.spent c.loop-next.bounds.items steps next s.way given.0
+    (same_vectors next.values.items c.loop-next.bounds.items c.if-eq.ensures)
+
+pub loop-next-preserved : goal.loop-next-preserved
+loop-next-preserved g c =
+    let f : SourceDef = source_at (g.P.ProgramSource.source c.args.protocol.now) c.args.set.now in
+    let s = c.loop-next.invariant.stands in
+    let steps : List StepDef = map step_seen c.loop-next.steps.items in
+    let next = c.in-Ok.next in
+    let left : ℕ = c.args.allowance - c.loop-next.spent in
+    let given : GivesRound (Ok next) f c.loop-next.bounds.items left steps =
+    rw (c.in-Ok.is, c.deref.ensures.value) at c.take_round.ensures in
+    let other = other_vectors next.values.items c.loop-next.bounds.items c.if-eq.ensures in
+    record {
+      stands = stands_more f c.args.allowance c.loop-next.spent (c.loop-next.spent + next.used) c.loop-next.bounds.items steps next
+          s given.0 other refl;
+      range = next_in_range f c.loop-next.bounds.items left steps next given.0;
+      within = omega (arith, given.1, c.loop-next.invariant.within);
+    }

@@ -1,0 +1,16 @@
+//! Refusals of task sets: where the rounds of an analysis come to a task whose value passes its latest bound, the steps that show so,
+//! each with a point of a task's program, so that a reader can judge them without solving anything.
+//!
+//! [`refute`] goes through the same rounds as an analysis, one program at a time. What a refusal is and why it is right stands in
+//! `refusal_laws`; which steps rounds give is said in `specs/`.
+#![tactic(auto)]
+
+mod answer;
+mod laws;
+mod refuting;
+mod rounds;
+mod task_run;
+
+pub use answer::{Answer, RefuteStop};
+pub use laws::{refutations_follow_analyses, the_rounds_of_refusals_have_one_ending};
+pub use refuting::refute;

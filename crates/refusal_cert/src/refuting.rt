@@ -1,0 +1,96 @@
+ghost use Rattle.std.specs.Prelude.{◌≡◌, IfOk};
+ghost use Rattle.program_sources.specs.Recurrence.{source_at};
+ghost use Rattle.response_fixpoint.specs.Rounds.{Ending, EndsIn};
+ghost use Rattle.refusal_cert.specs.Refuting.{refuting};
+ghost use Rattle.refusal_cert.specs.Answers.{Refutes, IsAnswerOf, FollowsAnalysis, IsRight, answer_at};
+ghost use Rattle.refusal_cert.specs.Steps.{refusal_of};
+
+use crate::answer::{Answer, RefuteStop};
+use crate::rounds::{Round, RoundEnd, take_round};
+use program_sources::{ProgramSource, recurrence_is_monotone};
+use response_fixpoint::costs;
+use sporadic_model::TaskSet;
+use std::alloc::Global;
+
+/// What is answered where a round ends so.
+fn ended(end: RoundEnd) -> Result<Answer, RefuteStop>
+    ensures { result ≡ answer_at end }
+{
+    match end {
+        RoundEnd::Refused(refusal) => Ok(Answer::Refused(refusal)),
+        RoundEnd::Wide(task) => Err(RefuteStop::Wide(task)),
+        RoundEnd::Allowance => Err(RefuteStop::Allowance),
+        RoundEnd::Memory => Err(RefuteStop::Memory),
+    }
+}
+
+/// Takes rounds from the costs on, until one ends or gives the vector that it began with.
+fn take_rounds<P: ProgramSource>(
+    alloc: Global,
+    set: &TaskSet,
+    protocol: &P,
+    allowance: u64,
+) -> Result<Answer, RefuteStop>
+    requires { P.serves protocol.now set.now }
+    ensures { Refutes result (source_at (P.source protocol.now) set.now) allowance }
+{
+    let mut bounds = costs(alloc, set)?;
+    // a set has a task, so each round takes a unit, and the rounds end
+    let _tasks = set.tasks();
+    let mut steps = Vec::new(alloc);
+    let mut spent = 0;
+    loop {
+        let left = allowance - spent;
+        let next = match take_round(alloc, set, protocol, &bounds, left, steps) {
+            Ok(next) => next,
+            Err(end) => return ended(end),
+        };
+        let Round {
+            used,
+            values,
+            steps: more,
+        } = next;
+        if values == bounds {
+            return Ok(Answer::Schedulable);
+        }
+        bounds = values;
+        steps = more;
+        spent += used;
+    }
+}
+
+/// Shows that no bounds fit, by steps that a reader can judge from the programs alone, or that some do.
+///
+/// The rounds are those of an analysis. A task whose value is above its bound at the round's start gives a step: the value, and the
+/// best point of its program over its least common denominator. The task whose value passes its latest bound gives the last one.
+/// `allowance` is the number of units that all programs together may take, counted as in an analysis.
+///
+/// `RefuteStop::Wide` names the first task whose run is wide, or whose step's point passes 2^63 - 1; `RefuteStop::Allowance` comes
+/// exactly where the rounds end so, and `RefuteStop::Memory` for want of memory alone.
+pub fn refute<P: ProgramSource>(
+    alloc: Global,
+    set: &TaskSet,
+    protocol: &P,
+    allowance: u64,
+) -> Result<Answer, RefuteStop>
+    requires serves { P.serves protocol.now set.now }
+
+    // The answer, its stops among them, is how the rounds end, and a refusal has just their steps.
+    ensures rounds { Refutes result (source_at (P.source protocol.now) set.now) allowance }
+
+    // And each end of the rounds gives just that answer, with just the steps of that end.
+    ensures only { (e : Ending) (ends : EndsIn (refuting (source_at (P.source protocol.now) set.now)) allowance e)
+        → IsAnswerOf result e (refusal_of (refuting (source_at (P.source protocol.now) set.now)) allowance e ends) }
+
+    // Refused comes exactly where the rounds of an analysis end at a task that isn't shown and the point of each step can be written,
+    // Schedulable exactly where they end in bounds that fit and it can.
+    ensures follows { FollowsAnalysis result (source_at (P.source protocol.now) set.now) allowance }
+
+    // Refused: the refusal holds, and nothing fits. Schedulable: something fits.
+    ensures right { IfOk result (λ answer. IsRight answer (source_at (P.source protocol.now) set.now)) }
+{
+    // the costs of a set are within its latest bounds
+    let _tasks = set.tasks();
+    recurrence_is_monotone::<P>();
+    take_rounds(alloc, set, protocol, allowance)
+}

@@ -1,0 +1,6 @@
+pub mod Capped
+pub mod SeenLaws
+pub mod PartLaws
+pub mod WalkLaws
+pub mod FaultLaws
+pub mod BatchLaws

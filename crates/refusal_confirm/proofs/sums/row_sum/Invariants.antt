@@ -1,0 +1,7 @@
+use Rattle.std.proofs.Common.{◌≡◌, ◌*◌, min, slice_index}
+use Rattle.bounded_sums.specs.Sums.{sum_below}
+use Rattle.program_form.specs.Program.{entry}
+use Rattle.refusal_confirm.proofs.sums.row_sum.Given as goal
+
+abbrev pub invariant-loop-c : goal.invariant-loop-c
+invariant-loop-c l = l.sum ≡ min l.most (sum_below l.c (λ c. entry l.program l.row c * slice_index l.num c))

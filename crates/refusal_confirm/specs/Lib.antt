@@ -1,0 +1,5 @@
+pub mod Tests
+pub mod Faults
+pub mod Parts
+pub mod Walks
+pub mod Batches

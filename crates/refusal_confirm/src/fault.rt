@@ -1,0 +1,63 @@
+ghost use Rattle.std.specs.Prelude.{◌≡◌};
+ghost use Rattle.refusal_confirm.specs.Parts.{fault_of};
+
+use std::alloc::AllocError;
+
+/// Why a refusal doesn't hold: the first test that fails, at the first step that fails one. Steps and rows are counted from 1.
+#[derive(Clone, Copy, Debug, PartialEq, Eq)]
+pub enum Fault {
+    /// The value of a step before this one and its task's jitter together pass the task's deadline.
+    After(u64),
+    /// This step names no task of the set.
+    Task(u64),
+    /// This step's value isn't above its task's bound.
+    Rising(u64),
+    /// This step's point has not one number for each column of its task's program.
+    Size(u64),
+    /// This step's point breaks this row of the program.
+    Row { step: u64, row: u64 },
+    /// Cost, the point's worth and the interference don't come up to this step's value.
+    Low(u64),
+    /// No step passes its task's deadline.
+    Open,
+    /// No memory is left.
+    Memory,
+}
+
+impl From<AllocError> for Fault {
+    ghost use Rattle.refusal_confirm.specs.declared.fault.Fault.TheVariants.{Memory};
+
+    ghost from_gives = { λ _ fault. fault ≡ Memory };
+
+    fn from(_error: AllocError) -> Fault {
+        Fault::Memory
+    }
+}
+
+/// The test that a step fails. Rows are counted from 0.
+#[derive(Clone, Copy, Debug)]
+pub(crate) enum Part {
+    After,
+    Task,
+    Rising,
+    Size,
+    Row(u32),
+    Low,
+}
+
+/// The fault of this step, counted from 1, where it fails the test.
+pub(crate) fn named(part: Part, step: u64) -> Fault
+    ensures { result ≡ fault_of part step }
+{
+    match part {
+        Part::After => Fault::After(step),
+        Part::Task => Fault::Task(step),
+        Part::Rising => Fault::Rising(step),
+        Part::Size => Fault::Size(step),
+        Part::Row(row) => Fault::Row {
+            step,
+            row: u64::from(row) + 1,
+        },
+        Part::Low => Fault::Low(step),
+    }
+}

@@ -1,0 +1,16 @@
+//! Confirming refusals: whether steps show that a task set has no fitting bounds, without trust in what made them.
+//!
+//! Each step of a refusal is tested at the bounds before it. `specs/Tests.antt` has the tests, `specs/Faults.antt` their order.
+#![tactic(auto)]
+
+mod batches;
+mod confirming;
+mod fault;
+mod laws;
+mod points;
+mod sums;
+mod walk;
+
+pub use confirming::{confirm, has_denominators};
+pub use fault::Fault;
+pub use laws::faults_are_exact;

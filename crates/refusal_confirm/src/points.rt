@@ -1,0 +1,78 @@
+//! The tests of a step's point, which need its task's program.
+
+ghost use Rattle.std.specs.Prelude.{◌≡◌, ◌<◌, ◌≤◌, ◌↔◌, length, IsTrue, IfOk, option_map};
+ghost use Rattle.program_form.specs.Certificate.{dual_seen};
+ghost use Rattle.program_sources.specs.Bounds.{IsInRange};
+ghost use Rattle.program_sources.specs.Recurrence.{source_at};
+ghost use Rattle.refusal_laws.specs.Steps.{place_of};
+ghost use Rattle.refusal_laws.specs.Seen.{step_seen};
+ghost use Rattle.refusal_confirm.specs.Tests.{HasSize, ReachesValue};
+ghost use Rattle.refusal_confirm.specs.Parts.{FindsBroken, FindsPart};
+
+use crate::fault::Part;
+use crate::sums::{is_worth, keeps_row};
+use program_form::{Dual, Program};
+use program_sources::{ProgramSource, response};
+use refusal_laws::RefusalStep;
+use sporadic_model::{TaskId, TaskSet};
+use std::alloc::{AllocError, Global};
+
+/// The first row that the point breaks.
+fn first_broken(program: &Program, point: &Dual) -> Option<u32>
+    requires { HasSize program.now (dual_seen point.now) }
+    ensures { FindsBroken result program.now (dual_seen point.now) }
+{
+    (0..program.rows()).find(|row| !keeps_row(program, point, *row))
+}
+
+/// Do the task's cost, its point's worth and the interference come up to the step's value?
+fn reaches_value<P: ProgramSource>(
+    set: &TaskSet,
+    protocol: &P,
+    program: &Program,
+    task: TaskId,
+    bounds: &[u64],
+    step: &RefusalStep,
+) -> bool
+    requires serves { P.serves protocol.now set.now }
+    requires task { task.0 < length set.now.tasks }
+    requires place { task.0 ≡ place_of (step_seen step.now) }
+    requires range { IsInRange set.now bounds.now }
+    requires program { program.now ≡ (source_at (P.source protocol.now) set.now).program task.0 bounds.now }
+    requires denominator { 1 ≤ step.now.point.den }
+    requires size { HasSize program.now (dual_seen step.now.point) }
+    ensures { IsTrue result ↔ ReachesValue (source_at (P.source protocol.now) set.now) bounds.now (step_seen step.now) }
+{
+    let unblocked = response(set, protocol, task, bounds, 0);
+    is_worth(program, &step.point, step.value.saturating_sub(unblocked))
+}
+
+/// The first test of the step's point that fails at these bounds.
+pub(crate) fn fault_of_point<P: ProgramSource>(
+    alloc: Global,
+    set: &TaskSet,
+    protocol: &P,
+    task: TaskId,
+    bounds: &[u64],
+    step: &RefusalStep,
+) -> Result<Option<Part>, AllocError>
+    requires serves { P.serves protocol.now set.now }
+    requires task { task.0 < length set.now.tasks }
+    requires place { task.0 ≡ place_of (step_seen step.now) }
+    requires range { IsInRange set.now bounds.now }
+    requires denominator { 1 ≤ step.now.point.den }
+    ensures { IfOk result (λ part.
+        FindsPart part (source_at (P.source protocol.now) set.now) bounds.now (step_seen step.now)) }
+{
+    let program = protocol.program(alloc, set, task, bounds)?;
+    if step.point.num.len() != program.columns() as usize {
+        return Ok(Some(Part::Size));
+    }
+    if let Some(row) = first_broken(&program, &step.point) {
+        return Ok(Some(Part::Row(row)));
+    }
+    if !reaches_value(set, protocol, &program, task, bounds, step) {
+        return Ok(Some(Part::Low));
+    }
+    Ok(None)
+}

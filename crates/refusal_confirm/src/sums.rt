@@ -1,0 +1,65 @@
+//! Sums over the columns of a program, which stop growing once they have passed what they are compared with.
+
+ghost use Rattle.std.specs.Prelude.{◌≡◌, ◌+◌, ◌-◌, ◌*◌, ◌<◌, ◌≤◌, ◌^◌, ◌↔◌, IsTrue, min, length, vec_len, slice_index};
+ghost use Rattle.bounded_sums.specs.Sums.{sum_below};
+ghost use Rattle.program_form.specs.Certificate.{dual_seen};
+ghost use Rattle.program_form.specs.Program.{columns, height, cost, entry};
+ghost use Rattle.program_form.specs.Points.{worth};
+ghost use Rattle.refusal_laws.specs.Steps.{whole_worth};
+ghost use Rattle.refusal_confirm.specs.Tests.{HasSize, KeepsRow};
+
+use program_form::{Dual, Program};
+
+fn product(a: u64, b: u64) -> u128
+    ensures value { result ≡ a * b }
+    ensures most { result < 2 ^ 128 - 1 }
+{
+    u128::from(a) * u128::from(b)
+}
+
+/// What a row comes to at these numbers, no further than `most`.
+fn row_sum(program: &Program, num: &[u64], row: u32, most: u128) -> u128
+    requires row { row < height program.now }
+    requires numbers { length num.now ≡ columns program.now }
+    ensures { result ≡ min most (sum_below (columns program.now) (λ c. entry program.now row c * slice_index num.now c)) }
+{
+    let mut sum = 0;
+    for c in 0..program.columns() {
+        let term = product(program.entry(row, c), num[c as usize]);
+        sum = most.min(term.saturating_add(sum));
+    }
+    sum
+}
+
+/// What the columns are worth at these numbers, no further than `most`.
+fn worth_sum(program: &Program, num: &[u64], most: u128) -> u128
+    requires numbers { length num.now ≡ columns program.now }
+    ensures { result ≡ min most (worth program.now (slice_index num.now)) }
+{
+    let mut sum = 0;
+    for c in 0..program.columns() {
+        let term = product(program.cost(c), num[c as usize]);
+        sum = most.min(term.saturating_add(sum));
+    }
+    sum
+}
+
+/// Does the point keep the row: is what the row comes to at most the limit, the denominator times?
+pub(crate) fn keeps_row(program: &Program, point: &Dual, row: u32) -> bool
+    requires row { row < height program.now }
+    requires size { HasSize program.now (dual_seen point.now) }
+    ensures { IsTrue result ↔ KeepsRow program.now (dual_seen point.now) row }
+{
+    let due = product(point.den, program.limit(row));
+    row_sum(program, &point.num, row, due + 1) <= due
+}
+
+/// Is the point worth so many whole ticks?
+pub(crate) fn is_worth(program: &Program, point: &Dual, ticks: u64) -> bool
+    requires denominator { 1 ≤ point.now.den }
+    requires size { HasSize program.now (dual_seen point.now) }
+    ensures { IsTrue result ↔ (ticks ≤ whole_worth program.now (dual_seen point.now)) }
+{
+    let due = product(ticks, point.den);
+    worth_sum(program, &point.num, due) == due
+}

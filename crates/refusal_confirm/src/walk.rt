@@ -1,0 +1,82 @@
+//! Going over the steps of a refusal, by the tests that need no program.
+
+ghost use Rattle.std.specs.Prelude.{◌≡◌, ◌<◌, false, length, map, slice_set, IfOk};
+ghost use Rattle.sporadic_model.specs.SetDef.{task_at};
+ghost use Rattle.program_sources.specs.Bounds.{IsInRange};
+ghost use Rattle.refusal_laws.specs.Seen.{step_seen};
+ghost use Rattle.refusal_confirm.specs.Parts.{Enters, Takes};
+
+use crate::fault::Part;
+use refusal_laws::RefusalStep;
+use sporadic_model::{TaskId, TaskSet};
+use std::alloc::{AllocError, Global};
+
+/// Where the steps have come to.
+#[derive(Drop)]
+pub(crate) struct Walk {
+    /// The bounds so far, in ticks. A value that passes its latest bound isn't put among them.
+    pub bounds: Vec<u64>,
+    /// Does the last step's value pass its latest bound?
+    pub is_over: bool,
+}
+
+/// Each task's cost.
+fn costs(alloc: Global, set: &TaskSet) -> Result<Vec<u64>, AllocError>
+    ensures first { IfOk result (λ v. v.items ≡ map (λ t. t.cost) set.now.tasks) }
+    ensures range { IfOk result (λ v. IsInRange set.now v.items) }
+{
+    let mut costs = Vec::new(alloc);
+    for i in 0..set.tasks() {
+        costs.push(set.cost(TaskId(i)))?;
+    }
+    Ok(costs)
+}
+
+/// A walk that has taken no step.
+pub(crate) fn start(alloc: Global, set: &TaskSet) -> Result<Walk, AllocError>
+    ensures first { IfOk result (λ w. w.bounds.items ≡ map (λ t. t.cost) set.now.tasks) }
+    ensures range { IfOk result (λ w. IsInRange set.now w.bounds.items) }
+    ensures going { IfOk result (λ w. w.is_over ≡ false) }
+{
+    Ok(Walk {
+        bounds: costs(alloc, set)?,
+        is_over: false,
+    })
+}
+
+/// The task of the next step, or the first test that it fails.
+pub(crate) fn enter(set: &TaskSet, walk: &Walk, step: &RefusalStep) -> Result<TaskId, Part>
+    requires { length walk.now.bounds.items ≡ length set.now.tasks }
+    ensures { Enters result set.now walk.now.bounds.items walk.now.is_over (step_seen step.now) }
+{
+    if walk.is_over {
+        return Err(Part::After);
+    }
+    if step.task < 1 || step.task > u64::from(set.tasks()) {
+        return Err(Part::Task);
+    }
+    let task = TaskId((step.task - 1) as u32);
+    if step.value <= walk.bounds[task.0 as usize] {
+        return Err(Part::Rising);
+    }
+    Ok(task)
+}
+
+fn put(bounds: &mut [u64], i: usize, value: u64)
+    requires { i < length bounds.old }
+    ensures { bounds.new ≡ slice_set bounds.old i value }
+{
+    bounds[i] = value;
+}
+
+/// Takes a step of the task to this value.
+pub(crate) fn take(walk: &mut Walk, set: &TaskSet, task: TaskId, value: u64)
+    requires task { task.0 < length set.now.tasks }
+    requires size { length walk.old.bounds.items ≡ length set.now.tasks }
+    ensures { Takes walk.new.is_over walk.new.bounds.items set.now walk.old.bounds.items task.0 value }
+{
+    walk.is_over = value > set.latest_bound(task);
+    if !walk.is_over {
+        put(&mut walk.bounds, task.0 as usize, value);
+    }
+}

@@ -1,0 +1,4 @@
+pub mod Examples
+pub mod SmallPoints
+pub mod ValueLaws
+pub mod ReadBack

@@ -1,0 +1,146 @@
+-- What status 0 of `audit` says, whatever is known of the inputs.
+use Rattle.std.proofs.Common.{◌≡◌, ℕ, List, ap, subst, sym, arith, inl, inr}
+use Rattle.std.specs.Io.KnownBytes.{Appends}
+use Rattle.program_form.specs.Certificate.{CertificateDef}
+use Rattle.program_sources.specs.Valid.{IsValid}
+use Rattle.sporadic_model.specs.SetDef.{SetDef}
+use Rattle.sporadic_model.specs.Accepted.{IsAccepted}
+use Rattle.protocol_names.specs.declared.ProtocolName.{ProtocolName}
+use Rattle.schedule_model.specs.JobDef.{JobsDef}
+use Rattle.schedule_model.specs.RowDef.{Trace, trace_in, ticks_of}
+use Rattle.schedule_model.specs.Fitting.{RowsDef}
+use Rattle.schedule_model.specs.Keeping.{KeepsBefore}
+use Rattle.named_protocols.specs.Named.{rules_of, source_of}
+use Rattle.named_protocols.specs.Audited.{figures_under}
+use Rattle.named_protocols.proofs.FigureLaws.{proved_figures}
+use Rattle.reply_texts.specs.Texts.{kept_text}
+use Rattle.command_words.specs.Words.{Audit}
+use Rattle.cert_json.specs.FileDef.{FileDef}
+use Rattle.sha2.specs.Sha256.{sha256}
+use Rattle.run_plans.specs.Plans.{Answer, Known, IsRead, IsOutcomeOf}
+use Rattle.run_plans.specs.Inputs.{set_input, cert_input, jobs_input, rows_input}
+use Rattle.run_plans.specs.Commands.{kept_answer, IsAudit, IsAuditOf, plan_of}
+use Rattle.run_plans.specs.Outcome.{shown_by}
+use Rattle.run_plans.specs.Headline.{Call}
+use Rattle.run_plans.specs.Auditing.{IsProvedAudit}
+use Rattle.run_plans.specs.Run.{shelf_of, Gives}
+use Rattle.run_plans.proofs.PlanLaws.{stopped_status}
+use Rattle.run_plans.proofs.JobsLaws.{read_lawful}
+use Rattle.run_plans.proofs.SoundLaws.{accepted_of}
+use Rattle.run_plans.proofs.ShownLaws.{reads_valid}
+use Rattle.run_plans.proofs.TiedLaws.{tied_at_zero}
+
+-- What the outcome of `audit` with status 0 is: the figures of a schedule that keeps the rules, beside a valid certificate.
+record FoundKept (known : Known) (protocol : ProtocolName) (name cert jobs rows : List ℕ) (a : Answer) : Type 0 where
+  bytes : List ℕ
+  set : SetDef
+  read : IsRead known (set_input protocol) name bytes set
+  text : List ℕ
+  certificate : CertificateDef
+  also : IsRead known (cert_input protocol) cert text (record { certificate = certificate; digest = sha256 bytes })
+  jobs_bytes : List ℕ
+  list : JobsDef
+  jobs_read : IsRead known (jobs_input set) jobs jobs_bytes list
+  rows_bytes : List ℕ
+  schedule : RowsDef
+  rows_read : IsRead known (rows_input list) rows rows_bytes schedule
+  last : known.last rows_bytes
+  valid : IsValid (source_of protocol list.set) certificate
+  keeps : KeepsBefore (rules_of protocol) (trace_in list schedule.runs) (ticks_of schedule.runs)
+  is : a ≡ kept_answer protocol certificate (trace_in list schedule.runs) (ticks_of schedule.runs)
+
+record KeptAtZero (p : ProtocolName) (c : CertificateDef) (w : Trace) (n : ℕ) (a : Answer) : Type 0 where
+  valid : IsValid (source_of p w.set) c
+  keeps : KeepsBefore (rules_of p) w n
+  is : a ≡ kept_answer p c w n
+
+kept_at_zero : (p : ProtocolName) (c : CertificateDef) (w : Trace) (n : ℕ) (a : Answer) → IsAudit p c w n a → a.status ≡ 0
+    → KeptAtZero p c w n a
+kept_at_zero p c w n a (inl (valid, inl (keeps, is))) zero = record { valid = valid; keeps = keeps; is = is }
+kept_at_zero p c w n a (inl (valid, inr (t, r, first, is))) zero =
+    let one : a.status ≡ 1 = ap (λ x. x.status) is in absurd (omega (arith, one, zero))
+kept_at_zero p c w n a (inr (e, fails, is)) zero =
+    let one : a.status ≡ 1 = ap (λ x. x.status) is in absurd (omega (arith, one, zero))
+
+found_kept : (known : Known) (p : ProtocolName) (name cert jobs rows : List ℕ) (a : Answer)
+    → IsOutcomeOf known (plan_of (Audit p name cert jobs rows)) a → a.status ≡ 0 → FoundKept known p name cert jobs rows a
+found_kept known p name cert jobs rows a (inl stopped) zero =
+    let three : a.status ≡ 3 = stopped_status known (set_input p) name a stopped in absurd (omega (arith, three, zero))
+found_kept known p name cert jobs rows a (inr (bytes, set, read, none, inl stopped)) zero =
+    let three : a.status ≡ 3 = stopped_status known (cert_input p) cert a stopped in absurd (omega (arith, three, zero))
+found_kept known p name cert jobs rows a (inr (bytes, set, read, none, inr (text, file, also, more, inl stopped))) zero =
+    let three : a.status ≡ 3 = stopped_status known (jobs_input set) jobs a stopped in absurd (omega (arith, three, zero))
+found_kept known p name cert jobs rows a
+    (inr (bytes, set, read, none, inr (text, file, also, more, inr (jobs_bytes, list, jobs_read, yet, inl stopped)))) zero =
+    let three : a.status ≡ 3 = stopped_status known (rows_input list) rows a stopped in absurd (omega (arith, three, zero))
+found_kept known p name cert jobs rows a
+    (inr (
+      bytes,
+      set,
+      read,
+      none,
+      inr (
+        text,
+        file,
+        also,
+        more,
+        inr (
+          jobs_bytes,
+          list,
+          jobs_read,
+          yet,
+          inr (rows_bytes, schedule, rows_read, last, tied),
+        ),
+      ),
+    )) zero =
+    let own = tied_at_zero (sha256 bytes) file (IsAuditOf p list schedule) a tied zero in
+    let kept = kept_at_zero p file.certificate (trace_in list schedule.runs) (ticks_of schedule.runs) a own.1 zero in
+    let same : file ≡ record { certificate = file.certificate; digest = sha256 bytes } =
+    ap (λ (digest : List ℕ). record { certificate = file.certificate; digest = digest }) own.0 in
+    record {
+      bytes = bytes;
+      set = set;
+      read = read;
+      text = text;
+      certificate = file.certificate;
+      also = subst (λ (f : FileDef). IsRead known (cert_input p) cert text f) same also;
+      jobs_bytes = jobs_bytes;
+      list = list;
+      jobs_read = jobs_read;
+      rows_bytes = rows_bytes;
+      schedule = schedule;
+      rows_read = rows_read;
+      last = last tt;
+      valid = kept.valid;
+      keeps = kept.keeps;
+      is = kept.is;
+    }
+
+pub proved_audit : (call : Call) (p : ProtocolName) (name cert jobs rows : List ℕ) (a : Answer)
+    → IsOutcomeOf (shown_by (shelf_of call)) (plan_of (Audit p name cert jobs rows)) a → Gives call a → call.status ≡ 0
+    → IsProvedAudit call p name cert jobs rows
+proved_audit call p name cert jobs rows a out gives zero =
+    let zero' : a.status ≡ 0 = omega (arith, gives.0, zero) in
+    let f = found_kept (shown_by (shelf_of call)) p name cert jobs rows a out zero' in
+    let w : Trace = trace_in f.list f.schedule.runs in
+    let n : ℕ = ticks_of f.schedule.runs in
+    let lawful = read_lawful f.set f.jobs_bytes f.list f.jobs_read.1 in
+    let accepted : IsAccepted f.list.set = subst IsAccepted (sym lawful.0) (accepted_of p f.bytes f.set f.read.1) in
+    let valid : IsValid (source_of p f.set) f.certificate =
+    subst (λ (set : SetDef). IsValid (source_of p set) f.certificate) lawful.0 f.valid in
+    let written : Appends call.sink_before.written call.sink_now.written (kept_text f.list.set n (figures_under p f.certificate w n)) =
+    subst (λ (x : Answer). Appends call.sink_before.written call.sink_now.written x.text) f.is gives.1 in
+    record {
+      proved = reads_valid call p name cert f.bytes f.text f.set f.certificate f.read f.also valid;
+      jobs_bytes = f.jobs_bytes;
+      list = f.list;
+      jobs_read = f.jobs_read;
+      rows_bytes = f.rows_bytes;
+      schedule = f.schedule;
+      rows_read = f.rows_read;
+      given = f.last;
+      lawful = record { set_is = lawful.0; jobs = lawful.1; rows = f.keeps };
+      text = subst (λ (set : SetDef). Appends call.sink_before.written call.sink_now.written
+          (kept_text set n (figures_under p f.certificate w n))) lawful.0 written;
+      figures = proved_figures p f.certificate w n accepted f.valid lawful.1 f.keeps;
+    }

@@ -1,0 +1,129 @@
+ghost use Rattle.std.specs.Prelude.{◌≡◌};
+ghost use Rattle.csv.specs.Machine as machine;
+ghost use Rattle.csv.specs.Reading.{default_config};
+ghost use Rattle.trace_csv.specs.Places.{place_seen, effect_seen};
+
+/// Where in a text a reader stands.
+#[derive(Clone, Copy, Debug, PartialEq, Eq)]
+pub(crate) enum Place {
+    /// Between records.
+    Between,
+    /// Between records, behind a carriage return.
+    AfterReturn,
+    /// Before a field.
+    FieldStart,
+    /// In a field, outside quotes.
+    Plain,
+    /// In a field, between quotes.
+    Quoted,
+    /// Behind a quote in a field between quotes: its last one, or the first of two that stand for one.
+    AfterQuote,
+}
+
+/// What a byte does to the record that is read.
+#[derive(Clone, Copy, Debug, PartialEq, Eq)]
+pub(crate) enum Effect {
+    Skip,
+    Copy,
+    EndField,
+    EndRecord,
+}
+
+/// What a byte does in a field, outside quotes.
+fn in_field(byte: u8) -> (Place, Effect)
+    ensures place { place_seen result.0 ≡ (machine.in_field default_config byte).0 }
+    ensures effect { effect_seen result.1 ≡ (machine.in_field default_config byte).1 }
+{
+    if byte == b',' {
+        (Place::FieldStart, Effect::EndField)
+    } else if byte == b'\r' {
+        (Place::AfterReturn, Effect::EndRecord)
+    } else if byte == b'\n' {
+        (Place::Between, Effect::EndRecord)
+    } else {
+        (Place::Plain, Effect::Copy)
+    }
+}
+
+/// What a byte does before a field.
+fn before_field(byte: u8) -> (Place, Effect)
+    ensures place { place_seen result.0 ≡ (machine.start_field default_config byte).0 }
+    ensures effect { effect_seen result.1 ≡ (machine.start_field default_config byte).1 }
+{
+    if byte == b'"' {
+        (Place::Quoted, Effect::Skip)
+    } else {
+        in_field(byte)
+    }
+}
+
+/// What a byte does between records.
+fn between_records(byte: u8) -> (Place, Effect)
+    ensures place { place_seen result.0 ≡ (machine.start_record default_config byte).0 }
+    ensures effect { effect_seen result.1 ≡ (machine.start_record default_config byte).1 }
+{
+    if byte == b'\r' || byte == b'\n' {
+        (Place::Between, Effect::Skip)
+    } else {
+        before_field(byte)
+    }
+}
+
+/// What a byte does between quotes.
+fn in_quotes(byte: u8) -> (Place, Effect)
+    ensures place { place_seen result.0 ≡ (machine.step default_config (place_seen Place.Quoted) byte).0 }
+    ensures effect { effect_seen result.1 ≡ (machine.step default_config (place_seen Place.Quoted) byte).1 }
+{
+    if byte == b'"' {
+        (Place::AfterQuote, Effect::Skip)
+    } else {
+        (Place::Quoted, Effect::Copy)
+    }
+}
+
+/// Where a byte leads from a place, and what it does, as `csv` reads with its defaults.
+pub(crate) fn step(place: Place, byte: u8) -> (Place, Effect)
+    ensures place { place_seen result.0 ≡ (machine.step default_config (place_seen place) byte).0 }
+    ensures effect { effect_seen result.1 ≡ (machine.step default_config (place_seen place) byte).1 }
+{
+    match place {
+        Place::Between => between_records(byte),
+        Place::AfterReturn => {
+            if byte == b'\n' {
+                (Place::Between, Effect::Skip)
+            } else {
+                between_records(byte)
+            }
+        }
+        Place::FieldStart => before_field(byte),
+        Place::Plain => in_field(byte),
+        Place::Quoted => in_quotes(byte),
+        Place::AfterQuote => {
+            if byte == b'"' {
+                (Place::Quoted, Effect::Copy)
+            } else {
+                in_field(byte)
+            }
+        }
+    }
+}
+
+/// Is a record begun, so that the end of the text ends it?
+pub(crate) fn is_inside(place: Place) -> bool
+    ensures { result ≡ machine.ends_at_end (place_seen place) }
+{
+    match place {
+        Place::Between | Place::AfterReturn => false,
+        Place::FieldStart | Place::Plain | Place::Quoted | Place::AfterQuote => true,
+    }
+}
+
+/// Does the record end here?
+pub(crate) fn is_end(effect: Effect) -> bool
+    ensures { result ≡ machine.is_end (effect_seen effect) }
+{
+    match effect {
+        Effect::EndRecord => true,
+        Effect::Skip | Effect::Copy | Effect::EndField => false,
+    }
+}
