@@ -19,6 +19,7 @@ from dataclasses import dataclass, field
 from pathlib import Path
 
 from commands import run
+from generated_sets import assembled
 
 TOP = Path(__file__).resolve().parent.parent
 PROTOCOLS = ["mpcp", "fmlp+", "dpcp"]
@@ -177,24 +178,20 @@ class Simulator:
 
 
 def set_text(tasks):
-    resources = [{"name": f"r{q}", "home": home + 1} for q, home in enumerate(homes())]
-    listed = []
-    for x, task in enumerate(tasks):
-        requests = [{"resource": f"r{q}", "count": 1, "length": length} for q, length in task.lengths.items()]
-        listed.append({"name": f"t{x}", "processor": task.processor + 1, "period": task.period, "cost": task.cost, "requests": requests})
-    return json.dumps({"processors": PROCESSORS, "resources": resources, "tasks": listed})
+    listed = [(task.processor + 1, task.period, task.cost, [(q, 1, length) for q, length in task.lengths.items()]) for task in tasks]
+    return json.dumps(assembled(PROCESSORS, [home + 1 for home in homes()], listed))
 
 
 def jobs_text(jobs):
     lines = ["task,release,script"]
     for job in jobs:
-        script = " ".join(f"{local} r{q}:{length}" if q is not None else f"{local}" for local, q, length in job.segments)
-        lines.append(f"t{job.task},{job.release},{script}")
+        script = " ".join(f"{local} q{q + 1}:{length}" if q is not None else f"{local}" for local, q, length in job.segments)
+        lines.append(f"t{job.task + 1},{job.release},{script}")
     return "\n".join(lines) + "\n"
 
 
 def rows_text(runs):
-    lines = [",".join(["ticks"] + [f"P{k + 1}" for k in range(PROCESSORS)] + [f"r{q}" for q in range(RESOURCES)])]
+    lines = [",".join(["ticks"] + [f"P{k + 1}" for k in range(PROCESSORS)] + [f"q{q + 1}" for q in range(RESOURCES)])]
     lines += [",".join([str(ticks)] + [str(cell or "") for cell in running + holders]) for ticks, running, holders in runs]
     return "\n".join(lines) + "\n"
 

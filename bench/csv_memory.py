@@ -3,8 +3,8 @@
 
     python3 bench/csv_memory.py [--program PROGRAM] [--size MIB] [KIND ..]
 
-Each KIND is a file of MIB mebibytes (64 where none is given, the longest input that is read), made in a folder that is removed again;
-without KIND all are tried. A line of the table has the kind, the size of its file, the most memory that was resident, how often the
+Each KIND is a file of MIB mebibytes (64 where none is given, the longest input that is read), but `jobs-most`, which is as many jobs and
+segments as a list takes. It is made in a folder that is removed again; without KIND all are tried. A line of the table has the kind, the size of its file, the most memory that was resident, how often the
 file would fit into it, the seconds, and what was answered. The first line is of a small run: what the program takes without a large
 file. PROGRAM is what `rt ci` or `./block` built, where none is given.
 
@@ -32,6 +32,11 @@ LONG = {
     "processors": 1,
     "resources": [{"name": "a"}],
     "tasks": [{"name": "t", "processor": 1, "period": 10**9, "cost": 10**9, "requests": [{"resource": "a", "count": 1000, "length": 1}]}],
+}
+OFTEN = {
+    "processors": 1,
+    "resources": [{"name": "a"}],
+    "tasks": [{"name": "t", "processor": 1, "period": 10**4, "cost": 10**3, "requests": [{"resource": "a", "count": 10, "length": 1}]}],
 }
 JOBS = b"task,release,script\n"
 ROWS = b"ticks,P1,a\n"
@@ -71,6 +76,7 @@ def kinds(size):
         "jobs-open-quote": ("jobs", lambda: filled(JOBS + b't,0,"', b'""', size), SET),
         "jobs-long-number": ("jobs", lambda: JOBS + b"t," + b"1" * quoted + b",1\n", SET),
         "jobs-long-script": ("jobs", lambda: filled(JOBS + b"t,0,1 a:1", b" 1 a:1", size), LONG),
+        "jobs-most": ("jobs", lambda: JOBS + b"".join(b"t,%d,1 a:1%s\n" % (n * 10**4, b" 1 a:1" * 9) for n in range(10**5)), OFTEN),
         "rows-one-tick": ("rows", lambda: filled(ROWS, b"1,1,\n1,,\n", size), SET),
         "rows-bad-first": ("rows", lambda: filled(ROWS + b"0,,\n", b"1,1,\n1,,\n", size), SET),
         "rows-commas": ("rows", lambda: filled(b"", b",", size), SET),
@@ -95,18 +101,31 @@ def shown(kind, size, held, seconds, answer):
     print(f"{kind:20} {size / MIB:7.1f} MiB {held / MIB:8.1f} MiB {times} {seconds:7.2f} s  {answer}", flush=True)
 
 
-def try_kind(program, folder, kind, made):
+def write_files(folder, kind, size):
+    """Writes the files of a kind, in a process of their own: a program that is started has at least the memory that its starter holds."""
+    made = os.fork()
+    if made == 0:
+        status = 1
+        try:
+            which, text, parts = kinds(size)[kind] if kind in kinds(size) else (None, None, SET)
+            files = {"set": json.dumps(parts).encode(), "jobs": JOBS + b"t,0,1 a:1\n", "rows": ROWS + b"1,1,\n1,1,1\n"}
+            if which:
+                files[which] = text()
+            for name, content in files.items():
+                (folder / name).write_bytes(content)
+            status = 0
+        finally:
+            os._exit(status)
+    if os.waitpid(made, 0)[1] != 0:
+        sys.exit(f"the files of {kind} could not be written")
+
+
+def try_kind(program, folder, kind, size):
     """Makes the file of a kind, runs the program on it, and prints the line."""
-    which, text, parts = made
-    files = {"set": json.dumps(parts).encode(), "jobs": JOBS + b"t,0,1 a:1\n", "rows": ROWS + b"1,1,\n1,1,1\n"}
-    if which:
-        files[which] = text()
-    size = len(files[which]) if which else 0
-    for name, content in files.items():
-        (folder / name).write_bytes(content)
-    files.clear()
-    answer, held, seconds = run(program, ["conform", "fmlp+", *(str(folder / name) for name in ("set", "jobs", "rows"))])
-    shown(kind, size, held, seconds, answer)
+    write_files(folder, kind, size)
+    paths = [folder / name for name in ("set", "jobs", "rows")]
+    answer, held, seconds = run(program, ["conform", "fmlp+", *map(str, paths)])
+    shown(kind, max(path.stat().st_size for path in paths), held, seconds, answer)
 
 
 def main():
@@ -118,14 +137,14 @@ def main():
     program = str(Path(given.program).resolve())
     if not Path(program).is_file():
         sys.exit(f"{program} is missing: ./block builds it, and so does rt ci")
-    every = kinds(given.size * MIB)
+    size = given.size * MIB
+    every = list(kinds(size))
     unknown = [kind for kind in given.kinds if kind not in every]
     if unknown:
         sys.exit(f"no such kind: {' '.join(unknown)}; there are {' '.join(every)}")
     with tempfile.TemporaryDirectory(prefix="csv-memory-") as name:
-        try_kind(program, Path(name), "small", (None, None, SET))
-        for kind in given.kinds or every:
-            try_kind(program, Path(name), kind, every[kind])
+        for kind in ["small", *(given.kinds or every)]:
+            try_kind(program, Path(name), kind, size)
 
 
 main()

@@ -12,7 +12,6 @@ above 1 is how often faster the rounds side by side are; on four processors it c
 bounds nothing.
 """
 import json
-import random
 import resource
 import subprocess
 import sys
@@ -20,30 +19,13 @@ import tempfile
 import time
 from pathlib import Path
 
+from generated_sets import generated_crowded, seeded
+
 TOP = Path(__file__).resolve().parent.parent
 PROGRAM = TOP / "crates" / "block_cli" / "out" / "block_cli"
 PROTOCOLS = ["mpcp", "fmlp+", "dpcp"]
-PERIODS = [10_000, 20_000, 25_000, 40_000, 50_000, 100_000, 200_000, 1_000_000]
-PROCESSORS = 4
-RESOURCES = 8
 # The longest request of a task, in ticks, with which all tasks of these sets pass, and one with which some of 64 tasks are late.
 SHORT, LONG = 20, 40
-
-
-def generated(tasks, seed, longest):
-    """A set of so many tasks on four processors, with four entries each, whose requests are at most so long."""
-    numbers = random.Random(seed)
-    made = []
-    for number in range(tasks):
-        period = numbers.choice(PERIODS)
-        share = 0.45 * PROCESSORS / tasks
-        cost = max(300, int(period * share * numbers.uniform(0.6, 1.4)))
-        used = numbers.sample(range(RESOURCES), 4)
-        requests = [{"resource": f"r{q}", "count": numbers.randint(1, 3), "length": numbers.randint(1, longest)} for q in used]
-        made.append({"name": f"t{number}", "processor": number % PROCESSORS + 1, "period": period, "cost": cost, "requests": requests})
-    made.sort(key=lambda task: task["period"])
-    resources = [{"name": f"r{q}", "home": q % PROCESSORS + 1} for q in range(RESOURCES)]
-    return json.dumps({"processors": PROCESSORS, "resources": resources, "tasks": made})
 
 
 # A stack for which no address space has room, so that no thread can be started.
@@ -90,7 +72,7 @@ def main():
         measure("study 5 20", ["study", "5", "20"], folder, 3)
         sizes = sizes or [16, 32, 64]
         for tasks, longest, name in [*((tasks, SHORT, "tasks") for tasks in sizes), (sizes[-1], LONG, "with late ones")]:
-            (folder / "set").write_text(generated(tasks, seed, longest))
+            (folder / "set").write_text(json.dumps(generated_crowded(tasks, seeded(seed), longest)))
             for protocol in PROTOCOLS:
                 measure(f"{tasks} {name} {protocol}", ["analyse", protocol, "set"], folder, 5)
 

@@ -11,9 +11,8 @@ The last two are timed as processes, less the time of a process that solves one 
 Where `cc` is installed the memory that the exchanges take is counted too: the allocations of a run that stops before its last exchange,
 less those of one that stops before its first, and beside it the same for the whole run with its answer.
 The program that solves is built in a temporary directory; building proves it and the crates below it, which takes some minutes.
-FILE is bench/programs.txt where none is given. A line of it is a program: the costs, then for each row, after a semicolon, its limit
-and its coefficients, each as COLUMN:NUMBER with columns counted from 0. Lines that begin with # are comments. A program of 768
-columns and 701 rows, the most that a set gives, is measured beside them.
+FILE is bench/programs.txt where none is given; bench/program_lines.py says what its lines are. A program of 768 columns and 701 rows,
+the most that a set gives, is measured beside them.
 It is no test: no gate runs it, and it bounds nothing.
 """
 import os
@@ -26,6 +25,7 @@ from fractions import Fraction
 from pathlib import Path
 
 from commands import run
+from program_lines import as_line, read
 
 TOP = Path(__file__).resolve().parent.parent
 CRATES = ["number_laws", "bounded_sums", "fraction128", "program_form", "exchange_runs", "simplex"]
@@ -61,21 +61,6 @@ __attribute__((destructor)) static void tell(void) {
 """
 
 
-def read(path):
-    """The programs of a file: costs, and rows as (limit, {column: coefficient})."""
-    programs = []
-    for line in path.read_text().splitlines():
-        if not line or line.startswith("#"):
-            continue
-        costs, *rows = line.split(";")
-        parsed = []
-        for row in rows:
-            limit, *entries = row.split()
-            parsed.append((int(limit), dict(tuple(map(int, entry.split(":"))) for entry in entries)))
-        programs.append(([int(cost) for cost in costs.split()], parsed))
-    return programs
-
-
 def largest():
     """A program of 768 columns, 12 for each of 64 tasks, and 701 rows: one for each resource, each task and each of 625 columns."""
     seed = 1
@@ -100,12 +85,6 @@ def numbers(programs, units):
             words += [entries.get(column, 0) for column in range(len(costs))]
         words += [limit for limit, _ in rows]
     return " ".join(map(str, words))
-
-
-def as_line(costs, rows):
-    """A program as a line of a file of programs."""
-    parts = [f"{limit} " + " ".join(f"{column}:{number}" for column, number in entries.items()) for limit, entries in rows]
-    return "; ".join([" ".join(map(str, costs)), *parts])
 
 
 def as_lp(costs, rows):
@@ -143,7 +122,7 @@ def solve_ours(program, folder):
 def solve_plain(folder, programs):
     """The same by the run in plain Rust."""
     run(["rustc", "-O", TOP / "bench" / "plain_run.rs", "-o", "plain_run"], folder)
-    (folder / "programs.txt").write_text("\n".join(as_line(*program) for program in programs) + "\n")
+    (folder / "programs.txt").write_text("\n".join(as_line(costs, [(limit, row.items()) for limit, row in rows]) for costs, rows in programs) + "\n")
     answers = []
     for line in run([folder / "plain_run", "programs.txt"], folder).splitlines():
         value, exchanges, took = line.split()

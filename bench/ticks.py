@@ -14,40 +14,12 @@ import json
 import subprocess
 import sys
 import tempfile
-import time
 from pathlib import Path
 
 from commands import run
+from stretched import TICKS, TOP, stretch, timed
 
-TOP = Path(__file__).resolve().parent.parent
-SET = TOP / "examples" / "plant.json"
-JOBS = TOP / "examples" / "plant-jobs.csv"
 PROTOCOLS = ["mpcp", "fmlp+", "dpcp"]
-TICKS = 1_000_000
-TRIES = 3
-
-
-def stretch(folder, factor):
-    """Writes the set and the jobs with each time so many times as long."""
-    plant = json.loads(SET.read_text())
-    for task in plant["tasks"]:
-        for name in ("period", "cost"):
-            task[name] *= factor
-        for request in task["requests"]:
-            request["length"] *= factor
-    (folder / "set.json").write_text(json.dumps(plant))
-    with open(JOBS, newline="") as file:
-        jobs = list(csv.DictReader(file))
-    lines = ["task,release,script"]
-    for job in jobs:
-        words = [stretched(word, factor) for word in job["script"].split()]
-        lines.append(f"{job['task']},{int(job['release']) * factor},{' '.join(words)}")
-    (folder / "jobs.csv").write_text("\n".join(lines) + "\n")
-
-
-def stretched(word, factor):
-    name, colon, length = word.rpartition(":")
-    return f"{name}{colon}{int(length) * factor}"
 
 
 def numbers(folder, protocol):
@@ -79,16 +51,6 @@ def segments_of(tokens, resources):
         else:
             segments.append([int(token), 0, 0])
     return segments
-
-
-def timed(command, folder):
-    """What the command writes, and the least seconds of some tries."""
-    least = float("inf")
-    for _ in range(TRIES):
-        start = time.perf_counter()
-        text = run(command, folder)
-        least = min(least, time.perf_counter() - start)
-    return text, least
 
 
 def measure(folder, protocol, ticks):

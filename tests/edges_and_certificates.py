@@ -14,6 +14,9 @@ from pathlib import Path
 TOP = Path(__file__).resolve().parent.parent
 TOOLS = TOP / "tools"
 EXAMPLES = TOP / "examples"
+sys.path.insert(0, str(TOP / "tests" / "cli"))
+
+from sets import resource, task, task_set  # noqa: E402
 
 FACTOR = "The factor is on all costs, local limits and lengths, each rounded up."
 PERIOD = "A deadline that the set doesn't give is the period, and changes with it; one that it gives stays, but is lowered to a shorter period."
@@ -53,7 +56,9 @@ sense    bus count       1      0      -1  -100.0 %  1: not shown control 5 4
 A count of 0 is no request at all.
 """
 
-ONE_TABLE = f"""block analyse dpcp examples/one.json answers: schedulable.
+# a task that takes all time of its processor
+FULL = task_set(1, [], task("t1", 1, 1, 1))
+FULL_TABLE = f"""block analyse dpcp SET answers: schedulable.
 At each edge it answers the same, with all else as it is, and at the next value what stands behind it.
 
 task  number    now   edge      by          at the next value
@@ -67,15 +72,13 @@ t1    period      1      1      +0  +0.0 %  0: limit (refused set period task 1)
 """
 
 # a given deadline, a local limit, a jitter for which a higher task comes twice, and one for which another processor's task does
-LATE = {
-    "processors": 2,
-    "resources": [{"name": "a", "home": 1}],
-    "tasks": [
-        {"name": "t1", "processor": 1, "period": 24, "deadline": 20, "cost": 4, "local": 2, "jitter": 2, "requests": [{"resource": "a", "count": 1, "length": 1}]},
-        {"name": "t2", "processor": 1, "period": 40, "cost": 7, "requests": [{"resource": "a", "count": 2, "length": 2}]},
-        {"name": "t3", "processor": 2, "period": 30, "cost": 4, "jitter": 12, "requests": [{"resource": "a", "count": 1, "length": 2}]},
-    ],
-}
+LATE = json.loads(task_set(
+    2,
+    [resource("a", 1)],
+    task("t1", 1, 24, 4, ("a", 1), deadline=20, local=2, jitter=2),
+    task("t2", 1, 40, 7, ("a", 2, 2)),
+    task("t3", 2, 30, 4, ("a", 2), jitter=12),
+))
 
 # it finds a single task schedulable up to a cost of 5, is wide up to 7, and refuses what leaves no room for the cost
 UNSURE = """#!/usr/bin/env python3
@@ -181,7 +184,8 @@ def edges_are_seen(tools, protocol, parts):
 def sensitivity_problems(tools):
     yield wanted("sensitivity.py of a pair", tools.run("sensitivity.py", "fmlp+", "examples/pair.json"), 0, PAIR_TABLE, "")
     yield wanted("sensitivity.py of a set that isn't shown", tools.run("sensitivity.py", "mpcp", "examples/pair-short.json"), 1, SHORT_TABLE, "")
-    yield wanted("sensitivity.py of a set without room", tools.run("sensitivity.py", "dpcp", "examples/one.json"), 0, ONE_TABLE, "")
+    full = tools.file("full", FULL)
+    yield wanted("sensitivity.py of a set without room", tools.run("sensitivity.py", "dpcp", full), 0, FULL_TABLE.replace("SET", str(full)), "")
     yield from edges_are_seen(tools, "dpcp", LATE)
     said = "sensitivity.py: block analyse mpcp examples/wide.json answers wide steer: nothing is known of the set\n"
     yield wanted("sensitivity.py of a wide set", tools.run("sensitivity.py", "mpcp", "examples/wide.json"), 5, "", said)
@@ -191,7 +195,7 @@ def sensitivity_problems(tools):
     said = "sensitivity.py: analyse ended with status 4: fault read set\n"
     yield wanted("sensitivity.py of a folder", tools.run("sensitivity.py", "mpcp", "examples"), 4, "", said)
     yield wanted("sensitivity.py with wrong words", tools.run("sensitivity.py", "edf", "examples/pair.json"), 2, "")
-    one = tools.file("one", json.dumps({"processors": 1, "tasks": [{"name": "t", "processor": 1, "period": 10, "cost": 2}]}))
+    one = tools.file("one", task_set(1, [], task("t", 1, 10, 2)))
     unsure = tools.run("sensitivity.py", "mpcp", one, program=tools.file("unsure", UNSURE))
     yield wanted("sensitivity.py of a program that is wide", unsure, 0, UNSURE_TABLE.replace("SET", str(one)), "")
     killed = tools.run("sensitivity.py", "mpcp", "examples/pair.json", program=tools.file("killed", KILLED))

@@ -15,6 +15,10 @@ from pathlib import Path
 from xml.etree import ElementTree
 
 TOP = Path(__file__).resolve().parent.parent
+sys.path.insert(0, str(TOP / "tests" / "cli"))
+
+from sets import resource, task, task_set  # noqa: E402
+
 TOOLS = TOP / "tools"
 BUILT = TOP / "crates" / "block_cli" / "out" / "block_cli"
 PAIR = [TOP / "examples" / name for name in ("pair.json", "pair-jobs.csv", "pair-rows.csv")]
@@ -23,10 +27,7 @@ STUDY = "step mpcp fmlp+ dpcp\n1 20 20 20\n2 20 19 20\n3 11 9 12\nstopped 3\n"
 
 # a set, jobs and rows under DPCP: a request of another processor's task runs on its resource's home
 HOMES = {
-    "set": '{"processors":2,"resources":[{"name":"a","home":2}],"tasks":['
-    '{"name":"t1","processor":1,"period":9,"cost":3,"requests":[{"resource":"a","count":1,"length":1}]},'
-    '{"name":"t2","processor":2,"period":9,"deadline":8,"cost":4,"requests":[{"resource":"a","count":1,"length":2}]},'
-    '{"name":"t3","processor":2,"period":9,"cost":2}]}',
+    "set": task_set(2, [resource("a", 2)], task("t1", 1, 9, 3, ("a", 1)), task("t2", 2, 9, 4, ("a", 2), deadline=8), task("t3", 2, 9, 2)),
     "jobs": "task,release,script\nt1,0,1 a:1 1\nt2,0,1 a:2 1\nt3,1,2\n",
     "rows": "ticks,P1,P2,a\n1,1,2,\n2,,2,2\n1,,1,1\n1,1,2,\n2,,3,\n",
 }

@@ -83,7 +83,7 @@ def claim():
             "blocked: active, not running, and not delayed by a higher task of its processor."
         ),
         element("h3", "In the words of docs/PROOFS.md"),
-        paragraph("The dossier rests on the second half of the sentence, on what `check` accepts. It doesn't ask how the certificate was made."),
+        paragraph("The dossier rests on what stands here of `check`, on a certificate that it finds valid. It doesn't ask how the certificate was made."),
         words_from("docs/PROOFS.md", "The headline"),
         element("h4", "Premises"),
         words_from("docs/PROOFS.md", "Premises"),

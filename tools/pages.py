@@ -66,8 +66,11 @@ def as_cells(line):
 
 
 def block_of(block):
-    """A block of Markdown: a quotation, a table or a paragraph."""
+    """A block of Markdown: a quotation, a table, a list or a paragraph, or a paragraph with a list behind it."""
     lines = block.splitlines()
+    if lines[-1].startswith("- "):
+        first = next(number for number, line in enumerate(lines) if line.startswith("- "))
+        return (paragraph(" ".join(lines[:first])) if first else "") + listed(line.removeprefix("- ") for line in lines[first:])
     if lines[0].startswith("> "):
         return element("blockquote", paragraph(" ".join(line.removeprefix("> ") for line in lines)))
     if lines[0].startswith("|"):

@@ -1,16 +1,16 @@
-ghost use Rattle.std.specs.Prelude.{◌≡◌, ◌≤◌, length, codes, IfOk};
+ghost use Rattle.std.specs.Prelude.{◌≡◌, ◌≤◌, length, Result, IfOk};
 ghost use Rattle.outside_ports.specs.declared.whole.TheConstants.{GREATEST_INPUT_BYTES};
 ghost use Rattle.program_form.specs.Certificate.{certificate_seen};
 ghost use Rattle.named_protocols.specs.Named.{HasHomes};
+ghost use Rattle.cert_json.specs.File.{file_seen};
 ghost use Rattle.dual_check.specs.Answers.{HasDenominators};
 ghost use Rattle.refusal_laws.specs.Steps.{HasDenominators as HasPointDenominators};
 ghost use Rattle.refusal_laws.specs.Seen.{steps_seen};
-ghost use Rattle.run_plans.specs.Plans.{refused};
-ghost use Rattle.reply_texts.specs.Refusals.{reason_text, cert_reason_text, refusal_reason_text, jobs_reason_text, rows_reason_text};
+ghost use Rattle.run_plans.specs.Plans.{Input};
 ghost use Rattle.run_plans.specs.Inputs.{set_input, cert_input, old_cert_input, refusal_input, jobs_input, rows_input};
-ghost use Rattle.run_plans.specs.RefusalReplies.{refusal_taken};
+ghost use Rattle.run_plans.specs.RefusalReplies.{refusal_seen};
 ghost use Rattle.run_plans.specs.Outcome.{shown};
-ghost use Rattle.run_plans.specs.Replies.{HaltsWith, IsLoaded, IsTaken, IsGot, IsGotTied, cert_taken, old_cert_taken, ReadsSetFor, Keeps};
+ghost use Rattle.run_plans.specs.Replies.{IsLoaded, IsTaken, IsGot, IsGotTied, taken, ReadsSetFor, Keeps};
 
 use cert_json::{CertFile, CertRefusal};
 use outside_ports::{LoadFault, Shelf, load};
@@ -23,9 +23,34 @@ use run_plans::{Halt, fault, refusal};
 use schedule_model::{JobList, RowList};
 use set_digests::set_digest;
 use sporadic_model::TaskSet;
-use std::alloc::{AllocError, Global};
+use std::alloc::Global;
 use taskset_json::{SetRefusal, home_check, read};
 use trace_csv::{JobsRefusal, RowsRefusal, read_jobs, read_rows};
+
+/// An input that commands read.
+pub trait Reader {
+    /// What it gives.
+    type Value: Drop;
+
+    /// The input, as the plans of commands have it.
+    ghost input: { Self → Input };
+
+    /// What these see of a value.
+    ghost value: { (r : Self) → Self.Value → (input r).Value };
+
+    /// What is true of each value that is read.
+    ghost holds: { Self → Self.Value → Type 0 };
+
+    /// The word that answers call it by.
+    fn word(&self) -> &'static str
+        ensures { result.now ≡ (input self.now).word };
+
+    /// The value that the bytes are, or the reply that refuses them.
+    fn take(&self, alloc: Global, bytes: &[u8]) -> Result<Self::Value, Halt>
+        requires { length bytes.now ≤ GREATEST_INPUT_BYTES }
+        ensures taken { IsTaken (input self.now) bytes.now (taken (value self.now) result) }
+        ensures holds { IfOk result (holds self.now) };
+}
 
 /// Loads the input of this name, which answers call by this word.
 fn load_input<S: Shelf>(
@@ -48,14 +73,39 @@ fn load_input<S: Shelf>(
     }
 }
 
-/// The reply that a set is refused.
-fn set_refusal(alloc: Global, cause: SetRefusal) -> Halt
-    ensures { HaltsWith result (λ answer. answer ≡ refused (codes "set") (reason_text cause)) }
+/// Loads and reads the input of this name.
+pub fn get<S: Shelf, R: Reader>(
+    alloc: Global,
+    shelf: &mut S,
+    reader: &R,
+    name: &str,
+) -> Result<R::Value, Halt>
+    ensures got { IsGot
+        (shown (S.seen shelf.old) (S.seen shelf.new))
+        (R.input reader.now) name.now (taken (R.value reader.now) result) }
+    ensures holds { IfOk result (R.holds reader.now) }
+    ensures keeps { Keeps (S.seen shelf.old) (S.seen shelf.new) }
 {
-    match reason(alloc, cause) {
-        Ok(reason) => refusal(alloc, "set", reason.as_str()),
-        Err(AllocError) => Halt::Memory,
-    }
+    let bytes = load_input(alloc, shelf, reader.word(), name)?;
+    reader.take(alloc, &bytes)
+}
+
+/// The task set of this name, for use with this protocol, and the digest of its bytes.
+pub fn get_tied_set<S: Shelf>(
+    alloc: Global,
+    shelf: &mut S,
+    protocol: ProtocolName,
+    name: &str,
+) -> Result<(TaskSet, [u8; 32]), Halt>
+    ensures got { IsGotTied (shown (S.seen shelf.old) (S.seen shelf.new)) protocol name.now result }
+    ensures suits { IfOk result (λ got. HasHomes protocol got.0) }
+    ensures keeps { Keeps (S.seen shelf.old) (S.seen shelf.new) }
+{
+    let reader = SetFor { protocol };
+    let bytes = load_input(alloc, shelf, reader.word(), name)?;
+    let set = reader.take(alloc, &bytes)?;
+    let digest = set_digest(&bytes);
+    Ok((set, digest))
 }
 
 /// The set that the bytes are, with the homes that the protocol asks for.
@@ -69,239 +119,170 @@ fn set_for(alloc: Global, bytes: &[u8], protocol: ProtocolName) -> Result<TaskSe
     Ok(set)
 }
 
-/// The set that the bytes are, or the reply that refuses it.
-fn take_set(alloc: Global, bytes: &[u8], protocol: ProtocolName) -> Result<TaskSet, Halt>
-    requires { length bytes.now ≤ GREATEST_INPUT_BYTES }
-    ensures taken { IsTaken (set_input protocol) bytes.now result }
-    ensures suits { IfOk result (λ set. HasHomes protocol set) }
-{
-    match set_for(alloc, bytes, protocol) {
-        Ok(set) => Ok(set),
-        Err(SetRefusal::Memory) => Err(Halt::Memory),
-        Err(cause) => Err(set_refusal(alloc, cause)),
+/// A task set, for use with the protocol.
+#[derive(Drop)]
+pub struct SetFor {
+    pub protocol: ProtocolName,
+}
+
+impl Reader for SetFor {
+    type Value = TaskSet;
+
+    ghost input = { λ r. set_input r.protocol };
+
+    ghost value = { λ r set. set };
+
+    ghost holds = { λ r set. HasHomes r.protocol set };
+
+    fn word(&self) -> &'static str {
+        "set"
+    }
+
+    fn take(&self, alloc: Global, bytes: &[u8]) -> Result<TaskSet, Halt> {
+        match set_for(alloc, bytes, self.protocol) {
+            Ok(set) => Ok(set),
+            Err(SetRefusal::Memory) => Err(Halt::Memory),
+            Err(cause) => Err(refusal(alloc, "set", reason(alloc, cause)?.as_str())),
+        }
     }
 }
 
-/// Loads and reads the task set of this name, for use with this protocol.
-pub fn get_set<S: Shelf>(
-    alloc: Global,
-    shelf: &mut S,
-    protocol: ProtocolName,
-    name: &str,
-) -> Result<TaskSet, Halt>
-    ensures got { IsGot
-        (shown (S.seen shelf.old) (S.seen shelf.new))
-        (set_input protocol) name.now result }
-    ensures suits { IfOk result (λ set. HasHomes protocol set) }
-    ensures keeps { Keeps (S.seen shelf.old) (S.seen shelf.new) }
-{
-    let bytes = load_input(alloc, shelf, "set", name)?;
-    take_set(alloc, &bytes, protocol)
+/// A certificate for the protocol, with its set's digest.
+#[derive(Drop)]
+pub struct CertFor {
+    pub protocol: ProtocolName,
 }
 
-/// Loads and reads the task set of this name, for use with this protocol, and gives the digest of its bytes with it.
-pub fn get_tied_set<S: Shelf>(
-    alloc: Global,
-    shelf: &mut S,
-    protocol: ProtocolName,
-    name: &str,
-) -> Result<(TaskSet, [u8; 32]), Halt>
-    ensures got { IsGotTied (shown (S.seen shelf.old) (S.seen shelf.new)) protocol name.now result }
-    ensures suits { IfOk result (λ got. HasHomes protocol got.0) }
-    ensures keeps { Keeps (S.seen shelf.old) (S.seen shelf.new) }
-{
-    let bytes = load_input(alloc, shelf, "set", name)?;
-    let set = take_set(alloc, &bytes, protocol)?;
-    let digest = set_digest(&bytes);
-    Ok((set, digest))
-}
+impl Reader for CertFor {
+    type Value = CertFile;
 
-/// The reply that a certificate is refused.
-fn cert_refusal(alloc: Global, cause: CertRefusal) -> Halt
-    ensures { HaltsWith result (λ answer. answer ≡ refused (codes "cert") (cert_reason_text cause)) }
-{
-    match cert_reason(alloc, cause) {
-        Ok(reason) => refusal(alloc, "cert", reason.as_str()),
-        Err(AllocError) => Halt::Memory,
+    ghost input = { λ r. cert_input r.protocol };
+
+    ghost value = { λ r file. file_seen file };
+
+    ghost holds = { λ r file. HasDenominators (certificate_seen file.certificate) };
+
+    fn word(&self) -> &'static str {
+        "cert"
+    }
+
+    fn take(&self, alloc: Global, bytes: &[u8]) -> Result<CertFile, Halt> {
+        match cert_json::read(alloc, bytes, self.protocol.word()) {
+            Ok(file) => Ok(file),
+            Err(CertRefusal::Memory) => Err(Halt::Memory),
+            Err(cause) => Err(refusal(alloc, "cert", cert_reason(alloc, cause)?.as_str())),
+        }
     }
 }
 
-/// The certificate for the protocol that the bytes are, with its set's digest, or the reply that refuses them.
-fn take_cert(alloc: Global, bytes: &[u8], protocol: ProtocolName) -> Result<CertFile, Halt>
-    requires { length bytes.now ≤ GREATEST_INPUT_BYTES }
-    ensures taken { IsTaken (cert_input protocol) bytes.now (cert_taken result) }
-    ensures denominators { IfOk result (λ file. HasDenominators (certificate_seen file.certificate)) }
-{
-    match cert_json::read(alloc, bytes, protocol.word()) {
-        Ok(file) => Ok(file),
-        Err(CertRefusal::Memory) => Err(Halt::Memory),
-        Err(cause) => Err(cert_refusal(alloc, cause)),
+/// A certificate of the version before, for the protocol.
+#[derive(Drop)]
+pub struct OldCertFor {
+    pub protocol: ProtocolName,
+}
+
+impl Reader for OldCertFor {
+    type Value = Certificate;
+
+    ghost input = { λ r. old_cert_input r.protocol };
+
+    ghost value = { λ r certificate. certificate_seen certificate };
+
+    ghost holds = { λ r certificate. HasDenominators (certificate_seen certificate) };
+
+    fn word(&self) -> &'static str {
+        "cert"
+    }
+
+    fn take(&self, alloc: Global, bytes: &[u8]) -> Result<Certificate, Halt> {
+        match cert_json::read_old(alloc, bytes, self.protocol.word()) {
+            Ok(certificate) => Ok(certificate),
+            Err(CertRefusal::Memory) => Err(Halt::Memory),
+            Err(cause) => Err(refusal(alloc, "cert", cert_reason(alloc, cause)?.as_str())),
+        }
     }
 }
 
-/// The certificate of the version before that the bytes are, or the reply that refuses them.
-fn take_old_cert(alloc: Global, bytes: &[u8], protocol: ProtocolName) -> Result<Certificate, Halt>
-    requires { length bytes.now ≤ GREATEST_INPUT_BYTES }
-    ensures taken { IsTaken (old_cert_input protocol) bytes.now (old_cert_taken result) }
-    ensures denominators { IfOk result (λ c. HasDenominators (certificate_seen c)) }
-{
-    match cert_json::read_old(alloc, bytes, protocol.word()) {
-        Ok(certificate) => Ok(certificate),
-        Err(CertRefusal::Memory) => Err(Halt::Memory),
-        Err(cause) => Err(cert_refusal(alloc, cause)),
+/// A certificate of refusal for the protocol, with its set's digest.
+#[derive(Drop)]
+pub struct RefusalFor {
+    pub protocol: ProtocolName,
+}
+
+impl Reader for RefusalFor {
+    type Value = (Refusal, [u8; 32]);
+
+    ghost input = { λ r. refusal_input r.protocol };
+
+    ghost value = { λ r given. refusal_seen given.0 given.1 };
+
+    ghost holds = { λ r given. HasPointDenominators (steps_seen given.0) };
+
+    fn word(&self) -> &'static str {
+        "cert"
+    }
+
+    fn take(&self, alloc: Global, bytes: &[u8]) -> Result<(Refusal, [u8; 32]), Halt> {
+        match read_refusal(alloc, bytes, self.protocol.word()) {
+            Ok(given) => Ok(given),
+            Err(ReadFault::Memory) => Err(Halt::Memory),
+            Err(cause) => { Err(refusal(alloc, "cert", refusal_reason(alloc, cause)?.as_str())) }
+        }
     }
 }
 
-/// Loads and reads the certificate of this name, which is for this protocol, with its set's digest.
-pub fn get_cert<S: Shelf>(
-    alloc: Global,
-    shelf: &mut S,
-    protocol: ProtocolName,
-    name: &str,
-) -> Result<CertFile, Halt>
-    ensures got { IsGot
-        (shown (S.seen shelf.old) (S.seen shelf.new))
-        (cert_input protocol) name.now (cert_taken result) }
-    ensures denominators { IfOk result (λ file. HasDenominators (certificate_seen file.certificate)) }
-    ensures keeps { Keeps (S.seen shelf.old) (S.seen shelf.new) }
-{
-    let bytes = load_input(alloc, shelf, "cert", name)?;
-    take_cert(alloc, &bytes, protocol)
+/// Jobs of the set.
+#[derive(Drop)]
+pub struct JobsOf<'a> {
+    pub set: &'a TaskSet,
 }
 
-/// Loads and reads the certificate of this name, which is of the version before and for this protocol.
-pub fn get_old_cert<S: Shelf>(
-    alloc: Global,
-    shelf: &mut S,
-    protocol: ProtocolName,
-    name: &str,
-) -> Result<Certificate, Halt>
-    ensures got { IsGot
-        (shown (S.seen shelf.old) (S.seen shelf.new))
-        (old_cert_input protocol) name.now (old_cert_taken result) }
-    ensures denominators { IfOk result (λ c. HasDenominators (certificate_seen c)) }
-    ensures keeps { Keeps (S.seen shelf.old) (S.seen shelf.new) }
-{
-    let bytes = load_input(alloc, shelf, "cert", name)?;
-    take_old_cert(alloc, &bytes, protocol)
-}
+impl<'a> Reader for JobsOf<'a> {
+    type Value = JobList<'a>;
 
-/// The reply that a refusal is refused.
-fn refusal_refusal(alloc: Global, cause: ReadFault) -> Halt
-    ensures { HaltsWith result (λ answer. answer ≡ refused (codes "cert") (refusal_reason_text cause)) }
-{
-    match refusal_reason(alloc, cause) {
-        Ok(reason) => refusal(alloc, "cert", reason.as_str()),
-        Err(AllocError) => Halt::Memory,
+    ghost input = { λ r. jobs_input r.set.now };
+
+    ghost value = { λ r jobs. jobs };
+
+    ghost holds = { λ r jobs. jobs.set ≡ r.set.now };
+
+    fn word(&self) -> &'static str {
+        "jobs"
+    }
+
+    fn take(&self, alloc: Global, bytes: &[u8]) -> Result<JobList<'a>, Halt> {
+        match read_jobs(alloc, self.set, bytes) {
+            Ok(jobs) => Ok(jobs),
+            Err(JobsRefusal::Memory) => Err(Halt::Memory),
+            Err(cause) => Err(refusal(alloc, "jobs", jobs_reason(alloc, cause)?.as_str())),
+        }
     }
 }
 
-/// The refusal for the protocol that the bytes are, with its set's digest, or the reply that refuses them.
-fn take_refusal(
-    alloc: Global,
-    bytes: &[u8],
-    protocol: ProtocolName,
-) -> Result<(Refusal, [u8; 32]), Halt>
-    requires { length bytes.now ≤ GREATEST_INPUT_BYTES }
-    ensures taken { IsTaken (refusal_input protocol) bytes.now (refusal_taken result) }
-    ensures denominators { IfOk result (λ given. HasPointDenominators (steps_seen given.0)) }
-{
-    match read_refusal(alloc, bytes, protocol.word()) {
-        Ok(given) => Ok(given),
-        Err(ReadFault::Memory) => Err(Halt::Memory),
-        Err(cause) => Err(refusal_refusal(alloc, cause)),
+/// Rows of the jobs.
+#[derive(Drop)]
+pub struct RowsOf<'a, 'b> {
+    pub jobs: &'a JobList<'b>,
+}
+
+impl<'a, 'b> Reader for RowsOf<'a, 'b> {
+    type Value = RowList;
+
+    ghost input = { λ r. rows_input r.jobs.now };
+
+    ghost value = { λ r rows. rows };
+
+    ghost holds = { λ r rows. Unit {0} };
+
+    fn word(&self) -> &'static str {
+        "rows"
     }
-}
 
-/// Loads and reads the refusal of this name, which is for this protocol, with its set's digest.
-pub fn get_refusal<S: Shelf>(
-    alloc: Global,
-    shelf: &mut S,
-    protocol: ProtocolName,
-    name: &str,
-) -> Result<(Refusal, [u8; 32]), Halt>
-    ensures got { IsGot
-        (shown (S.seen shelf.old) (S.seen shelf.new))
-        (refusal_input protocol) name.now (refusal_taken result) }
-    ensures denominators { IfOk result (λ given. HasPointDenominators (steps_seen given.0)) }
-    ensures keeps { Keeps (S.seen shelf.old) (S.seen shelf.new) }
-{
-    let bytes = load_input(alloc, shelf, "cert", name)?;
-    take_refusal(alloc, &bytes, protocol)
-}
-
-/// The reply that jobs are refused.
-fn jobs_refusal(alloc: Global, cause: JobsRefusal) -> Halt
-    ensures { HaltsWith result (λ answer. answer ≡ refused (codes "jobs") (jobs_reason_text cause)) }
-{
-    match jobs_reason(alloc, cause) {
-        Ok(reason) => refusal(alloc, "jobs", reason.as_str()),
-        Err(AllocError) => Halt::Memory,
+    fn take(&self, alloc: Global, bytes: &[u8]) -> Result<RowList, Halt> {
+        match read_rows(alloc, self.jobs, bytes) {
+            Ok(rows) => Ok(rows),
+            Err(RowsRefusal::Memory) => Err(Halt::Memory),
+            Err(cause) => Err(refusal(alloc, "rows", rows_reason(alloc, cause)?.as_str())),
+        }
     }
-}
-
-/// The jobs that the bytes are, or the reply that refuses them.
-fn take_jobs<'a>(alloc: Global, set: &'a TaskSet, bytes: &[u8]) -> Result<JobList<'a>, Halt>
-    ensures taken { IsTaken (jobs_input set.now) bytes.now result }
-    ensures of_set { IfOk result (λ jobs. jobs.set ≡ set.now) }
-{
-    match read_jobs(alloc, set, bytes) {
-        Ok(jobs) => Ok(jobs),
-        Err(JobsRefusal::Memory) => Err(Halt::Memory),
-        Err(cause) => Err(jobs_refusal(alloc, cause)),
-    }
-}
-
-/// Loads and reads the jobs of this name, which are of the set.
-pub fn get_jobs<'a, S: Shelf>(
-    alloc: Global,
-    shelf: &mut S,
-    set: &'a TaskSet,
-    name: &str,
-) -> Result<JobList<'a>, Halt>
-    ensures got { IsGot
-        (shown (S.seen shelf.old) (S.seen shelf.new))
-        (jobs_input set.now) name.now result }
-    ensures of_set { IfOk result (λ jobs. jobs.set ≡ set.now) }
-    ensures keeps { Keeps (S.seen shelf.old) (S.seen shelf.new) }
-{
-    let bytes = load_input(alloc, shelf, "jobs", name)?;
-    take_jobs(alloc, set, &bytes)
-}
-
-/// The reply that rows are refused.
-fn rows_refusal(alloc: Global, cause: RowsRefusal) -> Halt
-    ensures { HaltsWith result (λ answer. answer ≡ refused (codes "rows") (rows_reason_text cause)) }
-{
-    match rows_reason(alloc, cause) {
-        Ok(reason) => refusal(alloc, "rows", reason.as_str()),
-        Err(AllocError) => Halt::Memory,
-    }
-}
-
-/// The rows that the bytes are, or the reply that refuses them.
-fn take_rows(alloc: Global, jobs: &JobList<'_>, bytes: &[u8]) -> Result<RowList, Halt>
-    ensures { IsTaken (rows_input jobs.now) bytes.now result }
-{
-    match read_rows(alloc, jobs, bytes) {
-        Ok(rows) => Ok(rows),
-        Err(RowsRefusal::Memory) => Err(Halt::Memory),
-        Err(cause) => Err(rows_refusal(alloc, cause)),
-    }
-}
-
-/// Loads and reads the rows of this name, which are of the jobs.
-pub fn get_rows<S: Shelf>(
-    alloc: Global,
-    shelf: &mut S,
-    jobs: &JobList<'_>,
-    name: &str,
-) -> Result<RowList, Halt>
-    ensures got { IsGot
-        (shown (S.seen shelf.old) (S.seen shelf.new))
-        (rows_input jobs.now) name.now result }
-    ensures keeps { Keeps (S.seen shelf.old) (S.seen shelf.new) }
-{
-    let bytes = load_input(alloc, shelf, "rows", name)?;
-    take_rows(alloc, jobs, &bytes)
 }

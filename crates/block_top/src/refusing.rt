@@ -1,6 +1,6 @@
 //! The works on refusals.
 
-ghost use Rattle.std.specs.Prelude.{◌≡◌, ◌<◌, length, IfOk};
+ghost use Rattle.std.specs.Prelude.{◌≡◌, ◌<◌, IfOk};
 ghost use Rattle.protocol_names.specs.Names.{word_of};
 ghost use Rattle.refusal_laws.specs.Steps.{HasDenominators};
 ghost use Rattle.refusal_laws.specs.Seen.{steps_seen};

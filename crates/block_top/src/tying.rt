@@ -26,13 +26,6 @@ pub(crate) fn are_same(own: &[u8; 32], digest: &[u8; 32]) -> bool
     own.as_slice() == digest.as_slice()
 }
 
-/// Is the certificate of the set of this digest?
-fn is_tied(file: &CertFile, digest: &[u8; 32]) -> bool
-    ensures { IsTrue result ↔ (file.now.digest ≡ digest.now) }
-{
-    file.digest.as_slice() == digest.as_slice()
-}
-
 /// The reply that the certificate is of another set than that of this digest; none where it is of it.
 pub(crate) fn untied(
     alloc: Global,
@@ -42,7 +35,7 @@ pub(crate) fn untied(
     ensures { IfOk result (λ o. MatchOption o (file.now.digest ≡ digest.now)
         (λ r. (file.now.digest ≢ digest.now) × (reply_seen r ≡ other_set_answer))) }
 {
-    if is_tied(file, digest) {
+    if are_same(&file.digest, digest) {
         return Ok(None);
     }
     Ok(Some(other_set_reply(alloc)?))

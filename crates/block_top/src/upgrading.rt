@@ -1,6 +1,5 @@
 //! The work on a certificate of the version before.
 
-ghost use Rattle.std.specs.Prelude.{◌≡◌};
 ghost use Rattle.program_form.specs.Certificate.{certificate_seen};
 ghost use Rattle.named_protocols.specs.Named.{HasHomes};
 ghost use Rattle.dual_check.specs.Answers.{HasDenominators};

@@ -5,6 +5,7 @@ mod Passing
 mod PassedNext
 mod TallyLaws
 mod Reaching
+mod CountedAlike
 mod Places
 mod Pushing
 mod TableLaws

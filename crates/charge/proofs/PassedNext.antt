@@ -1,6 +1,6 @@
--- Which jobs have passed their bounds, one tick later: those before, and those that are due now. For the first of all it is enough to
+-- Which jobs have passed their bounds, some ticks later: those before, and those that are due now. For the first of all it is enough to
 -- look at the active jobs.
-use Rattle.std.proofs.Common.{◌≡◌, ℕ, ◌+◌, ◌<◌, ◌≤◌, ◌||◌, true, false, List, length, sym, ap, ◌∙◌, arith, inl, inr, None}
+use Rattle.std.proofs.Common.{◌≡◌, ℕ, ◌+◌, ◌-◌, ◌<◌, ◌≤◌, ◌||◌, true, false, List, length, sym, ap, ◌∙◌, arith, inl, inr, None}
 use Rattle.std.specs.Prelude.{nat_le, slice_index}
 use Rattle.std.proofs.lemmas.Bool.{cases_lt, cases_Bool, or_cases, or_left, or_right, and_parts, and_from, and_cases}
 use Rattle.std.proofs.lemmas.Bool.{not-true, not-false, not_from_false, leb-true, le-leb, eqb-true, eq-eqb, both_ways}
@@ -101,12 +101,13 @@ first_active w bound n j numbers lawful bounds l p first = active_from w (bound_
       (passed_not w bound n e (first e before) (omega (arith, ends, p.within)));
 })
 
--- One tick later.
-pub passed_next : (m : MachineDef) (rows : ℕ → RowDef) (bounds : List ℕ) (t : ℕ) → Shows m rows → m.tick ≡ t + 1
+-- Some ticks later, where no job was active at the end of its bound before the last of them.
+pub passed_on : (m : MachineDef) (rows : ℕ → RowDef) (bounds : List ℕ) (t n : ℕ) → Shows m rows → m.tick ≡ t + n
     → AreBounds m.list.set (slice_index bounds)
+    → ((k i : ℕ) → 0 < i → i < n → is_active (under m rows) (t + i) k ≡ true → bound_end (under m rows) (slice_index bounds) k ≡ t + i → ⊥)
     → found_below (length m.list.jobs) (λ j. has_passed (under m rows) (slice_index bounds) t j || is_due m bounds j)
     ≡ first_passed (under m rows) (slice_index bounds) m.tick
-passed_next m rows bounds t shows tick are =
+passed_on m rows bounds t n shows tick are none =
     found_same (length m.list.jobs) (λ j. has_passed w bound t j || is_due m bounds j) (has_passed w bound m.tick) more first where
       w : Trace
       w = under m rows
@@ -133,12 +134,18 @@ passed_next m rows bounds t shows tick are =
           → ((i : ℕ) → i < k → has_passed w bound m.tick i ≡ false) → (has_passed w bound t k || is_due m bounds k) ≡ true
       first k l h earlier =
           let p : Passed w bound m.tick k = passed_is w bound m.tick k h in
+          let active : is_active w (bound_end w bound k) k ≡ true =
+          first_active w bound m.tick k shows.machine.numbers shows.machine.lawful are l p earlier in
           elim (cases_lt t (bound_end w bound k)) [
             | inr past ↦ or_left _ _ (passed_from w bound t k (record { within = past; unfinished = p.unfinished }))
-            | inl now ↦
-                let e : bound_end w bound k ≡ m.tick = omega (arith, now, p.within, tick) in
-                let active : is_active w m.tick k ≡ true =
-                ap (λ u. is_active w u k) (sym e)
-                ∙ first_active w bound m.tick k shows.machine.numbers shows.machine.lawful are l p earlier in
-                or_right _ _ (and_from _ _ (eq-eqb _ _ e) (active_shown m rows k shows ∙ active))
+            | inl later ↦ elim (cases_lt (bound_end w bound k) m.tick) [
+              | inl between ↦
+                  let at : bound_end w bound k ≡ t + (bound_end w bound k - t) = omega (arith, later) in
+                  absurd (none k (bound_end w bound k - t) (omega (arith, later)) (omega (arith, later, between, tick))
+                  (ap (λ u. is_active w u k) (sym at) ∙ active) at)
+              | inr last ↦
+                  let e : bound_end w bound k ≡ m.tick = omega (arith, last, p.within) in
+                  let here : is_active w m.tick k ≡ true = ap (λ u. is_active w u k) (sym e) ∙ active in
+                  or_right _ _ (and_from _ _ (eq-eqb _ _ e) (active_shown m rows k shows ∙ here))
+            ]
           ]

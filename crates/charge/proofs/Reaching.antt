@@ -1,40 +1,23 @@
--- How far a schedule is judged and charged, from tick to tick.
-use Rattle.std.proofs.Common.{◌≡◌, ℕ, suc, ◌+◌, Bool, List, [], refl, ap, sym, ◌∙◌, subst, arith, inl, inr, Option, Some, None}
+-- How far a schedule is judged and charged, from stretch to stretch.
+use Rattle.std.proofs.Common.{◌≡◌, ℕ, ◌+◌, ◌<◌, ◌≤◌, List, [], refl, ap, sym, ◌∙◌, subst, arith, Option, Some, None}
 use Rattle.std.specs.Prelude.{slice_index}
-use Rattle.std.proofs.lemmas.Bool.{cases_lt}
 use Rattle.schedule_model.specs.JobDef.{JobsDef}
 use Rattle.schedule_model.specs.LawfulJobs.{AreLawfulJobs}
 use Rattle.schedule_model.specs.declared.job.JobId.{JobId}
 use Rattle.schedule_model.specs.RowDef.{RowDef, Trace, jobs_of}
 use Rattle.schedule_model.specs.Keeping.{KeepsRow, KeepsBefore, Breaks, IsFirstUnlawful}
 use Rattle.schedule_model.specs.Seen.{place_seen}
-use Rattle.schedule_model.specs.Chosen.{IsSized}
-use Rattle.schedule_model.specs.ProtocolLaws.{IsSoundRow}
-use Rattle.schedule_model.specs.TakenRows.{CanBeTaken}
-use Rattle.schedule_laws.proofs.TakenRows.{sound_taken}
-use Rattle.phase_machine.specs.Taking.{IsRowFor, CanTake}
-use Rattle.phase_machine.proofs.Facts.{can_take}
 use Rattle.schedule_model.specs.declared.rule.Rule.{Rule}
 use Rattle.phase_machine.specs.MachineDef.{MachineDef, under}
 use Rattle.phase_machine.specs.Shows.{Shows}
 use Rattle.charge_model.specs.Windows.{AreBounds}
+use Rattle.trace_conform.proofs.Reaching.{over, keeps_more}
 use Rattle.charge.specs.declared.tally.Ledger.{Ledger}
 use Rattle.charge.specs.Passed.{first_passed}
 use Rattle.charge.specs.Tally.{IsTally, ticks_before}
 use Rattle.charge.specs.Reached.{IsReached}
 use Rattle.charge.proofs.PassedNext.{none_passed}
 use Rattle.charge.proofs.TallyLaws.{Charges}
-
--- The jobs of a list under rows.
-abbrev pub over : JobsDef → (ℕ → RowDef) → Trace
-over list rows = record { set = list.set; jobs = list.jobs; row = rows }
-
-keeps_one_more : (keeps : Rule → Trace → ℕ → Type 0) (w : Trace) (t : ℕ) → KeepsBefore keeps w t → KeepsRow keeps w t
-    → KeepsBefore keeps w (suc t)
-keeps_one_more keeps w t before row u l = elim (cases_lt u t) [
-  | inl early ↦ before u early
-  | inr late ↦ let e : u ≡ t = omega arith in subst (λ (u : ℕ). KeepsRow keeps w u) (sym e) row
-]
 
 -- At the start no row was judged, nothing is counted, and no job has passed its bound.
 pub reached_first : (keeps : Rule → Trace → ℕ → Type 0) (charges : Charges) (rows : ℕ → RowDef) (bounds : List ℕ) (m : MachineDef)
@@ -49,23 +32,22 @@ reached_first keeps charges rows bounds m ledger shows start are empty none = re
       ∙ none_passed (under m rows) (slice_index bounds) shows.machine.lawful are);
 }
 
--- One row more that keeps the rules, charged and taken.
-pub reached_next : (keeps : Rule → Trace → ℕ → Type 0) (charges : Charges) (rows : ℕ → RowDef) (bounds : List ℕ) (m n : MachineDef)
-    (before after : Ledger) → IsReached keeps charges rows bounds m before → n.list ≡ m.list → n.tick ≡ m.tick + 1 → Shows n rows
-    → KeepsRow keeps (under m rows) m.tick
-    → IsTally after.ticks (ticks_before charges (under m rows) (slice_index bounds) (m.tick + 1))
+-- Some rows more that keep the rules, charged and taken.
+pub reached_on : (keeps : Rule → Trace → ℕ → Type 0) (charges : Charges) (rows : ℕ → RowDef) (bounds : List ℕ) (m n : MachineDef)
+    (more : ℕ) (before after : Ledger) → IsReached keeps charges rows bounds m before → n.list ≡ m.list → n.tick ≡ m.tick + more
+    → Shows n rows → ((i : ℕ) → i < more → KeepsRow keeps (under m rows) (m.tick + i))
+    → IsTally after.ticks (ticks_before charges (under m rows) (slice_index bounds) (m.tick + more))
     → place_seen after.passed ≡ first_passed (under n rows) (slice_index bounds) n.tick → IsReached keeps charges rows bounds n after
-reached_next keeps charges rows bounds m n before after reached list tick shows row counted passed =
-    let next : n.tick ≡ suc m.tick = omega (arith, tick) in
-    let keeps_all : KeepsBefore keeps (over m.list rows) (suc m.tick) =
-    keeps_one_more keeps (under m rows) m.tick reached.keeps_before row in
+reached_on keeps charges rows bounds m n more before after reached list tick shows lawful counted passed =
+    let keeps_all : KeepsBefore keeps (over m.list rows) (m.tick + more) =
+    keeps_more keeps (under m rows) m.tick more reached.keeps_before lawful in
     record {
       shows = shows;
-      keeps_before = subst (λ (t : ℕ). KeepsBefore keeps (over n.list rows) t) (sym next)
-          (subst (λ (l : JobsDef). KeepsBefore keeps (over l rows) (suc m.tick)) (sym list) keeps_all);
+      keeps_before = subst (λ (t : ℕ). KeepsBefore keeps (over n.list rows) t) (sym tick)
+          (subst (λ (l : JobsDef). KeepsBefore keeps (over l rows) (m.tick + more)) (sym list) keeps_all);
       counted = subst (λ (t : ℕ). IsTally after.ticks (ticks_before charges (over n.list rows) (slice_index bounds) t)) (sym tick)
           (subst
-          (λ (l : JobsDef). IsTally after.ticks (ticks_before charges (over l rows) (slice_index bounds) (m.tick + 1)))
+          (λ (l : JobsDef). IsTally after.ticks (ticks_before charges (over l rows) (slice_index bounds) (m.tick + more)))
           (sym list) counted);
       passed = passed;
     }
@@ -77,18 +59,10 @@ noted_by rows bounds m n o t list noted = subst (λ (l : JobsDef). o ≡ first_p
 
 -- The row at the machine's tick is the first that breaks a rule.
 pub broken_here : (keeps : Rule → Trace → ℕ → Type 0) (charges : Charges) (rows : ℕ → RowDef) (bounds : List ℕ) (m : MachineDef)
-    (ledger : Ledger) (r : Rule) → IsReached keeps charges rows bounds m ledger → Breaks keeps (under m rows) m.tick r
-    → IsFirstUnlawful keeps (under m rows) (m.tick + 1) m.tick r
-broken_here keeps charges rows bounds m ledger r reached breaks =
-    record { within = omega arith; before = reached.keeps_before; breaks = breaks }
-
--- A row that fits the jobs and is sound can be taken.
-pub row_taken : (interferes : Trace → ℕ → ℕ → Bool) (rows : ℕ → RowDef) (m : MachineDef) (row : RowDef) → rows m.tick ≡ row
-    → IsRowFor m.list row → Shows m rows → IsSoundRow interferes (under m rows) m.tick → CanTake m row
-row_taken interferes rows m row here fits shows sound =
-    let can : CanBeTaken (under m rows) m.tick =
-    sound_taken interferes (under m rows) m.tick (subst (λ (r : RowDef). IsSized m.list.set r) (sym here) fits.sized) sound in
-    subst (λ (r : RowDef). CanTake m r) here (can_take m rows shows can)
+    (ledger : Ledger) (left : ℕ) (r : Rule) → IsReached keeps charges rows bounds m ledger → 1 ≤ left
+    → Breaks keeps (under m rows) m.tick r → IsFirstUnlawful keeps (under m rows) (m.tick + left) m.tick r
+broken_here keeps charges rows bounds m ledger left r reached some breaks =
+    record { within = omega (arith, some); before = reached.keeps_before; breaks = breaks }
 
 -- What a schedule was judged and charged to.
 pub record Walked (keeps : Rule → Trace → ℕ → Type 0) (charges : Charges) (w : Trace) (bound : ℕ → ℕ) (n : ℕ)

@@ -1,13 +1,12 @@
--- Counting a tick: for the active job of each task in turn.
-use Rattle.std.proofs.Common.{◌≡◌, ℕ, suc, ◌+◌, ◌<◌, ◌≤◌, ◌==◌, ◌&&◌, Bool, true, false, length, refl, sym, ap, ◌∙◌}
+-- Counting ticks as the first of them: for the active job of each task in turn.
+use Rattle.std.proofs.Common.{◌≡◌, ℕ, ◌+◌, ◌<◌, ◌≤◌, ◌==◌, ◌&&◌, Bool, true, false, length, refl, sym, ap, ◌∙◌}
 use Rattle.std.proofs.Common.{arith, inl, inr, Option, Some, None}
 use Rattle.std.specs.Prelude.{nat_lt, unwrap_or, option_map}
 use Rattle.std.specs.Option.{option_and_then}
 use Rattle.std.proofs.lemmas.Bool.{cases_lt, cases_order, cases_Bool, cases_eq, lt-ltb, le-ltb, eq-eqb, eqb-true, ne_eqb, and_left}
 use Rattle.std.specs.BTreeMap.{BTreeMap}
-use Rattle.bounded_sums.specs.Sums.{flag}
-use Rattle.bounded_sums.specs.Tests.{count_below}
-use Rattle.bounded_sums.proofs.CountLaws.{count_below-at_most, flag-at_most}
+use Rattle.bounded_sums.specs.Sums.{only_if}
+use Rattle.bounded_sums.proofs.CountLaws.{count_below-at_most, count_below-split, count_below-same}
 use Rattle.schedule_model.specs.RowDef.{RowDef, Trace}
 use Rattle.schedule_model.specs.Phase.{Phase, phase_of}
 use Rattle.schedule_model.specs.Activity.{task_of, is_active}
@@ -21,7 +20,7 @@ use Rattle.charge_model.specs.Charges.{Charge}
 use Rattle.charge_model.specs.Windows.{bound_end}
 use Rattle.charge.specs.declared.tally.Place.{Place}
 use Rattle.charge.specs.Requests.{ChargedRequest, request_in, charged_request}
-use Rattle.charge.specs.Tally.{IsTally, positive, count_at, is_place, place_of, place_at, ticks_before, ticks_with}
+use Rattle.charge.specs.Tally.{IsTally, AreCountedAlike, positive, count_at, is_place, place_of, place_at, ticks_before, ticks_with}
 use Rattle.charge.proofs.Passing.{current_own}
 
 -- How ticks are charged, of active jobs alone.
@@ -44,16 +43,24 @@ count_is ticks f p tally = ap (λ o. unwrap_or o 0) (tally p) ∙ back (f p) whe
     | inr some ↦ rw some refl
   ]
 
--- A job that isn't active is counted nowhere.
+-- A tick without a charge is counted nowhere, and a job that isn't active has none.
+pub uncharged_nowhere : (charges : Charges) (w : Trace) (bound : ℕ → ℕ) (t k : ℕ) → charges w t k ≡ None
+    → place_at charges w bound t k ≡ None
+uncharged_nowhere charges w bound t k e = elim (cases_Bool (nat_lt t (bound_end w bound k))) [
+  | inl within ↦ rw (within, e) refl
+  | inr past ↦ rw past refl
+]
+
+pub inactive_uncharged : (charges : Charges) (w : Trace) (t k : ℕ) → OfActive charges w t → (is_active w t k ≡ true → ⊥)
+    → charges w t k ≡ None
+inactive_uncharged charges w t k only idle = go (charges w t k) refl where
+  go : (o : Option Charge) → charges w t k ≡ o → charges w t k ≡ None
+  go None e = e
+  go (Some c) e = absurd (idle (only k c e))
+
 inactive_nowhere : (charges : Charges) (w : Trace) (bound : ℕ → ℕ) (t k : ℕ) → OfActive charges w t → (is_active w t k ≡ true → ⊥)
     → place_at charges w bound t k ≡ None
-inactive_nowhere charges w bound t k only idle = go (charges w t k) refl where
-  go : (o : Option Charge) → charges w t k ≡ o → place_at charges w bound t k ≡ None
-  go None e = elim (cases_Bool (nat_lt t (bound_end w bound k))) [
-    | inl within ↦ rw (within, e) refl
-    | inr past ↦ rw past refl
-  ]
-  go (Some c) e = absurd (idle (only k c e))
+inactive_nowhere charges w bound t k only idle = uncharged_nowhere charges w bound t k (inactive_uncharged charges w t k only idle)
 
 -- A tick of job j is counted for job j.
 other_place : (charges : Charges) (w : Trace) (bound : ℕ → ℕ) (t j : ℕ) (p : Place) → (j ≡ p.blocked → ⊥)
@@ -67,8 +74,9 @@ other_place charges w bound t j p other = elim (cases_Bool (nat_lt t (bound_end 
   go (Some r) = and_left (j == p.blocked) _ (ne_eqb j p.blocked other)
 
 -- One task more.
-one_task_more : (a x : ℕ) (b : Bool) → flag (nat_lt a (x + 1) && b) ≡ flag (nat_lt a x && b) + flag ((a == x) && b)
-one_task_more a x b = elim (cases_order a x) [
+one_task_more : (a x n : ℕ) (b : Bool)
+    → only_if (nat_lt a (x + 1) && b) n ≡ only_if (nat_lt a x && b) n + only_if ((a == x) && b) n
+one_task_more a x n b = elim (cases_order a x) [
   | inl same ↦
       let one : nat_lt a (x + 1) ≡ true = lt-ltb a (x + 1) (omega arith) in
       let two : nat_lt a x ≡ false = le-ltb a x (omega arith) in
@@ -126,40 +134,53 @@ counted_here charges m rows bound x p o shows only l e = elim (cases_eq (task_of
       (λ here. other (ap (task_in m.list.jobs) (sym here) ∙ current_own m x j shows.machine l f))
 
 -- One task more is counted.
-pub count_more : (charges : Charges) (m : MachineDef) (rows : ℕ → RowDef) (bound : ℕ → ℕ) (x : ℕ) (p : Place) → Shows m rows
+pub count_more : (charges : Charges) (m : MachineDef) (rows : ℕ → RowDef) (bound : ℕ → ℕ) (n x : ℕ) (p : Place) → Shows m rows
     → OfActive charges (under m rows) m.tick → x < length m.list.set.tasks
-    → ticks_with charges (under m rows) bound m.tick x p
-    + flag (is_place p (option_and_then (place_at charges (under m rows) bound m.tick) (current_now m x)))
-    ≡ ticks_with charges (under m rows) bound m.tick (x + 1) p
+    → ticks_with charges (under m rows) bound m.tick n x p
+    + only_if (is_place p (option_and_then (place_at charges (under m rows) bound m.tick) (current_now m x))) n
+    ≡ ticks_with charges (under m rows) bound m.tick n (x + 1) p
 unfolding ticks_with
-count_more charges m rows bound x p shows only l =
-    let here : flag ((task_of (under m rows) p.blocked == x) && is_place p (place_at charges (under m rows) bound m.tick p.blocked))
-    ≡ flag (is_place p (option_and_then (place_at charges (under m rows) bound m.tick) (current_now m x))) =
-    ap flag (counted_here charges m rows bound x p (current_now m x) shows only l refl) in
+count_more charges m rows bound n x p shows only l =
+    let here : only_if ((task_of (under m rows) p.blocked == x) && is_place p (place_at charges (under m rows) bound m.tick p.blocked)) n
+    ≡ only_if (is_place p (option_and_then (place_at charges (under m rows) bound m.tick) (current_now m x))) n =
+    ap (λ b. only_if b n) (counted_here charges m rows bound x p (current_now m x) shows only l refl) in
     omega (
       arith,
       here,
-      one_task_more (task_of (under m rows) p.blocked) x (is_place p (place_at charges (under m rows) bound m.tick p.blocked)),
+      one_task_more (task_of (under m rows) p.blocked) x n (is_place p (place_at charges (under m rows) bound m.tick p.blocked)),
     )
 
--- Before the first task none of the tick is counted.
-pub count_first : (charges : Charges) (w : Trace) (bound : ℕ → ℕ) (t : ℕ) (p : Place)
-    → ticks_before charges w bound t p ≡ ticks_with charges w bound t 0 p
+-- Before the first task none of the ticks is counted.
+pub count_first : (charges : Charges) (w : Trace) (bound : ℕ → ℕ) (t n : ℕ) (p : Place)
+    → ticks_before charges w bound t p ≡ ticks_with charges w bound t n 0 p
 unfolding ticks_with
-count_first charges w bound t p =
+count_first charges w bound t n p =
     let none : nat_lt (task_of w p.blocked) 0 ≡ false = le-ltb _ _ (omega arith) in
     rw none (omega arith)
 
--- After the last one all of it is.
-pub count_all : (charges : Charges) (m : MachineDef) (rows : ℕ → RowDef) (bound : ℕ → ℕ) (x : ℕ) (p : Place) → Shows m rows
-    → OfActive charges (under m rows) m.tick → length m.list.set.tasks ≤ x
-    → ticks_with charges (under m rows) bound m.tick x p ≡ ticks_before charges (under m rows) bound (m.tick + 1) p
-unfolding ticks_with ticks_before
-count_all charges m rows bound x p shows only l =
-    let one : m.tick + 1 ≡ suc m.tick = omega arith in
-    ap (λ b. count_below m.tick (λ u. is_place p (place_at charges (under m rows) bound u p.blocked)) + flag b)
+-- Where ticks are counted alike, they are counted to a place all or none.
+counted_on : (charges : Charges) (w : Trace) (bound : ℕ → ℕ) (t n : ℕ) (p : Place) → AreCountedAlike charges w bound t n
+    → ticks_before charges w bound t p + only_if (is_place p (place_at charges w bound t p.blocked)) n
+    ≡ ticks_before charges w bound (t + n) p
+unfolding ticks_before
+counted_on charges w bound t n p alike =
+    omega (
+      arith,
+      count_below-split t n (λ u. is_place p (place_at charges w bound u p.blocked)),
+      count_below-same n (λ i. is_place p (place_at charges w bound (t + i) p.blocked))
+          (is_place p (place_at charges w bound t p.blocked))
+          (λ i l. ap (is_place p) (alike i p.blocked l)),
+    )
+
+-- After the last one all of them are.
+pub count_all : (charges : Charges) (m : MachineDef) (rows : ℕ → RowDef) (bound : ℕ → ℕ) (n x : ℕ) (p : Place) → Shows m rows
+    → OfActive charges (under m rows) m.tick → AreCountedAlike charges (under m rows) bound m.tick n → length m.list.set.tasks ≤ x
+    → ticks_with charges (under m rows) bound m.tick n x p ≡ ticks_before charges (under m rows) bound (m.tick + n) p
+unfolding ticks_with
+count_all charges m rows bound n x p shows only alike l =
+    ap (λ b. ticks_before charges (under m rows) bound m.tick p + only_if b n)
     (all (place_at charges (under m rows) bound m.tick p.blocked) refl)
-    ∙ sym (ap (λ n. count_below n (λ u. is_place p (place_at charges (under m rows) bound u p.blocked))) one) where
+    ∙ counted_on charges (under m rows) bound m.tick n p alike where
       all : (o : Option Place) → place_at charges (under m rows) bound m.tick p.blocked ≡ o
           → (nat_lt (task_of (under m rows) p.blocked) x && is_place p (place_at charges (under m rows) bound m.tick p.blocked))
           ≡ is_place p (place_at charges (under m rows) bound m.tick p.blocked)
@@ -179,14 +200,17 @@ count_all charges m rows bound x p shows only l =
         and_false false = refl
 
 -- And it is no more than the ticks so far.
-pub count_most : (charges : Charges) (w : Trace) (bound : ℕ → ℕ) (t x : ℕ) (p : Place) → ticks_with charges w bound t x p ≤ t + 1
+pub count_most : (charges : Charges) (w : Trace) (bound : ℕ → ℕ) (t n x : ℕ) (p : Place) → ticks_with charges w bound t n x p ≤ t + n
 unfolding ticks_with ticks_before
-count_most charges w bound t x p =
+count_most charges w bound t n x p =
     omega (
       arith,
       count_below-at_most t (λ u. is_place p (place_at charges w bound u p.blocked)),
-      flag-at_most (nat_lt (task_of w p.blocked) x && is_place p (place_at charges w bound t p.blocked)),
-    )
+      most (nat_lt (task_of w p.blocked) x && is_place p (place_at charges w bound t p.blocked)),
+    ) where
+      most : (b : Bool) → only_if b n ≤ n
+      most true = omega arith
+      most false = omega arith
 
 -- The place of a charge whose job is in this phase.
 pub placed : (charges : Charges) (w : Trace) (bound : ℕ → ℕ) (t j : ℕ) (charge : Charge) {p : Phase}

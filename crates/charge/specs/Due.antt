@@ -1,8 +1,9 @@
 -- Whose bounds end at the tick at which a machine stands.
-use Rattle.std.specs.Prelude.{ℕ, ◌+◌, ◌==◌, ◌&&◌, Bool, nat_lt, nat_le, if◌then◌else◌, List, slice_index, Option, None, Some}
+use Rattle.std.specs.Prelude.{◌≡◌, ℕ, ◌+◌, ◌<◌, ◌≤◌, ◌==◌, ◌&&◌, Bool, nat_lt, nat_le, if◌then◌else◌, List, slice_index}
+use Rattle.std.specs.Prelude.{Option, None, Some}
 use Rattle.schedule_model.specs.JobDef.{job_of}
 use Rattle.phase_machine.specs.MachineDef.{MachineDef, task_in}
-use Rattle.phase_machine.specs.Now.{active_now}
+use Rattle.phase_machine.specs.Now.{active_now, current_now}
 
 -- By when is job j to be finished: its release plus its task's bound.
 abbrev pub end_now : MachineDef → List ℕ → ℕ → ℕ
@@ -26,3 +27,7 @@ abbrev pub least_of : Option ℕ → Option ℕ → Option ℕ
 least_of None o = o
 least_of (Some i) None = Some i
 least_of (Some i) (Some j) = if nat_le i j then Some i else Some j
+
+-- Do n ticks from the machine's on lie before the end of each bound, of the active jobs of the first x tasks, that hasn't ended yet?
+abbrev pub IsClearBelow : MachineDef → List ℕ → ℕ → ℕ → Type 0
+IsClearBelow m bounds n x = (y j : ℕ) → y < x → current_now m y ≡ Some j → m.tick < end_now m bounds j → m.tick + n ≤ end_now m bounds j

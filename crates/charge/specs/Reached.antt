@@ -1,5 +1,5 @@
 -- How far a schedule is judged and charged.
-use Rattle.std.specs.Prelude.{◌≡◌, ℕ, List, slice_index, Option, Result, Ok, Err}
+use Rattle.std.specs.Prelude.{◌≡◌, ℕ, ◌+◌, ◌≤◌, List, slice_index, Option, Result, Ok, Err}
 use Rattle.schedule_model.specs.RowDef.{RowDef, Trace}
 use Rattle.schedule_model.specs.Keeping.{KeepsBefore, IsFirstUnlawful}
 use Rattle.schedule_model.specs.Seen.{place_seen}
@@ -29,3 +29,13 @@ GoesOn keeps charges rows bounds n before after ledger (Ok _) = (after.tick ≡ 
 GoesOn keeps charges rows bounds n before after ledger (Err (stop.Unlawful b)) = IsFirstUnlawful keeps (under before rows) n b.tick b.rule
 GoesOn keeps charges rows bounds n before after ledger (Err (stop.BoundPassed j)) = ⊥
 GoesOn keeps charges rows bounds n before after ledger (Err stop.Memory) = Unit {0}
+
+-- Has the machine taken some of the next `left` rows so; or is the first of them named that breaks a rule?
+abbrev pub GoesSome : (Rule → Trace → ℕ → Type 0) → (Trace → ℕ → ℕ → Option Charge) → (ℕ → RowDef) → List ℕ → ℕ
+    → MachineDef → MachineDef → Ledger → Result ℕ ChargeStop → Type 0
+GoesSome keeps charges rows bounds left before after ledger (Ok n) =
+    (1 ≤ n) × (n ≤ left) × (after.tick ≡ before.tick + n) × IsReached keeps charges rows bounds after ledger
+GoesSome keeps charges rows bounds left before after ledger (Err (stop.Unlawful b)) =
+    IsFirstUnlawful keeps (under before rows) (before.tick + left) b.tick b.rule
+GoesSome keeps charges rows bounds left before after ledger (Err (stop.BoundPassed j)) = ⊥
+GoesSome keeps charges rows bounds left before after ledger (Err stop.Memory) = Unit {0}

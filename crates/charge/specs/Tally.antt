@@ -1,10 +1,11 @@
 -- How ticks are counted while a schedule is judged: by places, in the order of the table.
-use Rattle.std.specs.Prelude.{◌≡◌, ℕ, ◌+◌, ◌==◌, ◌&&◌, Bool, false, nat_lt, if◌then◌else◌, Option, None, Some, option_map, unwrap_or}
+use Rattle.std.specs.Prelude.{◌≡◌, ℕ, ◌+◌, ◌<◌, ◌==◌, ◌&&◌, Bool, false, nat_lt, if◌then◌else◌, Option, None, Some, option_map}
+use Rattle.std.specs.Prelude.{unwrap_or}
 use Rattle.std.specs.Option.{option_map_or}
 use Rattle.std.specs.Ordering.{nat_cmp, ordering_then}
 use Rattle.std.specs.declared.cmp.Ordering.{Ordering}
 use Rattle.std.specs.BTreeMap.{BTreeMap, get}
-use Rattle.bounded_sums.specs.Sums.{flag}
+use Rattle.bounded_sums.specs.Sums.{only_if}
 use Rattle.bounded_sums.specs.Tests.{count_below}
 use Rattle.schedule_model.specs.RowDef.{Trace}
 use Rattle.schedule_model.specs.Activity.{task_of}
@@ -71,7 +72,12 @@ place_at charges w bound t j =
 unfoldable pub ticks_before : (Trace → ℕ → ℕ → Option Charge) → Trace → (ℕ → ℕ) → ℕ → Place → ℕ
 ticks_before charges w bound t p = count_below t (λ u. is_place p (place_at charges w bound u p.blocked))
 
--- The same with tick t, for the jobs of the first x tasks.
-unfoldable pub ticks_with : (Trace → ℕ → ℕ → Option Charge) → Trace → (ℕ → ℕ) → ℕ → ℕ → Place → ℕ
-ticks_with charges w bound t x p =
-    ticks_before charges w bound t p + flag (nat_lt (task_of w p.blocked) x && is_place p (place_at charges w bound t p.blocked))
+-- Are the n ticks from tick t on counted to the same place as the first of them, for each job?
+abbrev pub AreCountedAlike : (Trace → ℕ → ℕ → Option Charge) → Trace → (ℕ → ℕ) → ℕ → ℕ → Type 0
+AreCountedAlike charges w bound t n = (i j : ℕ) → i < n → place_at charges w bound (t + i) j ≡ place_at charges w bound t j
+
+-- The count before t with n ticks more, each as tick t, for the jobs of the first x tasks.
+unfoldable pub ticks_with : (Trace → ℕ → ℕ → Option Charge) → Trace → (ℕ → ℕ) → ℕ → ℕ → ℕ → Place → ℕ
+ticks_with charges w bound t n x p =
+    ticks_before charges w bound t p
+    + only_if (nat_lt (task_of w p.blocked) x && is_place p (place_at charges w bound t p.blocked)) n

@@ -1,4 +1,4 @@
-ghost use Rattle.std.specs.Prelude.{◌≡◌, ℕ, ◌+◌, ◌<◌, length, slice_index, option_map, OnOk};
+ghost use Rattle.std.specs.Prelude.{◌≡◌, ℕ, ◌+◌, ◌<◌, ◌≤◌, length, slice_index, option_map, OnOk};
 ghost use Rattle.std.specs.Option.{option_and_then};
 ghost use Rattle.sporadic_model.specs.declared.limits.TheConstants.{MOST_TICKS};
 ghost use Rattle.schedule_model.specs.RowDef.{row_in};
@@ -11,7 +11,7 @@ ghost use Rattle.charge_model.specs.Charges.{Charge};
 ghost use Rattle.charge_model.specs.Windows.{AreBounds};
 ghost use Rattle.trace_conform.specs.Runs.{IsAtRun};
 ghost use Rattle.charge.specs.Requests.{class_rank, request_in};
-ghost use Rattle.charge.specs.Tally.{IsTally, place_of, place_at, ticks_before};
+ghost use Rattle.charge.specs.Tally.{IsTally, AreCountedAlike, place_of, place_at, ticks_before};
 
 use crate::due::end_of;
 use crate::protocol::ChargedProtocol;
@@ -109,32 +109,37 @@ fn place_in<P: ChargedProtocol>(
     }
 }
 
-/// Counts the tick that the machine stands at, in a row that keeps the rules: one job of each task is active, or none, and no other is
-/// blocked.
-pub(crate) fn charge_tick<P: ChargedProtocol>(
+/// Counts so many ticks as the one that the machine stands at, in a row that keeps the rules: one job of each task is active, or
+/// none, and no other is blocked.
+pub(crate) fn charge_ticks<P: ChargedProtocol>(
     protocol: &P,
     rows: &RowList,
     i: usize,
     machine: &Machine,
     bounds: &[u64],
+    more: u64,
     ticks: &mut BTreeMap<Place, u64>,
 ) -> Result<(), AllocError>
     requires suits { P.suits protocol.now machine.now.list.set }
     requires at { IsAtRun rows.now i machine.now }
-    requires early { machine.now.tick < MOST_TICKS }
+    requires some { 1 ≤ more }
+    requires early { machine.now.tick + more ≤ MOST_TICKS }
     requires shows { Shows machine.now (row_in rows.now.runs) }
     requires keeps { KeepsRow (P.keeps protocol.now) (under machine.now (row_in rows.now.runs)) machine.now.tick }
     requires one_each { length bounds.now ≡ length machine.now.list.set.tasks }
     requires bounds { AreBounds machine.now.list.set (slice_index bounds.now) }
+    requires alike { AreCountedAlike (P.charges protocol.now) (under machine.now (row_in rows.now.runs)) (slice_index bounds.now)
+        machine.now.tick more }
     requires counted { IsTally ticks.old
         (ticks_before (P.charges protocol.now) (under machine.now (row_in rows.now.runs)) (slice_index bounds.now) machine.now.tick) }
     ensures { OnOk result (IsTally ticks.new (ticks_before (P.charges protocol.now) (under machine.now (row_in rows.now.runs))
-        (slice_index bounds.now) (machine.now.tick + 1))) }
+        (slice_index bounds.now) (machine.now.tick + more))) }
 {
     for x in 0..tasks_of(machine) {
         add_named(
             ticks,
             place_in(protocol, rows, i, machine, bounds, TaskId(x)),
+            more,
         )?;
     }
     Ok(())

@@ -1,9 +1,9 @@
-ghost use Rattle.std.specs.Prelude.{◌≡◌, ℕ, ◌<◌, ◌||◌, Bool, length, slice_index};
+ghost use Rattle.std.specs.Prelude.{◌≡◌, ℕ, ◌+◌, ◌<◌, ◌≤◌, ◌||◌, Bool, Some, length, slice_index};
 ghost use Rattle.bounded_sums.specs.Tests.{found_below};
 ghost use Rattle.schedule_model.specs.Seen.{place_seen};
 ghost use Rattle.phase_machine.specs.Now.{current_now};
 ghost use Rattle.charge_model.specs.Windows.{AreBounds};
-ghost use Rattle.charge.specs.Due.{end_now, due_of, is_due, least_of};
+ghost use Rattle.charge.specs.Due.{end_now, due_of, is_due, least_of, IsClearBelow};
 
 use phase_machine::Machine;
 use schedule_model::JobId;
@@ -54,6 +54,39 @@ pub(crate) fn first_of_due(machine: &Machine, bounds: &[u64], first: Option<JobI
     let mut least = first;
     for x in 0..tasks_of(machine) {
         least = least_of(least, due_of(machine, bounds, TaskId(x)));
+    }
+    least
+}
+
+/// So many ticks, or fewer where the bound of the task's active job ends sooner: as many as there are until then.
+fn sooner_due(machine: &Machine, bounds: &[u64], x: TaskId, ticks: u64) -> u64
+    requires task { x.0 < length machine.now.list.set.tasks }
+    requires one_each { length bounds.now ≡ length machine.now.list.set.tasks }
+    requires bounds { AreBounds machine.now.list.set (slice_index bounds.now) }
+    ensures some { 1 ≤ ticks → 1 ≤ result }
+    ensures most { result ≤ ticks }
+    ensures clear { (j : ℕ) → current_now machine.now x.0 ≡ Some j → machine.now.tick < end_now machine.now bounds.now j
+        → machine.now.tick + result ≤ end_now machine.now bounds.now j }
+{
+    match machine.current(x) {
+        Some(j) if machine.tick() < end_of(machine, bounds, j) => {
+            ticks.min(end_of(machine, bounds, j) - machine.tick())
+        }
+        _ => ticks,
+    }
+}
+
+/// So many ticks, or as many as there are until the bound of an active job ends, where one ends sooner and hasn't ended yet.
+pub(crate) fn until_due(machine: &Machine, bounds: &[u64], ticks: u64) -> u64
+    requires one_each { length bounds.now ≡ length machine.now.list.set.tasks }
+    requires bounds { AreBounds machine.now.list.set (slice_index bounds.now) }
+    ensures some { 1 ≤ ticks → 1 ≤ result }
+    ensures most { result ≤ ticks }
+    ensures clear { IsClearBelow machine.now bounds.now result (length machine.now.list.set.tasks) }
+{
+    let mut least = ticks;
+    for x in 0..tasks_of(machine) {
+        least = sooner_due(machine, bounds, TaskId(x), least);
     }
     least
 }

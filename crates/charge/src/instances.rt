@@ -1,9 +1,13 @@
 ghost use Rattle.std.specs.Prelude.{refl};
+ghost use Rattle.sporadic_model.specs.Homes.{EachHasHome};
 ghost use Rattle.sporadic_model.specs.declared.ids.Protocol.TheVariants as protocol;
+ghost use Rattle.schedule_model.specs.Ranks.{mpcp, fmlp_plus};
+ghost use Rattle.schedule_model.specs.Protocols.{shared_rule, dpcp_rule, EachSetSuits};
 ghost use Rattle.fragments.specs.Columns.{columns_of as written_columns};
 ghost use Rattle.charge_model.specs.Charges.{shared_charge, dpcp_charge};
 ghost use Rattle.charge_laws.proofs.SharedCharging.{shared_charge_blocked};
 ghost use Rattle.charge_laws.proofs.DpcpCharging.{dpcp_charge_blocked};
+ghost use Rattle.charge_laws.proofs.Stretches.{shared_stays_charged, dpcp_stays_charged};
 ghost use Rattle.row_laws.proofs.ChargedTicks.{mpcp_is_charged, fmlp_is_charged, dpcp_is_charged};
 ghost use Rattle.row_laws.proofs.EmptyWindows.{mpcp_point_within, fmlp_point_within, dpcp_point_within};
 ghost use Rattle.row_laws.proofs.InterferingCosts.{mpcp_interferes_within, fmlp_interferes_within, dpcp_interferes_within};
@@ -37,6 +41,8 @@ impl ChargedProtocol for Mpcp {
 
     ghost charges_only = { λ p. shared_charge_blocked };
 
+    ghost stays_charged = { λ p. shared_stays_charged EachSetSuits (shared_rule mpcp) };
+
     ghost meets_rows = { λ p w bounds n j suits accepted lawful keeps listed ended.
         mpcp_point_within w bounds n j (record { accepted = accepted; lawful = lawful; listed = listed; ended = ended }) keeps };
 }
@@ -60,6 +66,8 @@ impl ChargedProtocol for FmlpPlus {
 
     ghost charges_only = { λ p. shared_charge_blocked };
 
+    ghost stays_charged = { λ p. shared_stays_charged EachSetSuits (shared_rule fmlp_plus) };
+
     ghost meets_rows = { λ p w bounds n j suits accepted lawful keeps listed ended.
         fmlp_point_within w bounds n j (record { accepted = accepted; lawful = lawful; listed = listed; ended = ended }) keeps };
 }
@@ -82,6 +90,8 @@ impl ChargedProtocol for Dpcp {
     ghost charges_blocked = { λ p w n t j suits lawful keeps early blocked. dpcp_is_charged w n t j lawful keeps early blocked };
 
     ghost charges_only = { λ p. dpcp_charge_blocked };
+
+    ghost stays_charged = { λ p. dpcp_stays_charged EachHasHome dpcp_rule };
 
     ghost meets_rows = { λ p w bounds n j suits accepted lawful keeps listed ended.
         dpcp_point_within w bounds n j (record { accepted = accepted; lawful = lawful; listed = listed; ended = ended }) keeps };

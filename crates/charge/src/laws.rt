@@ -1,6 +1,6 @@
 //! What follows from the laws of charged protocols alone. Each function is a law: it does nothing.
 
-ghost use Rattle.std.specs.Prelude.{◌≡◌, ℕ, ◌≤◌, ◌<◌, Bool, List, None, length, slice_index, sum_by};
+ghost use Rattle.std.specs.Prelude.{◌≡◌, ℕ, ◌+◌, ◌≤◌, ◌<◌, Bool, List, None, length, slice_index, sum_by};
 ghost use Rattle.bounded_sums.specs.Sums.{sum_below, only_if};
 ghost use Rattle.bounded_sums.specs.Tests.{count_below};
 ghost use Rattle.program_form.specs.Certificate.{CertificateDef};
@@ -8,14 +8,18 @@ ghost use Rattle.program_sources.specs.Recurrence.{SourceDef, source_at};
 ghost use Rattle.program_sources.specs.Valid.{IsValid};
 ghost use Rattle.sporadic_model.specs.SetDef.{SetDef};
 ghost use Rattle.sporadic_model.specs.Accepted.{IsAccepted};
-ghost use Rattle.schedule_model.specs.RowDef.{Trace};
+ghost use Rattle.schedule_model.specs.LawfulJobs.{AreLawfulJobs};
+ghost use Rattle.schedule_model.specs.RowDef.{Trace, jobs_of};
 ghost use Rattle.schedule_model.specs.Phase.{phase_of};
 ghost use Rattle.schedule_model.specs.Phase.Phase.{Finished};
+ghost use Rattle.schedule_model.specs.Keeping.{KeepsRow};
 ghost use Rattle.schedule_model.specs.BlockedTicks.{is_blocked};
+ghost use Rattle.schedule_laws.specs.Steady.{IsSteady};
 ghost use Rattle.charge_model.specs.Windows.{AreBounds, bound_end, window_end};
 ghost use Rattle.soundness_laws.specs.Sound.{IsLawfulSchedule, Sound};
 ghost use Rattle.soundness_laws.specs.Analyses.{Analyses};
 ghost use Rattle.charge.specs.Passed.{first_passed};
+ghost use Rattle.charge.specs.Requests.{charged_request};
 ghost use Rattle.charge.specs.Table.{ItemDef, IsChargeTable};
 
 use crate::protocol::ChargedProtocol;
@@ -51,4 +55,14 @@ pub fn charges_add_up<P: ChargedProtocol>()
         → sum_by (λ item. only_if (those item.blocked) item.ticks) items
         ≡ sum_below (length w.jobs) (λ j.
         only_if (those j) (count_below (window_end w bound n j) (λ t. is_blocked (P.interferes p) w t j))) }
+{}
+
+/// Under every protocol: through a steady stretch that begins with a row that keeps the rules, a job is blocked at each tick or at
+/// none, and each tick is charged to the same request, in the same way.
+pub fn steady_ticks_are_charged_alike<P: ChargedProtocol>()
+    ensures blocked { (p : P) (w : Trace) (t n : ℕ) → P.suits p w.set → AreLawfulJobs (jobs_of w) → IsSteady w t n
+        → KeepsRow (P.keeps p) w t → (i j : ℕ) → i < n → is_blocked (P.interferes p) w (t + i) j ≡ is_blocked (P.interferes p) w t j }
+    ensures charged { (p : P) (w : Trace) (t n : ℕ) → P.suits p w.set → AreLawfulJobs (jobs_of w) → IsSteady w t n
+        → KeepsRow (P.keeps p) w t → (i j : ℕ) → i < n
+        → charged_request (P.charges p) w (t + i) j ≡ charged_request (P.charges p) w t j }
 {}

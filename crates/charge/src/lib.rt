@@ -24,6 +24,6 @@ pub use charging::{charge, charge_with};
 pub use item::{ChargeItem, ChargeStop, ChargeTable};
 pub use laws::{
     charged_protocols_are_analysed, charges_add_up, sound_bounds_are_never_passed,
-    valid_certificates_bound_each_task,
+    steady_ticks_are_charged_alike, valid_certificates_bound_each_task,
 };
 pub use protocol::ChargedProtocol;

@@ -21,6 +21,7 @@ ghost use Rattle.charge_model.specs.ChargedTicks.{IsCharged};
 ghost use Rattle.charge_model.specs.Interferers.{interferes_with_some};
 ghost use Rattle.charge_model.specs.Windows.{bound_end, EndedWithin};
 ghost use Rattle.charge_model.specs.Fractions.{product_of_lengths, fractions_of};
+ghost use Rattle.charge_laws.specs.Stretches.{StaysCharged};
 ghost use Rattle.charge.specs.Seen.{charge_seen};
 
 use fragments::Class;
@@ -71,6 +72,10 @@ pub trait ChargedProtocol: Judge + ProgramSource {
     /// No other tick is charged.
     ghost charges_only: { (p : Self) (w : Trace) (t j : ℕ) (charge : Charge) → charges p w t j ≡ Some charge
         → is_blocked (Self.interferes p) w t j ≡ true };
+
+    /// Through a steady stretch, which begins with a row that keeps the rules, each tick is charged as its first: for each job to the
+    /// same job, in the same way, or to none. No phase ends within the stretch, so it is the same request.
+    ghost stays_charged: { (p : Self) → StaysCharged (Self.suits p) (Self.keeps p) (charges p) };
 
     /// Charges meet the rows: in a lawful schedule of an accepted set take a job, and let each job whose release plus bound is less
     /// than that job's, and at most the number of rows, be finished by its own release plus its bound. Then the fractions of the

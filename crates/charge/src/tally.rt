@@ -1,5 +1,5 @@
 ghost use Rattle.std.specs.Prelude.{◌≡◌, ℕ, ◌+◌, ◌≤◌, OnOk};
-ghost use Rattle.bounded_sums.specs.Sums.{flag};
+ghost use Rattle.bounded_sums.specs.Sums.{only_if};
 ghost use Rattle.sporadic_model.specs.declared.limits.TheConstants.{MOST_TICKS};
 ghost use Rattle.charge.specs.Tally.{IsTally, count_at, is_same_place, is_place};
 
@@ -25,14 +25,16 @@ pub struct Ledger {
     pub passed: Option<JobId>,
 }
 
-/// Counts one tick more at the place.
-fn add_tick(ticks: &mut BTreeMap<Place, u64>, place: Place) -> Result<(), AllocError>
-    requires { count_at ticks.old place ≤ MOST_TICKS }
+/// Counts so many ticks more at the place.
+fn add_ticks(ticks: &mut BTreeMap<Place, u64>, place: Place, more: u64) -> Result<(), AllocError>
+    requires some { 1 ≤ more }
+    requires most { more ≤ MOST_TICKS }
+    requires room { count_at ticks.old place ≤ MOST_TICKS }
     ensures { OnOk result ((count : Place → ℕ) → IsTally ticks.old count
-        → IsTally ticks.new (λ p. count p + flag (is_same_place place p))) }
+        → IsTally ticks.new (λ p. count p + only_if (is_same_place place p) more)) }
 {
     let before = ticks.get(&place).copied().unwrap_or(0);
-    ticks.insert(place, before + 1)?;
+    ticks.insert(place, before + more)?;
     Ok(())
 }
 
@@ -40,12 +42,16 @@ fn add_tick(ticks: &mut BTreeMap<Place, u64>, place: Place) -> Result<(), AllocE
 pub(crate) fn add_named(
     ticks: &mut BTreeMap<Place, u64>,
     named: Option<Place>,
+    more: u64,
 ) -> Result<(), AllocError>
-    requires { (p : Place) → count_at ticks.old p ≤ MOST_TICKS }
-    ensures { OnOk result ((count : Place → ℕ) → IsTally ticks.old count → IsTally ticks.new (λ p. count p + flag (is_place p named))) }
+    requires some { 1 ≤ more }
+    requires most { more ≤ MOST_TICKS }
+    requires room { (p : Place) → count_at ticks.old p ≤ MOST_TICKS }
+    ensures { OnOk result ((count : Place → ℕ) → IsTally ticks.old count
+        → IsTally ticks.new (λ p. count p + only_if (is_place p named) more)) }
 {
     match named {
-        Some(place) => add_tick(ticks, place),
+        Some(place) => add_ticks(ticks, place, more),
         None => Ok(()),
     }
 }

@@ -3,3 +3,4 @@ pub mod DpcpCharging
 pub mod Windows
 pub mod Interference
 pub mod Counting
+pub mod Stretches

@@ -1,10 +1,13 @@
 ghost use Rattle.std.specs.Prelude.{◌≡◌, ℕ, true, Some};
+ghost use Rattle.sporadic_model.specs.Homes.{EachHasHome};
 ghost use Rattle.schedule_model.specs.RowDef.{Trace};
 ghost use Rattle.schedule_model.specs.SharedRules.{Ranks};
-ghost use Rattle.schedule_model.specs.Protocols.{shared_rule, dpcp_rule};
+ghost use Rattle.schedule_model.specs.Ranks.{mpcp, fmlp_plus};
+ghost use Rattle.schedule_model.specs.Protocols.{shared_rule, dpcp_rule, EachSetSuits};
 ghost use Rattle.schedule_model.specs.Keeping.{KeepsRow};
 ghost use Rattle.schedule_model.specs.BlockedTicks.{is_shared_interference, is_dpcp_interference, is_blocked};
 ghost use Rattle.charge_model.specs.Charges.{Charge, shared_charge, dpcp_charge, Executes};
+ghost use Rattle.charge_laws.specs.Stretches.{StaysCharged};
 
 /// Where requests run on their own task's processor, whatever the order of grants and runs, so under MPCP and FMLP+:
 /// in a row that keeps the rules each blocked tick is charged to one request, which executes at that tick. No other
@@ -22,4 +25,11 @@ pub fn dpcp_charges_blocked_ticks()
         → (charge : Charge) × (dpcp_charge w t j ≡ Some charge) × Executes w t charge }
     ensures only { (w : Trace) (t j : ℕ) (charge : Charge) → dpcp_charge w t j ≡ Some charge
         → is_blocked is_dpcp_interference w t j ≡ true }
+{}
+
+/// Under each protocol each tick of a steady stretch is charged as its first.
+pub fn charges_stay_through_stretches()
+    ensures mpcp { StaysCharged EachSetSuits (shared_rule mpcp) shared_charge }
+    ensures fmlp_plus { StaysCharged EachSetSuits (shared_rule fmlp_plus) shared_charge }
+    ensures dpcp { StaysCharged EachHasHome dpcp_rule dpcp_charge }
 {}

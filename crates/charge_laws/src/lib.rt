@@ -8,7 +8,9 @@
 mod charge_laws;
 mod interference_laws;
 
-pub use charge_laws::{dpcp_charges_blocked_ticks, shared_memory_charges_blocked_ticks};
+pub use charge_laws::{
+    charges_stay_through_stretches, dpcp_charges_blocked_ticks, shared_memory_charges_blocked_ticks,
+};
 pub use interference_laws::{
     dpcp_interferes_within_the_local_limit, interference_is_counted,
     jobs_are_active_until_they_end, jobs_interfere_within_the_cost,

@@ -1,22 +1,28 @@
 -- What a contract sees of a command: the form of its words.
-use Rattle.std.specs.Prelude.{◌≤◌}
+use Rattle.std.specs.Prelude.{◌≤◌, ℕ, List}
+use Rattle.protocol_names.specs.declared.ProtocolName.{ProtocolName}
 use Rattle.sporadic_model.specs.declared.limits.TheConstants.{MOST_TICKS}
 use Rattle.command_words.specs.Words.{Form, Analyse, Refute, Check, Confirm, Upgrade, Report, FullReport, Conform, Simulate, Study, Audit}
 use Rattle.command_words.specs.declared.words.Command.{Command}
 use Rattle.command_words.specs.declared.words.Command.TheVariants as command
+use Rattle.command_words.specs.declared.words.Work.{Work}
+use Rattle.command_words.specs.declared.words.Work.TheVariants as work
+
+abbrev pub form_on : ProtocolName → List ℕ → Work → Form
+form_on protocol set (work.Analyse allowance) = Analyse protocol set allowance
+form_on protocol set (work.Refute allowance) = Refute protocol set allowance
+form_on protocol set (work.Check certificate) = Check protocol set certificate.now
+form_on protocol set (work.Confirm refusal) = Confirm protocol set refusal.now
+form_on protocol set (work.Upgrade certificate) = Upgrade protocol set certificate.now
+form_on protocol set work.Report = Report protocol set
+form_on protocol set (work.FullReport certificate) = FullReport protocol set certificate.now
+form_on protocol set (work.Conform jobs rows) = Conform protocol set jobs.now rows.now
+form_on protocol set (work.Simulate jobs ticks) = Simulate protocol set jobs.now ticks
+form_on protocol set (work.Audit certificate jobs rows) = Audit protocol set certificate.now jobs.now rows.now
 
 abbrev pub form_seen : Command → Form
-form_seen (command.Analyse protocol set allowance) = Analyse protocol set.now allowance
-form_seen (command.Refute protocol set allowance) = Refute protocol set.now allowance
-form_seen (command.Check protocol set certificate) = Check protocol set.now certificate.now
-form_seen (command.Confirm protocol set refusal) = Confirm protocol set.now refusal.now
-form_seen (command.Upgrade protocol set certificate) = Upgrade protocol set.now certificate.now
-form_seen (command.Report protocol set) = Report protocol set.now
-form_seen (command.FullReport protocol set certificate) = FullReport protocol set.now certificate.now
-form_seen (command.Conform protocol set jobs rows) = Conform protocol set.now jobs.now rows.now
-form_seen (command.Simulate protocol set jobs ticks) = Simulate protocol set.now jobs.now ticks
+form_seen (command.OnSet protocol set work) = form_on protocol set.now work
 form_seen (command.Study seed sets) = Study seed sets
-form_seen (command.Audit protocol set certificate jobs rows) = Audit protocol set.now certificate.now jobs.now rows.now
 
 -- Are the ticks of a simulation, where the form asks for one, as many as a schedule may have, and the sets of a study as many as
 -- a step may have?

@@ -5,4 +5,4 @@ mod spelled;
 mod words;
 
 pub use spelled::forms_are_spelled;
-pub use words::{Command, DEFAULT_ALLOWANCE, GREATEST_ALLOWANCE, MOST_SETS, command_of};
+pub use words::{Command, DEFAULT_ALLOWANCE, GREATEST_ALLOWANCE, MOST_SETS, Work, command_of};

@@ -1,10 +1,12 @@
-ghost use Rattle.std.specs.Prelude.{◌≡◌, ◌-◌, ◌^◌, option_map, IfSome};
+ghost use Rattle.std.specs.Prelude.{◌≡◌, ◌-◌, ◌^◌, ℕ, List, Some, option_map, IfSome};
+ghost use Rattle.protocol_names.specs.declared.ProtocolName.{ProtocolName};
 ghost use Rattle.sporadic_model.specs.declared.limits.TheConstants.{MOST_TICKS};
 ghost use Rattle.text_pieces.specs.Numbers.{number_between};
 ghost use Rattle.command_words.specs.declared.words.TheConstants.{MOST_SETS};
-ghost use Rattle.command_words.specs.Words.{study_form, form_of_three, allowed, form_of_four};
-ghost use Rattle.command_words.specs.Words.{simulate_form, form_of_five, form_of, words_seen, form_of_six};
-ghost use Rattle.command_words.specs.FormSeen.{form_seen, HasFittingNumbers};
+ghost use Rattle.command_words.specs.declared.words.TheConstants.{GREATEST_ALLOWANCE};
+ghost use Rattle.command_words.specs.Words.{study_form, simulate_form, form_of_three, form_of_four};
+ghost use Rattle.command_words.specs.Words.{form_of_five, form_of, words_seen, form_of_six};
+ghost use Rattle.command_words.specs.FormSeen.{form_on, form_seen, HasFittingNumbers};
 
 use protocol_names::{ProtocolName, protocol_named};
 use sporadic_model::MOST_TICKS;
@@ -22,72 +24,60 @@ pub const MOST_SETS: u64 = 1000;
 /// What the words ask for.
 #[derive(Clone, Copy, Debug)]
 pub enum Command<'a> {
-    /// Find the least bounds of the set of this name within so many units.
-    Analyse {
+    /// Work on the set of this name, under this protocol.
+    OnSet {
         protocol: ProtocolName,
         set: &'a str,
-        allowance: u64,
-    },
-    /// Show by a certificate of refusal that the set of this name has no bounds, within so many units.
-    Refute {
-        protocol: ProtocolName,
-        set: &'a str,
-        allowance: u64,
-    },
-    /// Judge the certificate of this name for the set of this name.
-    Check {
-        protocol: ProtocolName,
-        set: &'a str,
-        certificate: &'a str,
-    },
-    /// Judge the certificate of refusal of this name for the set of this name.
-    Confirm {
-        protocol: ProtocolName,
-        set: &'a str,
-        refusal: &'a str,
-    },
-    /// Judge the certificate of this name, which is of the version before, for the set of this name, and write it with the
-    /// set's digest.
-    Upgrade {
-        protocol: ProtocolName,
-        set: &'a str,
-        certificate: &'a str,
-    },
-    /// Write the table of the set of this name.
-    Report {
-        protocol: ProtocolName,
-        set: &'a str,
-    },
-    /// Write the table with what the certificate of this name proves.
-    FullReport {
-        protocol: ProtocolName,
-        set: &'a str,
-        certificate: &'a str,
-    },
-    /// Judge the rows of this name, which are of the jobs of this name, which are of the set of this name.
-    Conform {
-        protocol: ProtocolName,
-        set: &'a str,
-        jobs: &'a str,
-        rows: &'a str,
-    },
-    /// Make the schedule of so many ticks for the jobs of this name, which are of the set of this name.
-    Simulate {
-        protocol: ProtocolName,
-        set: &'a str,
-        jobs: &'a str,
-        ticks: u64,
+        work: Work<'a>,
     },
     /// Make so many sets for each step from the seed, and count which are schedulable.
     Study {
         seed: u64,
         sets: u32,
     },
-    /// Judge the certificate of this name and the rows of this name, both for the set of this name, and set what the rows did
-    /// beside what the certificate proves. The rows are of the jobs of this name.
+}
+
+/// What is asked for of a set. Further inputs stand by their names.
+#[derive(Clone, Copy, Debug)]
+pub enum Work<'a> {
+    /// Find the least bounds of the set within so many units.
+    Analyse {
+        allowance: u64,
+    },
+    /// Show by a certificate of refusal that the set has no bounds, within so many units.
+    Refute {
+        allowance: u64,
+    },
+    /// Judge the certificate.
+    Check {
+        certificate: &'a str,
+    },
+    /// Judge the certificate of refusal.
+    Confirm {
+        refusal: &'a str,
+    },
+    /// Judge the certificate, which is of the version before, and write it with the set's digest.
+    Upgrade {
+        certificate: &'a str,
+    },
+    /// Write the table of the set.
+    Report,
+    /// Write the table with what the certificate proves.
+    FullReport {
+        certificate: &'a str,
+    },
+    /// Judge the rows, which are of the jobs.
+    Conform {
+        jobs: &'a str,
+        rows: &'a str,
+    },
+    /// Make the schedule of so many ticks for the jobs.
+    Simulate {
+        jobs: &'a str,
+        ticks: u64,
+    },
+    /// Judge the certificate and the rows, which are of the jobs, and set what the rows did beside what the certificate proves.
     Audit {
-        protocol: ProtocolName,
-        set: &'a str,
         certificate: &'a str,
         jobs: &'a str,
         rows: &'a str,
@@ -116,40 +106,30 @@ fn command_of_three<'a>(command: &str, second: &str, set: &'a str) -> Option<Com
     ensures form { option_map form_seen result ≡ form_of_three command.now second.now set.now }
     ensures ticks { IfSome result (λ c. HasFittingNumbers (form_seen c)) }
 {
-    if command == "analyse" {
-        return protocol_named(second).map(|protocol| Command::Analyse {
-            protocol,
-            set,
+    let work = match command {
+        "analyse" => Work::Analyse {
             allowance: DEFAULT_ALLOWANCE,
-        });
-    }
-    if command == "refute" {
-        return protocol_named(second).map(|protocol| Command::Refute {
-            protocol,
-            set,
+        },
+        "refute" => Work::Refute {
             allowance: DEFAULT_ALLOWANCE,
-        });
-    }
-    if command == "report" {
-        return protocol_named(second).map(|protocol| Command::Report { protocol, set });
-    }
-    if command == "study" {
-        return study_of(second, set);
-    }
-    None
+        },
+        "report" => Work::Report,
+        "study" => return study_of(second, set),
+        _ => return None,
+    };
+    let protocol = protocol_named(second)?;
+    Some(Command::OnSet {
+        protocol,
+        set,
+        work,
+    })
 }
 
-/// The protocol and the allowance that two words write.
-fn allowed(protocol: &str, allowance: &str) -> Option<(ProtocolName, u64)>
-    ensures { result ≡ allowed protocol.now allowance.now }
+/// The allowance that a word writes.
+fn allowance_of(word: &str) -> Option<u64>
+    ensures { result ≡ number_between 1 GREATEST_ALLOWANCE word.now }
 {
-    match (
-        protocol_named(protocol),
-        number_between(allowance.as_bytes(), 1, GREATEST_ALLOWANCE),
-    ) {
-        (Some(protocol), Some(allowance)) => Some((protocol, allowance)),
-        _ => None,
-    }
+    number_between(word.as_bytes(), 1, GREATEST_ALLOWANCE)
 }
 
 /// What four words ask for.
@@ -162,70 +142,35 @@ fn command_of_four<'a>(
     ensures form { option_map form_seen result ≡ form_of_four command.now protocol.now set.now last.now }
     ensures ticks { IfSome result (λ c. HasFittingNumbers (form_seen c)) }
 {
-    if command == "analyse" {
-        return allowed(protocol, last).map(|(protocol, allowance)| Command::Analyse {
-            protocol,
-            set,
-            allowance,
-        });
-    }
-    if command == "refute" {
-        return allowed(protocol, last).map(|(protocol, allowance)| Command::Refute {
-            protocol,
-            set,
-            allowance,
-        });
-    }
-    if command == "check" {
-        return protocol_named(protocol).map(|protocol| Command::Check {
-            protocol,
-            set,
-            certificate: last,
-        });
-    }
-    if command == "confirm" {
-        return protocol_named(protocol).map(|protocol| Command::Confirm {
-            protocol,
-            set,
-            refusal: last,
-        });
-    }
-    if command == "upgrade" {
-        return protocol_named(protocol).map(|protocol| Command::Upgrade {
-            protocol,
-            set,
-            certificate: last,
-        });
-    }
-    if command == "report" {
-        return protocol_named(protocol).map(|protocol| Command::FullReport {
-            protocol,
-            set,
-            certificate: last,
-        });
-    }
-    None
+    let protocol = protocol_named(protocol)?;
+    let work = match command {
+        "analyse" => Work::Analyse {
+            allowance: allowance_of(last)?,
+        },
+        "refute" => Work::Refute {
+            allowance: allowance_of(last)?,
+        },
+        "check" => Work::Check { certificate: last },
+        "confirm" => Work::Confirm { refusal: last },
+        "upgrade" => Work::Upgrade { certificate: last },
+        "report" => Work::FullReport { certificate: last },
+        _ => return None,
+    };
+    Some(Command::OnSet {
+        protocol,
+        set,
+        work,
+    })
 }
 
-/// What the words of `simulate` ask for, whose protocol is as it was read.
-fn simulation_of<'a>(
-    protocol: Option<ProtocolName>,
-    set: &'a str,
-    jobs: &'a str,
-    ticks: &str,
-) -> Option<Command<'a>>
-    ensures form { option_map form_seen result ≡ simulate_form protocol set.now jobs.now (number_between 1 MOST_TICKS ticks.now) }
-    ensures ticks { IfSome result (λ c. HasFittingNumbers (form_seen c)) }
+/// The simulation that the words of its jobs and its ticks ask for.
+fn simulation<'a>(jobs: &'a str, ticks: &str) -> Option<Work<'a>>
+    ensures form { (protocol : ProtocolName) (set : List ℕ)
+        → option_map (form_on protocol set) result ≡ simulate_form (Some protocol) set jobs.now (number_between 1 MOST_TICKS ticks.now) }
+    ensures ticks { (protocol : ProtocolName) (set : List ℕ) → IfSome result (λ work. HasFittingNumbers (form_on protocol set work)) }
 {
-    match (protocol, number_between(ticks.as_bytes(), 1, MOST_TICKS)) {
-        (Some(protocol), Some(ticks)) => Some(Command::Simulate {
-            protocol,
-            set,
-            jobs,
-            ticks,
-        }),
-        _ => None,
-    }
+    let ticks = number_between(ticks.as_bytes(), 1, MOST_TICKS)?;
+    Some(Work::Simulate { jobs, ticks })
 }
 
 /// What five words ask for.
@@ -239,18 +184,17 @@ fn command_of_five<'a>(
     ensures form { option_map form_seen result ≡ form_of_five command.now protocol.now set.now jobs.now last.now }
     ensures ticks { IfSome result (λ c. HasFittingNumbers (form_seen c)) }
 {
-    if command == "conform" {
-        return protocol_named(protocol).map(|protocol| Command::Conform {
-            protocol,
-            set,
-            jobs,
-            rows: last,
-        });
-    }
-    if command == "simulate" {
-        return simulation_of(protocol_named(protocol), set, jobs, last);
-    }
-    None
+    let protocol = protocol_named(protocol)?;
+    let work = match command {
+        "conform" => Work::Conform { jobs, rows: last },
+        "simulate" => simulation(jobs, last)?,
+        _ => return None,
+    };
+    Some(Command::OnSet {
+        protocol,
+        set,
+        work,
+    })
 }
 
 /// What six words ask for.
@@ -265,16 +209,20 @@ fn command_of_six<'a>(
     ensures form { option_map form_seen result ≡ form_of_six command.now protocol.now set.now certificate.now jobs.now rows.now }
     ensures ticks { IfSome result (λ c. HasFittingNumbers (form_seen c)) }
 {
-    if command == "audit" {
-        return protocol_named(protocol).map(|protocol| Command::Audit {
-            protocol,
-            set,
-            certificate,
-            jobs,
-            rows,
-        });
+    let protocol = protocol_named(protocol)?;
+    if command != "audit" {
+        return None;
     }
-    None
+    let work = Work::Audit {
+        certificate,
+        jobs,
+        rows,
+    };
+    Some(Command::OnSet {
+        protocol,
+        set,
+        work,
+    })
 }
 
 /// What the words ask for, or none where they have no form. The words are read by exact number and place.

@@ -12,10 +12,10 @@ use Rattle.schedule_model.specs.DpcpRules.{home_of, has_request_at, holds_at}
 use Rattle.schedule_model.specs.Ranks.{fmlp_plus}
 use Rattle.schedule_model.specs.Keeping.{KeepsRow}
 use Rattle.schedule_laws.proofs.Issues.{issue_stays}
-use Rattle.stretch_laws.specs.Steady.{IsAsLawful, StaysLawful}
-use Rattle.stretch_laws.proofs.Alike.{IsAlike, alike_through, running_alike, holder_alike, dpcp_blocked_alike}
-use Rattle.stretch_laws.proofs.SharedStretches.{keep_again, grant_again, sized_again}
-use Rattle.stretch_laws.proofs.DpcpStretches.{holds_at_alike, run_again, idle_again, priority_again}
+use Rattle.schedule_laws.specs.Steady.{IsAsLawful, StaysLawful}
+use Rattle.schedule_laws.proofs.Alike.{IsAlike, alike_through, running_alike, holder_alike, dpcp_blocked_alike}
+use Rattle.schedule_laws.proofs.SharedStretches.{keep_again, grant_again, sized_again}
+use Rattle.schedule_laws.proofs.DpcpStretches.{holds_at_alike, run_again, idle_again, priority_again}
 use Rattle.charge_laws.proofs.DpcpCharging.{request_at_is}
 use Rattle.dflp_laws.specs.Rules.{dflp_rule, IsDflpChoice}
 

@@ -18,7 +18,7 @@ ghost use Rattle.schedule_model.specs.RowDef.{Trace, jobs_of};
 ghost use Rattle.schedule_model.specs.Activity.{task_of};
 ghost use Rattle.schedule_model.specs.Keeping.{KeepsBefore};
 ghost use Rattle.schedule_model.specs.BlockedTicks.{is_dpcp_interference, is_blocked};
-ghost use Rattle.stretch_laws.specs.Steady.{StaysLawful};
+ghost use Rattle.schedule_laws.specs.Steady.{StaysLawful};
 ghost use Rattle.program_sources.specs.Bounds.{AtMost, AreWithinDeadlines};
 ghost use Rattle.program_sources.specs.Valid.{IsValid};
 ghost use Rattle.charge_model.specs.Charges.{dpcp_charge};

@@ -1,5 +1,5 @@
 -- What the holders and the running jobs are once all tasks have come makes the row the chosen one.
-use Rattle.std.proofs.Common.{◌≡◌, ℕ, suc, ◌+◌, ◌<◌, ◌≤◌, ◌&&◌, ◌||◌, not, true, false, length, refl, sym, ap, ◌∙◌}
+use Rattle.std.proofs.Common.{◌≡◌, ℕ, suc, ◌+◌, ◌≤◌, ◌&&◌, ◌||◌, not, true, false, length, refl, sym, ap, ◌∙◌}
 use Rattle.std.proofs.Common.{inl, inr, Option, Some, None, subst, add-one}
 use Rattle.std.specs.Prelude.{is_some}
 use Rattle.std.proofs.lemmas.Bool.{cases_Bool, and_from, or_left, or_right, not_from_false, both_ways, eq-eqb, le-leb}
@@ -13,13 +13,13 @@ use Rattle.schedule_model.specs.SharedRules.{KeepsGrant}
 use Rattle.schedule_model.specs.DpcpRules.{holds_at, KeepsRun}
 use Rattle.schedule_model.specs.Ranks.{fmlp_plus}
 use Rattle.schedule_model.specs.Chosen.{IsSized}
-use Rattle.schedule_laws.proofs.ActiveJobs.{active_listed, Requester, requester_is, requester_from, requester_listed}
+use Rattle.schedule_laws.proofs.ActiveJobs.{Requester, requester_is, requester_from, requester_listed}
 use Rattle.schedule_laws.proofs.Rows.{named_job}
 use Rattle.phase_machine.specs.MachineDef.{MachineDef, task_in, under}
 use Rattle.phase_machine.specs.Now.{active_now}
 use Rattle.phase_machine.specs.Shows.{Shows}
-use Rattle.phase_machine.proofs.Lawful.{task_listed}
-use Rattle.phase_machine.proofs.Facts.{active_shown}
+use Rattle.dpcp_rules.proofs.Chosen.{task_below}
+use Rattle.phase_machine.proofs.Facts.{active_back}
 use Rattle.shared_rules.specs.RowTests.{is_local_now, holds_now, may_run_now}
 use Rattle.shared_rules.specs.Scene.{Scene, scene_in, scene_now, place_in, running_in}
 use Rattle.shared_rules.specs.Choosing.{Leads, Granted, Placed}
@@ -53,13 +53,6 @@ pub record Made (m : MachineDef) (rows : ℕ → RowDef) : Type 0 where
 
 grants_scene : (m : MachineDef) (rows : ℕ → RowDef) → Shows m rows → IsSceneOf fmlp_plus (grants_at m) (under m rows) m.tick
 grants_scene m rows shows = scene_shown fmlp_plus issue_now issue_now m rows issue_gives shows
-
-now_active : (m : MachineDef) (rows : ℕ → RowDef) (j : ℕ) → Shows m rows → is_active (under m rows) m.tick j ≡ true → active_now m j ≡ true
-now_active m rows j shows a = active_shown m rows j shows ∙ a
-
-task_below : (m : MachineDef) (rows : ℕ → RowDef) (j : ℕ) → Shows m rows → is_active (under m rows) m.tick j ≡ true
-    → task_in m.list.jobs j < length m.list.set.tasks
-task_below m rows j shows a = task_listed m.list j shows.machine.lawful (active_listed (under m rows) m.tick j a)
 
 -- Run, by its test.
 run_passes : (m : MachineDef) (rows : ℕ → RowDef) → Made m rows → passes_run m (rows m.tick) ≡ true
@@ -103,12 +96,12 @@ busy : (m : MachineDef) (rows : ℕ → RowDef) (j : ℕ) (p : Phase) → Made m
 busy m rows j Finished made a e none = unfinished (under m rows) m.tick j a e
 busy m rows j Local made a e none =
     both_ways (may_run_now m (holder_in (rows m.tick)) j)
-    (made.running.busy (column_now m j) none j (now_active m rows j made.shows a) (task_below m rows j made.shows a) refl)
+    (made.running.busy (column_now m j) none j (active_back m rows j made.shows a) (task_below m rows j made.shows a) refl)
     (or_left (is_local_now m j) (holds_now m (holder_in (rows m.tick)) j) (local_now m rows j Local made.shows a e))
 busy m rows j (Asking n q) made a e none =
     let h : HolderNow m rows (column_now m j) = holder_there m rows j n q made a e in
     both_ways (may_run_now m (holder_in (rows m.tick)) h.job)
-    (made.running.busy (column_now m j) none h.job (now_active m rows h.job made.shows h.active) (task_below m rows h.job made.shows h.active)
+    (made.running.busy (column_now m j) none h.job (active_back m rows h.job made.shows h.active) (task_below m rows h.job made.shows h.active)
     h.column)
     (or_right (is_local_now m h.job) (holds_now m (holder_in (rows m.tick)) h.job) h.holds)
 
@@ -140,7 +133,7 @@ priority_passes_made m rows made = each_from m rows (priority_passes m (issue_no
           (not_from_false (is_local_now m r) (holds_not_local (holder_in (rows m.tick)) r _ holds))
       | inr free ↦ or_right (not (is_local_now m r)) (is_no_later (task_in m.list.jobs) r j)
           (le-leb (task_in m.list.jobs r) (task_in m.list.jobs j)
-          (made.running.locals (column_now m j) r e free j (now_active m rows j made.shows a) (task_below m rows j made.shows a) refl
+          (made.running.locals (column_now m j) r e free j (active_back m rows j made.shows a) (task_below m rows j made.shows a) refl
           (local_now m rows j Local made.shows a f)))
     ]
 
@@ -158,13 +151,13 @@ priority_passes_made m rows made = each_from m rows (priority_passes m (issue_no
           h = holder_there m rows j n q made a f
 
           runner : (holds_now m (holder_in (rows m.tick)) r ≡ true) × Leads (issue_now m) (task_in m.list.jobs) r h.job
-          runner = made.running.holders (column_now m j) r e h.job (now_active m rows h.job made.shows h.active)
+          runner = made.running.holders (column_now m j) r e h.job (active_back m rows h.job made.shows h.active)
               (task_below m rows h.job made.shows h.active) h.column h.holds
 
           leads : holds_now m (holder_in (rows m.tick)) j ≡ true → issue_now m r ≤ issue_now m j
           leads truly =
               let both : (holds_now m (holder_in (rows m.tick)) r ≡ true) × Leads (issue_now m) (task_in m.list.jobs) r j =
-              made.running.holders (column_now m j) r e j (now_active m rows j made.shows a) (task_below m rows j made.shows a) refl truly in
+              made.running.holders (column_now m j) r e j (active_back m rows j made.shows a) (task_below m rows j made.shows a) refl truly in
               let l : Leads (issue_now m) (task_in m.list.jobs) r j = both.1 in
               l.first
 
@@ -185,7 +178,7 @@ runs_tie m rows k r i made e hr hi same =
     let mine : HolderAt (under m rows) m.tick k r = holds_at_is (under m rows) m.tick k r hr in
     let other : HolderAt (under m rows) m.tick k i = holds_at_is (under m rows) m.tick k i hi in
     let both : (holds_now m (holder_in (rows m.tick)) r ≡ true) × Leads (issue_now m) (task_in m.list.jobs) r i =
-    made.running.holders k r e i (now_active m rows i made.shows other.request.active) (task_below m rows i made.shows other.request.active)
+    made.running.holders k r e i (active_back m rows i made.shows other.request.active) (task_below m rows i made.shows other.request.active)
     (column_of_request m rows k i made.shows other.request) (holds_of m rows k i made.shows other) in
     let leads : Leads (issue_now m) (task_in m.list.jobs) r i = both.1 in
     leads.tie (issue_shown m rows k i made.shows other.request ∙ same ∙ sym (issue_shown m rows k r made.shows mine.request))

@@ -1,10 +1,13 @@
 //! What its blocked ticks are charged to, as under DPCP, and that the charges meet the rows: so its bounds are sound.
 
 ghost use Rattle.std.specs.Prelude.{refl};
+ghost use Rattle.sporadic_model.specs.Homes.{EachHasHome};
 ghost use Rattle.charge_model.specs.Charges.{dpcp_charge};
 ghost use Rattle.charge_laws.proofs.DpcpCharging.{dpcp_charge_blocked};
+ghost use Rattle.charge_laws.proofs.Stretches.{dpcp_stays_charged};
 ghost use Rattle.charge_laws.proofs.Interference.{interferes_within_local};
 ghost use Rattle.dflp_laws.specs.Programs.{dflp_columns};
+ghost use Rattle.dflp_laws.specs.Rules.{dflp_rule};
 ghost use Rattle.dflp_laws.proofs.Placement.{dflp_is_charged};
 ghost use Rattle.dflp_laws.proofs.Points.{dflp_point_within};
 
@@ -33,6 +36,8 @@ impl ChargedProtocol for Dflp {
     ghost charges_blocked = { λ p w n t j suits lawful keeps early blocked. dflp_is_charged w n t j lawful keeps early blocked };
 
     ghost charges_only = { λ p. dpcp_charge_blocked };
+
+    ghost stays_charged = { λ p. dpcp_stays_charged EachHasHome dflp_rule };
 
     ghost meets_rows = { λ p w bounds n j suits accepted lawful keeps listed ended.
         dflp_point_within w bounds n j (record { accepted = accepted; lawful = lawful; listed = listed; ended = ended }) keeps };

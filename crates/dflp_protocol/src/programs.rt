@@ -1,9 +1,7 @@
 //! The protocol's programs: so its sets are analysed, and its certificates are checked.
 
-ghost use Rattle.std.specs.Prelude.{◌≡◌, ◌<◌, ◌==◌, ◌&&◌, not, map, length, IfOk};
-ghost use Rattle.bounded_sums.specs.Tests.{any_below};
+ghost use Rattle.std.specs.Prelude.{◌≡◌, ◌<◌, ◌==◌, ◌&&◌, not, map, length, IfOk, OnOk};
 ghost use Rattle.program_form.specs.RowBlock.{block_seen};
-ghost use Rattle.sporadic_model.specs.SetDef.{task_at};
 ghost use Rattle.sporadic_model.specs.Users.{is_user};
 ghost use Rattle.sporadic_model.specs.Homes.{EachHasHome, home_in};
 ghost use Rattle.program_sources.specs.Bounds.{AreWithinDeadlines};
@@ -16,8 +14,11 @@ ghost use Rattle.dflp_laws.proofs.Programs.{dflp_covered, dflp_rises, dflp_is_pr
 
 use crate::Dflp;
 use crate::queues::add_queues;
-use direct_constraints::{add_request_rows, add_time_rows, add_turn_rows};
-use fragments::{Class, ColumnTest, Fragment, fragments_where, home, passing_stand_in_order, uses};
+use direct_constraints::{add_common, add_turn_rows};
+use fragments::{
+    Class, ColumnTest, Fragment, RowLimits, RowTaker, fragments_where, home,
+    passing_stand_in_order, uses,
+};
 use preempt_constraints::add_interval_rows;
 use program_form::{Program, RowBlock};
 use program_sources::ProgramSource;
@@ -32,7 +33,7 @@ fn is_beside(set: &TaskSet, i: TaskId, q: ResourceId, r: ResourceId) -> bool
     requires other { r.0 < length set.now.resources }
     ensures { result ≡ (not (r.0 == q.0) && (is_user set.now r.0 i.0 && (home_in set.now r.0 == home_in set.now q.0))) }
 {
-    r.0 != q.0 && uses(set, i, r) && home(set, r) == home(set, q)
+    r != q && uses(set, i, r) && home(set, r) == home(set, q)
 }
 
 /// Does `i` request another resource of the resource's home?
@@ -68,11 +69,33 @@ impl ColumnTest for Dflp {
     ghost fits = { λ k set i x. Unit {0} };
 
     fn test(&self, set: &TaskSet, i: TaskId, column: Fragment) -> bool {
-        column.task.0 != i.0 && uses(set, column.task, column.resource) && may_block(set, i, column)
+        column.task != i && uses(set, column.task, column.resource) && may_block(set, i, column)
     }
 }
 
-/// The rows of the protocol, in their order, where some column has a coefficient above zero in them.
+/// Adds the rows of the protocol, in their order, behind those that the taker has.
+fn add_rows<T: RowTaker>(
+    alloc: Global,
+    taker: &mut T,
+    set: &TaskSet,
+    i: TaskId,
+    bounds: &[u64],
+    columns: &[Fragment],
+) -> Result<(), AllocError>
+    requires task { i.0 < length set.now.tasks }
+    requires within { AreWithinDeadlines set.now bounds.now }
+    requires known { AreKnown (length set.now.tasks) (length set.now.resources) columns.now }
+    requires order { AreInOrder columns.now }
+    ensures { OnOk result (T.takes taker.old (map column_seen columns.now) (dflp_rows set.now i.0) bounds.now taker.new) }
+{
+    add_common(alloc, taker, set, i, bounds, columns)?;
+    add_interval_rows(alloc, taker, set, i, bounds, columns)?;
+    add_turn_rows(alloc, taker, set, i, bounds, columns)?;
+    add_queues(alloc, taker, set, i, bounds, columns)?;
+    Ok(())
+}
+
+/// The block of these rows, where some column has a coefficient above zero in them.
 fn rows(
     alloc: Global,
     set: &TaskSet,
@@ -90,11 +113,7 @@ fn rows(
         rows: Vec::new(alloc),
         limits: Vec::new(alloc),
     };
-    add_request_rows(alloc, &mut block, set, i, bounds, columns)?;
-    add_time_rows(alloc, &mut block, set, i, bounds, columns)?;
-    add_interval_rows(alloc, &mut block, set, i, bounds, columns)?;
-    add_turn_rows(alloc, &mut block, set, i, bounds, columns)?;
-    add_queues(alloc, &mut block, set, i, bounds, columns)?;
+    add_rows(alloc, &mut block, set, i, bounds, columns)?;
     Ok(block)
 }
 
@@ -110,6 +129,21 @@ fn program(alloc: Global, set: &TaskSet, i: TaskId, bounds: &[u64]) -> Result<Pr
     passing_stand_in_order(set, &Dflp, i, &columns);
     let block = rows(alloc, set, i, bounds, &columns)?;
     program_over(alloc, set, &columns, block)
+}
+
+/// The limits of that program, where these are the bounds, without its coefficients. It refuses for want of memory alone.
+fn limits(alloc: Global, set: &TaskSet, i: TaskId, bounds: &[u64]) -> Result<Vec<u64>, AllocError>
+    requires task { i.0 < length set.now.tasks }
+    requires within { AreWithinDeadlines set.now bounds.now }
+    ensures { IfOk result (λ v. v.items ≡ (dflp_program set.now i.0 bounds.now).limits) }
+{
+    let columns = fragments_where(alloc, &Dflp, set, i)?;
+    passing_stand_in_order(set, &Dflp, i, &columns);
+    let mut taken = RowLimits {
+        limits: Vec::new(alloc),
+    };
+    add_rows(alloc, &mut taken, set, i, bounds, &columns)?;
+    Ok(taken.limits)
 }
 
 impl ProgramSource for Dflp {
@@ -135,6 +169,16 @@ impl ProgramSource for Dflp {
         bounds: &[u64],
     ) -> Result<Program, AllocError> {
         program(alloc, set, i, bounds)
+    }
+
+    fn limits(
+        &self,
+        alloc: Global,
+        set: &TaskSet,
+        i: TaskId,
+        bounds: &[u64],
+    ) -> Result<Vec<u64>, AllocError> {
+        limits(alloc, set, i, bounds)
     }
 
     /// A job interferes as under DPCP, for its local limit.

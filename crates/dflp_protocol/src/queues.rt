@@ -1,14 +1,17 @@
-ghost use Rattle.std.specs.Prelude.{◌≡◌, ℕ, ◌<◌, ◌+◌, [], ◌∷◌, map, length, IfOk, OnOk};
-ghost use Rattle.program_form.specs.RowBlock.{block_seen};
+//! The rows of queues at each processor.
+
+ghost use Rattle.std.specs.Prelude.{◌≡◌, ◌<◌, ◌+◌, [], ◌∷◌, map, length, OnOk};
 ghost use Rattle.program_sources.specs.Bounds.{AreWithinDeadlines};
 ghost use Rattle.fragments.specs.ColumnDef.{column_seen, AreKnown};
-ghost use Rattle.fragments.specs.Constraints.{per, per_pair, with_rows};
-ghost use Rattle.fragments.specs.Stretches.{slot, AreInOrder, BeginsAt, IsStretch};
+ghost use Rattle.fragments.specs.Constraints.{per, per_pair};
+ghost use Rattle.fragments.specs.Stretches.{AreInOrder, IsStretch};
 ghost use Rattle.fragments.specs.Windows.{requests_at};
 ghost use Rattle.dflp_laws.specs.Programs.{home_queue_row};
 
-use fragments::{Constraint, Fragment, RowKind, add_row_within, home, task_end};
-use program_form::RowBlock;
+use fragments::{
+    Constraint, Fragment, PerNumber, PerTask, RowKind, RowTaker, add_per_number, add_per_task,
+    add_row_within, home,
+};
 use sporadic_model::{ResourceId, TaskId, TaskSet};
 use std::alloc::{AllocError, Global};
 
@@ -28,9 +31,9 @@ fn count_at(set: &TaskSet, i: TaskId, k: u32) -> u64
 
 /// Of a task and a processor: each request of the analysed task that runs there waits for at most one of the task's.
 #[derive(Drop)]
-pub(crate) struct HomeQueueRow {
-    pub task: TaskId,
-    pub processor: u32,
+struct HomeQueueRow {
+    task: TaskId,
+    processor: u32,
 }
 
 impl RowKind for HomeQueueRow {
@@ -39,7 +42,7 @@ impl RowKind for HomeQueueRow {
     ghost fits = { λ k set. k.task.0 < length set.tasks };
 
     fn coefficient(&self, set: &TaskSet, _i: TaskId, column: Fragment) -> u64 {
-        if column.task.0 == self.task.0
+        if column.task == self.task
             && !column.class.is_preemption()
             && home(set, column.resource) == self.processor
         {
@@ -56,67 +59,69 @@ impl Constraint for HomeQueueRow {
     }
 }
 
-// Adds the rows of the queues with task `x` at each processor, where its columns are those of the stretch.
-fn add_queues_at(
-    alloc: Global,
-    block: &mut RowBlock,
-    set: &TaskSet,
-    i: TaskId,
-    x: TaskId,
-    bounds: &[u64],
-    columns: &[Fragment],
+/// The rows of the queues with a task, whose columns are those of the stretch, at each processor.
+#[derive(Drop)]
+struct QueuesWith {
+    task: TaskId,
     stretch: (usize, usize),
-) -> Result<(), AllocError>
-    requires task { i.0 < length set.now.tasks }
-    requires other { x.0 < length set.now.tasks }
-    requires within { AreWithinDeadlines set.now bounds.now }
-    requires known { AreKnown (length set.now.tasks) (length set.now.resources) columns.now }
-    requires stretch { (k : ℕ) → IsStretch (home_queue_row set.now i.0 x.0 k) columns.now stretch.0 stretch.1 }
-    ensures { OnOk result (block_seen block.new ≡ with_rows (block_seen block.old) (map column_seen columns.now)
-        (per set.now.processors (λ k. home_queue_row set.now i.0 x.0 (k + 1))) bounds.now) }
-{
-    for k in 0..set.processors() {
+}
+
+impl PerNumber for QueuesWith {
+    ghost rows_of = { λ k set i n. home_queue_row set i k.task.0 (n + 1) ∷ [] };
+
+    ghost fits = { λ k set i columns n. (k.task.0 < length set.tasks) × (n < set.processors)
+        × IsStretch (home_queue_row set i k.task.0 (n + 1)) columns k.stretch.0 k.stretch.1 };
+
+    fn add<T: RowTaker>(
+        &self,
+        alloc: Global,
+        taker: &mut T,
+        set: &TaskSet,
+        i: TaskId,
+        number: u32,
+        bounds: &[u64],
+        columns: &[Fragment],
+    ) -> Result<(), AllocError> {
+        // processors are numbered from 1, and a set has few
+        let _processors = set.processors();
         let row = HomeQueueRow {
-            task: x,
-            processor: k + 1,
+            task: self.task,
+            processor: number + 1,
         };
-        add_row_within(alloc, block, &row, set, i, bounds, columns, stretch)?;
+        add_row_within(alloc, taker, &row, set, i, bounds, columns, self.stretch)
     }
-    Ok(())
 }
 
-// Adds the rows of the queues with task `x`, whose columns begin at `from`. Answers where they end.
-fn add_queues_of(
-    alloc: Global,
-    block: &mut RowBlock,
-    set: &TaskSet,
-    i: TaskId,
-    x: TaskId,
-    bounds: &[u64],
-    columns: &[Fragment],
-    from: usize,
-) -> Result<usize, AllocError>
-    requires task { i.0 < length set.now.tasks }
-    requires other { x.0 < length set.now.tasks }
-    requires within { AreWithinDeadlines set.now bounds.now }
-    requires known { AreKnown (length set.now.tasks) (length set.now.resources) columns.now }
-    requires order { AreInOrder columns.now }
-    requires from { BeginsAt (slot x.0 0) columns.now from }
-    ensures rows { OnOk result (block_seen block.new ≡ with_rows (block_seen block.old) (map column_seen columns.now)
-        (per set.now.processors (λ k. home_queue_row set.now i.0 x.0 (k + 1))) bounds.now) }
-    ensures end { IfOk result (λ n. BeginsAt (slot (x.0 + 1) 0) columns.now n) }
-{
-    // a set has at most 32 resources, so the slots of a task end before those of the next one
-    let _resources = set.resources();
-    let to = task_end(set, columns, from, x);
-    add_queues_at(alloc, block, set, i, x, bounds, columns, (from, to))?;
-    Ok(to)
+/// The rows of the queues with each task.
+#[derive(Drop)]
+struct Queues;
+
+impl PerTask for Queues {
+    ghost rows_of = { λ k set i x. per set.processors (λ n. home_queue_row set i x (n + 1)) };
+
+    fn add<T: RowTaker>(
+        &self,
+        alloc: Global,
+        taker: &mut T,
+        set: &TaskSet,
+        i: TaskId,
+        x: TaskId,
+        bounds: &[u64],
+        columns: &[Fragment],
+        stretch: (usize, usize),
+    ) -> Result<(), AllocError> {
+        // a set has at most 32 resources, so the slots of a task end before those of the next one
+        let _resources = set.resources();
+        let queues = QueuesWith { task: x, stretch };
+        let processors = set.processors();
+        add_per_number(alloc, taker, &queues, set, processors, i, bounds, columns)
+    }
 }
 
-/// Adds the rows of the queues with each task at each processor behind those of the block, over any columns that stand in order.
-pub(crate) fn add_queues(
+/// Adds the rows of the queues with each task at each processor behind those that the taker has, over any columns that stand in order.
+pub(crate) fn add_queues<T: RowTaker>(
     alloc: Global,
-    block: &mut RowBlock,
+    taker: &mut T,
     set: &TaskSet,
     i: TaskId,
     bounds: &[u64],
@@ -126,12 +131,8 @@ pub(crate) fn add_queues(
     requires within { AreWithinDeadlines set.now bounds.now }
     requires known { AreKnown (length set.now.tasks) (length set.now.resources) columns.now }
     requires order { AreInOrder columns.now }
-    ensures { OnOk result (block_seen block.new ≡ with_rows (block_seen block.old) (map column_seen columns.now)
-        (per_pair (length set.now.tasks) set.now.processors (λ x k. home_queue_row set.now i.0 x (k + 1))) bounds.now) }
+    ensures { OnOk result (T.takes taker.old (map column_seen columns.now)
+        (per_pair (length set.now.tasks) set.now.processors (λ x k. home_queue_row set.now i.0 x (k + 1))) bounds.now taker.new) }
 {
-    let mut place = 0;
-    for x in 0..set.tasks() {
-        place = add_queues_of(alloc, block, set, i, TaskId(x), bounds, columns, place)?;
-    }
-    Ok(())
+    add_per_task(alloc, taker, &Queues, set, i, bounds, columns)
 }

@@ -1,15 +1,22 @@
-ghost use Rattle.std.specs.Prelude.{◌<◌, length};
+//! The kinds of rows, each with the rows of its kind for every task, request or resource.
+
+ghost use Rattle.std.specs.Prelude.{◌<◌, [], ◌∷◌, length};
+ghost use Rattle.direct_constraints.specs.Asked.{AreAskedFor};
 ghost use Rattle.direct_constraints.specs.Rows.{request_row, time_row, turn_row, lower_holder_row};
 
-use fragments::{Constraint, Fragment, RowKind, cnt, jobs};
+use fragments::{
+    Constraint, Fragment, PerNumber, PerRequest, PerTask, RowKind, RowTaker, add_row,
+    add_row_within, cnt, jobs, uses,
+};
 use sporadic_model::{ResourceId, TaskId, TaskSet};
+use std::alloc::{AllocError, Global};
 
 /// Of a task and a resource: its requests, of all classes, are at most as many as it makes while a job of the analysed task
 /// runs.
 #[derive(Drop)]
-pub(crate) struct RequestRow {
-    pub task: TaskId,
-    pub resource: ResourceId,
+struct RequestRow {
+    task: TaskId,
+    resource: ResourceId,
 }
 
 impl RowKind for RequestRow {
@@ -32,10 +39,39 @@ impl Constraint for RequestRow {
     }
 }
 
+/// The rows of the requests of each resource by each task.
+#[derive(Drop)]
+pub(crate) struct Requests;
+
+impl PerRequest for Requests {
+    ghost row_of = { λ k set i x q. request_row set i x q };
+
+    ghost fits = { λ k set i bounds. Unit {0} };
+
+    fn add<T: RowTaker>(
+        &self,
+        alloc: Global,
+        taker: &mut T,
+        set: &TaskSet,
+        i: TaskId,
+        x: TaskId,
+        q: ResourceId,
+        bounds: &[u64],
+        columns: &[Fragment],
+        stretch: (usize, usize),
+    ) -> Result<(), AllocError> {
+        let row = RequestRow {
+            task: x,
+            resource: q,
+        };
+        add_row_within(alloc, taker, &row, set, i, bounds, columns, stretch)
+    }
+}
+
 /// Of a task: its requests take no longer than its jobs may execute while a job of the analysed task runs.
 #[derive(Drop)]
-pub(crate) struct TimeRow {
-    pub task: TaskId,
+struct TimeRow {
+    task: TaskId,
 }
 
 impl RowKind for TimeRow {
@@ -58,11 +94,36 @@ impl Constraint for TimeRow {
     }
 }
 
+/// The rows of the time of each task.
+#[derive(Drop)]
+pub(crate) struct Times;
+
+impl PerTask for Times {
+    ghost rows_of = { λ k set i x. time_row set i x ∷ [] };
+
+    fn add<T: RowTaker>(
+        &self,
+        alloc: Global,
+        taker: &mut T,
+        set: &TaskSet,
+        i: TaskId,
+        x: TaskId,
+        bounds: &[u64],
+        columns: &[Fragment],
+        stretch: (usize, usize),
+    ) -> Result<(), AllocError> {
+        // a set has at most 32 resources, so the slots of a task end before those of the next one
+        let _resources = set.resources();
+        let row = TimeRow { task: x };
+        add_row_within(alloc, taker, &row, set, i, bounds, columns, stretch)
+    }
+}
+
 /// Of a task and a resource: each request of it by the analysed task waits for at most one of the task's.
 #[derive(Drop)]
-pub(crate) struct TurnRow {
-    pub task: TaskId,
-    pub resource: ResourceId,
+struct TurnRow {
+    task: TaskId,
+    resource: ResourceId,
 }
 
 impl RowKind for TurnRow {
@@ -88,10 +149,39 @@ impl Constraint for TurnRow {
     }
 }
 
+/// The rows of turns with each task at each resource.
+#[derive(Drop)]
+pub(crate) struct Turns;
+
+impl PerRequest for Turns {
+    ghost row_of = { λ k set i x q. turn_row set i x q };
+
+    ghost fits = { λ k set i bounds. Unit {0} };
+
+    fn add<T: RowTaker>(
+        &self,
+        alloc: Global,
+        taker: &mut T,
+        set: &TaskSet,
+        i: TaskId,
+        x: TaskId,
+        q: ResourceId,
+        bounds: &[u64],
+        columns: &[Fragment],
+        stretch: (usize, usize),
+    ) -> Result<(), AllocError> {
+        let row = TurnRow {
+            task: x,
+            resource: q,
+        };
+        add_row_within(alloc, taker, &row, set, i, bounds, columns, stretch)
+    }
+}
+
 /// Of a resource: each request of it by the analysed task waits for at most one of lower tasks.
 #[derive(Drop)]
-pub(crate) struct LowerHolderRow {
-    pub resource: ResourceId,
+struct LowerHolderRow {
+    resource: ResourceId,
 }
 
 impl RowKind for LowerHolderRow {
@@ -111,5 +201,33 @@ impl RowKind for LowerHolderRow {
 impl Constraint for LowerHolderRow {
     fn limit(&self, set: &TaskSet, i: TaskId, _bounds: &[u64]) -> u64 {
         set.count(i, self.resource)
+    }
+}
+
+/// The rows of lower holders of each resource. No column is in one where the analysed task doesn't use the resource.
+#[derive(Drop)]
+pub(crate) struct LowerHolders;
+
+impl PerNumber for LowerHolders {
+    ghost rows_of = { λ k set i q. lower_holder_row set i q ∷ [] };
+
+    ghost fits = { λ k set i columns q. (q < length set.resources) × AreAskedFor set i columns };
+
+    fn add<T: RowTaker>(
+        &self,
+        alloc: Global,
+        taker: &mut T,
+        set: &TaskSet,
+        i: TaskId,
+        number: u32,
+        bounds: &[u64],
+        columns: &[Fragment],
+    ) -> Result<(), AllocError> {
+        let resource = ResourceId(number);
+        if !uses(set, i, resource) {
+            return Ok(());
+        }
+        let row = LowerHolderRow { resource };
+        add_row(alloc, taker, &row, set, i, bounds, columns)
     }
 }

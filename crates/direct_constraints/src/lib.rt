@@ -2,90 +2,31 @@
 //! under MPCP.
 #![tactic(auto)]
 
-ghost use Rattle.std.specs.Prelude.{◌≡◌, ◌<◌, ◌+◌, [], ◌∷◌, map, length, IfOk, OnOk};
+ghost use Rattle.std.specs.Prelude.{◌≡◌, ◌<◌, map, length, IfOk, OnOk};
 ghost use Rattle.program_form.specs.RowBlock.{block_seen};
 ghost use Rattle.program_sources.specs.Bounds.{AreWithinDeadlines};
 ghost use Rattle.sporadic_model.specs.Homes.{HasHomesFor};
 ghost use Rattle.fragments.specs.ColumnDef.{column_seen, AreKnown};
 ghost use Rattle.fragments.specs.Columns.{columns_of};
-ghost use Rattle.fragments.specs.Constraints.{per, per_pair, block_of, with_rows};
-ghost use Rattle.fragments.specs.Stretches.{slot, AreInOrder, BeginsAt};
+ghost use Rattle.fragments.specs.Constraints.{per, per_pair, block_of};
+ghost use Rattle.fragments.specs.Stretches.{AreInOrder};
 ghost use Rattle.direct_constraints.specs.Asked.{AreAskedFor};
 ghost use Rattle.direct_constraints.specs.Rows.{request_row, time_row, turn_row, lower_holder_row, common_rows, own_rows};
 
 use fragments::{
-    Fragment, add_row, add_row_within, columns_stand_in_order, requests_end, task_end, uses,
+    Fragment, RowTaker, add_per_number, add_per_request, add_per_task, columns_stand_in_order,
 };
-use kinds::{LowerHolderRow, RequestRow, TimeRow, TurnRow};
+use kinds::{LowerHolders, Requests, Times, Turns};
 use program_form::RowBlock;
-use sporadic_model::{Protocol, ResourceId, TaskId, TaskSet};
+use sporadic_model::{Protocol, TaskId, TaskSet};
 use std::alloc::{AllocError, Global};
 
 mod kinds;
 
-// Adds the row of a task's requests of a resource, whose columns begin at `from`. Answers where they end.
-fn add_request_row(
+/// Adds the rows of the requests by each task behind those that the taker has, over any columns that stand in order.
+pub fn add_request_rows<T: RowTaker>(
     alloc: Global,
-    block: &mut RowBlock,
-    row: &RequestRow,
-    set: &TaskSet,
-    i: TaskId,
-    bounds: &[u64],
-    columns: &[Fragment],
-    from: usize,
-) -> Result<usize, AllocError>
-    requires task { i.0 < length set.now.tasks }
-    requires other { row.now.task.0 < length set.now.tasks }
-    requires resource { row.now.resource.0 < length set.now.resources }
-    requires within { AreWithinDeadlines set.now bounds.now }
-    requires known { AreKnown (length set.now.tasks) (length set.now.resources) columns.now }
-    requires order { AreInOrder columns.now }
-    requires from { BeginsAt (slot row.now.task.0 row.now.resource.0) columns.now from }
-    ensures rows { OnOk result (block_seen block.new ≡ with_rows (block_seen block.old) (map column_seen columns.now)
-        (request_row set.now i.0 row.now.task.0 row.now.resource.0 ∷ []) bounds.now) }
-    ensures end { IfOk result (λ n. BeginsAt (slot row.now.task.0 (row.now.resource.0 + 1)) columns.now n) }
-{
-    let to = requests_end(set, columns, from, row.task, row.resource);
-    add_row_within(alloc, block, row, set, i, bounds, columns, (from, to))?;
-    Ok(to)
-}
-
-// Adds the rows of the requests by task `x`, whose columns begin at `from`. Answers where they end.
-fn add_request_rows_of(
-    alloc: Global,
-    block: &mut RowBlock,
-    set: &TaskSet,
-    i: TaskId,
-    x: TaskId,
-    bounds: &[u64],
-    columns: &[Fragment],
-    from: usize,
-) -> Result<usize, AllocError>
-    requires task { i.0 < length set.now.tasks }
-    requires other { x.0 < length set.now.tasks }
-    requires within { AreWithinDeadlines set.now bounds.now }
-    requires known { AreKnown (length set.now.tasks) (length set.now.resources) columns.now }
-    requires order { AreInOrder columns.now }
-    requires from { BeginsAt (slot x.0 0) columns.now from }
-    ensures rows { OnOk result (block_seen block.new ≡ with_rows (block_seen block.old) (map column_seen columns.now)
-        (per (length set.now.resources) (request_row set.now i.0 x.0)) bounds.now) }
-    ensures end { IfOk result (λ n. BeginsAt (slot (x.0 + 1) 0) columns.now n) }
-{
-    let mut place = from;
-    for q in 0..set.resources() {
-        let row = RequestRow {
-            task: x,
-            resource: ResourceId(q),
-        };
-        place = add_request_row(alloc, block, &row, set, i, bounds, columns, place)?;
-    }
-    Ok(place)
-}
-
-/// Adds the rows of the requests by each task behind those of the block, over any columns that stand in order.
-pub fn add_request_rows(
-    alloc: Global,
-    block: &mut RowBlock,
+    taker: &mut T,
     set: &TaskSet,
     i: TaskId,
     bounds: &[u64],
@@ -95,49 +36,25 @@ pub fn add_request_rows(
     requires within { AreWithinDeadlines set.now bounds.now }
     requires known { AreKnown (length set.now.tasks) (length set.now.resources) columns.now }
     requires order { AreInOrder columns.now }
-    ensures { OnOk result (block_seen block.new ≡ with_rows (block_seen block.old) (map column_seen columns.now)
-        (per_pair (length set.now.tasks) (length set.now.resources) (request_row set.now i.0)) bounds.now) }
+    ensures { OnOk result (T.takes taker.old (map column_seen columns.now)
+        (per_pair (length set.now.tasks) (length set.now.resources) (request_row set.now i.0)) bounds.now taker.new) }
 {
-    let mut place = 0;
-    for x in 0..set.tasks() {
-        place = add_request_rows_of(alloc, block, set, i, TaskId(x), bounds, columns, place)?;
-    }
-    Ok(())
+    add_per_request(
+        alloc,
+        taker,
+        &Requests,
+        set,
+        set.tasks(),
+        i,
+        bounds,
+        columns,
+    )
 }
 
-// Adds the row of the time of task `x`, whose columns begin at `from`. Answers where they end.
-fn add_time_row(
+/// Adds the rows of the time of each task behind those that the taker has, over any columns that stand in order.
+pub fn add_time_rows<T: RowTaker>(
     alloc: Global,
-    block: &mut RowBlock,
-    set: &TaskSet,
-    i: TaskId,
-    x: TaskId,
-    bounds: &[u64],
-    columns: &[Fragment],
-    from: usize,
-) -> Result<usize, AllocError>
-    requires task { i.0 < length set.now.tasks }
-    requires other { x.0 < length set.now.tasks }
-    requires within { AreWithinDeadlines set.now bounds.now }
-    requires known { AreKnown (length set.now.tasks) (length set.now.resources) columns.now }
-    requires order { AreInOrder columns.now }
-    requires from { BeginsAt (slot x.0 0) columns.now from }
-    ensures rows { OnOk result (block_seen block.new
-        ≡ with_rows (block_seen block.old) (map column_seen columns.now) (time_row set.now i.0 x.0 ∷ []) bounds.now) }
-    ensures end { IfOk result (λ n. BeginsAt (slot (x.0 + 1) 0) columns.now n) }
-{
-    // a set has at most 32 resources, so the slots of a task end before those of the next one
-    let _resources = set.resources();
-    let row = TimeRow { task: x };
-    let to = task_end(set, columns, from, x);
-    add_row_within(alloc, block, &row, set, i, bounds, columns, (from, to))?;
-    Ok(to)
-}
-
-/// Adds the rows of the time of each task behind those of the block, over any columns that stand in order.
-pub fn add_time_rows(
-    alloc: Global,
-    block: &mut RowBlock,
+    taker: &mut T,
     set: &TaskSet,
     i: TaskId,
     bounds: &[u64],
@@ -147,12 +64,100 @@ pub fn add_time_rows(
     requires within { AreWithinDeadlines set.now bounds.now }
     requires known { AreKnown (length set.now.tasks) (length set.now.resources) columns.now }
     requires order { AreInOrder columns.now }
-    ensures { OnOk result (block_seen block.new ≡ with_rows (block_seen block.old) (map column_seen columns.now)
-        (per (length set.now.tasks) (time_row set.now i.0)) bounds.now) }
+    ensures { OnOk result (T.takes taker.old (map column_seen columns.now)
+        (per (length set.now.tasks) (time_row set.now i.0)) bounds.now taker.new) }
 {
-    let mut place = 0;
-    for x in 0..set.tasks() {
-        place = add_time_row(alloc, block, set, i, TaskId(x), bounds, columns, place)?;
+    add_per_task(alloc, taker, &Times, set, i, bounds, columns)
+}
+
+/// Adds the rows of turns with each task behind those that the taker has, over any columns that stand in order.
+pub fn add_turn_rows<T: RowTaker>(
+    alloc: Global,
+    taker: &mut T,
+    set: &TaskSet,
+    i: TaskId,
+    bounds: &[u64],
+    columns: &[Fragment],
+) -> Result<(), AllocError>
+    requires task { i.0 < length set.now.tasks }
+    requires within { AreWithinDeadlines set.now bounds.now }
+    requires known { AreKnown (length set.now.tasks) (length set.now.resources) columns.now }
+    requires order { AreInOrder columns.now }
+    ensures { OnOk result (T.takes taker.old (map column_seen columns.now)
+        (per_pair (length set.now.tasks) (length set.now.resources) (turn_row set.now i.0)) bounds.now taker.new) }
+{
+    add_per_request(alloc, taker, &Turns, set, set.tasks(), i, bounds, columns)
+}
+
+// Adds the rows of lower holders of each resource.
+fn add_lower_holder_rows<T: RowTaker>(
+    alloc: Global,
+    taker: &mut T,
+    set: &TaskSet,
+    i: TaskId,
+    bounds: &[u64],
+    columns: &[Fragment],
+) -> Result<(), AllocError>
+    requires task { i.0 < length set.now.tasks }
+    requires within { AreWithinDeadlines set.now bounds.now }
+    requires known { AreKnown (length set.now.tasks) (length set.now.resources) columns.now }
+    requires asked { AreAskedFor set.now i.0 columns.now }
+    ensures { OnOk result (T.takes taker.old (map column_seen columns.now)
+        (per (length set.now.resources) (lower_holder_row set.now i.0)) bounds.now taker.new) }
+{
+    let resources = set.resources();
+    add_per_number(
+        alloc,
+        taker,
+        &LowerHolders,
+        set,
+        resources,
+        i,
+        bounds,
+        columns,
+    )
+}
+
+/// Adds the rows of every protocol behind those that the taker has, over any columns that stand in order: those of requests, then
+/// those of time.
+pub fn add_common<T: RowTaker>(
+    alloc: Global,
+    taker: &mut T,
+    set: &TaskSet,
+    i: TaskId,
+    bounds: &[u64],
+    columns: &[Fragment],
+) -> Result<(), AllocError>
+    requires task { i.0 < length set.now.tasks }
+    requires within { AreWithinDeadlines set.now bounds.now }
+    requires known { AreKnown (length set.now.tasks) (length set.now.resources) columns.now }
+    requires order { AreInOrder columns.now }
+    ensures { OnOk result (T.takes taker.old (map column_seen columns.now) (common_rows set.now i.0) bounds.now taker.new) }
+{
+    add_request_rows(alloc, taker, set, i, bounds, columns)?;
+    add_time_rows(alloc, taker, set, i, bounds, columns)
+}
+
+/// Adds the rows of direct blocking behind those that the taker has: turns under FMLP+, lower holders under MPCP, none under DPCP.
+pub fn add_own<T: RowTaker>(
+    alloc: Global,
+    taker: &mut T,
+    set: &TaskSet,
+    protocol: Protocol,
+    i: TaskId,
+    bounds: &[u64],
+    columns: &[Fragment],
+) -> Result<(), AllocError>
+    requires task { i.0 < length set.now.tasks }
+    requires within { AreWithinDeadlines set.now bounds.now }
+    requires columns { map column_seen columns.now ≡ columns_of protocol set.now i.0 }
+    ensures { OnOk result (T.takes taker.old (map column_seen columns.now) (own_rows protocol set.now i.0) bounds.now taker.new) }
+{
+    columns_stand_in_order(set, protocol, i, columns);
+    match protocol {
+        Protocol::FmlpPlus => add_turn_rows(alloc, taker, set, i, bounds, columns)?,
+        Protocol::Mpcp => add_lower_holder_rows(alloc, taker, set, i, bounds, columns)?,
+        Protocol::Dpcp => {}
     }
     Ok(())
 }
@@ -179,140 +184,8 @@ pub fn common(
         limits: Vec::new(alloc),
     };
     columns_stand_in_order(set, protocol, i, columns);
-    add_request_rows(alloc, &mut block, set, i, bounds, columns)?;
-    add_time_rows(alloc, &mut block, set, i, bounds, columns)?;
+    add_common(alloc, &mut block, set, i, bounds, columns)?;
     Ok(block)
-}
-
-// Adds the row of turns with a task at a resource, whose columns begin at `from`. Answers where they end.
-fn add_turn_row(
-    alloc: Global,
-    block: &mut RowBlock,
-    row: &TurnRow,
-    set: &TaskSet,
-    i: TaskId,
-    bounds: &[u64],
-    columns: &[Fragment],
-    from: usize,
-) -> Result<usize, AllocError>
-    requires task { i.0 < length set.now.tasks }
-    requires other { row.now.task.0 < length set.now.tasks }
-    requires resource { row.now.resource.0 < length set.now.resources }
-    requires within { AreWithinDeadlines set.now bounds.now }
-    requires known { AreKnown (length set.now.tasks) (length set.now.resources) columns.now }
-    requires order { AreInOrder columns.now }
-    requires from { BeginsAt (slot row.now.task.0 row.now.resource.0) columns.now from }
-    ensures rows { OnOk result (block_seen block.new ≡ with_rows (block_seen block.old) (map column_seen columns.now)
-        (turn_row set.now i.0 row.now.task.0 row.now.resource.0 ∷ []) bounds.now) }
-    ensures end { IfOk result (λ n. BeginsAt (slot row.now.task.0 (row.now.resource.0 + 1)) columns.now n) }
-{
-    let to = requests_end(set, columns, from, row.task, row.resource);
-    add_row_within(alloc, block, row, set, i, bounds, columns, (from, to))?;
-    Ok(to)
-}
-
-// Adds the rows of turns with task `x`, whose columns begin at `from`. Answers where they end.
-fn add_turn_rows_of(
-    alloc: Global,
-    block: &mut RowBlock,
-    set: &TaskSet,
-    i: TaskId,
-    x: TaskId,
-    bounds: &[u64],
-    columns: &[Fragment],
-    from: usize,
-) -> Result<usize, AllocError>
-    requires task { i.0 < length set.now.tasks }
-    requires other { x.0 < length set.now.tasks }
-    requires within { AreWithinDeadlines set.now bounds.now }
-    requires known { AreKnown (length set.now.tasks) (length set.now.resources) columns.now }
-    requires order { AreInOrder columns.now }
-    requires from { BeginsAt (slot x.0 0) columns.now from }
-    ensures rows { OnOk result (block_seen block.new ≡ with_rows (block_seen block.old) (map column_seen columns.now)
-        (per (length set.now.resources) (turn_row set.now i.0 x.0)) bounds.now) }
-    ensures end { IfOk result (λ n. BeginsAt (slot (x.0 + 1) 0) columns.now n) }
-{
-    let mut place = from;
-    for q in 0..set.resources() {
-        let row = TurnRow {
-            task: x,
-            resource: ResourceId(q),
-        };
-        place = add_turn_row(alloc, block, &row, set, i, bounds, columns, place)?;
-    }
-    Ok(place)
-}
-
-/// Adds the rows of turns with each task behind those of the block, over any columns that stand in order.
-pub fn add_turn_rows(
-    alloc: Global,
-    block: &mut RowBlock,
-    set: &TaskSet,
-    i: TaskId,
-    bounds: &[u64],
-    columns: &[Fragment],
-) -> Result<(), AllocError>
-    requires task { i.0 < length set.now.tasks }
-    requires within { AreWithinDeadlines set.now bounds.now }
-    requires known { AreKnown (length set.now.tasks) (length set.now.resources) columns.now }
-    requires order { AreInOrder columns.now }
-    ensures { OnOk result (block_seen block.new ≡ with_rows (block_seen block.old) (map column_seen columns.now)
-        (per_pair (length set.now.tasks) (length set.now.resources) (turn_row set.now i.0)) bounds.now) }
-{
-    let mut place = 0;
-    for x in 0..set.tasks() {
-        place = add_turn_rows_of(alloc, block, set, i, TaskId(x), bounds, columns, place)?;
-    }
-    Ok(())
-}
-
-// Adds the row of lower holders of a resource. No column is in it where the analysed task doesn't use the resource.
-fn add_lower_holder_row(
-    alloc: Global,
-    block: &mut RowBlock,
-    row: &LowerHolderRow,
-    set: &TaskSet,
-    i: TaskId,
-    bounds: &[u64],
-    columns: &[Fragment],
-) -> Result<(), AllocError>
-    requires task { i.0 < length set.now.tasks }
-    requires resource { row.now.resource.0 < length set.now.resources }
-    requires within { AreWithinDeadlines set.now bounds.now }
-    requires known { AreKnown (length set.now.tasks) (length set.now.resources) columns.now }
-    requires asked { AreAskedFor set.now i.0 columns.now }
-    ensures { OnOk result (block_seen block.new ≡ with_rows (block_seen block.old) (map column_seen columns.now)
-        (lower_holder_row set.now i.0 row.now.resource.0 ∷ []) bounds.now) }
-{
-    if !uses(set, i, row.resource) {
-        return Ok(());
-    }
-    add_row(alloc, block, row, set, i, bounds, columns)
-}
-
-// Adds the rows of lower holders of each resource.
-fn add_lower_holder_rows(
-    alloc: Global,
-    block: &mut RowBlock,
-    set: &TaskSet,
-    i: TaskId,
-    bounds: &[u64],
-    columns: &[Fragment],
-) -> Result<(), AllocError>
-    requires task { i.0 < length set.now.tasks }
-    requires within { AreWithinDeadlines set.now bounds.now }
-    requires known { AreKnown (length set.now.tasks) (length set.now.resources) columns.now }
-    requires asked { AreAskedFor set.now i.0 columns.now }
-    ensures { OnOk result (block_seen block.new ≡ with_rows (block_seen block.old) (map column_seen columns.now)
-        (per (length set.now.resources) (lower_holder_row set.now i.0)) bounds.now) }
-{
-    for q in 0..set.resources() {
-        let row = LowerHolderRow {
-            resource: ResourceId(q),
-        };
-        add_lower_holder_row(alloc, block, &row, set, i, bounds, columns)?;
-    }
-    Ok(())
 }
 
 /// The rows of direct blocking, where some column has a coefficient above zero in them: under FMLP+ one for each task and
@@ -336,11 +209,6 @@ pub fn own(
         rows: Vec::new(alloc),
         limits: Vec::new(alloc),
     };
-    columns_stand_in_order(set, protocol, i, columns);
-    match protocol {
-        Protocol::FmlpPlus => add_turn_rows(alloc, &mut block, set, i, bounds, columns)?,
-        Protocol::Mpcp => add_lower_holder_rows(alloc, &mut block, set, i, bounds, columns)?,
-        Protocol::Dpcp => {}
-    }
+    add_own(alloc, &mut block, set, protocol, i, bounds, columns)?;
     Ok(block)
 }

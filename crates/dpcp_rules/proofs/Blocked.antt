@@ -15,7 +15,8 @@ use Rattle.phase_machine.specs.MachineDef.{MachineDef, task_in, under}
 use Rattle.phase_machine.specs.Shows.{Shows}
 use Rattle.phase_machine.proofs.Facts.{phase_shown, active_shown}
 use Rattle.shared_rules.specs.RowTests.{processor_now}
-use Rattle.shared_rules.proofs.Blocked.{same_bool, three_tests}
+use Rattle.phase_machine.proofs.Facts.{same_bool}
+use Rattle.shared_rules.proofs.Blocked.{three_tests}
 use Rattle.dpcp_rules.specs.Homes.{column_now}
 use Rattle.dpcp_rules.specs.Blocked.{is_interfered, blocked_now}
 use Rattle.dpcp_rules.proofs.Shown.{column_is, unfinished}

@@ -27,12 +27,12 @@ use Rattle.schedule_laws.proofs.ActiveJobs.{ActiveLocal, active_local_is}
 use Rattle.schedule_laws.proofs.Rows.{job_named, named_job}
 use Rattle.schedule_laws.proofs.RuleUses.{request_among}
 use Rattle.schedule_laws.proofs.Segments.{open_resource, open_user}
-use Rattle.stretch_laws.proofs.DpcpStretches.{ceiling_low}
+use Rattle.schedule_laws.proofs.DpcpStretches.{ceiling_low}
 use Rattle.phase_machine.specs.MachineDef.{MachineDef, task_in, under}
 use Rattle.phase_machine.specs.Now.{phase_now, active_now, holder_now, requester_now, waiting_now}
 use Rattle.phase_machine.specs.Shows.{Shows}
 use Rattle.phase_machine.proofs.Lawful.{task_listed}
-use Rattle.phase_machine.proofs.Facts.{active_shown, requester_shown}
+use Rattle.phase_machine.proofs.Facts.{active_true, active_back, requester_shown}
 use Rattle.shared_rules.specs.RowTests.{is_local_now, holds_now}
 use Rattle.shared_rules.specs.Scene.{stays, resource_in}
 use Rattle.shared_rules.specs.Filling.{Takes}
@@ -71,14 +71,6 @@ cond_some false o k h = absurd (cc)
 
 pub cond_from : (b : Bool) (o : Option ℕ) (k : ℕ) → b ≡ true → o ≡ Some k → cond b o None ≡ Some k
 cond_from b o k e f = ap (λ c. cond c o None) e ∙ f
-
-pub active_of : (m : MachineDef) (rows : ℕ → RowDef) (j : ℕ) → Shows m rows → active_now m j ≡ true
-    → is_active (under m rows) m.tick j ≡ true
-active_of m rows j shows a = sym (active_shown m rows j shows) ∙ a
-
-pub now_active : (m : MachineDef) (rows : ℕ → RowDef) (j : ℕ) → Shows m rows → is_active (under m rows) m.tick j ≡ true
-    → active_now m j ≡ true
-now_active m rows j shows a = active_shown m rows j shows ∙ a
 
 pub task_below : (m : MachineDef) (rows : ℕ → RowDef) (j : ℕ) → Shows m rows → is_active (under m rows) m.tick j ≡ true
     → task_in m.list.jobs j < length m.list.set.tasks
@@ -242,7 +234,7 @@ made_grant m rows first bars made = record {
       → (o : Option ℕ) → holder_in (rows m.tick) q ≡ o → holder_in (rows m.tick) q ≡ Some j
   granted q j asks g None e =
       let r : Requester (under m rows) m.tick q j = requester_is (under m rows) m.tick q j asks in
-      absurd (made.holders.free q e j (now_active m rows j shows r.active)
+      absurd (made.holders.free q e j (active_back m rows j shows r.active)
       (claim_of_due m rows first bars q j shows (due_from q j asks g)) (task_below m rows j shows r.active))
   granted q j asks g (Some h) e = e ∙ ap (λ i. Some i) (holder_is q j h asks g (held_is m rows first bars q h made e))
 
@@ -420,7 +412,7 @@ home_holder m rows first bars k made h = elim (cases_Bool (any_below (length m.l
           → holder_in (rows m.tick) q ≡ o → AtHome m rows k
       held q None f home due e =
           let r : Requester (under m rows) m.tick q f = requester_is (under m rows) m.tick q f due.asks in
-          absurd (made.holders.free q e f (now_active m rows f made.noted.shows r.active)
+          absurd (made.holders.free q e f (active_back m rows f made.noted.shows r.active)
           (claim_of_due m rows first bars q f made.noted.shows due) (task_below m rows f made.noted.shows r.active))
       held q (Some g) f home due e = holder_at_home m rows first bars k q g made e home
 
@@ -450,7 +442,7 @@ holder_runs : (m : MachineDef) (rows : ℕ → RowDef) (first bars : List ℕ) (
     → AtHome m rows k → HolderRuns m rows k
 holder_runs m rows first bars k made at = go (made.running.before k) refl where
   go : (o : Option ℕ) → made.running.before k ≡ o → HolderRuns m rows k
-  go None e = absurd (made.running.holders.free k e at.job (now_active m rows at.job made.noted.shows at.active)
+  go None e = absurd (made.running.holders.free k e at.job (active_back m rows at.job made.noted.shows at.active)
       at.claims (task_below m rows at.job made.noted.shows at.active))
   go (Some r) e = record {
     runner = r;
@@ -480,12 +472,12 @@ made_run m rows first bars made = record {
   active : (k j : ℕ)
       → Takes m (holder_claim m (holder_in (rows m.tick))) (length m.list.set.tasks) k j
       ⊎ Takes m (local_claim m) (length m.list.set.tasks) k j → is_active (under m rows) m.tick j ≡ true
-  active k j (inl holder) = active_of m rows j shows holder.active
-  active k j (inr local) = active_of m rows j shows local.active
+  active k j (inl holder) = active_true m rows j shows holder.active
+  active k j (inr local) = active_true m rows j shows local.active
 
   holds : (k j : ℕ) → Takes m (holder_claim m (holder_in (rows m.tick))) (length m.list.set.tasks) k j → HolderAt (under m rows) m.tick k j
   holds k j holder = holds_at_is (under m rows) m.tick k j
-      (holds_of_claim m rows k j shows (active_of m rows j shows holder.active) holder.claims)
+      (holds_of_claim m rows k j shows (active_true m rows j shows holder.active) holder.claims)
 
   local_parts : (k j : ℕ) → Takes m (local_claim m) (length m.list.set.tasks) k j
       → (is_local_now m j ≡ true) × (Some (column_now m j) ≡ Some k)
@@ -501,7 +493,7 @@ made_run m rows first bars made = record {
       let x : Local ≡ Asking at.request.number at.request.resource = sym e ∙ at.request.phase in absurd (cc)
   local k j Local (inr taken) l e =
       sym (some_same (column_now m j) k (local_parts k j taken).1)
-      ∙ column_is m rows j Local shows (active_of m rows j shows taken.active) e
+      ∙ column_is m rows j Local shows (active_true m rows j shows taken.active) e
 
   request : (k j q : ℕ) (p : Phase) → Takes m (holder_claim m (holder_in (rows m.tick))) (length m.list.set.tasks) k j
       ⊎ Takes m (local_claim m) (length m.list.set.tasks) k j
@@ -517,7 +509,7 @@ made_run m rows first bars made = record {
     not_local Finished f = let x : false ≡ true = sym (ap (is_asking q) f) ∙ asks in cc
     not_local (Asking n r) f =
         let x : false ≡ true =
-        sym (ap is_local (phase_is m rows j (Asking n r) shows (active_of m rows j shows taken.active) f))
+        sym (ap is_local (phase_is m rows j (Asking n r) shows (active_true m rows j shows taken.active) f))
         ∙ (local_parts k j taken).0 in
         cc
 
@@ -534,7 +526,7 @@ made_idle m rows first bars made = record {
   waits : (k : ℕ) → running_on (rows m.tick) k ≡ None → (i : ℕ) → processor_of (under m rows) i ≡ k
       → ActiveLocal (under m rows) m.tick i → ⊥
   waits k e i own l =
-      made.running.locals.free k e i (now_active m rows i made.noted.shows l.active)
+      made.running.locals.free k e i (active_back m rows i made.noted.shows l.active)
       (claim_of_local m rows k i made.noted.shows l own) (task_below m rows i made.noted.shows l.active)
 
 made_priority : (m : MachineDef) (rows : ℕ → RowDef) (first bars : List ℕ) → Made m rows first bars
@@ -553,8 +545,8 @@ made_priority m rows first bars made = record {
   requests k h = record {
     runner = h.runner;
     runs = h.runs;
-    holds = holds_of_claim m rows k h.runner shows (active_of m rows h.runner shows h.takes.active) h.takes.claims;
-    first = λ i l holds. h.takes.first i (now_active m rows i shows (holder_active k i holds))
+    holds = holds_of_claim m rows k h.runner shows (active_true m rows h.runner shows h.takes.active) h.takes.claims;
+    first = λ i l holds. h.takes.first i (active_back m rows i shows (holder_active k i holds))
         (claim_of_holds m rows k i shows holds) (task_below m rows i shows (holder_active k i holds));
   }
 
@@ -563,14 +555,14 @@ made_priority m rows first bars made = record {
       ⊎ Takes m (local_claim m) (length m.list.set.tasks) k r → ActiveLocal (under m rows) m.tick i
       → task_of (under m rows) r ≤ task_of (under m rows) i
   locals k r i none own (inl holder) l =
-      let active : is_active (under m rows) m.tick r ≡ true = active_of m rows r shows holder.active in
+      let active : is_active (under m rows) m.tick r ≡ true = active_true m rows r shows holder.active in
       let at : HolderAt (under m rows) m.tick k r =
       holds_at_is (under m rows) m.tick k r (holds_of_claim m rows k r shows active holder.claims) in
       absurd (both_ways (has_requests (under m rows) m.tick k) none
       (request_among (under m rows) m.tick k r (active_listed (under m rows) m.tick r active)
       (request_at_from (under m rows) m.tick k r at.request.number at.request.resource active at.request.phase at.request.home)))
   locals k r i none own (inr taken) l =
-      taken.first i (now_active m rows i shows l.active) (claim_of_local m rows k i shows l own) (task_below m rows i shows l.active)
+      taken.first i (active_back m rows i shows l.active) (claim_of_local m rows k i shows l own) (task_below m rows i shows l.active)
 
 pub chosen_from : (m : MachineDef) (rows : ℕ → RowDef) (first bars : List ℕ) → Made m rows first bars
     → IsSized m.list.set (rows m.tick) → IsDpcpChoice (under m rows) m.tick

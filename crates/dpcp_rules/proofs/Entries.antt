@@ -26,7 +26,7 @@ use Rattle.phase_machine.proofs.Lawful.{task_listed}
 use Rattle.phase_machine.proofs.Facts.{phase_shown, current_shown, current_from, requester_shown, waiting_shown}
 use Rattle.shared_rules.specs.Scene.{stays}
 use Rattle.shared_rules.proofs.HolderTests.{right_of}
-use Rattle.shared_rules.proofs.Blocked.{same_bool}
+use Rattle.phase_machine.proofs.Facts.{same_bool}
 use Rattle.dpcp_rules.specs.Homes.{home_now, ceiling_now, column_in, column_now, waiting_place, kept_place, entry_at, IsLeast}
 use Rattle.dpcp_rules.specs.RowTests.{is_due}
 use Rattle.dpcp_rules.proofs.Shown.{RequestAt, request_at_is, unfinished, column_within, processors_within}

@@ -23,7 +23,7 @@ use Rattle.phase_machine.specs.MachineDef.{MachineDef, under}
 use Rattle.phase_machine.specs.Now.{active_now, current_now, holder_now, requester_now}
 use Rattle.phase_machine.specs.Shows.{Shows, Shown}
 use Rattle.phase_machine.proofs.Existence.{shown}
-use Rattle.phase_machine.proofs.Facts.{reads_before}
+use Rattle.phase_machine.proofs.Facts.{active_true, reads_before}
 use Rattle.shared_rules.specs.RowTests.{is_local_now, holds_now}
 use Rattle.shared_rules.specs.Scene.{stays, place_in, running_in}
 use Rattle.shared_rules.specs.NextRow.{with_row}
@@ -36,7 +36,7 @@ use Rattle.dpcp_rules.specs.NextRow.{HasChoice}
 use Rattle.dpcp_rules.proofs.Shown.{column_within}
 use Rattle.dpcp_rules.proofs.Least.{least_first, least_next, least_skip}
 use Rattle.shared_rules.proofs.Filling.{filled_at, all_filled, filled_same, running_read}
-use Rattle.dpcp_rules.proofs.Chosen.{stays_is, cond_some, some_same, active_of, Due, due_of}
+use Rattle.dpcp_rules.proofs.Chosen.{stays_is, cond_some, some_same, Due, due_of}
 use Rattle.dpcp_rules.proofs.Written.{choice_made}
 
 -- Each table can be made.
@@ -92,7 +92,7 @@ processor_within m rows held running k j shows accepted homes p e = elim (p.loca
   there : active_now m j ≡ true → Some (column_now m j) ≡ Some k → (1 ≤ k) × (k ≤ m.list.set.processors)
   there a f =
       let w : (1 ≤ column_now m j) × (column_now m j ≤ m.list.set.processors) =
-      column_within m rows j shows accepted homes (active_of m rows j shows a) in
+      column_within m rows j shows accepted homes (active_true m rows j shows a) in
       let same : column_now m j ≡ k = some_same (column_now m j) k f in
       (omega (arith, w.0, same), omega (arith, w.1, same))
 

@@ -1,37 +1,29 @@
-ghost use Rattle.std.specs.Prelude.{◌≡◌, ℕ, ◌<◌, length, Option, IfSome, slice_index_or};
-ghost use Rattle.bounded_sums.specs.Tests.{all_below};
+ghost use Rattle.std.specs.Prelude.{◌≡◌, ℕ, ◌<◌, length, Option, IfSome};
 ghost use Rattle.sporadic_model.specs.Homes.{EachHasHome};
-ghost use Rattle.schedule_model.specs.RowDef.{RowDef, running_on};
+ghost use Rattle.schedule_model.specs.RowDef.{RowDef};
 ghost use Rattle.schedule_model.specs.Seen.{row_seen, place_seen};
 ghost use Rattle.schedule_model.specs.Protocols.{dpcp_rule};
-ghost use Rattle.phase_machine.specs.MachineDef.{MachineDef, under};
+ghost use Rattle.phase_machine.specs.MachineDef.{under};
 ghost use Rattle.phase_machine.specs.Shows.{Shows};
 ghost use Rattle.phase_machine.specs.Taking.{IsRowFor};
 ghost use Rattle.phase_machine.specs.Judged.{Judged};
-ghost use Rattle.shared_rules.specs.RowTests.{each_current};
+ghost use Rattle.shared_rules.specs.RowTests.{each_current, passes_keep, by_rule};
 ghost use Rattle.dpcp_rules.specs.RowTests.{passes_run, is_due, request_passes, passes_grant};
 ghost use Rattle.dpcp_rules.specs.RowTests.{idle_passes, passes_idle, goes_first, priority_passes};
-ghost use Rattle.dpcp_rules.specs.RowTests.{passes_priority, first_failed};
+ghost use Rattle.dpcp_rules.specs.RowTests.{passes_priority};
+ghost use Rattle.dpcp_rules.specs.TaskOrder.{task_now};
 
 use crate::Dpcp;
-use crate::lookup::{AtHomes, column_of, tasks_of};
+use crate::lookup::{AtHomes, keeps_the_model};
 use crate::tables::{Tables, tables_of};
 use phase_machine::Machine;
 use schedule_model::{JobId, Row, Rule};
 use shared_rules::Order;
-use shared_rules::columns::running_instead;
+use shared_rules::columns::{Columns, running_instead};
 use shared_rules::judging::{each_stands, holders_pass, passes_keep};
 use shared_rules::lookup::{holds, is_local, task_of};
+use shared_rules::rule_tests::{RuleTests, first_failed};
 use shared_rules::walking::{JobTest, each_passes};
-
-/// Run: may each running job stand in its column?
-pub fn passes_run(machine: &Machine, row: &Row) -> bool
-    requires suits { EachHasHome machine.now.list.set }
-    requires fits { IsRowFor machine.now.list (row_seen row.now) }
-    ensures { result ≡ passes_run machine.now (row_seen row.now) }
-{
-    each_stands(&AtHomes, machine, row)
-}
 
 /// Is the job's task the first of those that wait at its processor, and higher than what is kept there?
 pub(crate) fn is_due(machine: &Machine, tables: &Tables, j: JobId) -> bool
@@ -39,8 +31,8 @@ pub(crate) fn is_due(machine: &Machine, tables: &Tables, j: JobId) -> bool
     requires listed { j.0 < length machine.now.list.jobs }
     ensures { result ≡ is_due machine.now tables.now.first.keys tables.now.bars.keys j.0 }
 {
-    let _tasks = tasks_of(machine);
-    let k = column_of(machine, j);
+    keeps_the_model(machine);
+    let k = AtHomes.column_of(machine, j);
     let x = task_of(machine, j).0;
     x <= tables.first.at(k) && x < tables.bars.at(k)
 }
@@ -52,13 +44,7 @@ fn request_passes(machine: &Machine, tables: &Tables, row: &Row, j: JobId) -> bo
     requires listed { j.0 < length machine.now.list.jobs }
     ensures { result ≡ request_passes machine.now tables.now.first.keys tables.now.bars.keys (row_seen row.now) j.0 }
 {
-    let held = holds(machine, &row.holders, j);
-    !machine.waiting(j)
-        || (if is_due(machine, tables, j) {
-            held
-        } else {
-            !held
-        })
+    !machine.waiting(j) || holds(machine, &row.holders, j) == is_due(machine, tables, j)
 }
 
 /// The test of the requests of active jobs.
@@ -190,29 +176,37 @@ pub fn passes_priority<O: Order>(order: &O, machine: &Machine, row: &Row) -> boo
     each_passes(&PriorityTest { order, row }, machine)
 }
 
-/// The first rule whose test fails.
+/// Grant: does each holder request its resource, and each active job that waits hold what it requests exactly where it is due?
 #[tactic(auto, unfolding(crate::specs::RowTests::passes_grant))]
-fn first_failed(machine: &Machine, tables: &Tables, row: &Row) -> Option<Rule>
+fn passes_grant(machine: &Machine, tables: &Tables, row: &Row) -> bool
     requires suits { EachHasHome machine.now.list.set }
     requires fits { IsRowFor machine.now.list (row_seen row.now) }
-    ensures { result ≡ first_failed machine.now tables.now.first.keys tables.now.bars.keys (row_seen row.now) }
+    ensures { result ≡ passes_grant machine.now tables.now.first.keys tables.now.bars.keys (row_seen row.now) }
 {
-    if !passes_run(machine, row) {
-        return Some(Rule::Run);
+    holders_pass(machine, row) && requests_pass(machine, tables, row)
+}
+
+/// The tests of the rules.
+#[derive(Drop)]
+struct DpcpTests<'a> {
+    tables: &'a Tables,
+}
+
+impl<'a> RuleTests for DpcpTests<'a> {
+    ghost needs = { λ t m. EachHasHome m.list.set };
+
+    ghost passes = { λ t m row. by_rule (passes_run m row) (passes_keep m row)
+        (passes_grant m t.tables.now.first.keys t.tables.now.bars.keys row) (passes_idle m row) (passes_priority m (task_now m) row) };
+
+    fn test(&self, machine: &Machine, row: &Row, rule: Rule) -> bool {
+        match rule {
+            Rule::Run => each_stands(&AtHomes, machine, row),
+            Rule::Keep => passes_keep(machine, row),
+            Rule::Grant => passes_grant(machine, self.tables, row),
+            Rule::Idle => passes_idle(machine, row),
+            Rule::Priority => passes_priority(&Dpcp, machine, row),
+        }
     }
-    if !passes_keep(machine, row) {
-        return Some(Rule::Keep);
-    }
-    if !(holders_pass(machine, row) && requests_pass(machine, tables, row)) {
-        return Some(Rule::Grant);
-    }
-    if !passes_idle(machine, row) {
-        return Some(Rule::Idle);
-    }
-    if !passes_priority(&Dpcp, machine, row) {
-        return Some(Rule::Priority);
-    }
-    None
 }
 
 /// Does the row keep all five rules? Else the first that it breaks.
@@ -223,7 +217,7 @@ pub(crate) fn judge(machine: &Machine, row: &Row) -> Result<(), Rule>
         → Judged dpcp_rule (under machine.now rows) machine.now.tick result }
 {
     let tables = tables_of(machine);
-    match first_failed(machine, &tables, row) {
+    match first_failed(&DpcpTests { tables: &tables }, machine, row) {
         Some(rule) => Err(rule),
         None => Ok(()),
     }

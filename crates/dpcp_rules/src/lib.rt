@@ -17,7 +17,7 @@ ghost use Rattle.schedule_model.specs.BlockedTicks.{is_dpcp_interference};
 ghost use Rattle.schedule_laws.proofs.DpcpLaws.{dpcp_one_of_three, dpcp_sound_row, dpcp_chosen_keeps};
 ghost use Rattle.schedule_laws.proofs.DpcpAgreement.{dpcp_rules_read, dpcp_choice_reads};
 ghost use Rattle.schedule_laws.proofs.TickAgreement.{dpcp_interference_agree};
-ghost use Rattle.stretch_laws.proofs.DpcpStretches.{dpcp_stays_lawful};
+ghost use Rattle.schedule_laws.proofs.DpcpStretches.{dpcp_stays_lawful};
 ghost use Rattle.dpcp_rules.specs.TaskOrder.{task_ranks, task_now, tasks_give};
 
 pub use laws::each_schedule_has_a_next_row;

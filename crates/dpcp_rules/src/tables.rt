@@ -1,13 +1,14 @@
 ghost use Rattle.std.specs.Prelude.{◌≡◌, ℕ, ◌<◌, ◌≤◌, length, min, replicate};
-ghost use Rattle.sporadic_model.specs.Accepted.{IsAccepted, SetSizes};
+ghost use Rattle.sporadic_model.specs.Accepted.{IsAccepted};
 ghost use Rattle.sporadic_model.specs.Homes.{EachHasHome};
 ghost use Rattle.dpcp_rules.specs.Homes.{ceiling_now, waiting_place, kept_place, entry_at, IsLeast};
 ghost use Rattle.dpcp_rules.specs.declared.tables.TheConstants.{PLACES};
 
-use crate::lookup::{ceiling_of, column_of, home_of, tasks_of};
+use crate::lookup::{AtHomes, ceiling_of, home_of, keeps_the_model};
 use phase_machine::Machine;
 use shared_rules::choosing::kept;
-use shared_rules::lookup::resources_of;
+use shared_rules::columns::Columns;
+use shared_rules::lookup::{resources_of, tasks_of};
 use sporadic_model::{ResourceId, TaskId};
 
 /// One place for each of the at most 64 processors, which count from 1, and one for none.
@@ -66,7 +67,7 @@ fn waiting_place(machine: &Machine, x: TaskId) -> u32
     ensures most { result ≤ machine.now.list.set.processors }
 {
     match machine.current(x) {
-        Some(j) if machine.waiting(j) => column_of(machine, j),
+        Some(j) if machine.waiting(j) => AtHomes.column_of(machine, j),
         _ => 0,
     }
 }
@@ -90,6 +91,7 @@ fn waiting_table(machine: &Machine) -> Table
     ensures least { IsLeast (waiting_place machine.now) (λ x. x)
         (length machine.now.list.set.tasks) (length machine.now.list.set.tasks) result.keys }
 {
+    keeps_the_model(machine);
     let mut table = Table::new(tasks_of(machine));
     for x in 0..tasks_of(machine) {
         table.note(waiting_place(machine, TaskId(x)), x);
@@ -103,6 +105,7 @@ fn kept_table(machine: &Machine) -> Table
     ensures least { IsLeast (kept_place machine.now) (ceiling_now machine.now)
         (length machine.now.list.set.tasks) (length machine.now.list.set.resources) result.keys }
 {
+    keeps_the_model(machine);
     let mut table = Table::new(tasks_of(machine));
     for q in 0..resources_of(machine) {
         table.note(
@@ -122,7 +125,7 @@ pub(crate) fn tables_of(machine: &Machine) -> Tables
         (length machine.now.list.set.tasks) (length machine.now.list.set.resources) result.bars.keys }
     ensures accepted { IsAccepted machine.now.list.set }
 {
-    let _tasks = tasks_of(machine);
+    keeps_the_model(machine);
     Tables {
         first: waiting_table(machine),
         bars: kept_table(machine),

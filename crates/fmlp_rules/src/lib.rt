@@ -11,7 +11,7 @@ ghost use Rattle.schedule_model.specs.BlockedTicks.{is_shared_interference};
 ghost use Rattle.schedule_laws.proofs.SharedLaws.{shared_one_of_three, shared_sound_row, shared_chosen_keeps};
 ghost use Rattle.schedule_laws.proofs.SharedAgreement.{fmlp_plus_rules_read, fmlp_plus_choice_reads};
 ghost use Rattle.schedule_laws.proofs.TickAgreement.{shared_interference_agree};
-ghost use Rattle.stretch_laws.proofs.SharedStretches.{fmlp_plus_stays_lawful};
+ghost use Rattle.schedule_laws.proofs.SharedStretches.{fmlp_plus_stays_lawful};
 ghost use Rattle.fmlp_rules.specs.IssueOrder.{issue_now};
 ghost use Rattle.fmlp_rules.specs.IssueOrderLaw.{issue_gives};
 

@@ -29,3 +29,14 @@ pub record IsStretch (row : ConstraintDef) (columns : List Fragment) (a b : ℕ)
   pub within : b ≤ length columns
   pub before : AllWithin (λ c. row.coefficient (column_seen c) ≡ 0) columns 0 a
   pub behind : AllWithin (λ c. row.coefficient (column_seen c) ≡ 0) columns b (length columns)
+
+-- Are the columns of task x, or those of its requests of q, those from the place a to below b?
+pub record IsTaskStretch (x : ℕ) (columns : List Fragment) (a b : ℕ) : Type 0 where
+  pub from : BeginsAt (slot x 0) columns a
+  pub to : BeginsAt (slot (x + 1) 0) columns b
+  pub order : a ≤ b
+
+pub record IsRequestStretch (x q : ℕ) (columns : List Fragment) (a b : ℕ) : Type 0 where
+  pub from : BeginsAt (slot x q) columns a
+  pub to : BeginsAt (slot x (q + 1)) columns b
+  pub order : a ≤ b

@@ -4,10 +4,11 @@ ghost use Rattle.program_form.specs.RowBlock.{block_seen};
 ghost use Rattle.sporadic_model.specs.SetDef.{SetDef};
 ghost use Rattle.program_sources.specs.Bounds.{AreWithinDeadlines};
 ghost use Rattle.fragments.specs.ColumnDef.{column_seen, AreKnown};
-ghost use Rattle.fragments.specs.Constraints.{ConstraintDef, with_rows, pushed_row};
+ghost use Rattle.fragments.specs.Constraints.{ConstraintDef, pushed_row};
 ghost use Rattle.fragments.specs.Stretches.{IsStretch};
 
 use crate::columns::Fragment;
+use crate::taking::RowTaker;
 use program_form::RowBlock;
 use sporadic_model::{TaskId, TaskSet};
 use std::alloc::{AllocError, Global};
@@ -94,8 +95,8 @@ fn push_row(block: &mut RowBlock, list: Vec<u64>, limit: u64) -> Result<(), Allo
     Ok(())
 }
 
-// Adds the row with this limit, where the columns outside the stretch have no coefficient in it.
-fn push_kind<K: RowKind>(
+/// Adds the row with this limit, where the columns outside the stretch have no coefficient in it.
+pub(crate) fn push_kind<K: RowKind>(
     alloc: Global,
     block: &mut RowBlock,
     kind: &K,
@@ -116,11 +117,11 @@ fn push_kind<K: RowKind>(
     push_row(block, list, limit)
 }
 
-/// Adds the row to the block, if some column has a coefficient above zero in it, where its limit at the bounds is known. It looks at
-/// the columns of the stretch alone, as `add_row_within`.
-pub fn add_row_limited<K: RowKind>(
+/// Adds the row to what the taker has, if some column has a coefficient above zero in it, where its limit at the bounds is known. It
+/// looks at the columns of the stretch alone, as `add_row_within`.
+pub fn add_row_limited<T: RowTaker, K: RowKind>(
     alloc: Global,
-    block: &mut RowBlock,
+    taker: &mut T,
     kind: &K,
     set: &TaskSet,
     i: TaskId,
@@ -134,22 +135,19 @@ pub fn add_row_limited<K: RowKind>(
     requires known { AreKnown (length set.now.tasks) (length set.now.resources) columns.now }
     requires stretch { IsStretch (K.row_of kind.now set.now i.0) columns.now stretch.0 stretch.1 }
     requires limit { limit ≡ (K.row_of kind.now set.now i.0).limit (slice_index bounds.now) }
-    ensures { OnOk result (block_seen block.new ≡ with_rows (block_seen block.old) (map column_seen columns.now)
-        (K.row_of kind.now set.now i.0 ∷ []) bounds.now) }
+    ensures { OnOk result (T.takes taker.old (map column_seen columns.now) (K.row_of kind.now set.now i.0 ∷ []) bounds.now taker.new) }
 {
-    // the bounds only say what the limit is
-    let _bounds = bounds;
     if holds(kind, set, i, columns, stretch) {
-        push_kind(alloc, block, kind, set, i, columns, stretch, limit)?;
+        taker.take(alloc, kind, set, i, bounds, columns, stretch, limit)?;
     }
     Ok(())
 }
 
-/// Adds the row to the block, if some column has a coefficient above zero in it. It looks at the columns of the stretch alone, from
-/// its first place to below its second, since none outside has one.
-pub fn add_row_within<K: Constraint>(
+/// Adds the row to what the taker has, if some column has a coefficient above zero in it. It looks at the columns of the stretch
+/// alone, from its first place to below its second, since none outside has one.
+pub fn add_row_within<T: RowTaker, K: Constraint>(
     alloc: Global,
-    block: &mut RowBlock,
+    taker: &mut T,
     kind: &K,
     set: &TaskSet,
     i: TaskId,
@@ -162,20 +160,19 @@ pub fn add_row_within<K: Constraint>(
     requires within { AreWithinDeadlines set.now bounds.now }
     requires known { AreKnown (length set.now.tasks) (length set.now.resources) columns.now }
     requires stretch { IsStretch (K.row_of kind.now set.now i.0) columns.now stretch.0 stretch.1 }
-    ensures { OnOk result (block_seen block.new ≡ with_rows (block_seen block.old) (map column_seen columns.now)
-        (K.row_of kind.now set.now i.0 ∷ []) bounds.now) }
+    ensures { OnOk result (T.takes taker.old (map column_seen columns.now) (K.row_of kind.now set.now i.0 ∷ []) bounds.now taker.new) }
 {
     if holds(kind, set, i, columns, stretch) {
         let limit = kind.limit(set, i, bounds);
-        push_kind(alloc, block, kind, set, i, columns, stretch, limit)?;
+        taker.take(alloc, kind, set, i, bounds, columns, stretch, limit)?;
     }
     Ok(())
 }
 
-/// Adds the row to the block, if some column has a coefficient above zero in it.
-pub fn add_row<K: Constraint>(
+/// Adds the row to what the taker has, if some column has a coefficient above zero in it.
+pub fn add_row<T: RowTaker, K: Constraint>(
     alloc: Global,
-    block: &mut RowBlock,
+    taker: &mut T,
     kind: &K,
     set: &TaskSet,
     i: TaskId,
@@ -186,17 +183,8 @@ pub fn add_row<K: Constraint>(
     requires task { i.0 < length set.now.tasks }
     requires within { AreWithinDeadlines set.now bounds.now }
     requires known { AreKnown (length set.now.tasks) (length set.now.resources) columns.now }
-    ensures { OnOk result (block_seen block.new ≡ with_rows (block_seen block.old) (map column_seen columns.now)
-        (K.row_of kind.now set.now i.0 ∷ []) bounds.now) }
+    ensures { OnOk result (T.takes taker.old (map column_seen columns.now) (K.row_of kind.now set.now i.0 ∷ []) bounds.now taker.new) }
 {
-    add_row_within(
-        alloc,
-        block,
-        kind,
-        set,
-        i,
-        bounds,
-        columns,
-        (0, columns.len()),
-    )
+    let all = (0, columns.len());
+    add_row_within(alloc, taker, kind, set, i, bounds, columns, all)
 }

@@ -6,6 +6,8 @@ mod constraints;
 mod passing;
 mod places;
 mod stretches;
+mod taking;
+mod walks;
 mod windows;
 
 pub use columns::{Class, Fragment, fragments};
@@ -13,4 +15,6 @@ pub use constraints::{Constraint, RowKind, add_row, add_row_limited, add_row_wit
 pub use passing::{ColumnTest, fragments_where};
 pub use places::{ceiling_place, home, lower_local, share_processor, uses};
 pub use stretches::{columns_stand_in_order, passing_stand_in_order, requests_end, task_end};
+pub use taking::{RowLimits, RowTaker};
+pub use walks::{PerNumber, PerRequest, PerTask, add_per_number, add_per_request, add_per_task};
 pub use windows::{cnt, jobs, requests_of};

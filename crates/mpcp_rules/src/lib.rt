@@ -12,7 +12,7 @@ ghost use Rattle.schedule_model.specs.BlockedTicks.{is_shared_interference};
 ghost use Rattle.schedule_laws.proofs.SharedLaws.{shared_one_of_three, shared_sound_row, shared_chosen_keeps};
 ghost use Rattle.schedule_laws.proofs.SharedAgreement.{mpcp_rules_read, mpcp_choice_reads};
 ghost use Rattle.schedule_laws.proofs.TickAgreement.{shared_interference_agree};
-ghost use Rattle.stretch_laws.proofs.SharedStretches.{mpcp_stays_lawful};
+ghost use Rattle.schedule_laws.proofs.SharedStretches.{mpcp_stays_lawful};
 ghost use Rattle.mpcp_rules.specs.CeilingOrder.{task_now, boost_now};
 ghost use Rattle.mpcp_rules.specs.CeilingOrderLaw.{ceilings_give};
 

@@ -9,7 +9,7 @@ ghost use Rattle.program_laws.proofs.CoveredColumns.{covered};
 use crate::Mpcp;
 use program_form::Program;
 use program_sources::ProgramSource;
-use protocol_programs::{interference, program};
+use protocol_programs::{interference, limits, program};
 use sporadic_model::{Protocol, TaskId, TaskSet};
 use std::alloc::{AllocError, Global};
 
@@ -36,6 +36,16 @@ impl ProgramSource for Mpcp {
         bounds: &[u64],
     ) -> Result<Program, AllocError> {
         program(alloc, set, Protocol::Mpcp, i, bounds)
+    }
+
+    fn limits(
+        &self,
+        alloc: Global,
+        set: &TaskSet,
+        i: TaskId,
+        bounds: &[u64],
+    ) -> Result<Vec<u64>, AllocError> {
+        limits(alloc, set, Protocol::Mpcp, i, bounds)
     }
 
     fn interference(&self, set: &TaskSet, i: TaskId, bounds: &[u64]) -> u64 {

@@ -185,16 +185,16 @@ active_now_listed m j h =
     let parts = current_some m.list.jobs m.tick (place_of m (task_in m.list.jobs j)) j (active_current m j h) in
     omega (arith, parts.0, parts.1)
 
-active_true : (m : MachineDef) (rows : ℕ → RowDef) (j : ℕ) → Shows m rows → active_now m j ≡ true → is_active (under m rows) m.tick j ≡ true
+pub active_true : (m : MachineDef) (rows : ℕ → RowDef) (j : ℕ) → Shows m rows → active_now m j ≡ true → is_active (under m rows) m.tick j ≡ true
 active_true m rows j shows h =
     (current_shown m rows (task_in m.list.jobs j) j shows
     (task_listed m.list j shows.machine.lawful (active_now_listed m j h)) (active_current m j h)).0
 
-active_back : (m : MachineDef) (rows : ℕ → RowDef) (j : ℕ) → Shows m rows → is_active (under m rows) m.tick j ≡ true → active_now m j ≡ true
+pub active_back : (m : MachineDef) (rows : ℕ → RowDef) (j : ℕ) → Shows m rows → is_active (under m rows) m.tick j ≡ true → active_now m j ≡ true
 unfolding active_now
 active_back m rows j shows h = named_job j (current_now m (task_in m.list.jobs j)) (current_from m rows j shows h)
 
-same_bool : (a b : Bool) → (a ≡ true → b ≡ true) → (b ≡ true → a ≡ true) → a ≡ b
+pub same_bool : (a b : Bool) → (a ≡ true → b ≡ true) → (b ≡ true → a ≡ true) → a ≡ b
 same_bool true b f g = sym (f refl)
 same_bool false true f g = g refl
 same_bool false false f g = refl

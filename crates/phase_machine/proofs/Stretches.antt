@@ -10,7 +10,7 @@ use Rattle.schedule_model.specs.RowDef.{RowDef, running_on, runs_in}
 use Rattle.schedule_model.specs.Phase.{phase_of}
 use Rattle.schedule_laws.proofs.Rows.{runs_where, runs_from}
 use Rattle.schedule_laws.proofs.Spacing.{releases_rise}
-use Rattle.stretch_laws.specs.Steady.{IsSteady, Changes}
+use Rattle.schedule_laws.specs.Steady.{IsSteady, Changes}
 use Rattle.phase_machine.specs.MachineDef.{MachineDef, IsMachine, IsComing, IsDue, place_of, coming_of, task_in, under}
 use Rattle.phase_machine.specs.Shows.{Shows}
 use Rattle.phase_machine.specs.Taking.{CanTake}

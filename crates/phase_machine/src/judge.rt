@@ -5,7 +5,7 @@ ghost use Rattle.schedule_model.specs.Keeping.{KeepsRow, KeepsBefore};
 ghost use Rattle.schedule_model.specs.BlockedTicks.{is_blocked};
 ghost use Rattle.schedule_model.specs.Seen.{row_seen};
 ghost use Rattle.schedule_laws.specs.Agreement.{RulesReadUpTo, ChoiceReadsUpTo, TicksReadUpTo};
-ghost use Rattle.stretch_laws.specs.Steady.{StaysLawful};
+ghost use Rattle.schedule_laws.specs.Steady.{StaysLawful};
 ghost use Rattle.phase_machine.specs.MachineDef.{under};
 ghost use Rattle.phase_machine.specs.Shows.{Shows};
 ghost use Rattle.phase_machine.specs.Taking.{IsRowFor};

@@ -8,7 +8,7 @@ ghost use Rattle.phase_machine.specs.Seen.{phase_seen, NamesResource};
 ghost use Rattle.phase_machine.specs.Shows.{Shows};
 ghost use Rattle.phase_machine.specs.Taking.{CanTake};
 ghost use Rattle.phase_machine.specs.Stretch.{IsQuiet, IsStretch};
-ghost use Rattle.stretch_laws.specs.Steady.{IsSteady, Changes};
+ghost use Rattle.schedule_laws.specs.Steady.{IsSteady, Changes};
 
 use crate::lookup::{current_at, phase_at};
 use crate::phase::Phase;

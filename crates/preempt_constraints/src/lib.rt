@@ -1,19 +1,19 @@
 //! The rows of preemption blocking: what requests of lower tasks on the analysed task's processor can do to it.
 #![tactic(auto)]
 
-ghost use Rattle.std.specs.Prelude.{◌≡◌, ◌<◌, ◌+◌, map, length, IfOk, OnOk, [], ◌∷◌, if◌then◌else◌};
+ghost use Rattle.std.specs.Prelude.{◌≡◌, ◌<◌, map, length, IfOk, OnOk, [], ◌∷◌, if◌then◌else◌};
 ghost use Rattle.program_form.specs.RowBlock.{block_seen};
 ghost use Rattle.program_sources.specs.Bounds.{AreWithinDeadlines};
 ghost use Rattle.sporadic_model.specs.Homes.{HasHomesFor};
 ghost use Rattle.fragments.specs.ColumnDef.{column_seen, AreKnown};
 ghost use Rattle.fragments.specs.Columns.{columns_of, is_lower_local};
-ghost use Rattle.fragments.specs.Constraints.{block_of, with_rows};
-ghost use Rattle.fragments.specs.Stretches.{slot, AreInOrder, BeginsAt};
+ghost use Rattle.fragments.specs.Constraints.{block_of};
+ghost use Rattle.fragments.specs.Stretches.{AreInOrder};
 ghost use Rattle.preempt_constraints.specs.Rows.{interval_row, preemption_rows};
 
 use fragments::{
-    Constraint, Fragment, RowKind, add_row_within, columns_stand_in_order, lower_local,
-    requests_of, task_end,
+    Constraint, Fragment, PerTask, RowKind, RowTaker, add_per_task, add_row_within,
+    columns_stand_in_order, lower_local, requests_of,
 };
 use program_form::RowBlock;
 use sporadic_model::{Protocol, TaskId, TaskSet};
@@ -45,43 +45,39 @@ impl Constraint for IntervalRow {
     }
 }
 
-// Adds the row of task `x`, if it is a lower task on `i`'s processor and has a column of preemption. Its columns begin at
-// `from`; answers where they end.
-fn add_interval_row(
-    alloc: Global,
-    block: &mut RowBlock,
-    set: &TaskSet,
-    i: TaskId,
-    x: TaskId,
-    bounds: &[u64],
-    columns: &[Fragment],
-    from: usize,
-) -> Result<usize, AllocError>
-    requires task { i.0 < length set.now.tasks }
-    requires other { x.0 < length set.now.tasks }
-    requires within { AreWithinDeadlines set.now bounds.now }
-    requires known { AreKnown (length set.now.tasks) (length set.now.resources) columns.now }
-    requires order { AreInOrder columns.now }
-    requires from { BeginsAt (slot x.0 0) columns.now from }
-    ensures rows { OnOk result (block_seen block.new ≡ with_rows (block_seen block.old) (map column_seen columns.now)
-        (if is_lower_local set.now i.0 x.0 then interval_row set.now i.0 x.0 ∷ [] else []) bounds.now) }
-    ensures end { IfOk result (λ n. BeginsAt (slot (x.0 + 1) 0) columns.now n) }
-{
-    // a set has at most 32 resources, so the slots of a task end before those of the next one
-    let _resources = set.resources();
-    let row = IntervalRow { task: x };
-    let to = task_end(set, columns, from, x);
-    if lower_local(set, i, x) {
-        add_row_within(alloc, block, &row, set, i, bounds, columns, (from, to))?;
+// The rows of intervals, one for each lower task on the analysed task's processor.
+#[derive(Drop)]
+struct Intervals;
+
+impl PerTask for Intervals {
+    ghost rows_of = { λ k set i x. if is_lower_local set i x then interval_row set i x ∷ [] else [] };
+
+    fn add<T: RowTaker>(
+        &self,
+        alloc: Global,
+        taker: &mut T,
+        set: &TaskSet,
+        i: TaskId,
+        x: TaskId,
+        bounds: &[u64],
+        columns: &[Fragment],
+        stretch: (usize, usize),
+    ) -> Result<(), AllocError> {
+        // a set has at most 32 resources, so the slots of a task end before those of the next one
+        let _resources = set.resources();
+        if !lower_local(set, i, x) {
+            return Ok(());
+        }
+        let row = IntervalRow { task: x };
+        add_row_within(alloc, taker, &row, set, i, bounds, columns, stretch)
     }
-    Ok(to)
 }
 
-/// Adds the rows of preemption blocking behind those of the block, over any columns that stand in order: one for each lower task on
-/// `i`'s processor that has a column of preemption. Its limit is one more than the requests that a job of `i` can make.
-pub fn add_interval_rows(
+/// Adds the rows of preemption blocking behind those that the taker has, over any columns that stand in order: one for each lower
+/// task on `i`'s processor that has a column of preemption. Its limit is one more than the requests that a job of `i` can make.
+pub fn add_interval_rows<T: RowTaker>(
     alloc: Global,
-    block: &mut RowBlock,
+    taker: &mut T,
     set: &TaskSet,
     i: TaskId,
     bounds: &[u64],
@@ -91,14 +87,9 @@ pub fn add_interval_rows(
     requires within { AreWithinDeadlines set.now bounds.now }
     requires known { AreKnown (length set.now.tasks) (length set.now.resources) columns.now }
     requires order { AreInOrder columns.now }
-    ensures { OnOk result (block_seen block.new
-        ≡ with_rows (block_seen block.old) (map column_seen columns.now) (preemption_rows set.now i.0) bounds.now) }
+    ensures { OnOk result (T.takes taker.old (map column_seen columns.now) (preemption_rows set.now i.0) bounds.now taker.new) }
 {
-    let mut place = 0;
-    for x in 0..set.tasks() {
-        place = add_interval_row(alloc, block, set, i, TaskId(x), bounds, columns, place)?;
-    }
-    Ok(())
+    add_per_task(alloc, taker, &Intervals, set, i, bounds, columns)
 }
 
 /// The rows of preemption blocking, the same under every protocol.

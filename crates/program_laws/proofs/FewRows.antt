@@ -1,7 +1,7 @@
 -- How many rows a program has at most: a row is there only where some column has a coefficient in it, and the columns are requests by
 -- other tasks of resources that these use.
-use Rattle.std.proofs.Common.{◌≡◌, ℕ, zero, suc, ◌+◌, ◌<◌, ◌≤◌, ◌==◌, ◌&&◌, not, Bool, true, false, nat_lt, List, [], ◌∷◌, ◌++◌, map, length}
-use Rattle.std.proofs.Common.{refl, ◌∙◌, arith, inl, inr, cond, if◌then◌else◌}
+use Rattle.std.proofs.Common.{◌≡◌, ℕ, zero, suc, ◌+◌, ◌<◌, ◌≤◌, ◌==◌, ◌&&◌, not, Bool, true, false, nat_lt, List, [], ◌∷◌, ◌++◌, map}
+use Rattle.std.proofs.Common.{length, refl, ◌∙◌, arith, inl, inr, cond, if◌then◌else◌}
 use Rattle.std.specs.List.{All, filter}
 use Rattle.std.proofs.lemmas.Bool.{cases_lt, cases_Bool, both_ways, and_parts, eqb-true, eq-eqb, ltb-true}
 use Rattle.std.proofs.lemmas.List.{length-append, length-map}
@@ -140,7 +140,7 @@ where_rows_few test set i only row accepted here others of =
       f.tasks,
     )
 
-flag_passes : (b : Bool) → 0 < flag b → b ≡ true
+pub flag_passes : (b : Bool) → 0 < flag b → b ≡ true
 flag_passes true h = refl
 flag_passes false h = absurd (omega arith)
 

@@ -10,6 +10,17 @@ use program_form::Program;
 use sporadic_model::{TaskId, TaskSet};
 use std::alloc::{AllocError, Global};
 
+/// The limits of a program's rows.
+pub fn limits_of(alloc: Global, program: &Program) -> Result<Vec<u64>, AllocError>
+    ensures { IfOk result (λ v. v.items ≡ program.now.limits) }
+{
+    let mut limits = Vec::new(alloc);
+    for r in 0..program.rows() {
+        limits.push(program.limit(r))?;
+    }
+    Ok(limits)
+}
+
 /// A source of blocking programs: for each set that it serves a program of each task at a vector of bounds, and each task's
 /// interfering cost. Bounds are in ticks, one for each task.
 pub trait ProgramSource {
@@ -32,6 +43,25 @@ pub trait ProgramSource {
         requires task { i.0 < length set.now.tasks }
         requires within { AreWithinDeadlines set.now bounds.now }
         ensures { IfOk result (λ p. p ≡ (source self.now set.now).program i.0 bounds.now) };
+
+    /// The limits of the rows of task `i`'s program at these bounds. A caller that has formed the program at other bounds renews its
+    /// limits by this, since its columns and coefficients don't depend on the bounds. It refuses for want of memory alone.
+    fn limits(
+        &self,
+        alloc: Global,
+        set: &TaskSet,
+        i: TaskId,
+        bounds: &[u64],
+    ) -> Result<Vec<u64>, AllocError>
+        requires serves { serves self.now set.now }
+        requires task { i.0 < length set.now.tasks }
+        requires within { AreWithinDeadlines set.now bounds.now }
+        ensures { IfOk result (λ v. v.items ≡ ((source self.now set.now).program i.0 bounds.now).limits) }
+    {
+        // a source that can compute limits alone does so
+        let program = self.program(alloc, set, i, bounds)?;
+        limits_of(alloc, &program)
+    }
 
     /// The ticks that the recurrence counts for jobs of all higher tasks on `i`'s processor together.
     fn interference(&self, set: &TaskSet, i: TaskId, bounds: &[u64]) -> u64

@@ -7,5 +7,5 @@ mod written;
 
 pub use counting::interference;
 pub use program_sources::ProgramSource;
-pub use programs::{accepted, append, costs, program, program_over, rows};
+pub use programs::{accepted, add_rows, costs, limits, program, program_over, rows};
 pub use written::Written;

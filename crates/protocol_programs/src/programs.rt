@@ -1,4 +1,4 @@
-ghost use Rattle.std.specs.Prelude.{◌≡◌, ◌<◌, ◌++◌, map, length, IfOk, OnOk, drop};
+ghost use Rattle.std.specs.Prelude.{◌≡◌, ◌<◌, map, length, IfOk, OnOk};
 ghost use Rattle.program_form.specs.RowBlock.{block_seen};
 ghost use Rattle.program_form.specs.Program.{IsProgram};
 ghost use Rattle.sporadic_model.specs.Homes.{HasHomesFor};
@@ -7,9 +7,11 @@ ghost use Rattle.fragments.specs.ColumnDef.{column_seen, AreKnown};
 ghost use Rattle.fragments.specs.Columns.{columns_of};
 ghost use Rattle.fragments.specs.Constraints.{block_of};
 ghost use Rattle.program_laws.specs.Programs.{cost_of, rows_of, program_of};
-ghost use Rattle.protocol_programs.specs.Joined.{joined, lists_of};
+ghost use Rattle.protocol_programs.specs.Lists.{lists_of};
 
-use fragments::{Fragment, columns_stand_in_order};
+use direct_constraints::{add_common, add_own};
+use fragments::{Fragment, RowLimits, RowTaker, columns_stand_in_order};
+use preempt_constraints::add_interval_rows;
 use program_form::{Program, RowBlock, refusals_are_exact};
 use sporadic_model::{Protocol, TaskId, TaskSet};
 use std::alloc::{AllocError, Global};
@@ -34,16 +36,27 @@ pub fn costs(alloc: Global, set: &TaskSet, columns: &[Fragment]) -> Result<Vec<u
     lengths(alloc, set, columns)
 }
 
-/// Puts the rows of another block behind those of this one.
-pub fn append(block: &mut RowBlock, more: RowBlock) -> Result<(), AllocError>
-    ensures { OnOk result (block_seen block.new ≡ joined (block_seen block.old) (block_seen more)) }
+/// Adds all rows of the protocol, in their order, behind those that the taker has.
+pub fn add_rows<T: RowTaker>(
+    alloc: Global,
+    taker: &mut T,
+    set: &TaskSet,
+    protocol: Protocol,
+    i: TaskId,
+    bounds: &[u64],
+    columns: &[Fragment],
+) -> Result<(), AllocError>
+    requires task { i.0 < length set.now.tasks }
+    requires within { AreWithinDeadlines set.now bounds.now }
+    requires columns { map column_seen columns.now ≡ columns_of protocol set.now i.0 }
+    ensures { OnOk result (T.takes taker.old (map column_seen columns.now) (rows_of protocol set.now i.0) bounds.now taker.new) }
 {
-    let RowBlock {
-        mut rows,
-        mut limits,
-    } = more;
-    block.rows.append(&mut rows)?;
-    block.limits.append(&mut limits)
+    columns_stand_in_order(set, protocol, i, columns);
+    add_common(alloc, taker, set, i, bounds, columns)?;
+    add_interval_rows(alloc, taker, set, i, bounds, columns)?;
+    add_own(alloc, taker, set, protocol, i, bounds, columns)?;
+    indirect_constraints::add_rows(alloc, taker, set, protocol, i, bounds, columns)?;
+    Ok(())
 }
 
 /// All rows of the protocol, in their order: a block behind which a further protocol may add its own.
@@ -61,13 +74,11 @@ pub fn rows(
     requires columns { map column_seen columns.now ≡ columns_of protocol set.now i.0 }
     ensures { IfOk result (λ b. block_seen b ≡ block_of (columns_of protocol set.now i.0) (rows_of protocol set.now i.0) bounds.now) }
 {
-    let mut block = direct_constraints::common(alloc, set, protocol, i, bounds, columns)?;
-    let preemption = preempt_constraints::rows(alloc, set, protocol, i, bounds, columns)?;
-    append(&mut block, preemption)?;
-    let own = direct_constraints::own(alloc, set, protocol, i, bounds, columns)?;
-    append(&mut block, own)?;
-    let indirect = indirect_constraints::rows(alloc, set, protocol, i, bounds, columns)?;
-    append(&mut block, indirect)?;
+    let mut block = RowBlock {
+        rows: Vec::new(alloc),
+        limits: Vec::new(alloc),
+    };
+    add_rows(alloc, &mut block, set, protocol, i, bounds, columns)?;
     Ok(block)
 }
 
@@ -118,4 +129,25 @@ pub fn program(
     columns_stand_in_order(set, protocol, i, &columns);
     let block = rows(alloc, set, protocol, i, bounds, &columns)?;
     program_over(alloc, set, &columns, block)
+}
+
+/// The limits of that program, where these are the bounds, without its coefficients. It refuses for want of memory alone.
+pub fn limits(
+    alloc: Global,
+    set: &TaskSet,
+    protocol: Protocol,
+    i: TaskId,
+    bounds: &[u64],
+) -> Result<Vec<u64>, AllocError>
+    requires task { i.0 < length set.now.tasks }
+    requires suits { HasHomesFor protocol set.now }
+    requires within { AreWithinDeadlines set.now bounds.now }
+    ensures { IfOk result (λ v. v.items ≡ (program_of protocol set.now i.0 bounds.now).limits) }
+{
+    let columns = fragments::fragments(alloc, set, protocol, i)?;
+    let mut taken = RowLimits {
+        limits: Vec::new(alloc),
+    };
+    add_rows(alloc, &mut taken, set, protocol, i, bounds, &columns)?;
+    Ok(taken.limits)
 }

@@ -1,4 +1,4 @@
-use crate::{interference, program};
+use crate::{interference, limits, program};
 use program_form::Program;
 use program_sources::ProgramSource;
 use sporadic_model::{Protocol, TaskId, TaskSet};
@@ -36,6 +36,16 @@ impl ProgramSource for Written {
         bounds: &[u64],
     ) -> Result<Program, AllocError> {
         program(alloc, set, self.0, i, bounds)
+    }
+
+    fn limits(
+        &self,
+        alloc: Global,
+        set: &TaskSet,
+        i: TaskId,
+        bounds: &[u64],
+    ) -> Result<Vec<u64>, AllocError> {
+        limits(alloc, set, self.0, i, bounds)
     }
 
     fn interference(&self, set: &TaskSet, i: TaskId, bounds: &[u64]) -> u64 {

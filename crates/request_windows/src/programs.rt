@@ -1,16 +1,64 @@
 //! Whole programs with rows of windows.
 
-ghost use Rattle.std.specs.Prelude.{◌≡◌, ◌<◌, length, IfOk};
+ghost use Rattle.std.specs.Prelude.{◌≡◌, ◌<◌, map, length, IfOk, OnOk};
+ghost use Rattle.program_form.specs.RowBlock.{block_seen};
 ghost use Rattle.sporadic_model.specs.Homes.{EachHasHome};
+ghost use Rattle.sporadic_model.specs.declared.ids.Protocol.TheVariants as protocol;
 ghost use Rattle.program_sources.specs.Bounds.{AreWithinDeadlines};
-ghost use Rattle.window_laws.specs.WindowRows.{windowed_program};
+ghost use Rattle.fragments.specs.ColumnDef.{column_seen};
+ghost use Rattle.fragments.specs.Columns.{columns_of};
+ghost use Rattle.fragments.specs.Constraints.{block_of};
+ghost use Rattle.window_laws.specs.WindowRows.{windowed_rows, windowed_program};
 
 use crate::rows::add_window_rows;
-use fragments::{columns_stand_in_order, fragments};
-use program_form::Program;
-use protocol_programs::{program_over, rows};
+use fragments::{Fragment, RowLimits, RowTaker, columns_stand_in_order, fragments};
+use program_form::{Program, RowBlock};
+use protocol_programs::program_over;
 use sporadic_model::{Protocol, TaskId, TaskSet};
 use std::alloc::{AllocError, Global};
+
+/// Adds the rows of DPCP, and behind them those of windows, behind those that the taker has.
+fn add_rows<T: RowTaker>(
+    alloc: Global,
+    taker: &mut T,
+    set: &TaskSet,
+    i: TaskId,
+    bounds: &[u64],
+    columns: &[Fragment],
+) -> Result<(), AllocError>
+    requires task { i.0 < length set.now.tasks }
+    requires suits { EachHasHome set.now }
+    requires within { AreWithinDeadlines set.now bounds.now }
+    requires columns { map column_seen columns.now ≡ columns_of protocol.Dpcp set.now i.0 }
+    ensures { OnOk result (T.takes taker.old (map column_seen columns.now) (windowed_rows set.now i.0) bounds.now taker.new) }
+{
+    columns_stand_in_order(set, Protocol::Dpcp, i, columns);
+    protocol_programs::add_rows(alloc, taker, set, Protocol::Dpcp, i, bounds, columns)?;
+    add_window_rows(alloc, taker, set, i, bounds, columns)?;
+    Ok(())
+}
+
+/// The block of these rows, where some column has a coefficient above zero in them.
+fn rows(
+    alloc: Global,
+    set: &TaskSet,
+    i: TaskId,
+    bounds: &[u64],
+    columns: &[Fragment],
+) -> Result<RowBlock, AllocError>
+    requires task { i.0 < length set.now.tasks }
+    requires suits { EachHasHome set.now }
+    requires within { AreWithinDeadlines set.now bounds.now }
+    requires columns { map column_seen columns.now ≡ columns_of protocol.Dpcp set.now i.0 }
+    ensures { IfOk result (λ b. block_seen b ≡ block_of (columns_of protocol.Dpcp set.now i.0) (windowed_rows set.now i.0) bounds.now) }
+{
+    let mut block = RowBlock {
+        rows: Vec::new(alloc),
+        limits: Vec::new(alloc),
+    };
+    add_rows(alloc, &mut block, set, i, bounds, columns)?;
+    Ok(block)
+}
 
 /// The blocking program of task `i`, where these are the bounds, in ticks: the columns and rows of DPCP, and behind them the rows of
 /// windows. It refuses for want of memory alone.
@@ -29,7 +77,26 @@ pub fn program(
     let _tasks = set.tasks();
     let columns = fragments(alloc, set, Protocol::Dpcp, i)?;
     columns_stand_in_order(set, Protocol::Dpcp, i, &columns);
-    let mut block = rows(alloc, set, Protocol::Dpcp, i, bounds, &columns)?;
-    add_window_rows(alloc, &mut block, set, i, bounds, &columns)?;
+    let block = rows(alloc, set, i, bounds, &columns)?;
     program_over(alloc, set, &columns, block)
+}
+
+/// The limits of that program, where these are the bounds, without its coefficients. It refuses for want of memory alone.
+pub(crate) fn limits(
+    alloc: Global,
+    set: &TaskSet,
+    i: TaskId,
+    bounds: &[u64],
+) -> Result<Vec<u64>, AllocError>
+    requires task { i.0 < length set.now.tasks }
+    requires suits { EachHasHome set.now }
+    requires within { AreWithinDeadlines set.now bounds.now }
+    ensures { IfOk result (λ v. v.items ≡ (windowed_program set.now i.0 bounds.now).limits) }
+{
+    let columns = fragments(alloc, set, Protocol::Dpcp, i)?;
+    let mut taken = RowLimits {
+        limits: Vec::new(alloc),
+    };
+    add_rows(alloc, &mut taken, set, i, bounds, &columns)?;
+    Ok(taken.limits)
 }

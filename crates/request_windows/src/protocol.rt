@@ -9,18 +9,19 @@ ghost use Rattle.schedule_model.specs.BlockedTicks.{is_dpcp_interference};
 ghost use Rattle.schedule_laws.proofs.DpcpLaws.{dpcp_one_of_three, dpcp_sound_row, dpcp_chosen_keeps};
 ghost use Rattle.schedule_laws.proofs.DpcpAgreement.{dpcp_rules_read, dpcp_choice_reads};
 ghost use Rattle.schedule_laws.proofs.TickAgreement.{dpcp_interference_agree};
-ghost use Rattle.stretch_laws.proofs.DpcpStretches.{dpcp_stays_lawful};
+ghost use Rattle.schedule_laws.proofs.DpcpStretches.{dpcp_stays_lawful};
 ghost use Rattle.fragments.specs.Columns.{columns_of as written_columns};
 ghost use Rattle.program_laws.proofs.WrittenPrograms.{interfering_least, interfering_most};
 ghost use Rattle.charge_model.specs.Charges.{dpcp_charge};
 ghost use Rattle.charge_laws.proofs.DpcpCharging.{dpcp_charge_blocked};
+ghost use Rattle.charge_laws.proofs.Stretches.{dpcp_stays_charged};
 ghost use Rattle.row_laws.proofs.ChargedTicks.{dpcp_is_charged};
 ghost use Rattle.row_laws.proofs.InterferingCosts.{dpcp_interferes_within};
 ghost use Rattle.window_laws.specs.WindowRows.{windowed_source};
 ghost use Rattle.window_laws.proofs.Points.{windowed_point};
 ghost use Rattle.window_laws.proofs.Programs.{windowed_covered, windowed_rises, windowed_is_program};
 
-use crate::programs::program;
+use crate::programs::{limits, program};
 use charge::ChargedProtocol;
 use dpcp_rules::Dpcp;
 use fragments::Class;
@@ -99,6 +100,16 @@ impl ProgramSource for DpcpWindows {
         program(alloc, set, i, bounds)
     }
 
+    fn limits(
+        &self,
+        alloc: Global,
+        set: &TaskSet,
+        i: TaskId,
+        bounds: &[u64],
+    ) -> Result<Vec<u64>, AllocError> {
+        limits(alloc, set, i, bounds)
+    }
+
     fn interference(&self, set: &TaskSet, i: TaskId, bounds: &[u64]) -> u64 {
         interference(set, Protocol::Dpcp, i, bounds)
     }
@@ -122,6 +133,8 @@ impl ChargedProtocol for DpcpWindows {
     ghost charges_blocked = { λ p w n t j suits lawful keeps early blocked. dpcp_is_charged w n t j lawful keeps early blocked };
 
     ghost charges_only = { λ p. dpcp_charge_blocked };
+
+    ghost stays_charged = { λ p. dpcp_stays_charged EachHasHome dpcp_rule };
 
     ghost meets_rows = { λ p w bounds n j suits accepted lawful keeps listed ended.
         windowed_point w bounds n j (record { accepted = accepted; lawful = lawful; listed = listed; ended = ended }) keeps };

@@ -1,19 +1,16 @@
 //! The rows of windows.
 
-ghost use Rattle.std.specs.Prelude.{◌≡◌, ◌<◌, ◌+◌, [], ◌∷◌, map, length, slice_index, IfOk, OnOk};
-ghost use Rattle.program_form.specs.RowBlock.{block_seen};
+ghost use Rattle.std.specs.Prelude.{◌≡◌, ◌<◌, map, length, slice_index, OnOk};
 ghost use Rattle.sporadic_model.specs.Homes.{EachHasHome};
 ghost use Rattle.program_sources.specs.Bounds.{AreWithinDeadlines};
 ghost use Rattle.fragments.specs.ColumnDef.{column_seen, AreKnown};
-ghost use Rattle.fragments.specs.Constraints.{per, with_rows};
-ghost use Rattle.fragments.specs.Stretches.{slot, AreInOrder, BeginsAt};
+ghost use Rattle.fragments.specs.Stretches.{AreInOrder};
 ghost use Rattle.window_laws.specs.WindowRows.{window_row, window_rows};
 ghost use Rattle.request_windows.specs.Windows.{AreWindows};
 
 use crate::kept::windows_of;
 use crate::limits::limit;
-use fragments::{Fragment, RowKind, add_row_limited, requests_end};
-use program_form::RowBlock;
+use fragments::{Fragment, PerRequest, RowKind, RowTaker, add_per_request, add_row_limited};
 use sporadic_model::{ResourceId, TaskId, TaskSet};
 use std::alloc::{AllocError, Global};
 
@@ -30,8 +27,8 @@ impl RowKind for WindowRow {
     ghost fits = { λ k set. (k.task.0 < length set.tasks) × (k.resource.0 < length set.resources) };
 
     fn coefficient(&self, _set: &TaskSet, _i: TaskId, column: Fragment) -> u64 {
-        if column.task.0 == self.task.0
-            && column.resource.0 == self.resource.0
+        if column.task == self.task
+            && column.resource == self.resource
             && !column.class.is_preemption()
         {
             1
@@ -41,85 +38,43 @@ impl RowKind for WindowRow {
     }
 }
 
-// Adds the row of a task's requests of a resource, whose columns begin at `from`. Answers where they end.
-fn add_window_row(
-    alloc: Global,
-    block: &mut RowBlock,
-    row: &WindowRow,
-    set: &TaskSet,
-    i: TaskId,
-    bounds: &[u64],
-    windows: &[Option<u64>],
-    columns: &[Fragment],
-    from: usize,
-) -> Result<usize, AllocError>
-    requires task { i.0 < length set.now.tasks }
-    requires other { row.now.task.0 < length set.now.tasks }
-    requires resource { row.now.resource.0 < length set.now.resources }
-    requires within { AreWithinDeadlines set.now bounds.now }
-    requires windows { AreWindows set.now (slice_index bounds.now) i.0 windows.now }
-    requires known { AreKnown (length set.now.tasks) (length set.now.resources) columns.now }
-    requires order { AreInOrder columns.now }
-    requires from { BeginsAt (slot row.now.task.0 row.now.resource.0) columns.now from }
-    ensures rows { OnOk result (block_seen block.new ≡ with_rows (block_seen block.old) (map column_seen columns.now)
-        (window_row set.now i.0 row.now.task.0 row.now.resource.0 ∷ []) bounds.now) }
-    ensures end { IfOk result (λ n. BeginsAt (slot row.now.task.0 (row.now.resource.0 + 1)) columns.now n) }
-{
-    let to = requests_end(set, columns, from, row.task, row.resource);
-    let limit = limit(set, i, row.task, row.resource, bounds, windows);
-    add_row_limited(
-        alloc,
-        block,
-        row,
-        set,
-        i,
-        bounds,
-        columns,
-        (from, to),
-        limit,
-    )?;
-    Ok(to)
+/// The rows of windows of each task and each resource, with the windows of the analysed task's requests, by the resource.
+#[derive(Drop)]
+struct WindowRows {
+    windows: Vec<Option<u64>>,
 }
 
-// Adds the rows of the requests by task `x`, whose columns begin at `from`. Answers where they end.
-fn add_window_rows_of(
-    alloc: Global,
-    block: &mut RowBlock,
-    set: &TaskSet,
-    i: TaskId,
-    x: TaskId,
-    bounds: &[u64],
-    windows: &[Option<u64>],
-    columns: &[Fragment],
-    from: usize,
-) -> Result<usize, AllocError>
-    requires task { i.0 < length set.now.tasks }
-    requires other { x.0 < length set.now.tasks }
-    requires within { AreWithinDeadlines set.now bounds.now }
-    requires windows { AreWindows set.now (slice_index bounds.now) i.0 windows.now }
-    requires known { AreKnown (length set.now.tasks) (length set.now.resources) columns.now }
-    requires order { AreInOrder columns.now }
-    requires from { BeginsAt (slot x.0 0) columns.now from }
-    ensures rows { OnOk result (block_seen block.new ≡ with_rows (block_seen block.old) (map column_seen columns.now)
-        (per (length set.now.resources) (window_row set.now i.0 x.0)) bounds.now) }
-    ensures end { IfOk result (λ n. BeginsAt (slot (x.0 + 1) 0) columns.now n) }
-{
-    let mut place = from;
-    for q in 0..set.resources() {
+impl PerRequest for WindowRows {
+    ghost row_of = { λ k set i x q. window_row set i x q };
+
+    ghost fits = { λ k set i bounds. AreWindows set (slice_index bounds) i k.windows.items };
+
+    fn add<T: RowTaker>(
+        &self,
+        alloc: Global,
+        taker: &mut T,
+        set: &TaskSet,
+        i: TaskId,
+        x: TaskId,
+        q: ResourceId,
+        bounds: &[u64],
+        columns: &[Fragment],
+        stretch: (usize, usize),
+    ) -> Result<(), AllocError> {
         let row = WindowRow {
             task: x,
-            resource: ResourceId(q),
+            resource: q,
         };
-        place = add_window_row(alloc, block, &row, set, i, bounds, windows, columns, place)?;
+        let most = limit(set, i, x, q, bounds, &self.windows);
+        add_row_limited(alloc, taker, &row, set, i, bounds, columns, stretch, most)
     }
-    Ok(place)
 }
 
-/// Adds the rows of windows behind those of the block, over any columns that stand in order: one for each higher task and each
+/// Adds the rows of windows behind those that the taker has, over any columns that stand in order: one for each higher task and each
 /// resource.
-pub(crate) fn add_window_rows(
+pub(crate) fn add_window_rows<T: RowTaker>(
     alloc: Global,
-    block: &mut RowBlock,
+    taker: &mut T,
     set: &TaskSet,
     i: TaskId,
     bounds: &[u64],
@@ -130,23 +85,9 @@ pub(crate) fn add_window_rows(
     requires within { AreWithinDeadlines set.now bounds.now }
     requires known { AreKnown (length set.now.tasks) (length set.now.resources) columns.now }
     requires order { AreInOrder columns.now }
-    ensures { OnOk result (block_seen block.new ≡ with_rows (block_seen block.old) (map column_seen columns.now)
-        (window_rows set.now i.0) bounds.now) }
+    ensures { OnOk result (T.takes taker.old (map column_seen columns.now) (window_rows set.now i.0) bounds.now taker.new) }
 {
     let windows = windows_of(alloc, set, i, bounds)?;
-    let mut place = 0;
-    for x in 0..i.0 {
-        place = add_window_rows_of(
-            alloc,
-            block,
-            set,
-            i,
-            TaskId(x),
-            bounds,
-            &windows,
-            columns,
-            place,
-        )?;
-    }
-    Ok(())
+    let rows = WindowRows { windows };
+    add_per_request(alloc, taker, &rows, set, i.0, i, bounds, columns)
 }

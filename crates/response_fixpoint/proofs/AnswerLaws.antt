@@ -3,6 +3,7 @@ use Rattle.std.proofs.Common.{◌≡◌, ◌≢◌, ℕ, suc, ◌+◌, ◌-◌, 
 use Rattle.std.proofs.Common.{subst, arith, Ok, Err, IfOk}
 use Rattle.std.specs.Prelude.{Result, IsErrOf, slice_index}
 use Rattle.program_form.specs.Certificate.{DualDef, dual_seen}
+use Rattle.program_form.specs.Program.{ProgramDef}
 use Rattle.program_sources.specs.Bounds.{AreWithinDeadlines, AreFromCostsAbove, IsInRange}
 use Rattle.program_sources.specs.Recurrence.{SourceDef}
 use Rattle.program_sources.specs.Fitting.{AreFitting, NeverFalls, ComesUpAbove, tasks_of, latest_of}
@@ -101,12 +102,12 @@ run_halts f r left i found solve_stop.Units here passed run = (i, record { found
 run_halts f r left i found solve_stop.Memory here passed run = tt
 
 -- It ends at a value that passes the latest.
-pub value_halts : (f : SourceDef) (r : List ℕ) (left i latest : ℕ) (before now : Round) (run : TaskRun)
+pub value_halts : (f : SourceDef) (r : List ℕ) (left i latest : ℕ) (before now : Round) (program : ProgramDef) (run : TaskRun)
     (e : RoundStop) → i < tasks_of f → latest ≡ latest_of f i
     → Passes (rounds_of f) r left i (found_of before)
     → TaskRuns f r i (left - before.used) (Valued run.solution.used run.value (dual_seen run.solution.dual))
-    → TakesRun (Err e) before now run i latest → GivesRound (Err e) f r left
-value_halts f r left i latest before now run (round_stop.NotShown task bound) here is passed runs (same, value, past) =
+    → TakesRun (Err e) before now program run i latest → GivesRound (Err e) f r left
+value_halts f r left i latest before now program run (round_stop.NotShown task bound) here is passed runs (same, value, past) =
     let halts : Halts f r left i (Valued run.solution.used bound (dual_seen run.solution.dual)) = record {
       found = found_of before;
       below = here;
@@ -119,9 +120,9 @@ value_halts f r left i latest before now run (round_stop.NotShown task bound) he
     subst
     (λ (k : ℕ). (latest_of f k < bound) × (used : ℕ) × (dual : DualDef) × Halts f r left k (Valued used bound dual))
     (sym same) (late, run.solution.used, dual_seen run.solution.dual, halts)
-value_halts f r left i latest before now run (round_stop.Wide task) here is passed runs given = absurd given
-value_halts f r left i latest before now run round_stop.Allowance here is passed runs given = absurd given
-value_halts f r left i latest before now run round_stop.Memory here is passed runs given = tt
+value_halts f r left i latest before now program run (round_stop.Wide task) here is passed runs given = absurd given
+value_halts f r left i latest before now program run round_stop.Allowance here is passed runs given = absurd given
+value_halts f r left i latest before now program run round_stop.Memory here is passed runs given = tt
 
 comes_there : (f : SourceDef) (allowance k spent : ℕ) (r : List ℕ) (i : ℕ) (e : RunEnd) → Reaches (rounds_of f) allowance k spent r
     → (h : Halts f r (allowance - spent) i e) → ComesTo (rounds_of f) allowance r i (allowance - spent - h.found.used) h.found

@@ -7,7 +7,7 @@ pub mod EmptyRuns
 pub mod WrittenLaws
 pub mod RunLaws
 pub mod EndLaws
+pub mod PlaceLaws
 pub mod SolutionLaws
-pub mod AheadLaws
 pub mod AnswerLaws
 pub mod WorkedRounds

@@ -1,11 +1,8 @@
 -- Laws of solutions: what they say with other units than those they were found with, and of programs with the same limits.
-use Rattle.std.proofs.Common.{◌≡◌, ℕ, suc, ◌+◌, ◌-◌, ◌/◌, ◌^◌, ◌<◌, ◌≤◌, ◌↔◌, List, [], ◌∷◌, ◌++◌, length, unsigned_abs}
-use Rattle.std.proofs.Common.{refl, sym, ◌∙◌, ap, subst, arith, inl, inr, Some, Err}
-use Rattle.std.proofs.lemmas.Bool.{cases_lt}
-use Rattle.std.proofs.lemmas.List.{get_or_push, get_or_append_left, length-append}
-use Rattle.std.proofs.lemmas.Option.{slice_get_within, slice_get_read, get_or_from_slice_get}
-use Rattle.std.specs.Prelude.{Option, None, Result, IfSome, IsSome, slice_get, slice_index_or}
-use Rattle.std.specs.Option.{option_to_list, option_flatten}
+use Rattle.std.proofs.Common.{◌≡◌, ℕ, ◌+◌, ◌-◌, ◌/◌, ◌^◌, ◌<◌, ◌≤◌, List, [], unsigned_abs}
+use Rattle.std.proofs.Common.{sym, ◌∙◌, ap, subst, arith, inl, inr, Some, Ok, Err}
+use Rattle.std.specs.Prelude.{Option, None, Result, IfOk, IfSome}
+use Rattle.std.specs.Option.{option_or}
 use Rattle.fraction128.specs.Fraction.{Fraction}
 use Rattle.program_form.specs.Certificate.{DualDef, dual_seen}
 use Rattle.program_form.specs.Limits.{HasLimitsAtMost}
@@ -25,9 +22,11 @@ use Rattle.program_sources.specs.Recurrence.{SourceDef, response_with}
 use Rattle.program_sources.specs.Fitting.{tasks_of}
 use Rattle.response_fixpoint.specs.Rounds.{Valued, OutOfUnits}
 use Rattle.response_fixpoint.specs.Runs.{TaskRuns}
-use Rattle.response_fixpoint.specs.Solutions.{IsSolution, GivesSolution, IsEarlier, AreEarlier, IsAhead, AreAhead}
+use Rattle.response_fixpoint.specs.Solutions.{IsSolution, GivesSolution, IsAhead, IsOutcome, IsPlanned, IsKept}
 use Rattle.response_fixpoint.specs.Answers.{GivesRun}
 use Rattle.response_fixpoint.specs.declared.task_run.Solution.{Solution}
+use Rattle.response_fixpoint.specs.declared.plan.Kept.{Kept}
+use Rattle.response_fixpoint.specs.declared.plan.Planned.{Planned}
 
 -- A run that ends within some units ends within any that are more than its exchanges.
 ends_within : (p : ProgramDef) (units others k : ℕ) (value : Fraction) (primal : List Fraction) (d : DualDef)
@@ -76,8 +75,8 @@ still_needs_more p units left is fewer more = elim (has_outcome p left is) [
 pub solved_solution : (p : ProgramDef) (units : ℕ) (x : Solved) (s : Solution) → IsProgram p
     → EndsWithin p units x.exchanges x.value x.primal.items (dual_seen x.dual) → IsOptimumValue p x.value
     → s.used ≡ x.exchanges + 1 → s.blocking ≡ unsigned_abs x.value.num / unsigned_abs x.value.den → s.blocking < 2 ^ 63
-    → s.dual ≡ x.dual → s.limits.items ≡ p.limits → IsSolution p s
-solved_solution p units x s is ends best used blocking most dual limits =
+    → s.dual ≡ x.dual → IsSolution p s
+solved_solution p units x s is ends best used blocking most dual =
     let greatest = optimum_reached p (unsigned_abs x.value.num) (unsigned_abs x.value.den) best.optimum in
     let within : x.exchanges < s.used = omega (arith, used) in
     record {
@@ -89,7 +88,6 @@ solved_solution p units x s is ends best used blocking most dual limits =
       units = used;
       greatest = subst (λ (b : ℕ). IsGreatestReached p b) (sym blocking) greatest;
       most = most;
-      limits = limits;
     }
 
 -- And where it answers none, the program stops.
@@ -98,23 +96,11 @@ stopped_solution p units solve_stop.Wide is run = (is, run)
 stopped_solution p units solve_stop.Units is run = (is, run)
 stopped_solution p units solve_stop.Memory is run = tt
 
--- A solution is one of every program that is the same.
-pub taken_solution : (p q : ProgramDef) (s t : Solution) → p ≡ q → IsSolution p s → t.limits.items ≡ q.limits
-    → t.used ≡ s.used → t.blocking ≡ s.blocking
-    → dual_seen t.dual ≡ dual_seen s.dual → IsSolution q t
-taken_solution p q s t same is limits used blocking dual =
-    let moved = subst (λ (x : ProgramDef). IsSolution x s) same is in
-    record {
-      is_program = moved.is_program;
-      exchanges = moved.exchanges;
-      optimum = moved.optimum;
-      best = moved.best;
-      ends = rw (used, dual) moved.ends;
-      units = used ∙ moved.units;
-      greatest = rw blocking moved.greatest;
-      most = rw blocking moved.most;
-      limits = limits;
-    }
+-- A solution blocks for less than half of what a word counts.
+pub small_blocking : (o : Result Solution SolveStop) (p : ProgramDef) (units : ℕ) → GivesSolution o p units
+    → IfOk o (λ s. s.blocking < 2 ^ 63)
+small_blocking (Ok s) p units given = given.most
+small_blocking (Err e) p units given = tt
 
 -- The law of sources that taking over rests on: bounds are in the limits alone.
 abbrev pub Rises : SourceDef → ℕ → Type 0
@@ -126,33 +112,59 @@ same_lists p q costs rows limits =
     ∙ ap (λ x. record { costs = q.costs; rows = x; limits = p.limits }) rows
     ∙ ap (λ x. record { costs = q.costs; rows = q.rows; limits = x }) limits
 
--- Programs of one task with the same limits are the same.
-pub same_program : (f : SourceDef) (i : ℕ) (q r : List ℕ) → Rises f i → (f.program i q).limits ≡ (f.program i r).limits
-    → f.program i q ≡ f.program i r
-same_program f i q r rises same =
+-- A program of the task at some bounds, with the limits at others, is its program there.
+pub renewed_program : (f : SourceDef) (i : ℕ) (q r : List ℕ) (p : ProgramDef) (limits : List ℕ) → Rises f i → p ≡ f.program i q
+    → limits ≡ (f.program i r).limits → record { costs = p.costs; rows = p.rows; limits = limits } ≡ f.program i r
+renewed_program f i q r p limits rises is there =
     let from_q = rises [] q (λ k here. omega arith) in
     let from_r = rises [] r (λ k here. omega arith) in
-    same_lists (f.program i q) (f.program i r) (sym from_q.same_costs ∙ from_r.same_costs) (sym from_q.same_rows ∙ from_r.same_rows) same
+    same_lists (record { costs = p.costs; rows = p.rows; limits = limits }) (f.program i r)
+    (ap (λ (x : ProgramDef). x.costs) is ∙ sym from_q.same_costs ∙ from_r.same_costs)
+    (ap (λ (x : ProgramDef). x.rows) is ∙ sym from_q.same_rows ∙ from_r.same_rows) there
 
--- An earlier solution with the limits of task i's program is one of that program.
-pub earlier_solution : (f : SourceDef) (i : ℕ) (r : List ℕ) (s t : Solution) → Rises f i → IsEarlier f i s
-    → s.limits.items ≡ (f.program i r).limits
-    → t.limits.items ≡ (f.program i r).limits → t.used ≡ s.used → t.blocking ≡ s.blocking
-    → dual_seen t.dual ≡ dual_seen s.dual → IsSolution (f.program i r) t
-earlier_solution f i r s t rises (q, is) limits taken used blocking dual =
-    taken_solution (f.program i q) (f.program i r) s t (same_program f i q r rises (sym is.limits ∙ limits)) is taken used blocking dual
+-- So they are a program where that is one.
+pub renewed_is_program : (f : SourceDef) (i : ℕ) (r limits : List ℕ) (k : Kept) → Rises f i → IsKept f i k
+    → limits ≡ (f.program i r).limits → IsProgram (f.program i r)
+    → IsProgram (record { costs = k.program.costs; rows = k.program.rows; limits = limits })
+renewed_is_program f i r limits k rises kept there is =
+    subst (λ (y : ProgramDef). IsProgram y) (sym (renewed_program f i kept.bounds r k.program limits rises kept.program there)) is
+
+-- A solution of a program that is the same is what this one gives.
+taken_over : (f : SourceDef) (r : List ℕ) (left i : ℕ) (p q : ProgramDef) (s : Solution) (o : Option (Result Solution SolveStop))
+    → IfSome o (λ x. (x ≡ Ok s) × (p ≡ q)) → IsSolution p s → q ≡ f.program i r → IfSome o (λ x. IsOutcome f r left i x)
+taken_over f r left i p q s None given is there = tt
+taken_over f r left i p q s (Some x) (same, one) is there =
+    let solved : IsSolution (f.program i r) s = subst (λ (y : ProgramDef). IsSolution y s) (one ∙ there) is in
+    record { gives = subst (λ (y : Result Solution SolveStop). GivesSolution y (f.program i r) left) (sym same) solved }
+
+-- So a kept program with the limits at other bounds is the task's there, with its solution where the limits are the same.
+pub renewed_planned : (f : SourceDef) (i : ℕ) (r limits : List ℕ) (k : Kept) (p : Planned) (left : ℕ) → Rises f i → IsKept f i k
+    → limits ≡ (f.program i r).limits → p.program ≡ record { costs = k.program.costs; rows = k.program.rows; limits = limits }
+    → IfSome p.ahead (λ o. (o ≡ Ok k.solution) × (k.program ≡ p.program)) → IsPlanned f r left i p
+renewed_planned f i r limits k p left rises kept there is ahead =
+    let program : p.program ≡ f.program i r = is ∙ renewed_program f i kept.bounds r k.program limits rises kept.program there in
+    let solution : IsSolution k.program k.solution =
+    subst (λ (y : ProgramDef). IsSolution y k.solution) (sym kept.program) kept.solution in
+    record { program = program; ahead = taken_over f r left i k.program p.program k.solution p.ahead ahead solution program }
 
 -- A run that ran out of units ahead of its place is out of units there too.
-pub units_from_ahead : (f : SourceDef) (r : List ℕ) (i left : ℕ) (ahead : Option (Result Solution SolveStop))
+pub units_from_ahead : (p : ProgramDef) (left : ℕ) (ahead : Option (Result Solution SolveStop))
     (o : Result Solution SolveStop) (e : SolveStop)
-    → IfSome ahead (λ x. IsAhead f r i left x) → ahead ≡ Some o → o ≡ Err e → e ≡ solve_stop.Units
-    → (IsProgram (f.program i r)) × NeedsMoreThan (f.program i r) left
-units_from_ahead f r i left ahead o e given is failed short =
-    let there : IsAhead f r i left o = rw is at given in
-    let mid : IsAhead f r i left (Err e) = rw failed at there in
-    let stopped : IsAhead f r i left (Err solve_stop.Units) = rw short at mid in
-    let units : ℕ = stopped.0 in
-    (stopped.2.0, still_needs_more (f.program i r) units left stopped.2.0 stopped.1 stopped.2.1)
+    → IfSome ahead (λ x. IsAhead p left x) → ahead ≡ Some o → o ≡ Err e → e ≡ solve_stop.Units
+    → (IsProgram p) × NeedsMoreThan p left
+units_from_ahead p left ahead o e given is failed short =
+    let there : IsAhead p left o = rw is at given in
+    let mid : IsAhead p left (Err e) = rw failed at there in
+    let stopped : IsAhead p left (Err solve_stop.Units) = rw short at mid in
+    (stopped.2.0, still_needs_more p stopped.0 left stopped.2.0 stopped.1 stopped.2.1)
+
+-- What is known ahead, from the plan or from a thread, is what the program gave with as many units as are left or more.
+pub either_ahead : (f : SourceDef) (r : List ℕ) (left used i : ℕ) (p : ProgramDef) (a b : Option (Result Solution SolveStop))
+    → p ≡ f.program i r → IfSome a (λ o. IsOutcome f r left i o) → IfSome b (λ o. IsOutcome f r left i o)
+    → IfSome (option_or a b) (λ o. IsAhead p (left - used) o)
+either_ahead f r left used i p (Some x) b same planned found = (left, omega arith, rw same planned.gives)
+either_ahead f r left used i p None (Some x) same planned found = (left, omega arith, rw same found.gives)
+either_ahead f r left used i p None None same planned found = tt
 
 -- A solution whose units are there is a solved task.
 pub solved_run : (f : SourceDef) (r : List ℕ) (i left value : ℕ) (s : Solution) → IsSolution (f.program i r) s → s.used ≤ left
@@ -182,51 +194,3 @@ pub stopped_run : (f : SourceDef) (r : List ℕ) (i left : ℕ) (e : SolveStop) 
 stopped_run f r i left solve_stop.Wide (is, wide) = record { is_program = is; ends = wide }
 stopped_run f r i left solve_stop.Units (is, more) = record { is_program = is; ends = more }
 stopped_run f r i left solve_stop.Memory given = tt
-
--- With the solution of the next task the solutions are earlier ones still.
-pub earlier_more : (f : SourceDef) (i : ℕ) (solutions : List Solution) (s : Solution) → length solutions ≡ i
-    → AreEarlier f solutions → IsEarlier f i s
-    → AreEarlier f (solutions ++ s ∷ [])
-earlier_more f i solutions s count old new = λ k x here.
-    let most = slice_get_within (solutions ++ s ∷ []) k x here in
-    let grown = length-append solutions (s ∷ []) in
-    let at : slice_index_or (solutions ++ s ∷ []) k x ≡ x = get_or_from_slice_get (solutions ++ s ∷ []) k x x here in
-    elim (cases_lt k i) [
-      | inl before ↦
-          let there : k < length solutions = omega (arith, before, count) in
-          let left : slice_index_or (solutions ++ s ∷ []) k x ≡ slice_index_or solutions k x =
-          get_or_append_left solutions (s ∷ []) x k there in
-          old k x (slice_get_read solutions (length solutions) k x refl there (sym at ∙ left))
-      | inr behind ↦
-          let last : i ≡ k = omega (arith, behind, most, grown, count) in
-          let seat : slice_index_or (solutions ++ s ∷ []) k x ≡ s = get_or_push solutions s x k (count ∙ last) in
-          subst (λ (y : Solution). IsEarlier f k y) (sym seat ∙ at) (subst (λ (n : ℕ). IsEarlier f n s) last new)
-    ]
-
--- The first of what was solved ahead is the next task's, and the rest is that of the tasks behind it.
-pub first_ahead : (f : SourceDef) (r : List ℕ) (n left used : ℕ) (outcomes rest : List (Option (Result Solution SolveStop)))
-    (first : Option (Option (Result Solution SolveStop)))
-    → outcomes ≡ option_to_list first ++ rest → AreAhead f r n left outcomes
-    → IfSome (option_flatten first) (λ o. IsAhead f r n (left - used) o)
-first_ahead f r n left used outcomes rest None same ahead = tt
-first_ahead f r n left used outcomes rest (Some None) same ahead = tt
-first_ahead f r n left used outcomes rest (Some (Some o)) same ahead =
-    let at : slice_get outcomes 0 ≡ Some (Some o) = ap (λ (x : List (Option (Result Solution SolveStop))). slice_get x 0) same in
-    let first : n + 0 ≡ n = omega arith in
-    let here : GivesSolution o (f.program n r) left = subst (λ (k : ℕ). GivesSolution o (f.program k r) left) first (ahead 0 o at) in
-    (left, omega arith, here)
-
-pub rest_ahead : (f : SourceDef) (r : List ℕ) (n left count : ℕ) (outcomes rest : List (Option (Result Solution SolveStop)))
-    (first : Option (Option (Result Solution SolveStop)))
-    → outcomes ≡ option_to_list first ++ rest → (IsSome first ↔ (0 < count)) → count ≡ length outcomes → AreAhead f r n left outcomes
-    → AreAhead f r (n + 1) left rest
-rest_ahead f r n left count outcomes rest None same some are ahead k o here =
-    let within : k < length rest = slice_get_within rest k (Some o) here in
-    let none : length outcomes ≡ length rest = ap length same in
-    let never : IsSome {T = Option (Result Solution SolveStop)} None = some.1 (omega (arith, within, none, are)) in
-    cc
-rest_ahead f r n left count outcomes rest (Some x) same some are ahead k o here =
-    let at : slice_get outcomes (suc k) ≡ Some (Some o) =
-    ap (λ (y : List (Option (Result Solution SolveStop))). slice_get y (suc k)) same ∙ here in
-    let next : n + suc k ≡ n + 1 + k = omega arith in
-    subst (λ (i : ℕ). GivesSolution o (f.program i r) left) next (ahead (suc k) o at)

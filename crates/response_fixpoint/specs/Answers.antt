@@ -2,13 +2,14 @@
 use Rattle.std.specs.Prelude.{◌≡◌, ℕ, ◌<◌, ◌≤◌, ◌-◌, ◌^◌, List, [], ◌∷◌, ◌++◌, map, Result, Ok, Err}
 use Rattle.std.specs.List.{All}
 use Rattle.program_form.specs.Certificate.{DualDef, CertificateDef, dual_seen, certificate_seen}
+use Rattle.program_form.specs.Program.{ProgramDef}
 use Rattle.program_sources.specs.Recurrence.{SourceDef}
 use Rattle.program_sources.specs.Fitting.{AreFitting, AreLeastFitting, tasks_of, latest_of}
 use Rattle.program_sources.specs.Valid.{AreOptimalDuals, IsValid, dual_at}
 use Rattle.response_fixpoint.specs.Rounds.{RunEnd, Valued, TooWide, OutOfUnits, Ending, Schedulable, NotShown, Wide}
 use Rattle.response_fixpoint.specs.Rounds.{Allowance, Found, with_task, Passes, EndsIn}
 use Rattle.response_fixpoint.specs.Runs.{TaskRuns, rounds_of}
-use Rattle.response_fixpoint.specs.Solutions.{IsEarlier, AreEarlier}
+use Rattle.response_fixpoint.specs.Solutions.{IsSolution, AreKept}
 use Rattle.simplex.specs.declared.SolveStop.{SolveStop}
 use Rattle.simplex.specs.declared.SolveStop.TheVariants as solve_stop
 use Rattle.response_fixpoint.specs.declared.verdict.Verdict.{Verdict}
@@ -62,24 +63,25 @@ IsSchedulable (verdict.NotShown task bound) = ⊥
 -- Is this how the run of task i ends where so many units are left, and which solution it has? Want of memory says nothing.
 abbrev pub GivesRun : Result TaskRun SolveStop → SourceDef → List ℕ → ℕ → ℕ → Type 0
 GivesRun (Ok run) f r i left = (TaskRuns f r i left (Valued run.solution.used run.value (dual_seen run.solution.dual)))
-    × IsEarlier f i run.solution
+    × IsSolution (f.program i r) run.solution
 GivesRun (Err solve_stop.Wide) f r i left = TaskRuns f r i left TooWide
 GivesRun (Err solve_stop.Units) f r i left = TaskRuns f r i left OutOfUnits
 GivesRun (Err solve_stop.Memory) f r i left = Unit {0}
 
 -- What a round has found so far.
 abbrev pub found_of : Round → Found
-found_of round = record { used = round.used; values = round.values.items; duals = map (λ s. dual_seen s.dual) round.solutions.items }
+found_of round = record { used = round.used; values = round.values.items; duals = map (λ k. dual_seen k.solution.dual) round.kept.items }
 
 -- What comes of a solved task in a round: it passes where its value is at most its latest bound.
-abbrev pub TakesRun : Result (Unit {0}) RoundStop → Round → Round → TaskRun → ℕ → ℕ → Type 0
-TakesRun (Ok done) before now run i latest = (run.value ≤ latest)
+abbrev pub TakesRun : Result (Unit {0}) RoundStop → Round → Round → ProgramDef → TaskRun → ℕ → ℕ → Type 0
+TakesRun (Ok done) before now program run i latest = (run.value ≤ latest)
     × (found_of now ≡ with_task (found_of before) run.solution.used run.value (dual_seen run.solution.dual))
-    × (now.solutions.items ≡ before.solutions.items ++ run.solution ∷ [])
-TakesRun (Err (round_stop.NotShown task bound)) before now run i latest = (task.0 ≡ i) × (bound ≡ run.value) × (latest < run.value)
-TakesRun (Err (round_stop.Wide task)) before now run i latest = ⊥
-TakesRun (Err round_stop.Allowance) before now run i latest = ⊥
-TakesRun (Err round_stop.Memory) before now run i latest = Unit {0}
+    × (now.kept.items ≡ before.kept.items ++ record { program = program; solution = run.solution } ∷ [])
+TakesRun (Err (round_stop.NotShown task bound)) before now program run i latest =
+    (task.0 ≡ i) × (bound ≡ run.value) × (latest < run.value)
+TakesRun (Err (round_stop.Wide task)) before now program run i latest = ⊥
+TakesRun (Err round_stop.Allowance) before now program run i latest = ⊥
+TakesRun (Err round_stop.Memory) before now program run i latest = Unit {0}
 
 -- Where a round at r that begins with `left` units comes to a task at which the rounds end.
 pub record Halts (f : SourceDef) (r : List ℕ) (left i : ℕ) (e : RunEnd) : Type 0 where
@@ -92,7 +94,7 @@ pub record Halts (f : SourceDef) (r : List ℕ) (left i : ℕ) (e : RunEnd) : Ty
 abbrev pub GivesRound : Result Round RoundStop → SourceDef → List ℕ → ℕ → Type 0
 GivesRound (Ok round) f r left =
     (Passes (rounds_of f) r left (tasks_of f) (found_of round)) × (round.used ≤ left) × (tasks_of f ≤ round.used)
-    × AreEarlier f round.solutions.items
+    × AreKept f (tasks_of f) round.kept.items
 GivesRound (Err (round_stop.NotShown task bound)) f r left =
     (latest_of f task.0 < bound) × (used : ℕ) × (dual : DualDef) × Halts f r left task.0 (Valued used bound dual)
 GivesRound (Err (round_stop.Wide task)) f r left = Halts f r left task.0 TooWide

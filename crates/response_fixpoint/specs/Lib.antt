@@ -1,5 +1,6 @@
 pub mod Rounds
 pub mod Runs
+pub mod Places
 pub mod Solutions
 pub mod Answers
 pub mod Worked

@@ -9,9 +9,10 @@ ghost use Rattle.response_fixpoint.specs.Rounds.{Ending, EndsIn};
 ghost use Rattle.response_fixpoint.specs.Runs.{rounds_of, slack_of, HasNoColumns, RequestsNothing};
 ghost use Rattle.response_fixpoint.specs.Answers.{Answers, IsAnswerOf, IsRight, IsSchedulable, IsSettled, answer_at};
 
+use crate::beginning::first_plan;
 use crate::laws::no_requests_no_columns;
+use crate::plan::{Kept, next_plan};
 use crate::rounds::{Round, RoundStop, take_round};
-use crate::task_run::Solution;
 use crate::verdict::{Stop, Verdict};
 use program_form::{Certificate, Dual};
 use program_sources::{ProgramSource, recurrence_is_monotone};
@@ -44,22 +45,22 @@ fn ended(stop: RoundStop) -> Result<Verdict, Stop>
     }
 }
 
-/// The duals of solutions.
-fn duals_of(alloc: Global, solutions: Vec<Solution>) -> Result<Vec<Dual>, AllocError>
-    ensures { IfOk result (λ v. map dual_seen v.items ≡ map (λ s. dual_seen s.dual) solutions.items) }
+/// The duals of kept solutions.
+fn duals_of(alloc: Global, kept: Vec<Kept>) -> Result<Vec<Dual>, AllocError>
+    ensures { IfOk result (λ v. map dual_seen v.items ≡ map (λ k. dual_seen k.solution.dual) kept.items) }
 {
     let mut duals = Vec::new(alloc);
-    for solution in solutions {
-        duals.push(solution.dual)?;
+    for last in kept {
+        duals.push(last.solution.dual)?;
     }
     Ok(duals)
 }
 
 /// What the analysis answers where a round gives the vector that it began with.
-fn settled(alloc: Global, bounds: Vec<u64>, solutions: Vec<Solution>) -> Result<Verdict, Stop>
-    ensures { IsSettled result bounds.items (map (λ s. dual_seen s.dual) solutions.items) }
+fn settled(alloc: Global, bounds: Vec<u64>, kept: Vec<Kept>) -> Result<Verdict, Stop>
+    ensures { IsSettled result bounds.items (map (λ k. dual_seen k.solution.dual) kept.items) }
 {
-    let duals = duals_of(alloc, solutions)?;
+    let duals = duals_of(alloc, kept)?;
     Ok(Verdict::Schedulable(Certificate { bounds, duals }))
 }
 
@@ -77,24 +78,20 @@ fn take_rounds<R: Threads + Sync, P: ProgramSource + Sync>(
     let mut bounds = costs(alloc, set)?;
     // a set has a task, so each round takes a unit, and the rounds end
     let _tasks = set.tasks();
-    let mut earlier = Vec::new(alloc);
+    let mut plan = first_plan(rt, alloc, set, protocol, &bounds, allowance)?;
     let mut spent = 0;
     loop {
         let left = allowance - spent;
-        let next = match take_round(rt, alloc, set, protocol, &bounds, left, &earlier) {
+        let next = match take_round(rt, alloc, set, protocol, &bounds, left, plan) {
             Ok(next) => next,
             Err(stop) => return ended(stop),
         };
-        let Round {
-            used,
-            values,
-            solutions,
-        } = next;
+        let Round { used, values, kept } = next;
         if values == bounds {
-            return settled(alloc, values, solutions);
+            return settled(alloc, values, kept);
         }
         bounds = values;
-        earlier = solutions;
+        plan = next_plan(alloc, set, protocol, &bounds, kept)?;
         spent += used;
     }
 }

@@ -1,14 +1,18 @@
 //! The least fitting bounds of a task set by rounds of the response-time recurrence, over any source of blocking programs.
 //!
-//! A round solves each task's program at the bounds of the round before, and the rounds end where one changes nothing. The
-//! definitions of the rounds stand in `specs/`; what fits, and which bounds are the least, is said in `program_sources`, without
-//! any round.
+//! Each task's program is formed once. A round solves it at the bounds of the round before, for which its limits alone are
+//! computed, and the rounds end where one changes nothing. The definitions of the rounds stand in `specs/`; what fits, and which
+//! bounds are the least, is said in `program_sources`, without any round.
 #![tactic(auto)]
 
 mod ahead;
 mod analysis;
+mod beginning;
 mod laws;
+mod places;
+mod plan;
 mod rounds;
+mod sharing;
 mod task_run;
 mod verdict;
 

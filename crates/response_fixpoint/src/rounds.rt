@@ -1,23 +1,24 @@
 ghost use Rattle.std.specs.Prelude.{◌≡◌, ◌<◌, ◌^◌, ◌+◌};
 ghost use Rattle.program_sources.specs.Bounds.{IsInRange};
 ghost use Rattle.program_sources.specs.Recurrence.{source_at};
-ghost use Rattle.response_fixpoint.specs.Solutions.{AreEarlier};
+ghost use Rattle.response_fixpoint.specs.Solutions.{IsPlan};
 ghost use Rattle.response_fixpoint.specs.Answers.{GivesRound, TakesRun, stop_at};
 
-use crate::ahead::{solve_ahead, threads_for};
-use crate::task_run::{Solution, TaskRun, run_task};
+use crate::ahead::solve_ahead;
+use crate::plan::{Kept, Planned};
+use crate::task_run::{TaskRun, run_task};
 use program_sources::ProgramSource;
-use simplex::SolveStop;
+use simplex::{SolveStop, SparseProgram};
 use sporadic_model::{TaskId, TaskSet};
 use std::alloc::{AllocError, AllocFailed, Global};
 use std::thread::Threads;
 
-/// What a round has found: its units, and for each task that passed the next bound in ticks, and the solution of its program.
+/// What a round has found: its units, and for each task that passed the next bound in ticks, and its program with its solution.
 #[derive(Debug, Drop)]
 pub struct Round {
     pub used: u64,
     pub values: Vec<u64>,
-    pub solutions: Vec<Solution>,
+    pub kept: Vec<Kept>,
 }
 
 /// Why a round gives no next vector.
@@ -63,10 +64,16 @@ fn stopped(stop: SolveStop, task: TaskId) -> RoundStop
     }
 }
 
-/// Takes the run of a task into the round, where its value is at most the latest bound.
-fn take_run(round: &mut Round, run: TaskRun, task: TaskId, latest: u64) -> Result<(), RoundStop>
+/// Takes the run of a task's program into the round, where its value is at most the latest bound.
+fn take_run(
+    round: &mut Round,
+    program: SparseProgram,
+    run: TaskRun,
+    task: TaskId,
+    latest: u64,
+) -> Result<(), RoundStop>
     requires { round.old.used + run.solution.used < 2 ^ 64 }
-    ensures { TakesRun result round.old round.new run task.0 latest }
+    ensures { TakesRun result round.old round.new program run task.0 latest }
 {
     let TaskRun { solution, value } = run;
     if value > latest {
@@ -74,15 +81,15 @@ fn take_run(round: &mut Round, run: TaskRun, task: TaskId, latest: u64) -> Resul
     }
     let used = solution.used;
     round.values.push(value)?;
-    round.solutions.push(solution)?;
+    round.kept.push(Kept { program, solution })?;
     round.used += used;
     Ok(())
 }
 
 /// One round: the recurrence at `bounds`, task by task, each program with the units that the tasks before it have left.
 ///
-/// `earlier` are the solutions of the round before. Where it is worth threads the programs are solved ahead of their place, each with
-/// the units that are left at the start of the round.
+/// Where it is worth threads the programs of the plan that have no solution yet are solved ahead of their place, each with the units
+/// that are left at the start of the round.
 pub fn take_round<R: Threads + Sync, P: ProgramSource + Sync>(
     rt: &R,
     alloc: Global,
@@ -90,31 +97,32 @@ pub fn take_round<R: Threads + Sync, P: ProgramSource + Sync>(
     protocol: &P,
     bounds: &[u64],
     left: u64,
-    earlier: &[Solution],
+    plan: Vec<Planned>,
 ) -> Result<Round, RoundStop>
     requires serves { P.serves protocol.now set.now }
     requires range { IsInRange set.now bounds.now }
-    requires earlier { AreEarlier (source_at (P.source protocol.now) set.now) earlier.now }
+    requires plan { IsPlan (source_at (P.source protocol.now) set.now) bounds.now left plan.items }
     ensures { GivesRound result (source_at (P.source protocol.now) set.now) bounds.now left }
 {
     let mut round = Round {
         used: 0,
         values: Vec::new(alloc),
-        solutions: Vec::new(alloc),
+        kept: Vec::new(alloc),
     };
-    let threads = threads_for(rt, set, earlier);
-    let ahead = solve_ahead(rt, alloc, set, protocol, bounds, left, earlier, threads)?;
+    let ahead = solve_ahead(rt, alloc, set, protocol, bounds, left, &plan)?;
     let mut outcomes = ahead.into_iter();
-    for i in 0..set.tasks() {
-        let task = TaskId(i);
-        let before = earlier.get(i as usize);
-        let outcome = outcomes.next().flatten();
+    // a set has at most 64 tasks, so their numbers fit
+    let _tasks = set.tasks();
+    for planned in plan {
+        let Planned { program, ahead, .. } = planned;
+        let task = TaskId(round.kept.len() as u32);
+        let outcome = ahead.or(outcomes.next().flatten());
         let here = left - round.used;
-        let run = match run_task(alloc, set, protocol, task, bounds, here, before, outcome) {
+        let run = match run_task(alloc, set, protocol, task, bounds, &program, here, outcome) {
             Ok(run) => run,
             Err(stop) => return Err(stopped(stop, task)),
         };
-        match take_run(&mut round, run, task, set.latest_bound(task)) {
+        match take_run(&mut round, program, run, task, set.latest_bound(task)) {
             Ok(()) => {}
             Err(stop) => return Err(stop),
         }

@@ -1,12 +1,13 @@
-use crate::ahead::{Queue, solve_some};
 use crate::analysis::costs;
+use crate::beginning::begin_some;
 use crate::meeting::{Meeting, Side};
+use crate::sharing::Share;
 use crate::{Stop, Verdict, analyse, analyse_with};
 use program_form::Dual;
 use protocol_programs::Written;
 use sporadic_model::{Protocol, TaskSet};
 use std::alloc::{AllocError, Global};
-use std::sync::atomic::{AtomicBool, AtomicU32, Ordering};
+use std::sync::atomic::{AtomicBool, Ordering};
 use std::test::Fail;
 use std::thread::Threads;
 use worked_sets::{EntryRow, SetRow, TaskRow, entry_rows, set_of, suits, task_row};
@@ -365,6 +366,18 @@ fn the_first_stop_of_a_round_is_answered(rt: HostRuntime) -> Result<(), Fail> {
     Ok(())
 }
 
+// The wide program is the second thread's, and the first task takes one unit. With two the program has both ahead of its place and
+// one there, which is too few for any program with columns.
+#[test]
+fn a_program_of_another_thread_is_too_wide_or_short_of_units(rt: HostRuntime) -> Result<(), Fail> {
+    let alloc = rt.alloc();
+    let wide = Wanted::Wide(1);
+    let short = Wanted::Allowance;
+    assert!(rt; gives(&rt, alloc, HIGH_THEN_WIDE, Protocol::Mpcp, MOST, wide)?);
+    assert!(rt; gives(&rt, alloc, HIGH_THEN_WIDE, Protocol::Mpcp, 2, short)?);
+    Ok(())
+}
+
 fn has_bounds(verdict: &Result<Verdict, Stop>, bounds: &[u64]) -> bool {
     match verdict {
         Ok(Verdict::Schedulable(found)) => found.bounds.as_slice() == bounds,
@@ -412,15 +425,20 @@ fn twenty(alloc: Global, cost: u64) -> Result<TaskSet, Fail> {
 }
 
 // How many programs of the first round a thread solves that is alone.
-fn taken_alone(alloc: Global, set: &TaskSet) -> Result<usize, AllocError> {
-    let queue = Queue {
-        next: AtomicU32::new(0),
-        is_over: AtomicBool::new(false),
-    };
+fn solved_alone(alloc: Global, set: &TaskSet) -> Result<usize, AllocError> {
     let bounds = costs(alloc, set)?;
     let source = Written(Protocol::FmlpPlus);
-    let found = solve_some(alloc, set, &source, &bounds, MOST, &[], &queue)?;
-    Ok(found.len())
+    let share = Share {
+        thread: 0,
+        threads: 1,
+    };
+    let mut solved = 0usize;
+    for placed in &begin_some(alloc, set, &source, &bounds, MOST, share)? {
+        if placed.found.ahead.is_some() {
+            solved = solved.saturating_add(1);
+        }
+    }
+    Ok(solved)
 }
 
 // Each of a task's four requests waits for one of each other task: 40 + 4 * 19, and 1000 + 4 * 19.
@@ -430,10 +448,20 @@ fn no_program_is_solved_ahead_behind_a_task_that_is_late(rt: HostRuntime) -> Res
     let set = twenty(alloc, 40)?;
     let verdict = analyse(&rt, alloc, &set, Protocol::FmlpPlus, MOST);
     assert!(rt; has_bounds(&verdict, &[116; 20]));
-    assert_eq!(rt; taken_alone(alloc, &set)?, 20);
+    assert_eq!(rt; solved_alone(alloc, &set)?, 20);
     let set = twenty(alloc, 1000)?;
     let verdict = analyse(&rt, alloc, &set, Protocol::FmlpPlus, MOST);
     assert!(rt; is_wanted(&verdict, &Wanted::NotShown(0, 1076)));
-    assert_eq!(rt; taken_alone(alloc, &set)?, 1);
+    assert_eq!(rt; solved_alone(alloc, &set)?, 1);
+    Ok(())
+}
+
+// Each of the twenty programs has columns that block, so its run takes two units or more, and 39 are too few for one round.
+#[test]
+fn a_round_of_several_threads_is_short_of_units(rt: HostRuntime) -> Result<(), Fail> {
+    let alloc = rt.alloc();
+    let set = twenty(alloc, 40)?;
+    let verdict = analyse(&rt, alloc, &set, Protocol::FmlpPlus, 39);
+    assert!(rt; is_wanted(&verdict, &Wanted::Allowance));
     Ok(())
 }

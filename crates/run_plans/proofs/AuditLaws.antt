@@ -1,5 +1,5 @@
 -- Laws of auditing a schedule against a certificate: there is one answer, with status 0 or 1.
-use Rattle.std.proofs.Common.{◌≡◌, ℕ, ◌<◌, ◌≤◌, ◌++◌, sym, ◌∙◌, ap, arith, inl, inr, ◌⊎◌}
+use Rattle.std.proofs.Common.{◌≡◌, ℕ, ◌<◌, ◌≤◌, ◌++◌, sym, ◌∙◌, ap, inl, inr, ◌⊎◌}
 use Rattle.std.specs.Prelude.{List, length, codes, decimal, slice_index, slice_index_or}
 use Rattle.program_form.specs.Certificate.{CertificateDef}
 use Rattle.sporadic_model.specs.SetDef.{SetDef, task_at}
@@ -22,7 +22,7 @@ use Rattle.cert_json.specs.FileDef.{FileDef}
 use Rattle.run_plans.proofs.TiedLaws.{tied_lawful, tied_at_most_one}
 use Rattle.reply_texts.proofs.Lines.{lines_same}
 use Rattle.run_plans.proofs.ConformLaws.{not_both, one_broken}
-use Rattle.run_plans.proofs.PlanLaws.{IsPlain, IsLawfulWork}
+use Rattle.run_plans.proofs.PlanLaws.{IsLawfulWork, plain_of_status}
 
 one_kept : (keeps : Rule → Trace → ℕ → Type 0) (w : Trace) (n : ℕ) (kept a b : Answer) → IsKept keeps w n kept a
     → IsKept keeps w n kept b → a ≡ b
@@ -46,18 +46,6 @@ audit_status : (p : ProtocolName) (c : CertificateDef) (w : Trace) (n : ℕ) (a 
 audit_status p c w n a (inl (valid, inl (holds, is))) = inl (ap (λ x. x.status) is)
 audit_status p c w n a (inl (valid, inr (t, r, first, is))) = inr (ap (λ x. x.status) is)
 audit_status p c w n a (inr (e, fails, is)) = inr (ap (λ x. x.status) is)
-
-plain_of_status : (a : Answer) → (a.status ≡ 0) ⊎ (a.status ≡ 1) → IsPlain a
-plain_of_status a (inl zero) = record {
-  words = λ e. absurd (omega (arith, zero, e));
-  fault = λ e. absurd (omega (arith, zero, e));
-  most = omega (arith, zero);
-}
-plain_of_status a (inr one) = record {
-  words = λ e. absurd (omega (arith, one, e));
-  fault = λ e. absurd (omega (arith, one, e));
-  most = omega (arith, one);
-}
 
 own_audit : (p : ProtocolName) (c : CertificateDef) (jobs : JobsDef) (rows : RowsDef)
     → IsLawfulWork (record { answers = IsAuditOf p jobs rows c; ends = Unit {0} })

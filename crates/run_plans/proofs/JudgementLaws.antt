@@ -1,5 +1,5 @@
 -- Laws of judging a certificate: there is one answer, with status 0 or 1.
-use Rattle.std.proofs.Common.{◌≡◌, ℕ, List, ◌≤◌, sym, ◌∙◌, ap, arith, inl, inr, ◌⊎◌}
+use Rattle.std.proofs.Common.{◌≡◌, ℕ, List, ◌≤◌, sym, ◌∙◌, ap, inl, inr, ◌⊎◌}
 use Rattle.std.specs.Prelude.{slice_index}
 use Rattle.program_form.specs.Certificate.{CertificateDef}
 use Rattle.program_sources.specs.Valid.{value_at}
@@ -17,7 +17,7 @@ use Rattle.run_plans.specs.Plans.{Answer}
 use Rattle.reply_texts.specs.Texts.{invalid_text}
 use Rattle.run_plans.specs.Commands.{IsJudgement, reported_answer}
 use Rattle.reply_texts.specs.Failing.{FailsTask}
-use Rattle.run_plans.proofs.PlanLaws.{IsPlain, IsLawfulWork}
+use Rattle.run_plans.proofs.PlanLaws.{IsLawfulWork, plain_of_status, at_most_one}
 
 invalid_answer : SetDef → Invalid → Answer
 invalid_answer set e = record { status = 1; text = invalid_text set e }
@@ -37,18 +37,6 @@ judgement_status : (protocol : ProtocolName) (set : SetDef) (c : CertificateDef)
 judgement_status protocol set c valid a zero (inl (holds, is)) = inl (ap (λ x. x.status) is ∙ zero)
 judgement_status protocol set c valid a zero (inr (e, fails, is)) = inr (ap (λ x. x.status) is)
 
-plain_of_status : (a : Answer) → (a.status ≡ 0) ⊎ (a.status ≡ 1) → IsPlain a
-plain_of_status a (inl zero) = record {
-  words = λ e. absurd (omega (arith, zero, e));
-  fault = λ e. absurd (omega (arith, zero, e));
-  most = omega (arith, zero);
-}
-plain_of_status a (inr one) = record {
-  words = λ e. absurd (omega (arith, one, e));
-  fault = λ e. absurd (omega (arith, one, e));
-  most = omega (arith, one);
-}
-
 pub judgement_lawful : (protocol : ProtocolName) (set : SetDef) (c : CertificateDef) (valid : Answer) → valid.status ≡ 0
     → IsLawfulWork (record { answers = IsJudgement protocol set c valid; ends = Unit {0} })
 judgement_lawful protocol set c valid zero = record {
@@ -56,10 +44,6 @@ judgement_lawful protocol set c valid zero = record {
   plain = λ a is. plain_of_status a (judgement_status protocol set c valid a zero is);
   well = λ ends a is. judgement_status protocol set c valid a zero is;
 }
-
-at_most_one : (a : Answer) → (a.status ≡ 0) ⊎ (a.status ≡ 1) → a.status ≤ 1
-at_most_one a (inl zero) = omega (arith, zero)
-at_most_one a (inr one) = omega (arith, one)
 
 pub judgement_quiet : (protocol : ProtocolName) (set : SetDef) (c : CertificateDef) (valid a : Answer) → valid.status ≡ 0
     → IsJudgement protocol set c valid a → a.status ≤ 1

@@ -80,6 +80,22 @@ pub record IsPlain (a : Answer) : Type 0 where
   pub fault : a.status ≢ 4
   pub most : a.status ≤ 6
 
+pub plain_of_status : (a : Answer) → (a.status ≡ 0) ⊎ (a.status ≡ 1) → IsPlain a
+plain_of_status a (inl zero) = record {
+  words = λ e. absurd (omega (arith, zero, e));
+  fault = λ e. absurd (omega (arith, zero, e));
+  most = omega (arith, zero);
+}
+plain_of_status a (inr one) = record {
+  words = λ e. absurd (omega (arith, one, e));
+  fault = λ e. absurd (omega (arith, one, e));
+  most = omega (arith, one);
+}
+
+pub at_most_one : (a : Answer) → (a.status ≡ 0) ⊎ (a.status ≡ 1) → a.status ≤ 1
+at_most_one a (inl zero) = omega (arith, zero)
+at_most_one a (inr one) = omega (arith, one)
+
 -- Are bytes read in one way?
 abbrev pub ReadsOnce : Input → Type 0
 ReadsOnce input = (bytes : List ℕ) (r s : Result input.Value input.Refusal) → input.reads bytes r → input.reads bytes s → r ≡ s

@@ -17,7 +17,7 @@ use Rattle.run_plans.specs.Plans.{Answer}
 use Rattle.run_plans.specs.RefusalDef.{RefusalDef}
 use Rattle.run_plans.specs.Refuting.{refuting_answer, IsRefutation, refutation_of, IsConfirmation, unconfirmed_answer}
 use Rattle.run_plans.specs.Commands.{IsTiedConfirmation, confirmation_of}
-use Rattle.run_plans.proofs.PlanLaws.{IsPlain, IsLawfulWork, plain_at, plain_same}
+use Rattle.run_plans.proofs.PlanLaws.{IsPlain, IsLawfulWork, plain_at, plain_same, plain_of_status, at_most_one}
 
 -- ---- the rounds that refuse
 
@@ -150,29 +150,13 @@ tied_status p digest set file a (inl (other, is)) = inr (ap (λ x. x.status) is)
 tied_status p digest set file a (inr (same, inl (holds, is))) = inl (ap (λ x. x.status) is)
 tied_status p digest set file a (inr (same, inr (e, fault, is))) = inr (ap (λ x. x.status) is)
 
-status_plain : (a : Answer) → (a.status ≡ 0) ⊎ (a.status ≡ 1) → IsPlain a
-status_plain a (inl zero) = record {
-  words = λ e. absurd (omega (arith, zero, e));
-  fault = λ e. absurd (omega (arith, zero, e));
-  most = omega (arith, zero);
-}
-status_plain a (inr one) = record {
-  words = λ e. absurd (omega (arith, one, e));
-  fault = λ e. absurd (omega (arith, one, e));
-  most = omega (arith, one);
-}
-
 pub confirmation_lawful : (p : ProtocolName) (digest : List ℕ) (set : SetDef) (file : RefusalDef)
     → IsLawfulWork (confirmation_of p digest set file)
 confirmation_lawful p digest set file = record {
   one = one_tied p digest set file;
-  plain = λ a is. status_plain a (tied_status p digest set file a is);
+  plain = λ a is. plain_of_status a (tied_status p digest set file a is);
   well = λ ends a is. tied_status p digest set file a is;
 }
-
-at_most_one : (a : Answer) → (a.status ≡ 0) ⊎ (a.status ≡ 1) → a.status ≤ 1
-at_most_one a (inl zero) = omega (arith, zero)
-at_most_one a (inr one) = omega (arith, one)
 
 pub confirmation_quiet : (p : ProtocolName) (digest : List ℕ) (set : SetDef) (file : RefusalDef) (a : Answer)
     → IsTiedConfirmation p digest set file a → a.status ≤ 1

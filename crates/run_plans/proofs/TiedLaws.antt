@@ -6,7 +6,7 @@ use Rattle.protocol_names.specs.declared.ProtocolName.{ProtocolName}
 use Rattle.cert_json.specs.FileDef.{FileDef}
 use Rattle.run_plans.specs.Plans.{Answer, Work}
 use Rattle.run_plans.specs.Commands.{IfTied, other_set_answer, checked_answer, reported_answer, IsCheck, check_of, IsFullTable, full_table_of}
-use Rattle.run_plans.proofs.PlanLaws.{IsPlain, IsLawfulWork, plain_at, plain_same}
+use Rattle.run_plans.proofs.PlanLaws.{IsPlain, IsLawfulWork, plain_at, plain_same, at_most_one}
 use Rattle.run_plans.proofs.JudgementLaws.{judgement_lawful}
 
 abbrev tied_work : List ℕ → FileDef → (CertificateDef → Answer → Type 0) → Work
@@ -41,10 +41,6 @@ tied_lawful digest file says own = record {
   plain = tied_plain digest file says own;
   well = λ ends a is. tied_status digest file says own a is;
 }
-
-at_most_one : (a : Answer) → (a.status ≡ 0) ⊎ (a.status ≡ 1) → a.status ≤ 1
-at_most_one a (inl zero) = omega (arith, zero)
-at_most_one a (inr one) = omega (arith, one)
 
 pub tied_at_most_one : (digest : List ℕ) (file : FileDef) (says : CertificateDef → Answer → Type 0) → IsLawfulWork (own_work file says)
     → (a : Answer) → IfTied digest file says a → a.status ≤ 1

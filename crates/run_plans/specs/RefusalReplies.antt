@@ -14,15 +14,10 @@ use Rattle.reply_texts.specs.Texts.{wide_text, allowance_text}
 use Rattle.reply_texts.specs.Refuted.{schedulable_text}
 use Rattle.run_plans.specs.Plans.{Answer}
 use Rattle.run_plans.specs.RefusalDef.{RefusalDef}
-use Rattle.run_plans.specs.declared.halt.Halt.{Halt}
 
--- A refusal with its set's digest, and one that is taken.
+-- A refusal with its set's digest.
 abbrev pub refusal_seen : Refusal → List ℕ → RefusalDef
 refusal_seen refusal digest = record { steps = steps_seen refusal; digest = digest }
-
-abbrev pub refusal_taken : Result (Refusal × List ℕ) Halt → Result RefusalDef Halt
-refusal_taken (Ok given) = Ok (refusal_seen given.0 given.1)
-refusal_taken (Err h) = Err h
 
 -- Is the task that the stop names, if any, one of the set?
 abbrev pub NamesWide : SetDef → Result Refutation RefuteStop → Type 0

@@ -5,8 +5,7 @@ use Rattle.std.specs.declared.alloc.AllocError.{AllocError}
 use Rattle.outside_ports.specs.Counts.{Rose}
 use Rattle.outside_ports.specs.Ports.{ShelfDef}
 use Rattle.outside_ports.specs.declared.whole.TheConstants.{GREATEST_INPUT_BYTES}
-use Rattle.program_form.specs.Certificate.{CertificateDef, dual_seen, certificate_seen}
-use Rattle.program_form.specs.declared.certificate.Certificate.{Certificate}
+use Rattle.program_form.specs.Certificate.{dual_seen}
 use Rattle.sporadic_model.specs.SetDef.{SetDef}
 use Rattle.protocol_names.specs.declared.ProtocolName.{ProtocolName}
 use Rattle.response_fixpoint.specs.Rounds.{Schedulable, NotShown, Wide, Allowance}
@@ -16,9 +15,6 @@ use Rattle.response_fixpoint.specs.declared.verdict.Stop.{Stop}
 use Rattle.response_fixpoint.specs.declared.verdict.Stop.TheVariants as stop
 use Rattle.taskset_json.specs.declared.refusal.SetRefusal.{SetRefusal}
 use Rattle.taskset_json.specs.declared.refusal.SetRefusal.TheVariants as refusal
-use Rattle.cert_json.specs.FileDef.{FileDef}
-use Rattle.cert_json.specs.File.{file_seen}
-use Rattle.cert_json.specs.declared.file.CertFile.{CertFile}
 use Rattle.sha2.specs.Sha256.{sha256}
 use Rattle.run_plans.specs.Statuses.{number_of}
 use Rattle.run_plans.specs.Plans.{Answer, Input, Plan, refused, read_fault, IsStopped, IsRead}
@@ -92,14 +88,10 @@ abbrev pub IsGotTied : Shown → ProtocolName → List ℕ → Result (SetDef ×
 IsGotTied shelf protocol name (Ok got) = (given : IsGiven shelf (set_input protocol) name got.0) × (got.1 ≡ sha256 given.0)
 IsGotTied shelf protocol name (Err h) = HaltsWith h (IsUngot shelf (set_input protocol) name)
 
--- What contracts see of a certificate that is taken, and of one of the version before.
-abbrev pub cert_taken : Result CertFile Halt → Result FileDef Halt
-cert_taken (Ok file) = Ok (file_seen file)
-cert_taken (Err h) = Err h
-
-abbrev pub old_cert_taken : Result Certificate Halt → Result CertificateDef Halt
-old_cert_taken (Ok c) = Ok (certificate_seen c)
-old_cert_taken (Err h) = Err h
+-- What contracts see of what came of an input, by what they see of its value.
+abbrev pub taken : {A B : Type 0} → (A → B) → Result A Halt → Result B Halt
+taken seen (Ok value) = Ok (seen value)
+taken seen (Err h) = Err h
 
 -- What reading says of a set for a protocol. Only want of memory says nothing.
 abbrev pub ReadsSetFor : ProtocolName → List ℕ → Result SetDef SetRefusal → Type 0

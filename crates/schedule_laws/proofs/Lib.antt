@@ -25,3 +25,6 @@ pub mod SharedChoice
 pub mod DpcpChoice
 pub mod Responses
 pub mod KeepingAgreement
+pub mod Alike
+pub mod SharedStretches
+pub mod DpcpStretches

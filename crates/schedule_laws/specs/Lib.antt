@@ -1,3 +1,4 @@
 pub mod Agreement
 pub mod LocalRuns
 pub mod Counting
+pub mod Steady

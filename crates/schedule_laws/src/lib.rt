@@ -10,6 +10,7 @@ mod count_laws;
 mod measure_laws;
 mod protocol_laws;
 mod request_laws;
+mod stretch_laws;
 mod tick_laws;
 
 pub use agreement_laws::{
@@ -26,6 +27,7 @@ pub use protocol_laws::{
     running_jobs_are_active, shared_memory_keeps_its_laws, taken_rows_run_active_jobs,
 };
 pub use request_laws::{holders_stay, issue_ticks_are_first, requests_follow_local_ticks};
+pub use stretch_laws::lawful_rows_stay_lawful;
 pub use tick_laws::{
     executed_ticks_rise_by_one, jobs_finish_in_order, phases_move_forward,
     tasks_have_one_active_job,

@@ -7,14 +7,9 @@ use Rattle.schedule_model.specs.BlockedTicks.{is_delayed, runs_higher, is_shared
 use Rattle.schedule_laws.proofs.Rows.{job_named, named_job, runs_from, runs_where}
 use Rattle.phase_machine.specs.MachineDef.{MachineDef, under}
 use Rattle.phase_machine.specs.Shows.{Shows}
-use Rattle.phase_machine.proofs.Facts.{active_shown}
+use Rattle.phase_machine.proofs.Facts.{same_bool, active_shown}
 use Rattle.shared_rules.specs.RowTests.{processor_now}
 use Rattle.shared_rules.specs.Blocked.{is_higher_beside, blocked_now}
-
-pub same_bool : (a b : Bool) → (a ≡ true → b ≡ true) → (b ≡ true → a ≡ true) → a ≡ b
-same_bool true b f g = sym (f refl)
-same_bool false true f g = g refl
-same_bool false false f g = refl
 
 -- In a row that keeps Run a job runs exactly where it stands in its processor's column.
 pub runs_here : (w : Trace) (t j : ℕ) → KeepsRun w t → runs_in (w.row t) j ≡ is_job j (running_on (w.row t) (processor_of w j))

@@ -108,6 +108,17 @@ first_of run keep grant idle priority =
     else (if not idle then Some rule.Idle
     else (if not priority then Some rule.Priority else None))))
 
+-- The same, where these are the tests; and a test of each rule by these five.
+abbrev pub first_failing : (Rule → Bool) → Option Rule
+first_failing passes = first_of (passes rule.Run) (passes rule.Keep) (passes rule.Grant) (passes rule.Idle) (passes rule.Priority)
+
+abbrev pub by_rule : Bool → Bool → Bool → Bool → Bool → Rule → Bool
+by_rule run keep grant idle priority rule.Run = run
+by_rule run keep grant idle priority rule.Keep = keep
+by_rule run keep grant idle priority rule.Grant = grant
+by_rule run keep grant idle priority rule.Idle = idle
+by_rule run keep grant idle priority rule.Priority = priority
+
 abbrev pub first_failed : MachineDef → (ℕ → ℕ) → (ℕ → ℕ) → RowDef → Option Rule
 first_failed m grant run row =
     first_of (passes_run m row) (passes_keep m row) (passes_grant m grant row) (passes_idle m row) (passes_priority m run row)

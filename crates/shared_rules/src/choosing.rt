@@ -1,13 +1,11 @@
 ghost use Rattle.std.specs.Prelude.{◌≡◌, ℕ, ◌<◌, ◌≤◌, ◌&&◌, if◌then◌else◌, length, map, Option, Some, None, IfSome};
-ghost use Rattle.std.specs.Prelude.{IfNone, slice_index_or, option_map};
+ghost use Rattle.std.specs.Prelude.{option_map};
 ghost use Rattle.schedule_model.specs.RowDef.{RowDef};
-ghost use Rattle.schedule_model.specs.Protocols.{EachSetSuits};
 ghost use Rattle.schedule_model.specs.Chosen.{IsSized, IsSharedChoice};
 ghost use Rattle.schedule_model.specs.Seen.{row_seen, place_seen};
-ghost use Rattle.phase_machine.specs.MachineDef.{MachineDef, under};
+ghost use Rattle.phase_machine.specs.MachineDef.{under};
 ghost use Rattle.phase_machine.specs.Now.{phase_now, holder_now, requester_now};
 ghost use Rattle.phase_machine.specs.Shows.{Shows};
-ghost use Rattle.shared_rules.specs.RowTests.{processor_now};
 ghost use Rattle.shared_rules.specs.Scene.{scene_in, scene_now, gives_way, asked, stays, may_run, is_outrun, entered};
 ghost use Rattle.shared_rules.specs.Scene.{place_in, running_in, NamesBelow, resource_in};
 ghost use Rattle.shared_rules.specs.Choosing.{Granted, Placed};

@@ -1,24 +1,24 @@
-ghost use Rattle.std.specs.Prelude.{◌≡◌, ℕ, ◌<◌, ◌≤◌, length, map, Option, Some, None, slice_index_or, IfSome};
+ghost use Rattle.std.specs.Prelude.{◌≡◌, ℕ, ◌<◌, length, Option, Some, None, IfSome};
 ghost use Rattle.bounded_sums.specs.Tests.{all_below};
-ghost use Rattle.schedule_model.specs.RowDef.{RowDef, running_on};
+ghost use Rattle.schedule_model.specs.RowDef.{RowDef};
 ghost use Rattle.schedule_model.specs.Seen.{row_seen, place_seen};
 ghost use Rattle.schedule_model.specs.Protocols.{shared_rule};
-ghost use Rattle.phase_machine.specs.MachineDef.{MachineDef, under};
-ghost use Rattle.phase_machine.specs.Now.{requester_now};
+ghost use Rattle.phase_machine.specs.MachineDef.{under};
 ghost use Rattle.phase_machine.specs.Shows.{Shows};
 ghost use Rattle.phase_machine.specs.Taking.{IsRowFor};
 ghost use Rattle.phase_machine.specs.Judged.{Judged};
-ghost use Rattle.shared_rules.specs.RowTests.{processor_now, each_current, is_local_now, holds_now};
-ghost use Rattle.shared_rules.specs.RowTests.{may_run_now, may_stand, column_passes, each_stands, stays_holder, kept_passes};
+ghost use Rattle.shared_rules.specs.RowTests.{each_current};
+ghost use Rattle.shared_rules.specs.RowTests.{may_stand, column_passes, each_stands, kept_passes};
 ghost use Rattle.shared_rules.specs.RowTests.{holder_passes, goes_before, request_passes, idle_passes, runs_before};
 ghost use Rattle.shared_rules.specs.RowTests.{priority_passes, passes_run, passes_keep, passes_grant, passes_idle};
-ghost use Rattle.shared_rules.specs.RowTests.{passes_priority, first_failed};
+ghost use Rattle.shared_rules.specs.RowTests.{passes_priority, by_rule};
 
 use crate::columns::{Columns, OwnProcessors};
 use crate::lookup::{
     column_at, holder_at, holds, is_local, may_run, requests, resources_of, running_beside, task_of,
 };
 use crate::order::Order;
+use crate::rule_tests::{RuleTests, first_failed};
 use crate::walking::{JobTest, each_passes};
 use phase_machine::{Machine, Phase};
 use schedule_model::{JobId, Row, Rule};
@@ -62,14 +62,6 @@ pub fn each_stands<C: Columns>(columns: &C, machine: &Machine, row: &Row) -> boo
         }
     }
     true
-}
-
-/// The same where each job runs on its task's processor.
-pub fn passes_run(machine: &Machine, row: &Row) -> bool
-    requires fits { IsRowFor machine.now.list (row_seen row.now) }
-    ensures { result ≡ passes_run machine.now (row_seen row.now) }
-{
-    each_stands(&OwnProcessors, machine, row)
 }
 
 /// Does the last row's holder of the resource, if it still requests it, hold it?
@@ -174,7 +166,7 @@ impl<'a, O: Order> JobTest for RequestTest<'a, O> {
 }
 
 /// Is each request of an active job served?
-pub fn requests_pass<O: Order>(order: &O, machine: &Machine, row: &Row) -> bool
+fn requests_pass<O: Order>(order: &O, machine: &Machine, row: &Row) -> bool
     requires fits { IsRowFor machine.now.list (row_seen row.now) }
     ensures { result ≡ each_current machine.now (request_passes machine.now (O.grant order.now machine.now) (row_seen row.now)) }
 {
@@ -275,28 +267,36 @@ fn passes_priority<O: Order>(order: &O, machine: &Machine, row: &Row) -> bool
     each_passes(&PriorityTest { order, row }, machine)
 }
 
-/// The first rule whose test fails.
+/// Grant under the order: does each holder request its resource, and is each request of an active job served?
 #[tactic(auto, unfolding(crate::specs::RowTests::passes_grant))]
-fn first_failed<O: Order>(order: &O, machine: &Machine, row: &Row) -> Option<Rule>
+pub fn passes_grant<O: Order>(order: &O, machine: &Machine, row: &Row) -> bool
     requires fits { IsRowFor machine.now.list (row_seen row.now) }
-    ensures { result ≡ first_failed machine.now (O.grant order.now machine.now) (O.run order.now machine.now) (row_seen row.now) }
+    ensures { result ≡ passes_grant machine.now (O.grant order.now machine.now) (row_seen row.now) }
 {
-    if !passes_run(machine, row) {
-        return Some(Rule::Run);
+    holders_pass(machine, row) && requests_pass(order, machine, row)
+}
+
+/// The tests of the rules, where grants and runs go by the order.
+#[derive(Drop)]
+struct OrderedTests<'a, O> {
+    order: &'a O,
+}
+
+impl<'a, O: Order> RuleTests for OrderedTests<'a, O> {
+    ghost needs = { λ t m. Unit {0} };
+
+    ghost passes = { λ t m row. by_rule (passes_run m row) (passes_keep m row) (passes_grant m (O.grant t.order.now m) row)
+        (passes_idle m row) (passes_priority m (O.run t.order.now m) row) };
+
+    fn test(&self, machine: &Machine, row: &Row, rule: Rule) -> bool {
+        match rule {
+            Rule::Run => each_stands(&OwnProcessors, machine, row),
+            Rule::Keep => passes_keep(machine, row),
+            Rule::Grant => passes_grant(self.order, machine, row),
+            Rule::Idle => passes_idle(machine, row),
+            Rule::Priority => passes_priority(self.order, machine, row),
+        }
     }
-    if !passes_keep(machine, row) {
-        return Some(Rule::Keep);
-    }
-    if !(holders_pass(machine, row) && requests_pass(order, machine, row)) {
-        return Some(Rule::Grant);
-    }
-    if !passes_idle(machine, row) {
-        return Some(Rule::Idle);
-    }
-    if !passes_priority(order, machine, row) {
-        return Some(Rule::Priority);
-    }
-    None
 }
 
 /// Does the row keep all five rules under the order? Else the first that it breaks.
@@ -305,7 +305,7 @@ pub fn judge_shared<O: Order>(order: &O, machine: &Machine, row: &Row) -> Result
     ensures { (rows : ℕ → RowDef) → Shows machine.now rows → rows machine.now.tick ≡ row_seen row.now
         → Judged (shared_rule (O.ranks order.now)) (under machine.now rows) machine.now.tick result }
 {
-    match first_failed(order, machine, row) {
+    match first_failed(&OrderedTests { order }, machine, row) {
         Some(rule) => Err(rule),
         None => Ok(()),
     }

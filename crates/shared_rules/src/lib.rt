@@ -12,6 +12,7 @@ mod laws;
 pub mod lookup;
 mod order;
 pub mod row_choice;
+pub mod rule_tests;
 pub mod walking;
 
 pub use blocking::blocked_shared;

@@ -1,6 +1,6 @@
 -- What is read off the last table, and the first table's parts.
 use Rattle.std.proofs.Common.{◌≡◌, ◌≢◌, inl, inr, ℕ, ◌<◌, ◌≤◌, ◌+◌, ◌^◌, List, [], ◌∷◌, ◌++◌, length, Err, pos, refl}
-use Rattle.std.proofs.Common.{sym, ◌∙◌, ap, arith, set, slice_index, slice_index_or, get_or-set_same, get_or-set_other}
+use Rattle.std.proofs.Common.{sym, ◌∙◌, ap, arith, set, slice_index_or, get_or-set_same, get_or-set_other}
 use Rattle.std.proofs.lemmas.Bool.{cases_eq, cases_lt}
 use Rattle.std.proofs.lemmas.Int.{ints}
 use Rattle.std.proofs.lemmas.List.{get_or_at, get_or_append_left}
@@ -10,7 +10,7 @@ use Rattle.fraction128.proofs.Forms.{form_of_whole}
 use Rattle.program_form.specs.Program.{ProgramDef, columns, height}
 use Rattle.exchange_runs.specs.Table.{Table, variables, first_entries, first_limit, first_number, slack}
 use Rattle.exchange_runs.specs.Readings.{IsValueOf}
-use Rattle.exchange_runs.proofs.FirstTable.{first_of-column, first_of-own, first_of-other, first_of-past, first_of-limit}
+use Rattle.exchange_runs.proofs.FirstTable.{first_of-own, first_of-other, first_of-past, first_of-limit}
 use Rattle.exchange_runs.proofs.Loops.{value_here, value_more}
 use Rattle.simplex.specs.Rows.{RowDef, cell_at, no_row}
 use Rattle.simplex.specs.Tables.{row_of, table_of}
@@ -61,10 +61,6 @@ numbers_more p i k n entries f h is own some small =
         | inr earlier ↦ listed_push_other entries e v (λ q. earlier (sym q)) ∙ h.numbers v (omega arith)
       ];
     }
-
--- a coefficient or a cost is the number of its column
-pub column_number : (p : ProgramDef) (i c n : ℕ) → c < columns p → n ≡ slice_index (first_entries p i) c → n ≡ first_number p i c
-column_number p i c n l is = is ∙ sym (first_of-column (columns p) (first_entries p i) (slack p i) (variables p) (first_limit p i) c l)
 
 -- a variable that is neither a column nor the row's own slack has the number zero
 no_number : (p : ProgramDef) (i v : ℕ) → columns p ≤ v → v < variables p → v ≢ slack p i → first_number p i v ≡ 0

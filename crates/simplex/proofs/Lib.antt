@@ -6,5 +6,6 @@ pub mod Sparse
 pub mod Ratios
 pub mod Taking
 pub mod Stepping
+pub mod Coefficients
 pub mod Ending
 pub mod Solving

@@ -1,17 +1,19 @@
 -- Rows of nonzero cells, place by place.
-use Rattle.std.proofs.Common.{◌≡◌, ◌≢◌, inl, inr, ℕ, ◌<◌, List, Err, refl, arith}
+use Rattle.std.proofs.Common.{◌≡◌, ◌≢◌, inl, inr, ℕ, ◌<◌, ◌%◌, List, length, pos, Err, refl, sym, ap, ◌∙◌, arith}
+use Rattle.std.specs.Int.{bit_at}
 use Rattle.std.proofs.lemmas.Bool.{cases_eq, eq-eqb, ne_eqb}
-use Rattle.fraction128.specs.Fraction.{Fraction, IsForm, IsQuotient}
+use Rattle.fraction128.specs.Fraction.{Fraction, IsForm, IsQuotient, whole}
 use Rattle.fraction128.specs.Gives.{HasNoForm}
 use Rattle.exchange_runs.specs.WideExchange.{IsWideLess}
 use Rattle.simplex.specs.Entries.{listed_at}
+use Rattle.simplex.specs.Filters.{IsFilter}
 use Rattle.simplex.specs.Rows.{RowDef, places, cell_at, HasForms, IsSparseRow}
 use Rattle.simplex.specs.CellSteps.{AreDivided, TakesAway}
 use Rattle.simplex.specs.RowSteps.{IsDividedRow, LeavesRow}
 use Rattle.simplex.specs.declared.entries.Entry.{Entry}
 use Rattle.simplex.specs.declared.SolveStop.{SolveStop}
 use Rattle.simplex.specs.declared.SolveStop.TheVariants.{Memory, Wide, Units}
-use Rattle.simplex.proofs.Listed.{form_listed}
+use Rattle.simplex.proofs.Listed.{form_listed, listed_none}
 
 -- the cell at the place of the limit
 pub cell_limit : (row : RowDef) (v : ℕ) → row.place ≡ v → cell_at row v ≡ row.limit
@@ -20,6 +22,14 @@ cell_limit row v here = rw (eq-eqb row.place v here) refl
 -- and at any other place
 pub cell_listed : (row : RowDef) (v : ℕ) → row.place ≢ v → cell_at row v ≡ listed_at row.entries v
 cell_listed row v away = rw (ne_eqb row.place v away) refl
+
+-- where the filter hasn't the variable's bit the cell is zero
+pub cell_unlisted : (row : RowDef) (filter v : ℕ) → row.place ≢ v → IsFilter filter row.entries (length row.entries)
+    → bit_at filter (v % 64) ≢ 1 → cell_at row v ≡ whole (pos 0)
+cell_unlisted row filter v away h unset =
+    cell_listed row v away
+    ∙ listed_none row.entries v
+    (λ k l q. unset (ap (λ u. bit_at filter (u % 64)) (sym q) ∙ h k l))
 
 pub forms_of : (row : RowDef) → IsSparseRow row → HasForms row
 forms_of row h v = elim (cases_eq row.place v) [

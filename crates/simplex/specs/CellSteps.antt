@@ -1,5 +1,5 @@
 -- What the steps of an exchange answer at one cell, and at a list of nonzero cells.
-use Rattle.std.specs.Prelude.{◌≡◌, ℕ, ◌<◌, List, length, Result, Ok, Err}
+use Rattle.std.specs.Prelude.{◌≡◌, ◌≢◌, ◌⊎◌, ℕ, ◌<◌, List, [], ◌∷◌, ◌++◌, length, pos, Result, Ok, Err}
 use Rattle.std.specs.Global.{Global}
 use Rattle.std.specs.declared.vec.Vec.{Vec}
 use Rattle.fraction128.specs.Fraction.{Fraction, IsQuotient}
@@ -29,6 +29,11 @@ abbrev pub DividesAll : Result (Unit {0}) Wide → List Entry → Fraction → L
 DividesAll (Ok u) entries by divided = AreDivided entries by divided
 DividesAll (Err w) entries by divided =
     (v : ℕ) × ((end : ℕ) → AreBelow end entries → v < end) × HasNoForm (IsQuotient (listed_at entries v) by)
+
+-- Is `after` the list with one more cell behind the others, which gets no entry where it is zero?
+abbrev pub IsPushed : List Entry → ℕ → Fraction → List Entry → Type 0
+IsPushed before v f after =
+    ((f.num ≡ pos 0) × (after ≡ before)) ⊎ ((f.num ≢ pos 0) × (after ≡ before ++ record { variable = v; value = f } ∷ []))
 
 -- Is `left` what is left of a list when f times another is taken away, at every variable?
 pub record AreLeft (end : ℕ) (entries : List Entry) (f : Fraction) (pivot left : List Entry) : Type 0 where

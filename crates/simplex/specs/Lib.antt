@@ -1,4 +1,5 @@
 pub mod Entries
+pub mod Filters
 pub mod Rows
 pub mod RowView
 pub mod Tables
@@ -7,5 +8,8 @@ pub mod RowSteps
 pub mod Choice
 pub mod Exchanges
 pub mod Starts
+pub mod Coefficients
+pub mod CoefficientRows
+pub mod SparseView
 pub mod Ends
 pub mod Solves

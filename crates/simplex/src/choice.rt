@@ -9,12 +9,12 @@ ghost use Rattle.simplex.specs.Tables.{row_of, table_of, IsColumn};
 ghost use Rattle.simplex.specs.Choice.{Enters, Comes, IsLeastSoFar, Leaves};
 
 use crate::row::SparseRow;
+use crate::sparse_program::SparseProgram;
 use fraction128::{Frac, Wide};
-use program_form::Program;
 use std::cmp::Ordering;
 
 // The least variable whose objective cell is above 0.
-pub(crate) fn entering(program: &Program, rows: &[SparseRow]) -> Option<usize>
+pub(crate) fn entering(program: &SparseProgram, rows: &[SparseRow]) -> Option<usize>
     requires rows { length rows.now ≡ height program.now + 1 }
     requires fits { Fits (variables program.now) (row_of rows.now (height program.now)) }
     ensures { (basis : List ℕ) → Enters result program.now (table_of rows.now basis) }

@@ -12,9 +12,10 @@ ghost use Rattle.simplex.specs.Tables.{row_of, table_of, HasSize};
 ghost use Rattle.simplex.specs.Ends.{AreMinus, WritesDual, Finishes};
 
 use crate::row::SparseRow;
+use crate::sparse_program::SparseProgram;
 use crate::{SolveStop, Solved};
 use fraction128::{Frac, Scaled, ScalingError, scale};
-use program_form::{Dual, Program};
+use program_form::Dual;
 use std::alloc::{AllocError, Global};
 
 // Minus the cells of a row, from one place up to another.
@@ -36,7 +37,7 @@ fn minus_cells(
 }
 
 // The dual that is written for the objective row of a last table.
-fn dual_of(alloc: Global, program: &Program, row: &SparseRow) -> Result<Dual, SolveStop>
+fn dual_of(alloc: Global, program: &SparseProgram, row: &SparseRow) -> Result<Dual, SolveStop>
     requires fits { Fits (variables program.now) row.now }
     requires last { (v : ℕ) → v < variables program.now → (cell_at row.now v).num ≤ℤ pos 0 }
     ensures { (t : Table) → ((v : ℕ) → t.cell (height program.now) v ≡ cell_at row.now v) → WritesDual result program.now t }
@@ -82,7 +83,7 @@ fn write_limits(values: &mut [Frac], rows: &[SparseRow], basis: &[usize], place:
 // The value of each column.
 fn primal_of(
     alloc: Global,
-    program: &Program,
+    program: &SparseProgram,
     rows: &[SparseRow],
     basis: &[usize],
 ) -> Result<Vec<Frac>, AllocError>
@@ -99,7 +100,7 @@ fn primal_of(
 // The answer at the last table of a run.
 pub(crate) fn finish(
     alloc: Global,
-    program: &Program,
+    program: &SparseProgram,
     rows: &[SparseRow],
     basis: &[usize],
     exchanges: u64,

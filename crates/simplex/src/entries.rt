@@ -1,12 +1,14 @@
 //! Lists of nonzero cells in order of their variables, and what an exchange does to them.
 
-ghost use Rattle.std.specs.Prelude.{◌≡◌, ◌≢◌, ℕ, ◌+◌, ◌<◌, ◌≤◌, length, pos};
-ghost use Rattle.fraction128.specs.Fraction.{IsForm};
-ghost use Rattle.simplex.specs.Entries.{listed_at, entry_at, variable_or, AreSparse, AreBelow, IsSplit, IsAt, IsFirstListed};
-ghost use Rattle.simplex.specs.CellSteps.{TakesCell, DividesAll, TakesAway};
+ghost use Rattle.std.specs.Prelude.{◌≡◌, ◌≢◌, ℕ, IfOk, pos};
+ghost use Rattle.fraction128.specs.Fraction.{Fraction, IsForm};
+ghost use Rattle.simplex.specs.Entries.{listed_at, AreSparse, AreBelow, IsSplit, IsAt, ComparesAt, IsFirstListed};
+ghost use Rattle.simplex.specs.CellSteps.{TakesCell, DividesAll, IsPushed, TakesAway};
 
 use crate::SolveStop;
 use fraction128::{Frac, Wide};
+use std::alloc::AllocError;
+use std::cmp::Ordering;
 
 // A nonzero cell of a row, at its variable.
 #[derive(Clone, Copy)]
@@ -54,21 +56,6 @@ fn value_behind(entries: &[Entry], count: usize, v: usize) -> Frac
     }
 }
 
-// How many entries stand at variables up to v, where so many stand at variables below it.
-fn count_through(entries: &[Entry], count: usize, v: usize) -> usize
-    requires sparse { AreSparse entries.now }
-    requires split { IsSplit entries.now count v }
-    ensures split { IsSplit entries.now result (v + 1) }
-    ensures least { count ≤ result }
-    ensures at { count < length entries.now → (entry_at entries.now count).variable ≡ v → result ≡ count + 1 }
-{
-    if is_at(entries, count, v) {
-        count + 1
-    } else {
-        count
-    }
-}
-
 // The value listed at variable v.
 pub(crate) fn value_at(entries: &[Entry], v: usize) -> Frac
     requires { AreSparse entries.now }
@@ -106,7 +93,7 @@ pub(crate) fn divide_all(entries: &mut [Entry], by: Frac) -> Result<(), Wide>
     Ok(())
 }
 
-// What is left of a when f times y is taken away. Where y is zero a stays.
+// What is left of a when f times y is taken away.
 pub(crate) fn taken(a: Frac, f: Frac, y: Frac) -> Result<Frac, Wide>
     requires { IsForm a }
     ensures { TakesCell result a f y }
@@ -114,34 +101,39 @@ pub(crate) fn taken(a: Frac, f: Frac, y: Frac) -> Result<Frac, Wide>
     if y.is_zero() {
         return Ok(a);
     }
-    taken_product(a, f, y)
-}
-
-// The same, whatever y is. From zero the product is taken by its other sign, which always has a form.
-fn taken_product(a: Frac, f: Frac, y: Frac) -> Result<Frac, Wide>
-    requires { IsForm a }
-    ensures { TakesCell result a f y }
-{
-    match f.mul(y) {
-        Ok(product) => {
-            if a.is_zero() {
-                Ok(product.neg())
-            } else {
-                a.sub(product)
-            }
-        }
-        Err(Wide) => Err(Wide),
+    if a.is_zero() {
+        return taken_from_zero(f, y);
     }
+    let product = f.mul(y)?;
+    a.sub(product)
 }
 
-// The variable of the entry at a place of the list, or `end` behind the last.
-fn variable_at(entries: &[Entry], place: usize, end: usize) -> usize
-    ensures { result ≡ variable_or entries.now place end }
+// What is left of zero: the product by its other sign, which always has a form.
+fn taken_from_zero(f: Frac, y: Frac) -> Result<Frac, Wide>
+    ensures { (a : Fraction) → a.num ≡ pos 0 → TakesCell result a f y }
+{
+    let product = f.mul(y)?;
+    Ok(product.neg())
+}
+
+// How the variable of the entry at a place of the list compares with v. Behind the last entry it is greater.
+fn order_at(entries: &[Entry], place: usize, v: usize) -> Ordering
+    ensures { ComparesAt result entries.now place v }
 {
     match entries.get(place) {
-        Some(entry) => entry.variable,
-        None => end,
+        Some(entry) => entry.variable.cmp(&v),
+        None => Ordering::Greater,
     }
+}
+
+// Adds a cell behind the others. A zero cell gets no entry.
+fn push_cell(list: &mut Vec<Entry>, variable: usize, value: Frac) -> Result<(), AllocError>
+    ensures { IfOk result (λ _. IsPushed list.old.items variable value list.new.items) }
+{
+    if !value.is_zero() {
+        list.push(Entry { variable, value })?;
+    }
+    Ok(())
 }
 
 // What is left of each cell when f times the pivot's is taken away, at variables below `end`, in order. A cell that becomes zero
@@ -163,14 +155,26 @@ pub(crate) fn take_away(
     left.clear();
     let mut i = 0;
     let mut j = 0;
-    while i < entries.len() || j < pivot.len() {
-        let v = variable_at(entries, i, end).min(variable_at(pivot, j, end));
-        let value = taken(value_behind(entries, i, v), f, value_behind(pivot, j, v))?;
-        if !value.is_zero() {
-            left.push(Entry { variable: v, value })?;
+    while j < pivot.len() {
+        let y = pivot[j];
+        match order_at(entries, i, y.variable) {
+            Ordering::Less => {
+                left.push(entries[i])?;
+                i += 1;
+            }
+            Ordering::Equal => {
+                let rest = taken(entries[i].value, f, y.value)?;
+                push_cell(&mut left, y.variable, rest)?;
+                i += 1;
+                j += 1;
+            }
+            Ordering::Greater => {
+                let rest = taken_from_zero(f, y.value)?;
+                push_cell(&mut left, y.variable, rest)?;
+                j += 1;
+            }
         }
-        i = count_through(entries, i, v);
-        j = count_through(pivot, j, v);
     }
+    left.extend_from_slice(&entries[i..])?;
     Ok(left)
 }

@@ -12,8 +12,8 @@ use crate::SolveStop;
 use crate::choice::leaving;
 use crate::entries::Entry;
 use crate::row::SparseRow;
+use crate::sparse_program::SparseProgram;
 use fraction128::{Frac, Wide};
-use program_form::Program;
 use std::alloc::Global;
 use std::mem;
 
@@ -77,7 +77,7 @@ fn exchange(
 // The exchange of the run where the variable e enters. Its column is read into `column`.
 pub(crate) fn step(
     alloc: Global,
-    program: &Program,
+    program: &SparseProgram,
     rows: &mut [SparseRow],
     basis: &mut [usize],
     e: usize,

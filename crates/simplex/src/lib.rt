@@ -1,5 +1,6 @@
 //! The exact optimum of a blocking program, by exchanges of tables of fractions.
 //!
+//! `sparse_program` keeps a program by its nonzero coefficients, so that its limits can be renewed and it can be solved again.
 //! `start` makes the first table, `choice` says which variable enters and which row leaves, `exchange` makes the next table, and
 //! `end` reads the answer off the last one. A row of a table is read by its places and cells alone.
 #![tactic(auto)]
@@ -22,12 +23,15 @@ mod choice;
 mod end;
 mod entries;
 mod exchange;
+mod filter;
 mod row;
+mod sparse_program;
 mod start;
 
 use choice::entering;
 use end::{finish, zeros};
 use exchange::step;
+pub use sparse_program::SparseProgram;
 use start::{first_basis, first_rows, with_room};
 
 /// The end of an exchange run: the optimum, the point that attains it, and a dual that shows that none passes it.
@@ -101,11 +105,27 @@ pub fn solve(alloc: Global, program: &Program, units: u64) -> Result<Solved, Sol
     ensures greatest { IfOk result
         (λ s. IsGreatestReached program.now (dual_value program.now s.dual.den (λ r. slice_index s.dual.num.items r))) }
 {
+    let sparse = SparseProgram::new(alloc, program)?;
+    solve_sparse(alloc, &sparse, units)
+}
+
+/// Solves a program that is kept by its nonzero coefficients, with the answer of [`solve`]. It reads the program alone, so threads may
+/// share one.
+pub fn solve_sparse(alloc: Global, program: &SparseProgram, units: u64) -> Result<Solved, SolveStop>
+    ensures run { Solves result program.now units }
+    ensures only { IsOnlyAnswer result program.now units }
+    ensures optimum { IfOk result (λ s. IsOptimumValue program.now s.value) }
+    ensures primal { IfOk result (λ s. IsPointWorth program.now s.primal.items s.value) }
+    ensures dual { IfOk result (λ s. IsOptimalDual program.now (dual_seen s.dual)) }
+    ensures equal { IfOk result (λ s. IsScaled s.dual.den s.value (dual_total program.now (λ r. slice_index s.dual.num.items r))) }
+    ensures greatest { IfOk result
+        (λ s. IsGreatestReached program.now (dual_value program.now s.dual.den (λ r. slice_index s.dual.num.items r))) }
+{
     run(alloc, program, units)
 }
 
 // The exchange run, up to its end or its first stop.
-fn run(alloc: Global, program: &Program, units: u64) -> Result<Solved, SolveStop>
+fn run(alloc: Global, program: &SparseProgram, units: u64) -> Result<Solved, SolveStop>
     ensures outcome { Solves result program.now units }
     ensures program { IsProgram program.now }
 {

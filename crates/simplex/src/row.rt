@@ -1,6 +1,6 @@
 //! A row of a table, and what an exchange does to it.
 
-ghost use Rattle.std.specs.Prelude.{◌≡◌, ◌≢◌, ℕ, ◌<◌, pos};
+ghost use Rattle.std.specs.Prelude.{◌≡◌, ◌≢◌, ℕ, ◌<◌, pos, IfOk};
 ghost use Rattle.fraction128.specs.Fraction.{IsForm};
 ghost use Rattle.simplex.specs.Entries.{AreSparse, AreBelow};
 ghost use Rattle.simplex.specs.Choice.{IsFirstAbove};
@@ -9,15 +9,17 @@ ghost use Rattle.simplex.specs.RowSteps.{DividesRow, LeavesRow, TakesRow};
 
 use crate::SolveStop;
 use crate::entries::{Entry, divide_all, first_above, take_away, taken, value_at};
+use crate::filter::{filter_of, may_list};
 use fraction128::{Frac, Wide};
-use std::alloc::Global;
+use std::alloc::{AllocError, Global};
 use std::marker::Model;
 use std::mem;
 
-// A row: its nonzero cells in order of their variables, and its limit, whose place is behind all variables.
+// A row: its nonzero cells in order of their variables with their filter, and its limit, whose place is behind all variables.
 #[derive(Drop)]
 pub(crate) struct SparseRow {
     entries: Vec<Entry>,
+    filter: u64,
     place: usize,
     limit: Frac,
 }
@@ -42,8 +44,10 @@ impl SparseRow {
         requires form { IsForm limit }
         ensures { result ≡ record { entries = entries.items; place = place; limit = limit } }
     {
+        let filter = filter_of(&entries);
         SparseRow {
             entries,
+            filter,
             place,
             limit,
         }
@@ -62,10 +66,13 @@ impl SparseRow {
         ensures forms { HasForms self.now }
     {
         if self.place == v {
-            self.limit
-        } else {
-            value_at(&self.entries, v)
+            return self.limit;
         }
+        // few rows list a given variable, and the others' lists needn't be looked at
+        if !may_list(self.filter, v) {
+            return Frac::whole(0);
+        }
+        value_at(&self.entries, v)
     }
 
     // The first variable whose cell is above 0.
@@ -84,11 +91,7 @@ impl SparseRow {
         let mut entries = self.entries;
         divide_all(&mut entries, by)?;
         let limit = self.limit.div(by)?;
-        Ok(SparseRow {
-            entries,
-            place: self.place,
-            limit,
-        })
+        Ok(SparseRow::new(entries, self.place, limit))
     }
 
     // What is left of the row when f times another is taken away. It is made in `spare`.
@@ -98,14 +101,23 @@ impl SparseRow {
     {
         let limit = taken(self.limit, f, pivot.limit)?;
         let entries = take_away(&self.entries, f, &pivot.entries, self.place, spare)?;
-        Ok(SparseRow {
-            entries,
-            place: self.place,
-            limit,
-        })
+        Ok(SparseRow::new(entries, self.place, limit))
     }
 
-    // Takes f times another row away. What is left is made in `spare`, which then gets the old list's memory.
+    // Becomes another row, in its own memory where that is enough.
+    fn copy_from(&mut self, other: &SparseRow) -> Result<(), AllocError>
+        ensures { IfOk result (λ _. self.new ≡ other.now) }
+    {
+        self.entries.clear();
+        self.entries.extend_from_slice(&other.entries)?;
+        self.filter = other.filter;
+        self.place = other.place;
+        self.limit = other.limit;
+        Ok(())
+    }
+
+    // Takes f times another row away. What is left is made in `spare`, which is long enough for any row, and copied, so that the
+    // row's own list stays as short as the row.
     pub(crate) fn take_away(
         &mut self,
         alloc: Global,
@@ -118,7 +130,8 @@ impl SparseRow {
     {
         let list = mem::replace(spare, Vec::new(alloc));
         let left = self.left(f, pivot, list)?;
-        *spare = mem::replace(self, left).entries;
+        self.copy_from(&left)?;
+        *spare = left.entries;
         Ok(())
     }
 }

@@ -8,3 +8,4 @@ pub mod SpinPrograms
 pub mod SpinPoints
 pub mod SpinWorked
 pub mod SpinSoundness
+pub mod SpinStretches

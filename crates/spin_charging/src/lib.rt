@@ -20,6 +20,7 @@ ghost use Rattle.schedule_model.specs.JobDef.{job_of};
 ghost use Rattle.schedule_model.specs.LawfulJobs.{AreLawfulJobs, IsLawfulJob};
 ghost use Rattle.schedule_model.specs.RowDef.{Trace, jobs_of, holder_in};
 ghost use Rattle.schedule_model.specs.Activity.{task_of, is_requester, issue_tick_of};
+ghost use Rattle.schedule_model.specs.Protocols.{EachSetSuits};
 ghost use Rattle.schedule_model.specs.Keeping.{KeepsBefore};
 ghost use Rattle.schedule_model.specs.BlockedTicks.{is_shared_interference, is_blocked};
 ghost use Rattle.program_sources.specs.Bounds.{AtMost, AreWithinDeadlines};
@@ -29,6 +30,7 @@ ghost use Rattle.charge_model.specs.ChargedTicks.{IsCharged};
 ghost use Rattle.charge_model.specs.Interferers.{interferes_with_some};
 ghost use Rattle.charge_model.specs.Windows.{bound_end, EndedWithin};
 ghost use Rattle.charge_model.specs.Fractions.{product_of_lengths, fractions_of};
+ghost use Rattle.charge_laws.specs.Stretches.{StaysCharged};
 ghost use Rattle.spin_rules.specs.SpinRules.{spin_rule};
 ghost use Rattle.spin_charging.specs.SpinCharges.{spin_charge};
 ghost use Rattle.spin_charging.specs.SpinPrograms.{spin_columns, spin_program, spin_source};
@@ -46,6 +48,11 @@ pub fn spin_locks_charge_blocked_ticks()
         → is_blocked is_shared_interference w t j ≡ true → IsCharged spin_charge (spin_columns w.set (task_of w j)) w t j }
     ensures only { (w : Trace) (t j : ℕ) (charge : Charge) → spin_charge w t j ≡ Some charge
         → is_blocked is_shared_interference w t j ≡ true }
+{}
+
+/// Each tick of a steady stretch is charged as its first.
+pub fn spin_charges_stay_through_stretches()
+    ensures { StaysCharged EachSetSuits spin_rule spin_charge }
 {}
 
 /// In a lawful schedule of an accepted set take a job, and let each job whose release plus bound is less than that job's, and lies

@@ -13,6 +13,7 @@ ghost use Rattle.spin_charging.specs.SpinCharges.{spin_charge};
 ghost use Rattle.spin_charging.specs.SpinPrograms.{spin_columns, spin_source};
 ghost use Rattle.spin_charging.proofs.SpinCharging.{spin_charge_blocked};
 ghost use Rattle.spin_charging.proofs.SpinPlacement.{spin_charges_blocked};
+ghost use Rattle.spin_charging.proofs.SpinStretches.{spin_stays_charged};
 ghost use Rattle.spin_charging.proofs.SpinPrograms.{spin_is_program, spin_rises, spin_covered, cost_least, cost_most};
 ghost use Rattle.spin_charging.proofs.SpinPoints.{spin_point, spin_interferes_within};
 
@@ -94,6 +95,16 @@ impl ProgramSource for Spin {
         programs::program(alloc, set, i, bounds)
     }
 
+    fn limits(
+        &self,
+        alloc: Global,
+        set: &TaskSet,
+        i: TaskId,
+        bounds: &[u64],
+    ) -> Result<Vec<u64>, AllocError> {
+        programs::limits(alloc, set, i, bounds)
+    }
+
     /// As under FMLP+: a higher job interferes for up to its task's cost.
     fn interference(&self, set: &TaskSet, i: TaskId, bounds: &[u64]) -> u64 {
         interference(set, Protocol::FmlpPlus, i, bounds)
@@ -118,6 +129,8 @@ impl ChargedProtocol for Spin {
     ghost charges_blocked = { λ p w n t j suits lawful keeps early blocked. spin_charges_blocked w n t j lawful keeps early blocked };
 
     ghost charges_only = { λ p. spin_charge_blocked };
+
+    ghost stays_charged = { λ p. spin_stays_charged };
 
     ghost meets_rows = { λ p w bounds n j suits accepted lawful keeps listed ended. spin_point w bounds n j accepted lawful keeps listed ended };
 }

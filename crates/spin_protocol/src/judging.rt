@@ -1,6 +1,6 @@
 //! The tests of the rules over a machine and the row that comes next.
 
-ghost use Rattle.std.specs.Prelude.{◌≡◌, ℕ, ◌<◌, length, map, IfSome, slice_index_or, None};
+ghost use Rattle.std.specs.Prelude.{◌≡◌, ℕ, ◌<◌, length, map, IfSome, None};
 ghost use Rattle.schedule_model.specs.RowDef.{RowDef};
 ghost use Rattle.schedule_model.specs.Seen.{row_seen, place_seen};
 ghost use Rattle.phase_machine.specs.MachineDef.{under};
@@ -11,13 +11,16 @@ ghost use Rattle.fmlp_rules.specs.IssueOrder.{issue_now};
 ghost use Rattle.shared_rules.specs.Scene.{place_in};
 ghost use Rattle.spin_rules.specs.SpinRules.{spin_rule};
 ghost use Rattle.spin_protocol.specs.SpinTests.{is_request_now, spins_now, is_quiet, has_spinner_now, idle_passes};
-ghost use Rattle.spin_protocol.specs.SpinTests.{passes_idle, may_run_beside, priority_passes, passes_priority, first_failed};
+ghost use Rattle.spin_protocol.specs.SpinTests.{passes_idle, may_run_beside, priority_passes, passes_priority};
+ghost use Rattle.shared_rules.specs.RowTests.{passes_run, passes_keep, passes_grant, by_rule};
 
 use fmlp_rules::FmlpPlus;
 use phase_machine::Machine;
 use schedule_model::{JobId, Row, Rule};
-use shared_rules::judging::{holders_pass, passes_keep, passes_run, requests_pass};
+use shared_rules::columns::OwnProcessors;
+use shared_rules::judging::{each_stands, passes_grant, passes_keep};
 use shared_rules::lookup::{holds, is_local, may_run, processor_of, running_beside, task_of};
+use shared_rules::rule_tests::{RuleTests, first_failed};
 use shared_rules::walking::{JobTest, each_passes};
 
 /// Is the job in a request, if it is active?
@@ -149,28 +152,25 @@ fn passes_priority(machine: &Machine, row: &Row) -> bool
     each_passes(&PriorityTest { row }, machine)
 }
 
-/// The first rule whose test fails.
-#[tactic(auto, unfolding(shared_rules::specs::RowTests::passes_grant))]
-fn first_failed(machine: &Machine, row: &Row) -> Option<Rule>
-    requires fits { IsRowFor machine.now.list (row_seen row.now) }
-    ensures { result ≡ first_failed machine.now (issue_now machine.now) (row_seen row.now) }
-{
-    if !passes_run(machine, row) {
-        return Some(Rule::Run);
+/// The tests of the rules.
+#[derive(Drop)]
+struct SpinTests;
+
+impl RuleTests for SpinTests {
+    ghost needs = { λ t m. Unit {0} };
+
+    ghost passes = { λ t m row. by_rule (passes_run m row) (passes_keep m row) (passes_grant m (issue_now m) row)
+        (passes_idle m row) (passes_priority m row) };
+
+    fn test(&self, machine: &Machine, row: &Row, rule: Rule) -> bool {
+        match rule {
+            Rule::Run => each_stands(&OwnProcessors, machine, row),
+            Rule::Keep => passes_keep(machine, row),
+            Rule::Grant => passes_grant(&FmlpPlus, machine, row),
+            Rule::Idle => passes_idle(machine, row),
+            Rule::Priority => passes_priority(machine, row),
+        }
     }
-    if !passes_keep(machine, row) {
-        return Some(Rule::Keep);
-    }
-    if !(holders_pass(machine, row) && requests_pass(&FmlpPlus, machine, row)) {
-        return Some(Rule::Grant);
-    }
-    if !passes_idle(machine, row) {
-        return Some(Rule::Idle);
-    }
-    if !passes_priority(machine, row) {
-        return Some(Rule::Priority);
-    }
-    None
 }
 
 /// Does the row keep all five rules? Else the first that it breaks.
@@ -179,7 +179,7 @@ pub(crate) fn judge_spin(machine: &Machine, row: &Row) -> Result<(), Rule>
     ensures { (rows : ℕ → RowDef) → Shows machine.now rows → rows machine.now.tick ≡ row_seen row.now
         → Judged spin_rule (under machine.now rows) machine.now.tick result }
 {
-    match first_failed(machine, row) {
+    match first_failed(&SpinTests, machine, row) {
         Some(rule) => Err(rule),
         None => Ok(()),
     }

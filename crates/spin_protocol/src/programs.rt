@@ -1,21 +1,21 @@
 //! The protocol's programs, so that its sets are analysed and its certificates checked.
 
-ghost use Rattle.std.specs.Prelude.{◌≡◌, ℕ, ◌<◌, ◌≤◌, ◌+◌, ◌&&◌, ◌==◌, not, ◌∷◌, length, map, IfOk, OnOk};
+ghost use Rattle.std.specs.Prelude.{◌≡◌, ℕ, ◌<◌, ◌≤◌, ◌+◌, ◌&&◌, ◌==◌, not, length, map, IfOk, OnOk};
 ghost use Rattle.program_form.specs.RowBlock.{block_seen};
 ghost use Rattle.program_sources.specs.Bounds.{AreWithinDeadlines};
 ghost use Rattle.fragments.specs.ColumnDef.{column_seen, AreKnown};
 ghost use Rattle.fragments.specs.Stretches.{AreInOrder};
 ghost use Rattle.fragments.specs.Columns.{have_one_processor};
-ghost use Rattle.fragments.specs.Constraints.{block_of, with_rows, per, per_pair};
+ghost use Rattle.fragments.specs.Constraints.{block_of, per_pair};
 ghost use Rattle.sporadic_model.specs.Users.{is_user};
 ghost use Rattle.spin_charging.specs.SpinPrograms.{is_used_beside, blocks_by_spinning, is_spin_column, spinning_row, own_spinning_row};
-ghost use Rattle.spin_charging.specs.SpinPrograms.{lower_request_row, spinning_rows, spin_rows, spin_program};
+ghost use Rattle.spin_charging.specs.SpinPrograms.{spinning_rows, spin_rows, spin_program};
 
-use crate::rows::{LowerRequestRow, OwnSpinningRow, SpinningRow};
-use direct_constraints::{add_request_rows, add_time_rows};
+use crate::rows::{LowerRequestRow, OwnSpinning, Spinning};
+use direct_constraints::add_common;
 use fragments::{
-    Class, ColumnTest, Fragment, add_row, fragments_where, lower_local, passing_stand_in_order,
-    share_processor, uses,
+    Class, ColumnTest, Fragment, RowLimits, RowTaker, add_per_number, add_row, fragments_where,
+    lower_local, passing_stand_in_order, share_processor, uses,
 };
 use program_form::{Program, RowBlock};
 use protocol_programs::program_over;
@@ -29,7 +29,7 @@ fn is_user_beside(set: &TaskSet, i: TaskId, q: ResourceId, z: TaskId) -> bool
     requires other { z.0 < length set.now.tasks }
     ensures { result ≡ ((not (z.0 == i.0) && have_one_processor set.now z.0 i.0) && is_user set.now q.0 z.0) }
 {
-    (z.0 != i.0 && share_processor(set, z, i)) && uses(set, z, q)
+    (z != i && share_processor(set, z, i)) && uses(set, z, q)
 }
 
 /// Does another task of `i`'s processor use the resource?
@@ -72,41 +72,81 @@ impl ColumnTest for SpinColumns {
     ghost fits = { λ k set i x. Unit {0} };
 
     fn test(&self, set: &TaskSet, i: TaskId, column: Fragment) -> bool {
-        (column.task.0 != i.0 && uses(set, column.task, column.resource))
+        (column.task != i && uses(set, column.task, column.resource))
             && blocks_by_spinning(set, i, column)
     }
 }
 
-/// Adds the rows of spinning of a processor, counted from 1, one for each resource.
-fn add_spinning_rows_of(
+/// Adds the rows of spinning of each processor behind those that the taker has.
+fn add_spinning_rows<T: RowTaker>(
     alloc: Global,
-    block: &mut RowBlock,
+    taker: &mut T,
     set: &TaskSet,
     i: TaskId,
-    processor: u32,
     bounds: &[u64],
     columns: &[Fragment],
 ) -> Result<(), AllocError>
     requires task { i.0 < length set.now.tasks }
     requires within { AreWithinDeadlines set.now bounds.now }
     requires known { AreKnown (length set.now.tasks) (length set.now.resources) columns.now }
-    ensures { OnOk result (block_seen block.new ≡ with_rows (block_seen block.old) (map column_seen columns.now)
-        (per (length set.now.resources) (spinning_row set.now i.0 processor)) bounds.now) }
+    ensures { OnOk result (T.takes taker.old (map column_seen columns.now)
+        (per_pair set.now.processors (length set.now.resources) (λ k q. spinning_row set.now i.0 (k + 1) q)) bounds.now taker.new) }
 {
-    for q in 0..set.resources() {
-        let row = SpinningRow {
-            processor,
-            resource: ResourceId(q),
-        };
-        add_row(alloc, block, &row, set, i, bounds, columns)?;
-    }
+    let processors = set.processors();
+    add_per_number(alloc, taker, &Spinning, set, processors, i, bounds, columns)
+}
+
+/// Adds the rows of own spinning of each processor behind those that the taker has.
+fn add_own_spinning_rows<T: RowTaker>(
+    alloc: Global,
+    taker: &mut T,
+    set: &TaskSet,
+    i: TaskId,
+    bounds: &[u64],
+    columns: &[Fragment],
+) -> Result<(), AllocError>
+    requires task { i.0 < length set.now.tasks }
+    requires within { AreWithinDeadlines set.now bounds.now }
+    requires known { AreKnown (length set.now.tasks) (length set.now.resources) columns.now }
+    ensures { OnOk result (T.takes taker.old (map column_seen columns.now)
+        (per_pair set.now.processors (length set.now.resources) (λ k q. own_spinning_row set.now i.0 (k + 1) q)) bounds.now taker.new) }
+{
+    let processors = set.processors();
+    add_per_number(
+        alloc,
+        taker,
+        &OwnSpinning,
+        set,
+        processors,
+        i,
+        bounds,
+        columns,
+    )
+}
+
+/// Adds the rows of spinning and of own spinning behind those that the taker has.
+fn add_all_spinning_rows<T: RowTaker>(
+    alloc: Global,
+    taker: &mut T,
+    set: &TaskSet,
+    i: TaskId,
+    bounds: &[u64],
+    columns: &[Fragment],
+) -> Result<(), AllocError>
+    requires task { i.0 < length set.now.tasks }
+    requires within { AreWithinDeadlines set.now bounds.now }
+    requires known { AreKnown (length set.now.tasks) (length set.now.resources) columns.now }
+    ensures { OnOk result (T.takes taker.old (map column_seen columns.now) (spinning_rows set.now i.0) bounds.now taker.new) }
+{
+    add_spinning_rows(alloc, taker, set, i, bounds, columns)?;
+    add_own_spinning_rows(alloc, taker, set, i, bounds, columns)?;
     Ok(())
 }
 
-/// Adds the rows of spinning of each processor.
-fn add_spinning_rows(
+/// Adds all rows, in their order, behind those that the taker has.
+fn add_rows<T: RowTaker>(
     alloc: Global,
-    block: &mut RowBlock,
+    taker: &mut T,
     set: &TaskSet,
     i: TaskId,
     bounds: &[u64],
@@ -115,83 +155,16 @@ fn add_spinning_rows(
     requires task { i.0 < length set.now.tasks }
     requires within { AreWithinDeadlines set.now bounds.now }
     requires known { AreKnown (length set.now.tasks) (length set.now.resources) columns.now }
-    ensures { OnOk result (block_seen block.new ≡ with_rows (block_seen block.old) (map column_seen columns.now)
-        (per_pair set.now.processors (length set.now.resources) (λ k q. spinning_row set.now i.0 (k + 1) q)) bounds.now) }
+    requires order { AreInOrder columns.now }
+    ensures { OnOk result (T.takes taker.old (map column_seen columns.now) (spin_rows set.now i.0) bounds.now taker.new) }
 {
-    for k in 0..set.processors() {
-        add_spinning_rows_of(alloc, block, set, i, k + 1, bounds, columns)?;
-    }
+    add_common(alloc, taker, set, i, bounds, columns)?;
+    add_row(alloc, taker, &LowerRequestRow, set, i, bounds, columns)?;
+    add_all_spinning_rows(alloc, taker, set, i, bounds, columns)?;
     Ok(())
 }
 
-/// Adds the rows of own spinning of a processor, counted from 1, one for each resource.
-fn add_own_spinning_rows_of(
-    alloc: Global,
-    block: &mut RowBlock,
-    set: &TaskSet,
-    i: TaskId,
-    processor: u32,
-    bounds: &[u64],
-    columns: &[Fragment],
-) -> Result<(), AllocError>
-    requires task { i.0 < length set.now.tasks }
-    requires within { AreWithinDeadlines set.now bounds.now }
-    requires known { AreKnown (length set.now.tasks) (length set.now.resources) columns.now }
-    ensures { OnOk result (block_seen block.new ≡ with_rows (block_seen block.old) (map column_seen columns.now)
-        (per (length set.now.resources) (own_spinning_row set.now i.0 processor)) bounds.now) }
-{
-    for q in 0..set.resources() {
-        let row = OwnSpinningRow {
-            processor,
-            resource: ResourceId(q),
-        };
-        add_row(alloc, block, &row, set, i, bounds, columns)?;
-    }
-    Ok(())
-}
-
-/// Adds the rows of own spinning of each processor.
-fn add_own_spinning_rows(
-    alloc: Global,
-    block: &mut RowBlock,
-    set: &TaskSet,
-    i: TaskId,
-    bounds: &[u64],
-    columns: &[Fragment],
-) -> Result<(), AllocError>
-    requires task { i.0 < length set.now.tasks }
-    requires within { AreWithinDeadlines set.now bounds.now }
-    requires known { AreKnown (length set.now.tasks) (length set.now.resources) columns.now }
-    ensures { OnOk result (block_seen block.new ≡ with_rows (block_seen block.old) (map column_seen columns.now)
-        (per_pair set.now.processors (length set.now.resources) (λ k q. own_spinning_row set.now i.0 (k + 1) q)) bounds.now) }
-{
-    for k in 0..set.processors() {
-        add_own_spinning_rows_of(alloc, block, set, i, k + 1, bounds, columns)?;
-    }
-    Ok(())
-}
-
-/// Adds the rows that spin locks have of their own.
-fn add_spin_rows(
-    alloc: Global,
-    block: &mut RowBlock,
-    set: &TaskSet,
-    i: TaskId,
-    bounds: &[u64],
-    columns: &[Fragment],
-) -> Result<(), AllocError>
-    requires task { i.0 < length set.now.tasks }
-    requires within { AreWithinDeadlines set.now bounds.now }
-    requires known { AreKnown (length set.now.tasks) (length set.now.resources) columns.now }
-    ensures { OnOk result (block_seen block.new ≡ with_rows (block_seen block.old) (map column_seen columns.now)
-        (lower_request_row ∷ spinning_rows set.now i.0) bounds.now) }
-{
-    add_row(alloc, block, &LowerRequestRow, set, i, bounds, columns)?;
-    add_spinning_rows(alloc, block, set, i, bounds, columns)?;
-    add_own_spinning_rows(alloc, block, set, i, bounds, columns)
-}
-
-/// All rows, in their order.
+/// The block of these rows, where some column has a coefficient above zero in them.
 fn rows(
     alloc: Global,
     set: &TaskSet,
@@ -209,9 +182,7 @@ fn rows(
         rows: Vec::new(alloc),
         limits: Vec::new(alloc),
     };
-    add_request_rows(alloc, &mut block, set, i, bounds, columns)?;
-    add_time_rows(alloc, &mut block, set, i, bounds, columns)?;
-    add_spin_rows(alloc, &mut block, set, i, bounds, columns)?;
+    add_rows(alloc, &mut block, set, i, bounds, columns)?;
     Ok(block)
 }
 
@@ -232,4 +203,24 @@ pub(crate) fn program(
     passing_stand_in_order(set, &SpinColumns, i, &columns);
     let block = rows(alloc, set, i, bounds, &columns)?;
     program_over(alloc, set, &columns, block)
+}
+
+/// The limits of that program, without its coefficients. It refuses for want of memory alone.
+pub(crate) fn limits(
+    alloc: Global,
+    set: &TaskSet,
+    i: TaskId,
+    bounds: &[u64],
+) -> Result<Vec<u64>, AllocError>
+    requires task { i.0 < length set.now.tasks }
+    requires within { AreWithinDeadlines set.now bounds.now }
+    ensures { IfOk result (λ v. v.items ≡ (spin_program set.now i.0 bounds.now).limits) }
+{
+    let columns = fragments_where(alloc, &SpinColumns, set, i)?;
+    passing_stand_in_order(set, &SpinColumns, i, &columns);
+    let mut taken = RowLimits {
+        limits: Vec::new(alloc),
+    };
+    add_rows(alloc, &mut taken, set, i, bounds, &columns)?;
+    Ok(taken.limits)
 }

@@ -1,17 +1,21 @@
 //! The rows that spin locks have of their own, as far as they are computed.
 
-ghost use Rattle.std.specs.Prelude.{◌≡◌, ℕ, ◌<◌, ◌≤◌, ◌*◌, ◌&&◌, length, slice_index};
+ghost use Rattle.std.specs.Prelude.{◌≡◌, ℕ, ◌<◌, ◌≤◌, ◌*◌, ◌&&◌, ◌+◌, [], ◌∷◌, length, slice_index};
 ghost use Rattle.bounded_sums.specs.Sums.{flag};
-ghost use Rattle.bounded_sums.specs.Tests.{any_below};
 ghost use Rattle.sporadic_model.specs.Users.{is_user};
 ghost use Rattle.program_sources.specs.Bounds.{AreWithinDeadlines};
 ghost use Rattle.fragments.specs.ColumnDef.{column_seen};
 ghost use Rattle.fragments.specs.Columns.{is_lower_local};
+ghost use Rattle.fragments.specs.Constraints.{per};
 ghost use Rattle.spin_charging.specs.SpinPrograms.{lower_request_row, is_from, is_used_below, higher_requests};
 ghost use Rattle.spin_charging.specs.SpinPrograms.{spinning_row, own_spinning_row};
 
-use fragments::{Constraint, Fragment, RowKind, cnt, lower_local, share_processor, uses};
+use fragments::{
+    Constraint, Fragment, PerNumber, RowKind, RowTaker, add_per_number, add_row, cnt, lower_local,
+    share_processor, uses,
+};
 use sporadic_model::{ResourceId, TaskId, TaskSet};
+use std::alloc::{AllocError, Global};
 
 /// How many requests of lower tasks block a job by preemption: the one that was open at its release.
 const LOWER_REQUESTS: u64 = 1;
@@ -96,9 +100,9 @@ fn higher_requests(set: &TaskSet, i: TaskId, q: ResourceId, bounds: &[u64]) -> u
 
 /// Of a processor and a resource: each request of it from `i`'s processor spins for at most one from there.
 #[derive(Drop)]
-pub(crate) struct SpinningRow {
-    pub processor: u32,
-    pub resource: ResourceId,
+struct SpinningRow {
+    processor: u32,
+    resource: ResourceId,
 }
 
 impl RowKind for SpinningRow {
@@ -124,11 +128,69 @@ impl Constraint for SpinningRow {
     }
 }
 
+/// The rows of spinning of a processor, counted from 1, for each resource.
+#[derive(Drop)]
+struct SpinningFrom {
+    processor: u32,
+}
+
+impl PerNumber for SpinningFrom {
+    ghost rows_of = { λ k set i q. spinning_row set i k.processor q ∷ [] };
+
+    ghost fits = { λ k set i columns q. q < length set.resources };
+
+    fn add<T: RowTaker>(
+        &self,
+        alloc: Global,
+        taker: &mut T,
+        set: &TaskSet,
+        i: TaskId,
+        number: u32,
+        bounds: &[u64],
+        columns: &[Fragment],
+    ) -> Result<(), AllocError> {
+        let row = SpinningRow {
+            processor: self.processor,
+            resource: ResourceId(number),
+        };
+        add_row(alloc, taker, &row, set, i, bounds, columns)
+    }
+}
+
+/// The rows of spinning of each processor.
+#[derive(Drop)]
+pub(crate) struct Spinning;
+
+impl PerNumber for Spinning {
+    ghost rows_of = { λ k set i n. per (length set.resources) (spinning_row set i (n + 1)) };
+
+    ghost fits = { λ k set i columns n. n < set.processors };
+
+    fn add<T: RowTaker>(
+        &self,
+        alloc: Global,
+        taker: &mut T,
+        set: &TaskSet,
+        i: TaskId,
+        number: u32,
+        bounds: &[u64],
+        columns: &[Fragment],
+    ) -> Result<(), AllocError> {
+        // a set has few processors
+        let _processors = set.processors();
+        let rows = SpinningFrom {
+            processor: number + 1,
+        };
+        let resources = set.resources();
+        add_per_number(alloc, taker, &rows, set, resources, i, bounds, columns)
+    }
+}
+
 /// The same of the requests of `i` itself.
 #[derive(Drop)]
-pub(crate) struct OwnSpinningRow {
-    pub processor: u32,
-    pub resource: ResourceId,
+struct OwnSpinningRow {
+    processor: u32,
+    resource: ResourceId,
 }
 
 impl RowKind for OwnSpinningRow {
@@ -148,5 +210,63 @@ impl RowKind for OwnSpinningRow {
 impl Constraint for OwnSpinningRow {
     fn limit(&self, set: &TaskSet, i: TaskId, _bounds: &[u64]) -> u64 {
         set.count(i, self.resource)
+    }
+}
+
+/// The rows of own spinning of a processor, counted from 1, for each resource.
+#[derive(Drop)]
+struct OwnSpinningFrom {
+    processor: u32,
+}
+
+impl PerNumber for OwnSpinningFrom {
+    ghost rows_of = { λ k set i q. own_spinning_row set i k.processor q ∷ [] };
+
+    ghost fits = { λ k set i columns q. q < length set.resources };
+
+    fn add<T: RowTaker>(
+        &self,
+        alloc: Global,
+        taker: &mut T,
+        set: &TaskSet,
+        i: TaskId,
+        number: u32,
+        bounds: &[u64],
+        columns: &[Fragment],
+    ) -> Result<(), AllocError> {
+        let row = OwnSpinningRow {
+            processor: self.processor,
+            resource: ResourceId(number),
+        };
+        add_row(alloc, taker, &row, set, i, bounds, columns)
+    }
+}
+
+/// The rows of own spinning of each processor.
+#[derive(Drop)]
+pub(crate) struct OwnSpinning;
+
+impl PerNumber for OwnSpinning {
+    ghost rows_of = { λ k set i n. per (length set.resources) (own_spinning_row set i (n + 1)) };
+
+    ghost fits = { λ k set i columns n. n < set.processors };
+
+    fn add<T: RowTaker>(
+        &self,
+        alloc: Global,
+        taker: &mut T,
+        set: &TaskSet,
+        i: TaskId,
+        number: u32,
+        bounds: &[u64],
+        columns: &[Fragment],
+    ) -> Result<(), AllocError> {
+        // a set has few processors
+        let _processors = set.processors();
+        let rows = OwnSpinningFrom {
+            processor: number + 1,
+        };
+        let resources = set.resources();
+        add_per_number(alloc, taker, &rows, set, resources, i, bounds, columns)
     }
 }

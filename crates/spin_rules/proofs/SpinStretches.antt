@@ -10,10 +10,10 @@ use Rattle.schedule_model.specs.BlockedTicks.{is_shared_interference}
 use Rattle.schedule_model.specs.Ranks.{fmlp_plus}
 use Rattle.schedule_model.specs.Protocols.{EachSetSuits}
 use Rattle.schedule_model.specs.Keeping.{KeepsRow}
-use Rattle.stretch_laws.specs.Steady.{IsAsLawful, StaysLawful}
-use Rattle.stretch_laws.proofs.Alike.{IsAlike, alike_through, active_alike, active_local_alike, ready_alike, running_alike}
-use Rattle.stretch_laws.proofs.Alike.{holder_alike, shared_blocked_alike}
-use Rattle.stretch_laws.proofs.SharedStretches.{run_again, keep_again, grant_again, sized_again}
+use Rattle.schedule_laws.specs.Steady.{IsAsLawful, StaysLawful}
+use Rattle.schedule_laws.proofs.Alike.{IsAlike, alike_through, active_alike, active_local_alike, ready_alike, running_alike}
+use Rattle.schedule_laws.proofs.Alike.{holder_alike, shared_blocked_alike}
+use Rattle.schedule_laws.proofs.SharedStretches.{run_again, keep_again, grant_again, sized_again}
 use Rattle.spin_rules.specs.SpinRules.{is_in_request, spins, has_spinner, KeepsIdle, KeepsPriority, spin_rule, IsSpinChoice}
 
 pub in_request_alike : (w : Trace) (t u j : ℕ) → IsAlike w t u → is_in_request w u j ≡ is_in_request w t j

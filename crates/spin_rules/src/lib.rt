@@ -16,7 +16,7 @@ ghost use Rattle.schedule_model.specs.BlockedTicks.{is_shared_interference};
 ghost use Rattle.schedule_model.specs.Protocols.{EachSetSuits};
 ghost use Rattle.schedule_model.specs.ProtocolLaws.{IsOneOfThree, IsSoundRow};
 ghost use Rattle.schedule_laws.specs.Agreement.{AgreeBefore, RulesReadUpTo, ChoiceReadsUpTo, TicksReadUpTo};
-ghost use Rattle.stretch_laws.specs.Steady.{StaysLawful};
+ghost use Rattle.schedule_laws.specs.Steady.{StaysLawful};
 ghost use Rattle.spin_rules.specs.SpinRules.{is_in_request, spin_rule, IsSpinChoice};
 
 /// The laws of `BlockingProtocol` for spin locks.

@@ -1,6 +1,6 @@
 -- A study counts in one way only.
-use Rattle.std.proofs.Common.{◌≡◌, ℕ, zero, suc, ◌+◌, ◌<◌, List, [], length, Some, sym, ◌∙◌, ap, arith, inl, inr}
-use Rattle.std.specs.Prelude.{slice_get, slice_index, slice_index_or}
+use Rattle.std.proofs.Common.{◌≡◌, ℕ, zero, suc, ◌+◌, ◌<◌, [], sym, ◌∙◌, ap, arith, inl, inr}
+use Rattle.std.specs.Prelude.{slice_index, slice_index_or}
 use Rattle.std.proofs.lemmas.Option.{slice_get-get_or}
 use Rattle.sporadic_model.specs.declared.ids.Protocol.TheVariants as protocol
 use Rattle.study_gen.specs.Counts.{IsShown, IsStopped, Counts, set_of_step, step_begins, StoppedBefore, IsStepCount, IsStudy}

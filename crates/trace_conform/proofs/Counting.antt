@@ -13,8 +13,8 @@ use Rattle.schedule_laws.proofs.Ticks.{phase_waits}
 use Rattle.schedule_laws.proofs.Rows.{runs_where}
 use Rattle.schedule_laws.proofs.ActiveJobs.{Active, active_is, active_listed}
 use Rattle.schedule_laws.proofs.MeasureLaws.{finish_stays, finish_new, blocking_next}
-use Rattle.stretch_laws.specs.Steady.{IsSteady}
-use Rattle.stretch_laws.proofs.Alike.{IsAlike, alike_through}
+use Rattle.schedule_laws.specs.Steady.{IsSteady}
+use Rattle.schedule_laws.proofs.Alike.{IsAlike, alike_through}
 use Rattle.phase_machine.specs.MachineDef.{MachineDef, task_in, under}
 use Rattle.phase_machine.specs.Now.{current_now}
 use Rattle.phase_machine.specs.Shows.{Shows}
@@ -126,7 +126,7 @@ idle_waits w t j can h = elim (cases_Bool (runs_in (w.row t) j)) [
 ]
 
 -- At each tick of a steady stretch the phase is that of its first.
-phase_on : (w : Trace) (t n i j : ℕ) → IsSteady w t n → i < n → phase_of w (t + i) j ≡ phase_of w t j
+pub phase_on : (w : Trace) (t n i j : ℕ) → IsSteady w t n → i < n → phase_of w (t + i) j ≡ phase_of w t j
 phase_on w t n i j steady l = elim (cases_lt 0 i) [
   | inl some ↦ let a : IsAlike w t (t + i) = alike_through w t n i steady some l in a.phase j
   | inr none ↦ let here : t + i ≡ t = omega (arith, none) in ap (λ u. phase_of w u j) here

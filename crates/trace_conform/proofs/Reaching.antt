@@ -13,7 +13,7 @@ use Rattle.schedule_model.specs.Chosen.{IsSized}
 use Rattle.schedule_model.specs.TakenRows.{CanBeTaken}
 use Rattle.schedule_laws.proofs.TakenRows.{sound_taken}
 use Rattle.schedule_model.specs.declared.rule.Rule.{Rule}
-use Rattle.stretch_laws.specs.Steady.{IsSteady, IsAsLawful}
+use Rattle.schedule_laws.specs.Steady.{IsSteady, IsAsLawful}
 use Rattle.phase_machine.specs.MachineDef.{MachineDef, under}
 use Rattle.phase_machine.specs.Shows.{Shows}
 use Rattle.phase_machine.specs.Taking.{IsRowFor, CanTake}
@@ -28,7 +28,7 @@ abbrev pub over : JobsDef → (ℕ → RowDef) → Trace
 over list rows = record { set = list.set; jobs = list.jobs; row = rows }
 
 -- Rows that keep the rules, and some more.
-keeps_more : (keeps : Rule → Trace → ℕ → Type 0) (w : Trace) (t n : ℕ) → KeepsBefore keeps w t
+pub keeps_more : (keeps : Rule → Trace → ℕ → Type 0) (w : Trace) (t n : ℕ) → KeepsBefore keeps w t
     → ((i : ℕ) → i < n → KeepsRow keeps w (t + i)) → KeepsBefore keeps w (t + n)
 keeps_more keeps w t n before rows u l = elim (cases_lt u t) [
   | inl early ↦ before u early

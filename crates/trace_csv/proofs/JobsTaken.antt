@@ -8,7 +8,7 @@ use Rattle.trace_csv.specs.Records.{Fields, line_at}
 use Rattle.trace_csv.specs.declared.refusal.JobsRefusal.{JobsRefusal}
 use Rattle.trace_csv.specs.declared.refusal.JobsRefusal.TheVariants as refusal
 use Rattle.trace_csv.specs.JobLines.{completed, job_written, jobs_written, line_refusal, refusal_at}
-use Rattle.trace_csv.specs.JobAnswers.{LineTaken}
+use Rattle.trace_csv.specs.JobAnswers.{LineRead, LineTaken}
 use Rattle.trace_csv.specs.JobsFile.{IsFirstRefused, LinesRead}
 
 -- Why a line is refused, where the jobs before it are those in the list.
@@ -34,6 +34,19 @@ first_refused : (set : SetDef) (lines : List Fields) (i : ℕ) (line : Fields) (
     → (k : ℕ) × IsFirstRefused set lines k r
 first_refused set lines i line before r within at list earlier refused =
     (i, record { within = within; earlier = earlier; here = refused_here set lines i line before at list ∙ refused })
+
+-- What refuses a line for what stands on it refuses it after those in the list.
+pub refused_as_read : (r : JobsRefusal) (before after : JobsDef) (line : Fields) (k : ℕ) → LineRead (Err r) before.set line k
+    → LineTaken {T = Unit {0}} (Err r) before after line k
+refused_as_read (refusal.Fields n) before after line k read = rw read refl
+refused_as_read (refusal.Number n) before after line k read = rw read refl
+refused_as_read (refusal.UnknownName n) before after line k read = rw read refl
+refused_as_read (refusal.Script n) before after line k read = rw read refl
+refused_as_read (refusal.OverBudget n) before after line k read = read before.jobs
+refused_as_read (refusal.TooClose n) before after line k read = rw read refl
+refused_as_read (refusal.TooMany n) before after line k read = rw read refl
+refused_as_read (refusal.Late n) before after line k read = rw read refl
+refused_as_read refusal.Memory before after line k read = tt
 
 pub lines_refused : (set : SetDef) (lines : List Fields) (i : ℕ) (line : Fields) (before after : JobsDef) (r : JobsRefusal)
     → i < length lines → line_at lines i ≡ line → before ≡ jobs_written set (take i lines)

@@ -14,3 +14,5 @@ pub mod RowsTaken
 pub mod Runs
 pub mod Decimals
 pub mod RoundTrip
+pub mod ScriptWalks
+pub mod LongScripts

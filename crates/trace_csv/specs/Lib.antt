@@ -5,6 +5,7 @@ pub mod RecordsView
 pub mod Scripts
 pub mod PartsSeen
 pub mod JobLines
+pub mod ScriptAnswers
 pub mod JobAnswers
 pub mod JobsFile
 pub mod RowLines

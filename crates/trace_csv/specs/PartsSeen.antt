@@ -1,14 +1,10 @@
 -- What a contract sees of the parts of a script, and what the calls that read one say.
-use Rattle.std.specs.Prelude.{◌≡◌, ◌<◌, ◌+◌, ◌==◌, ℕ, true, false, List, [], ◌∷◌, map, length, option_map, Option, None}
-use Rattle.std.specs.Prelude.{Some, Result, Ok, Err}
+use Rattle.std.specs.Prelude.{◌≡◌, ◌<◌, ◌+◌, ◌==◌, ℕ, true, false, List, [], ◌∷◌, length, option_map, Option, None}
+use Rattle.std.specs.Prelude.{Some}
 use Rattle.std.specs.Borrow.{Bor}
 use Rattle.std.specs.List.{list_any, before_first, after_first}
 use Rattle.trace_csv.specs.declared.script.Request.{Request}
 use Rattle.trace_csv.specs.declared.script.Part.{Part}
-use Rattle.trace_csv.specs.declared.script.ScriptFault.{ScriptFault}
-use Rattle.trace_csv.specs.declared.script.ScriptFault.TheVariants as fault
-use Rattle.std.specs.declared.vec.Vec.{Vec}
-use Rattle.std.specs.Global.{Global}
 use Rattle.trace_csv.specs.Scripts.{NamedRequest, PartDef, tokens_in, parts_of, script_in, with_front}
 
 abbrev pub request_seen : Request → NamedRequest
@@ -47,9 +43,3 @@ abbrev pub IsFirstPart : Option (Part × Option (Bor (List ℕ))) → List ℕ �
 IsFirstPart None text = script_in text ≡ None
 IsFirstPart (Some p) text = (script_in text ≡ with_front (part_seen p.0 ∷ []) (parts_of (tokens_left (rest_seen p.1))))
     × (size_left (rest_seen p.1) < length text + 1)
-
--- The parts of the script; or the text is none.
-abbrev pub PartsRead : Result (Vec Part Global) ScriptFault → List ℕ → Type 0
-PartsRead (Ok parts) text = script_in text ≡ Some (map part_seen parts.items)
-PartsRead (Err fault.Form) text = script_in text ≡ None
-PartsRead (Err fault.Memory) text = Unit {0}

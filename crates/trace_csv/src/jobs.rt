@@ -1,88 +1,23 @@
-ghost use Rattle.std.specs.Prelude.{◌≡◌, ◌<◌, ◌^◌, ◌↔◌, false, length, map, IsTrue};
+ghost use Rattle.std.specs.Prelude.{◌≡◌, ◌<◌, ◌^◌, ◌↔◌, ◌∷◌, [], false, length, map, IsTrue};
 ghost use Rattle.trace_csv.specs.Records.{fields_seen};
-ghost use Rattle.trace_csv.specs.PartsSeen.{part_seen};
 ghost use Rattle.trace_csv.specs.JobLines.{at_line, completed};
 ghost use Rattle.trace_csv.specs.JobsFile.{jobs_header, arrivals_header, IsJobsFile, LinesRead, RecordsRead, JobsRead, IsUnrefused};
-ghost use Rattle.trace_csv.specs.JobAnswers.{SegmentOf, SegmentsRead, ScriptRead, FieldsRead, LineRead, LineTaken};
+ghost use Rattle.trace_csv.specs.JobAnswers.{LineRead, LineTaken};
 
 use crate::header::are_same;
 use crate::records::{Next, Records};
 use crate::refusal::JobsRefusal;
-use crate::script::{Part, Request, ScriptFault, parts_in};
+use crate::segments::{ScriptFault, script_of};
 use crate::slices::slices_of;
-use schedule_model::{Job, JobList, JobRefusal, Segment};
-use sporadic_model::{MOST_TICKS, ResourceId, TaskId, TaskSet};
-use std::alloc::{AllocFailed, Global};
+use schedule_model::{Job, JobList, JobRefusal};
+use sporadic_model::{MOST_TICKS, TaskId, TaskSet};
+use std::alloc::Global;
 use text_pieces::number_between;
 
 /// The fields of a line with an arrival: no line has more.
 const MOST_FIELDS: usize = 4;
 
-/// Why a script is not read as segments.
-#[derive(Clone, Copy, Debug, PartialEq, Eq)]
-enum SegmentFault {
-    /// The text is no script.
-    Form,
-    /// A request names no resource of the set.
-    UnknownName,
-    /// Memory was refused.
-    Memory,
-}
-
-impl<T: Drop> From<AllocFailed<T>> for SegmentFault {
-    ghost use Rattle.trace_csv.specs.declared.jobs.SegmentFault.TheVariants.{Memory};
-
-    ghost from_gives = { λ _ fault. fault ≡ Memory };
-
-    fn from(_error: AllocFailed<T>) -> SegmentFault {
-        SegmentFault::Memory
-    }
-}
-
-/// The segment that a part of a script writes; none where it names no resource of the set.
-fn segment_of(set: &TaskSet, part: &Part) -> Option<Segment>
-    ensures { SegmentOf result set.now (part_seen part.now) }
-{
-    let local = part.local;
-    let Some(request) = part.request else {
-        let request = None;
-        return Some(Segment { local, request });
-    };
-    match set.resource_named(request.resource) {
-        Some(resource) => Some(Segment {
-            local,
-            request: Some((resource, request.ticks)),
-        }),
-        None => None,
-    }
-}
-
-/// The segments that the parts of a script write.
-fn segments_of(alloc: Global, set: &TaskSet, parts: &[Part]) -> Result<Vec<Segment>, SegmentFault>
-    ensures { SegmentsRead result set.now (map part_seen parts.now) }
-{
-    let mut segments = Vec::new(alloc);
-    for part in parts {
-        let Some(segment) = segment_of(set, part) else {
-            return Err(SegmentFault::UnknownName);
-        };
-        segments.push(segment)?;
-    }
-    Ok(segments)
-}
-
-/// The segments that a script writes.
-fn script_of(alloc: Global, set: &TaskSet, text: &[u8]) -> Result<Vec<Segment>, SegmentFault>
-    ensures { ScriptRead result set.now text.now }
-{
-    match parts_in(alloc, text) {
-        Ok(parts) => segments_of(alloc, set, &parts),
-        Err(ScriptFault::Form) => Err(SegmentFault::Form),
-        Err(ScriptFault::Memory) => Err(SegmentFault::Memory),
-    }
-}
-
-/// The job that four fields write, or why their line, which has this number, is refused.
+/// The job that four fields write, or why their line, which has this number, is refused whatever jobs are listed.
 fn job_of_fields(
     alloc: Global,
     set: &TaskSet,
@@ -92,7 +27,7 @@ fn job_of_fields(
     script: &[u8],
     line: u64,
 ) -> Result<Job, JobsRefusal>
-    ensures { FieldsRead result set.now name.now arrival.now release.now script.now line }
+    ensures { LineRead result set.now (name.now ∷ arrival.now ∷ release.now ∷ script.now ∷ []) line }
 {
     let Some(arrival) = number_between(arrival, 0, MOST_TICKS) else {
         return Err(JobsRefusal::Number(line));
@@ -110,9 +45,14 @@ fn job_of_fields(
             release,
             script,
         }),
-        Err(SegmentFault::Form) => Err(JobsRefusal::Script(line)),
-        Err(SegmentFault::UnknownName) => Err(JobsRefusal::UnknownName(line)),
-        Err(SegmentFault::Memory) => Err(JobsRefusal::Memory),
+        Err(ScriptFault::Form) => Err(JobsRefusal::Script(line)),
+        Err(ScriptFault::UnknownName) => Err(JobsRefusal::UnknownName(line)),
+        Err(ScriptFault::TooLong) => {
+            // no set that keeps its limits allows so many requests, so the list would find the same
+            set.keeps_the_model();
+            Err(JobsRefusal::OverBudget(line))
+        }
+        Err(ScriptFault::Memory) => Err(JobsRefusal::Memory),
     }
 }
 

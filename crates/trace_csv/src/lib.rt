@@ -8,6 +8,7 @@ mod records;
 mod refusal;
 mod rows;
 mod script;
+mod segments;
 mod slices;
 mod writing;
 

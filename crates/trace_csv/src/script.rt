@@ -1,9 +1,8 @@
 ghost use Rattle.std.specs.Prelude.{◌≡◌, ◌==◌, option_map, position};
-ghost use Rattle.trace_csv.specs.Scripts.{request_in, script_in};
-ghost use Rattle.trace_csv.specs.PartsSeen.{request_seen, part_seen, Divides, IsFirstToken, IsFirstPart, PartsRead};
+ghost use Rattle.trace_csv.specs.Scripts.{request_in};
+ghost use Rattle.trace_csv.specs.PartsSeen.{request_seen, Divides, IsFirstToken, IsFirstPart};
 
 use sporadic_model::{MOST_NAME, MOST_TICKS};
-use std::alloc::{AllocFailed, Global};
 use text_pieces::number_between;
 
 /// A request by the name of its resource, and for how many ticks.
@@ -18,25 +17,6 @@ pub(crate) struct Request<'a> {
 pub(crate) struct Part<'a> {
     pub(crate) local: u64,
     pub(crate) request: Option<Request<'a>>,
-}
-
-/// Why a text is not read as a script.
-#[derive(Clone, Copy, Debug, PartialEq, Eq)]
-pub(crate) enum ScriptFault {
-    /// It is none.
-    Form,
-    /// Memory was refused.
-    Memory,
-}
-
-impl<T: Drop> From<AllocFailed<T>> for ScriptFault {
-    ghost use Rattle.trace_csv.specs.declared.script.ScriptFault.TheVariants.{Memory};
-
-    ghost from_gives = { λ _ fault. fault ≡ Memory };
-
-    fn from(_error: AllocFailed<T>) -> ScriptFault {
-        ScriptFault::Memory
-    }
 }
 
 /// Where is the first such byte?
@@ -81,7 +61,7 @@ fn request_of(token: &[u8]) -> Option<Request<'_>>
 }
 
 /// The first part of a script, and what stands after it, if that is not the end.
-fn first_part(text: &[u8]) -> Option<(Part<'_>, Option<&[u8]>)>
+pub(crate) fn first_part(text: &[u8]) -> Option<(Part<'_>, Option<&[u8]>)>
     ensures { IsFirstPart result text.now }
 {
     let (token, rest) = first_token(text);
@@ -97,20 +77,4 @@ fn first_part(text: &[u8]) -> Option<(Part<'_>, Option<&[u8]>)>
         request: Some(request),
     };
     Some((part, rest))
-}
-
-/// The parts of a script.
-pub(crate) fn parts_in(alloc: Global, text: &[u8]) -> Result<Vec<Part<'_>>, ScriptFault>
-    ensures { PartsRead result text.now }
-{
-    let mut parts = Vec::new(alloc);
-    let mut rest = Some(text);
-    while let Some(text) = rest {
-        let Some((part, after)) = first_part(text) else {
-            return Err(ScriptFault::Form);
-        };
-        parts.push(part)?;
-        rest = after;
-    }
-    Ok(parts)
 }

@@ -26,7 +26,8 @@ use Rattle.charge_laws.proofs.DpcpCharging.{RunsRequest}
 use Rattle.row_laws.proofs.Brings.{only_if-parts}
 use Rattle.row_laws.proofs.JobRows.{ActiveIn, paid_in_span}
 use Rattle.window_laws.specs.Windows.{time_at, ticks_by}
-use Rattle.window_laws.proofs.OpenRequests.{Open, request_runs, is_by, by_is, RunBy, flag_passes}
+use Rattle.window_laws.proofs.OpenRequests.{Open, request_runs, is_by, by_is, RunBy}
+use Rattle.program_laws.proofs.FewRows.{flag_passes}
 
 -- The job that runs on the processor; 0 where none does.
 abbrev runner_of : Trace → ℕ → ℕ → ℕ

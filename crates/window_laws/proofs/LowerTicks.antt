@@ -26,7 +26,8 @@ use Rattle.row_laws.proofs.HomeRow.{one_low_request}
 use Rattle.row_laws.proofs.SlotRow.{OneRequest}
 use Rattle.window_laws.specs.Windows.{may_hold_up, longest_lower}
 use Rattle.window_laws.proofs.Least.{greatest_below-term}
-use Rattle.window_laws.proofs.OpenRequests.{Open, open_request, open_active, request_runs, is_by_lower, lower_is, RunBy, flag_passes}
+use Rattle.window_laws.proofs.OpenRequests.{Open, open_request, open_active, request_runs, is_by_lower, lower_is, RunBy}
+use Rattle.program_laws.proofs.FewRows.{flag_passes}
 
 -- A lower job that runs there.
 record Lower (w : Trace) (t k j : ℕ) : Type 0 where

@@ -82,10 +82,6 @@ lower_is w k i t h = go (running_on (w.row t) k) refl h where
   go None e g = absurd (cc)
   go (Some y) e g = (record { job = y; runs = e }, ltb-true i (task_of w y) g)
 
-pub flag_passes : (b : Bool) → 0 < flag b → b ≡ true
-flag_passes true h = refl
-flag_passes false h = absurd (omega arith)
-
 -- At each tick a job of task i, of a lower task or of one of the higher ones runs there.
 one_runs : (w : Trace) (k i t y : ℕ) → running_on (w.row t) k ≡ Some y
     → 1 ≤ flag (is_by w k i t) + (flag (is_by_lower w k i t) + sum_below i (λ x. flag (is_by w k x t)))

@@ -8,11 +8,13 @@ use Rattle.run_plans.proofs.ReplyLaws.{replied_got}
 use Rattle.block_top.proofs.commands.audited_jobs_reply.Goals as goal
 
 pub audited_rows_reply-requires-clause-suits : goal.audited_rows_reply-requires-clause-suits
-audited_rows_reply-requires-clause-suits g c = subst (λ (s : SetDef). HasHomes c.args.protocol s) (sym c.in_ok-jobs.ensures.of_set) c.requires.suits
+audited_rows_reply-requires-clause-suits g c =
+    subst (λ (s : SetDef). HasHomes c.args.protocol s) (sym c.in_ok-jobs.ensures.holds) c.requires.suits
 
 pub returns-clause-reply : goal.returns-clause-reply
 returns-clause-reply g c =
-    replied_got (g.S.Shelf.seen c.args.shelf.now) (g.S.Shelf.seen c.get_jobs.new.shelf) (g.S.Shelf.seen c.audited_rows_reply.new.shelf)
+    replied_got (g.S.Shelf.seen c.args.shelf.now) (g.S.Shelf.seen c.get.new.shelf) (g.S.Shelf.seen c.audited_rows_reply.new.shelf)
     (jobs_input c.args.set.now) c.args.jobs.now
-    (λ bytes list. auditing_rows c.args.protocol c.args.digest.now (file_seen c.args.file.now) c.args.rows.now list) c.in_ok-jobs.jobs c.audited_rows_reply.result
-    c.get_jobs.ensures.keeps c.in_ok-jobs.ensures.got (λ works. absurd works) c.audited_rows_reply.ensures.reply
+    (λ bytes list. auditing_rows c.args.protocol c.args.digest.now (file_seen c.args.file.now) c.args.rows.now list) c.in_ok-jobs.jobs
+    c.audited_rows_reply.result
+    c.get.ensures.keeps c.in_ok-jobs.ensures.got (λ works. absurd works) c.audited_rows_reply.ensures.reply

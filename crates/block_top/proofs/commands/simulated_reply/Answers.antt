@@ -5,4 +5,4 @@ use Rattle.block_top.proofs.commands.simulated_reply.Goals as goal
 
 pub simulation-requires-clause-suits : goal.simulation-requires-clause-suits
 simulation-requires-clause-suits g c =
-    subst (λ (s : SetDef). HasHomes c.args.protocol s) (sym c.in_ok-jobs.ensures.of_set) c.requires.suits
+    subst (λ (s : SetDef). HasHomes c.args.protocol s) (sym c.in_ok-jobs.ensures.holds) c.requires.suits

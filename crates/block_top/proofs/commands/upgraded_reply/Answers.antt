@@ -7,9 +7,9 @@ use Rattle.block_top.proofs.commands.upgraded_reply.Goals as goal
 
 pub returns-clause-reply : goal.returns-clause-reply
 returns-clause-reply g c =
-    replied_work (g.S.Shelf.seen c.args.shelf.now) (g.S.Shelf.seen c.get_old_cert.new.shelf) (old_cert_input c.args.protocol)
+    replied_work (g.S.Shelf.seen c.args.shelf.now) (g.S.Shelf.seen c.get.new.shelf) (old_cert_input c.args.protocol)
     c.args.certificate.now (λ bytes d. Working (upgrade_of c.args.protocol c.args.digest.now c.args.set.now d))
     (certificate_seen c.in_ok-certificate.certificate)
     (IsJudgement c.args.protocol c.args.set.now (certificate_seen c.in_ok-certificate.certificate)
     (upgraded_answer c.args.protocol c.args.digest.now (certificate_seen c.in_ok-certificate.certificate))) c.upgraded.result
-    c.get_old_cert.ensures.keeps c.in_ok-certificate.ensures.got (λ (a : Answer) is. is) c.upgraded.ensures
+    c.get.ensures.keeps c.in_ok-certificate.ensures.got (λ (a : Answer) is. is) c.upgraded.ensures

@@ -1,12 +1,17 @@
-use Rattle.std.proofs.Common.{◌≡◌, ◌+◌}
+use Rattle.std.proofs.Common.{◌≡◌, ◌+◌, ◌≤◌}
 use Rattle.schedule_model.specs.RowDef.{row_in}
+use Rattle.trace_conform.specs.Runs.{ticks_before as start_of}
 use Rattle.charge.specs.Reached.{IsReached}
 use Rattle.charge.proofs.walking.walk_run.Given as goal
 
-abbrev pub invariant-loop : goal.invariant-loop
-invariant-loop g l = record {
+abbrev pub invariant-loop-left : goal.invariant-loop-left
+invariant-loop-left g l = record {
   list : l.machine.list ≡ l.initial.machine.list;
-  tick : l.machine.tick ≡ l.initial.machine.tick + l.counter;
+  tick : l.machine.tick + l.left ≡ start_of l.rows.runs (l.i + 1);
+  from : l.initial.machine.tick ≤ l.machine.tick;
   reached : IsReached (g.P.BlockingProtocol.keeps l.protocol) (g.P.ChargedProtocol.charges l.protocol)
       (row_in l.rows.runs) l.bounds l.machine l.ledger;
 }
+
+abbrev pub decreases-loop-left : goal.decreases-loop-left
+decreases-loop-left g l = l.left

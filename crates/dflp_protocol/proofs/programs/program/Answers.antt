@@ -6,7 +6,7 @@ use Rattle.fragments.specs.declared.columns.Fragment.{Fragment}
 use Rattle.fragments.specs.ColumnDef.{ColumnDef, column_seen}
 use Rattle.fragments.specs.Constraints.{block_of}
 use Rattle.program_laws.specs.Programs.{cost_of}
-use Rattle.protocol_programs.specs.Joined.{lists_of}
+use Rattle.protocol_programs.specs.Lists.{lists_of}
 use Rattle.protocol_programs.proofs.Over.{lists_are_program}
 use Rattle.dflp_laws.specs.Programs.{dflp_columns, dflp_rows, dflp_program}
 use Rattle.dflp_laws.proofs.Programs.{dflp_is_program}

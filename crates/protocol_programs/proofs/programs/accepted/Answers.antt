@@ -4,7 +4,7 @@ use Rattle.program_form.specs.Program.{ProgramDef}
 use Rattle.program_form.specs.Refusals.{first_refusal}
 use Rattle.program_form.specs.RowBlock.{block_seen}
 use Rattle.program_form.proofs.Accepted.{not_refused}
-use Rattle.protocol_programs.specs.Joined.{lists_of}
+use Rattle.protocol_programs.specs.Lists.{lists_of}
 use Rattle.protocol_programs.proofs.programs.accepted.Goals as goal
 
 pub new-requires-clause-few_columns : goal.new-requires-clause-few_columns

@@ -7,7 +7,7 @@ use Rattle.fragments.specs.ColumnDef.{column_seen}
 use Rattle.fragments.specs.Columns.{columns_of}
 use Rattle.program_laws.specs.Programs.{cost_of, rows_of, program_of}
 use Rattle.program_laws.proofs.WrittenPrograms.{written_program}
-use Rattle.protocol_programs.specs.Joined.{lists_of}
+use Rattle.protocol_programs.specs.Lists.{lists_of}
 use Rattle.protocol_programs.proofs.Over.{lists_are_program}
 use Rattle.protocol_programs.proofs.programs.program.Goals as goal
 

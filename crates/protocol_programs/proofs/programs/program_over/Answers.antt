@@ -3,7 +3,7 @@ use Rattle.program_form.specs.Program.{IsProgram}
 use Rattle.program_form.specs.RowBlock.{block_seen}
 use Rattle.fragments.specs.ColumnDef.{column_seen}
 use Rattle.program_laws.specs.Programs.{cost_of}
-use Rattle.protocol_programs.specs.Joined.{lists_of}
+use Rattle.protocol_programs.specs.Lists.{lists_of}
 use Rattle.protocol_programs.proofs.programs.program_over.Goals as goal
 
 pub accepted-requires : goal.accepted-requires

@@ -1,7 +1,9 @@
-use Rattle.std.proofs.Common.{◌≡◌, ◌≢◌, ℕ, ◌+◌, ◌-◌, List, sym, ◌∙◌, refl, arith, Ok, true, false}
+use Rattle.std.proofs.Common.{◌≡◌, ◌≢◌, ℕ, ◌+◌, ◌-◌, List, sym, ◌∙◌, refl, subst, arith, Ok, true, false}
 use Rattle.std.specs.Str.{bytes_eq}
 use Rattle.std.proofs.lemmas.Slice.Eq.{bytes_eq-Decides}
+use Rattle.program_sources.specs.Bounds.{IsInRange}
 use Rattle.program_sources.specs.Recurrence.{SourceDef, source_at}
+use Rattle.response_fixpoint.specs.Solutions.{IsPlan}
 use Rattle.response_fixpoint.specs.Answers.{GivesRound, found_of}
 use Rattle.response_fixpoint.proofs.AnswerLaws.{settled_ends, settled_answers, next_in_range, reaches_more}
 use Rattle.response_fixpoint.proofs.analysis.take_rounds.Goals as goal
@@ -13,13 +15,35 @@ same_vectors xs ys e = (bytes_eq-Decides xs ys).0 (sym e)
 other_vectors : (xs ys : List ℕ) → false ≡ bytes_eq xs ys → ys ≢ xs
 other_vectors xs ys e = λ same. (let yes = (bytes_eq-Decides xs ys).1 (sym same) in let both : false ≡ true = e ∙ yes in cc)
 
+pub loop-next-init : goal.loop-next-init
+loop-next-init g c =
+    let f : SourceDef = source_at (g.P.ProgramSource.source c.args.protocol.now) c.args.set.now in
+    let plan : IsPlan f c.in_ok-bounds.bounds.items c.args.allowance c.in_ok-plan.plan.items =
+    rw c.deref.ensures.value at c.in_ok-plan.ensures in
+    let all : c.args.allowance ≡ c.args.allowance - 0 = omega arith in
+    record {
+      reached = (0, (refl, c.in_ok-bounds.ensures.first));
+      range = c.in_ok-bounds.ensures.range;
+      within = omega arith;
+      planned = subst (λ (left : ℕ). IsPlan f c.in_ok-bounds.bounds.items left c.in_ok-plan.plan.items) all plan;
+    }
+
+pub next_plan-requires-clause-range : goal.next_plan-requires-clause-range
+next_plan-requires-clause-range g c =
+    let f : SourceDef = source_at (g.P.ProgramSource.source c.args.protocol.now) c.args.set.now in
+    let next = c.in-Ok.next in
+    let given : GivesRound (Ok next) f c.loop-next.bounds.items (c.args.allowance - c.loop-next.spent) =
+    rw (c.in-Ok.is, c.deref-in-loop-next.ensures.value) at c.take_round.ensures in
+    subst (λ (v : List ℕ). IsInRange c.args.set.now v) (sym c.deref-in-loop-next-2.ensures.value)
+    (next_in_range f c.loop-next.bounds.items (c.args.allowance - c.loop-next.spent) (found_of next) given.0)
+
 pub returns-then-eq : goal.returns-then-eq
 returns-then-eq g c =
     let f : SourceDef = source_at (g.P.ProgramSource.source c.args.protocol.now) c.args.set.now in
     let way = c.loop-next.invariant.reached in
     let next = c.in-Ok.next in
     let given : GivesRound (Ok next) f c.loop-next.bounds.items (c.args.allowance - c.loop-next.spent) =
-    rw (c.in-Ok.is, c.deref.ensures.value) at c.take_round.ensures in
+    rw (c.in-Ok.is, c.deref-in-loop-next.ensures.value) at c.take_round.ensures in
     let ends = settled_ends f c.args.allowance way.0 c.loop-next.spent c.loop-next.bounds.items (found_of next) way.1
     given.0 (same_vectors next.values.items c.loop-next.bounds.items c.if-eq.ensures) in
     settled_answers f c.args.allowance c.settled.result (found_of next).values (found_of next).duals ends c.settled.ensures
@@ -30,12 +54,12 @@ loop-next-preserved g c =
     let way = c.loop-next.invariant.reached in
     let next = c.in-Ok.next in
     let given : GivesRound (Ok next) f c.loop-next.bounds.items (c.args.allowance - c.loop-next.spent) =
-    rw (c.in-Ok.is, c.deref.ensures.value) at c.take_round.ensures in
+    rw (c.in-Ok.is, c.deref-in-loop-next.ensures.value) at c.take_round.ensures in
     let other = other_vectors next.values.items c.loop-next.bounds.items c.if-eq.ensures in
     record {
       reached = reaches_more f c.args.allowance way.0 c.loop-next.spent (c.loop-next.spent + next.used)
           c.loop-next.bounds.items (found_of next) way.1 given.0 other refl;
       range = next_in_range f c.loop-next.bounds.items (c.args.allowance - c.loop-next.spent) (found_of next) given.0;
       within = omega (arith, given.1, c.loop-next.invariant.within);
-      kept = given.3;
+      planned = rw c.deref-in-loop-next-2.ensures.value at (c.in_ok-plan-2.ensures (c.args.allowance - (c.loop-next.spent + next.used)));
     }

@@ -1,6 +1,6 @@
 use Rattle.std.proofs.Common.{◌≡◌, ◌+◌, ◌≤◌, ◌∙◌, ap, arith}
 use Rattle.schedule_model.specs.Seen.{row_seen}
-use Rattle.stretch_laws.specs.Steady.{IsSteady}
+use Rattle.schedule_laws.specs.Steady.{IsSteady}
 use Rattle.phase_machine.specs.MachineDef.{under}
 use Rattle.phase_machine.specs.Taking.{CanTake}
 use Rattle.phase_machine.proofs.Stretches.{quiet_sooner}

@@ -1,125 +1,78 @@
-use Rattle.std.proofs.Common.{◌≡◌, ◌≢◌, ◌⊎◌, inl, inr, ◌+◌, ◌<◌, min, length, pos, sym, ap₂, ◌∙◌}
+use Rattle.std.proofs.Common.{◌≡◌, ◌+◌, length, pos, refl, arith}
 use Rattle.std.proofs.lemmas.Result.{err_from_is_err_and}
-use Rattle.std.proofs.lemmas.Bool.{false≢true}
-use Rattle.exchange_runs.specs.Exchange.{IsLess}
-use Rattle.simplex.specs.Entries.{variable_or, listed_at}
-use Rattle.simplex.proofs.Merging.{IsNext, next_at, row_split, pivot_split, taken_zero, taken_entry, taken_whole}
+use Rattle.std.proofs.lemmas.List.{take_rest}
+use Rattle.fraction128.specs.Fraction.{whole}
+use Rattle.simplex.specs.Entries.{entry_at}
+use Rattle.simplex.proofs.Listed.{entry_read, entry_same}
+use Rattle.simplex.proofs.Merging.{row_alone, pivot_alone, both_next, wide_alone, wide_both, rest_stays}
 use Rattle.simplex.proofs.entries.take_away.Goals as goal
-use Rattle.simplex.proofs.entries.take_away.Goals.{then-i-entries, else-i-entries+then-j-pivot}
-use Rattle.simplex.proofs.entries.take_away.Goals.{then-not-is_zero+in_ok-push, else-not-is_zero}
 
-pub value_behind-requires-clause-split : goal.value_behind-requires-clause-split
-value_behind-requires-clause-split c =
-    let inv = c.loop-i.invariant.1 in
-    let more : (c.loop-i.i < length c.args.entries.now) ⊎ (c.loop-i.j < length c.args.pivot.now)
-    = elim c.if-i-entries.branch [ then-i-entries w ↦ inl w.if-i-entries.true | else-i-entries+then-j-pivot w ↦ inr w.if-j-pivot.true ] in
-    let is : c.min-v.result
-    ≡ min (variable_or c.args.entries.now c.loop-i.i c.args.end) (variable_or c.args.pivot.now c.loop-i.j c.args.end)
-    = c.min-v.ensures ∙ ap₂ min c.variable_at.ensures c.variable_at-in-loop-i.ensures in
-    let next : IsNext c.args.entries.now c.args.pivot.now c.args.end c.loop-i.i c.loop-i.j c.loop-i.invariant.0 c.min-v.result
-    = next_at c.args.entries.now c.args.pivot.now c.loop-i.left.items c.args.f c.args.end c.loop-i.i c.loop-i.j
-    c.loop-i.invariant.0 c.min-v.result inv c.requires.below
-    c.requires.pivot_below more is in
-    row_split c.args.entries.now c.args.pivot.now c.loop-i.left.items c.args.f c.args.end c.loop-i.i c.loop-i.j
-    c.loop-i.invariant.0 c.min-v.result c.requires.sparse inv next
+pub loop-j-preserved-in-Less : goal.loop-j-preserved-in-Less
+loop-j-preserved-in-Less c =
+    let own : entry_at c.args.entries.now c.loop-j.i ≡ c.index-entries-i.result
+    = entry_read c.args.entries.now c.loop-j.i c.index-entries-i.result c.in-Less.ensures.0 c.index-entries-i.is in
+    let there = entry_read c.args.pivot.now c.loop-j.j c.index-pivot-j.result c.loop-j-test.true c.index-pivot-j.is in (
+      (entry_at c.args.entries.now c.loop-j.i).variable + 1,
+      rw (c.in_ok-push-in-Less.ensures.items, ← own)
+          (row_alone c.args.entries.now c.args.pivot.now c.loop-j.left.items c.args.f c.args.end c.loop-j.i c.loop-j.j c.loop-j.invariant.0
+          c.requires.sparse c.requires.pivot_sparse c.requires.below c.requires.pivot_below c.loop-j.invariant.1
+          c.in-Less.ensures.0 (λ _. rw there c.in-Less.ensures.1)),
+    )
 
-pub value_behind-requires-in-loop-i-clause-split : goal.value_behind-requires-in-loop-i-clause-split
-value_behind-requires-in-loop-i-clause-split c =
-    let inv = c.loop-i.invariant.1 in
-    let more : (c.loop-i.i < length c.args.entries.now) ⊎ (c.loop-i.j < length c.args.pivot.now)
-    = elim c.if-i-entries.branch [ then-i-entries w ↦ inl w.if-i-entries.true | else-i-entries+then-j-pivot w ↦ inr w.if-j-pivot.true ] in
-    let is : c.min-v.result
-    ≡ min (variable_or c.args.entries.now c.loop-i.i c.args.end) (variable_or c.args.pivot.now c.loop-i.j c.args.end)
-    = c.min-v.ensures ∙ ap₂ min c.variable_at.ensures c.variable_at-in-loop-i.ensures in
-    let next : IsNext c.args.entries.now c.args.pivot.now c.args.end c.loop-i.i c.loop-i.j c.loop-i.invariant.0 c.min-v.result
-    = next_at c.args.entries.now c.args.pivot.now c.loop-i.left.items c.args.f c.args.end c.loop-i.i c.loop-i.j
-    c.loop-i.invariant.0 c.min-v.result inv c.requires.below
-    c.requires.pivot_below more is in
-    pivot_split c.args.entries.now c.args.pivot.now c.loop-i.left.items c.args.f c.args.end c.loop-i.i c.loop-i.j
-    c.loop-i.invariant.0 c.min-v.result c.requires.pivot_sparse inv next
+pub returns-in_err-rest-in-Equal : goal.returns-in_err-rest-in-Equal
+returns-in_err-rest-in-Equal c =
+    let y = c.index-pivot-j.result in
+    let own = entry_read c.args.pivot.now c.loop-j.j y c.loop-j-test.true c.index-pivot-j.is in
+    let a = c.index-entries-i-in-Equal.result in
+    let read = entry_same c.args.entries.now c.loop-j.i a c.in-Equal.ensures.0 in
+    let stop = err_from_is_err_and c.from_residual-in_err-rest-in-Equal.result c.from_residual-in_err-rest-in-Equal.ensures.1 in
+    rw (stop.1, stop.2)
+    (wide_both c.args.entries.now c.args.pivot.now c.loop-j.left.items c.args.f c.args.end c.loop-j.i c.loop-j.j c.loop-j.invariant.0
+    c.requires.sparse c.requires.pivot_sparse c.requires.below c.requires.pivot_below c.loop-j.invariant.1
+    y.variable y.value c.in-Equal.ensures.0 c.in-Equal.ensures.1 c.loop-j-test.true own
+    (rw read c.in_err-rest-in-Equal.ensures))
 
-pub returns-in_err-value : goal.returns-in_err-value
-returns-in_err-value c =
-    let inv = c.loop-i.invariant.1 in
-    let more : (c.loop-i.i < length c.args.entries.now) ⊎ (c.loop-i.j < length c.args.pivot.now)
-    = elim c.if-i-entries.branch [ then-i-entries w ↦ inl w.if-i-entries.true | else-i-entries+then-j-pivot w ↦ inr w.if-j-pivot.true ] in
-    let is : c.min-v.result
-    ≡ min (variable_or c.args.entries.now c.loop-i.i c.args.end) (variable_or c.args.pivot.now c.loop-i.j c.args.end)
-    = c.min-v.ensures ∙ ap₂ min c.variable_at.ensures c.variable_at-in-loop-i.ensures in
-    let next : IsNext c.args.entries.now c.args.pivot.now c.args.end c.loop-i.i c.loop-i.j c.loop-i.invariant.0 c.min-v.result
-    = next_at c.args.entries.now c.args.pivot.now c.loop-i.left.items c.args.f c.args.end c.loop-i.i c.loop-i.j
-    c.loop-i.invariant.0 c.min-v.result inv c.requires.below
-    c.requires.pivot_below more is in
-    let wide = rw (c.value_behind.ensures.value, c.value_behind-in-loop-i.ensures.value) at c.in_err-value.ensures in
-    let stop = err_from_is_err_and c.from_residual.result c.from_residual.ensures.1 in
-    rw (stop.1, stop.2) (c.min-v.result, next.within, wide)
+pub loop-j-preserved-in-Equal : goal.loop-j-preserved-in-Equal
+loop-j-preserved-in-Equal c =
+    let y = c.index-pivot-j.result in
+    let own = entry_read c.args.pivot.now c.loop-j.j y c.loop-j-test.true c.index-pivot-j.is in
+    let a = c.index-entries-i-in-Equal.result in
+    let read = entry_same c.args.entries.now c.loop-j.i a c.in-Equal.ensures.0 in (
+      y.variable + 1,
+      both_next c.args.entries.now c.args.pivot.now c.loop-j.left.items c.args.f c.args.end c.loop-j.i c.loop-j.j c.loop-j.invariant.0
+          c.requires.sparse c.requires.pivot_sparse c.requires.below c.requires.pivot_below c.loop-j.invariant.1
+          y.variable y.value c.in_ok-rest-in-Equal.rest c.push_cell.new.list.items
+          c.in-Equal.ensures.0 c.in-Equal.ensures.1 c.loop-j-test.true own
+          (rw read c.in_ok-rest-in-Equal.ensures) c.in_ok-push_cell-in-Equal.ensures,
+    )
 
-pub count_through-i-requires-clause-split : goal.count_through-i-requires-clause-split
-count_through-i-requires-clause-split c =
-    let inv = c.loop-i.invariant.1 in
-    let more : (c.loop-i.i < length c.args.entries.now) ⊎ (c.loop-i.j < length c.args.pivot.now)
-    = elim c.if-i-entries.branch [ then-i-entries w ↦ inl w.if-i-entries.true | else-i-entries+then-j-pivot w ↦ inr w.if-j-pivot.true ] in
-    let is : c.min-v.result
-    ≡ min (variable_or c.args.entries.now c.loop-i.i c.args.end) (variable_or c.args.pivot.now c.loop-i.j c.args.end)
-    = c.min-v.ensures ∙ ap₂ min c.variable_at.ensures c.variable_at-in-loop-i.ensures in
-    let next : IsNext c.args.entries.now c.args.pivot.now c.args.end c.loop-i.i c.loop-i.j c.loop-i.invariant.0 c.min-v.result
-    = next_at c.args.entries.now c.args.pivot.now c.loop-i.left.items c.args.f c.args.end c.loop-i.i c.loop-i.j
-    c.loop-i.invariant.0 c.min-v.result inv c.requires.below
-    c.requires.pivot_below more is in
-    row_split c.args.entries.now c.args.pivot.now c.loop-i.left.items c.args.f c.args.end c.loop-i.i c.loop-i.j
-    c.loop-i.invariant.0 c.min-v.result c.requires.sparse inv next
+pub returns-in_err-rest-in-Greater : goal.returns-in_err-rest-in-Greater
+returns-in_err-rest-in-Greater c =
+    let y = c.index-pivot-j.result in
+    let own = entry_read c.args.pivot.now c.loop-j.j y c.loop-j-test.true c.index-pivot-j.is in
+    let stop = err_from_is_err_and c.from_residual-in_err-rest-in-Greater.result c.from_residual-in_err-rest-in-Greater.ensures.1 in
+    rw (stop.1, stop.2)
+    (wide_alone c.args.entries.now c.args.pivot.now c.loop-j.left.items c.args.f c.args.end c.loop-j.i c.loop-j.j c.loop-j.invariant.0
+    c.requires.sparse c.requires.pivot_sparse c.requires.below c.requires.pivot_below c.loop-j.invariant.1
+    y.variable y.value c.loop-j-test.true own c.in-Greater.ensures
+    (c.in_err-rest-in-Greater.ensures (whole (pos 0)) refl))
 
-pub count_through-j-requires-clause-split : goal.count_through-j-requires-clause-split
-count_through-j-requires-clause-split c =
-    let inv = c.loop-i.invariant.1 in
-    let more : (c.loop-i.i < length c.args.entries.now) ⊎ (c.loop-i.j < length c.args.pivot.now)
-    = elim c.if-i-entries.branch [ then-i-entries w ↦ inl w.if-i-entries.true | else-i-entries+then-j-pivot w ↦ inr w.if-j-pivot.true ] in
-    let is : c.min-v.result
-    ≡ min (variable_or c.args.entries.now c.loop-i.i c.args.end) (variable_or c.args.pivot.now c.loop-i.j c.args.end)
-    = c.min-v.ensures ∙ ap₂ min c.variable_at.ensures c.variable_at-in-loop-i.ensures in
-    let next : IsNext c.args.entries.now c.args.pivot.now c.args.end c.loop-i.i c.loop-i.j c.loop-i.invariant.0 c.min-v.result
-    = next_at c.args.entries.now c.args.pivot.now c.loop-i.left.items c.args.f c.args.end c.loop-i.i c.loop-i.j
-    c.loop-i.invariant.0 c.min-v.result inv c.requires.below
-    c.requires.pivot_below more is in
-    pivot_split c.args.entries.now c.args.pivot.now c.loop-i.left.items c.args.f c.args.end c.loop-i.i c.loop-i.j
-    c.loop-i.invariant.0 c.min-v.result c.requires.pivot_sparse inv next
-
-pub loop-i-preserved : goal.loop-i-preserved
-loop-i-preserved c =
-    let inv = c.loop-i.invariant.1 in
-    let more : (c.loop-i.i < length c.args.entries.now) ⊎ (c.loop-i.j < length c.args.pivot.now)
-    = elim c.if-i-entries.branch [ then-i-entries w ↦ inl w.if-i-entries.true | else-i-entries+then-j-pivot w ↦ inr w.if-j-pivot.true ] in
-    let is : c.min-v.result
-    ≡ min (variable_or c.args.entries.now c.loop-i.i c.args.end) (variable_or c.args.pivot.now c.loop-i.j c.args.end)
-    = c.min-v.ensures ∙ ap₂ min c.variable_at.ensures c.variable_at-in-loop-i.ensures in
-    let next : IsNext c.args.entries.now c.args.pivot.now c.args.end c.loop-i.i c.loop-i.j c.loop-i.invariant.0 c.min-v.result
-    = next_at c.args.entries.now c.args.pivot.now c.loop-i.left.items c.args.f c.args.end c.loop-i.i c.loop-i.j
-    c.loop-i.invariant.0 c.min-v.result inv c.requires.below
-    c.requires.pivot_below more is in
-    let is : IsLess (listed_at c.args.entries.now c.min-v.result) c.args.f (listed_at c.args.pivot.now c.min-v.result) c.in_ok-value.value
-    = rw (← c.value_behind.ensures.value, ← c.value_behind-in-loop-i.ensures.value) c.in_ok-value.ensures in (
-      c.min-v.result + 1,
-      elim c.if-not-is_zero.branch [
-        | then-not-is_zero+in_ok-push w ↦
-            let some : c.in_ok-value.value.num ≢ pos 0 =
-            λ none. absurd (false≢true (sym w.if-not-is_zero.true ∙ c.is_zero.ensures.1 none)) in
-            rw (w.left-is, w.in_ok-push.ensures.items)
-            (taken_entry c.args.entries.now c.args.pivot.now c.loop-i.left.items c.args.f c.in_ok-value.value c.args.end
-            c.loop-i.i c.loop-i.j c.loop-i.invariant.0 c.min-v.result
-            c.count_through-i.result c.count_through-j.result c.requires.sparse c.requires.pivot_sparse inv next
-            c.count_through-i.ensures.split c.count_through-j.ensures.split is some)
-        | else-not-is_zero w ↦
-            let none : c.in_ok-value.value.num ≡ pos 0 = c.is_zero.ensures.0 w.if-not-is_zero.false in
-            rw w.left-is
-            (taken_zero c.args.entries.now c.args.pivot.now c.loop-i.left.items c.args.f c.in_ok-value.value c.args.end
-            c.loop-i.i c.loop-i.j c.loop-i.invariant.0 c.min-v.result
-            c.count_through-i.result c.count_through-j.result c.requires.sparse c.requires.pivot_sparse inv next
-            c.count_through-i.ensures.split c.count_through-j.ensures.split is none)
-      ],
+pub loop-j-preserved : goal.loop-j-preserved
+loop-j-preserved c =
+    let y = c.index-pivot-j.result in
+    let own = entry_read c.args.pivot.now c.loop-j.j y c.loop-j-test.true c.index-pivot-j.is in (
+      y.variable + 1,
+      pivot_alone c.args.entries.now c.args.pivot.now c.loop-j.left.items c.args.f c.args.end c.loop-j.i c.loop-j.j c.loop-j.invariant.0
+          c.requires.sparse c.requires.pivot_sparse c.requires.below c.requires.pivot_below c.loop-j.invariant.1
+          y.variable y.value c.in_ok-rest-in-Greater.rest c.push_cell-in-Greater.new.list.items
+          c.loop-j-test.true own c.in-Greater.ensures
+          (c.in_ok-rest-in-Greater.ensures (whole (pos 0)) refl) c.in_ok-push_cell-in-Greater.ensures,
     )
 
 pub returns : goal.returns
 returns c =
-    taken_whole c.args.entries.now c.args.pivot.now c.loop-i.left.items c.args.f c.args.end c.loop-i.i c.loop-i.j
-    c.loop-i.invariant.0 c.loop-i.invariant.1
-    c.if-i-entries.false c.if-j-pivot.false
+    rw (c.in_ok-extend_from_slice.ensures.items, take_rest c.args.entries.now c.loop-j.i)
+    (rest_stays (length c.args.entries.now) c.args.entries.now c.args.pivot.now c.loop-j.left.items c.args.f c.args.end
+    c.loop-j.i c.loop-j.j c.loop-j.invariant.0
+    c.requires.sparse c.requires.pivot_sparse c.requires.below c.requires.pivot_below c.loop-j.invariant.1
+    (omega arith) c.loop-j-test.false)

@@ -6,7 +6,7 @@ use Rattle.fragments.specs.declared.columns.Fragment.{Fragment}
 use Rattle.fragments.specs.ColumnDef.{ColumnDef, column_seen}
 use Rattle.fragments.specs.Constraints.{block_of}
 use Rattle.program_laws.specs.Programs.{cost_of}
-use Rattle.protocol_programs.specs.Joined.{lists_of}
+use Rattle.protocol_programs.specs.Lists.{lists_of}
 use Rattle.protocol_programs.proofs.Over.{lists_are_program}
 use Rattle.spin_charging.specs.SpinPrograms.{spin_columns, spin_rows, spin_program}
 use Rattle.spin_charging.proofs.SpinPrograms.{spin_is_program}

@@ -1,6 +1,0 @@
-use Rattle.direct_constraints.proofs.AskedColumns.{columns_asked}
-use Rattle.direct_constraints.proofs.own.Goals as goal
-
-pub add_lower_holder_rows-requires-clause-asked : goal.add_lower_holder_rows-requires-clause-asked
-add_lower_holder_rows-requires-clause-asked c =
-    columns_asked c.args.protocol c.args.set.now c.args.i.0 c.args.columns.now c.requires.columns

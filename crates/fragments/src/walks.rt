@@ -1,0 +1,239 @@
+//! Walks over the rows of all tasks or of all requests, each over the stretch of its columns, and over rows by number.
+
+ghost use Rattle.std.specs.Prelude.{◌≡◌, ℕ, ◌<◌, ◌≤◌, ◌+◌, List, [], ◌∷◌, map, length, IfOk, OnOk};
+ghost use Rattle.bounded_sums.specs.Sums.{collect_below};
+ghost use Rattle.sporadic_model.specs.SetDef.{SetDef};
+ghost use Rattle.program_sources.specs.Bounds.{AreWithinDeadlines};
+ghost use Rattle.fragments.specs.ColumnDef.{column_seen, AreKnown};
+ghost use Rattle.fragments.specs.Constraints.{ConstraintDef, per, per_pair};
+ghost use Rattle.fragments.specs.Stretches.{slot, AreInOrder, BeginsAt, IsTaskStretch, IsRequestStretch};
+ghost use Rattle.fragments.specs.declared.columns.Fragment.{Fragment};
+
+use crate::columns::Fragment;
+use crate::stretches::{requests_end, task_end};
+use crate::taking::RowTaker;
+use sporadic_model::{ResourceId, TaskId, TaskSet};
+use std::alloc::{AllocError, Global};
+
+/// Rows of which each is over the columns of one task alone.
+pub trait PerTask {
+    /// The rows of a task, for a set and the analysed task.
+    ghost rows_of: { Self → SetDef → ℕ → ℕ → List ConstraintDef };
+
+    /// Adds the rows of task `x`, whose columns are those of the stretch.
+    fn add<T: RowTaker>(
+        &self,
+        alloc: Global,
+        taker: &mut T,
+        set: &TaskSet,
+        i: TaskId,
+        x: TaskId,
+        bounds: &[u64],
+        columns: &[Fragment],
+        stretch: (usize, usize),
+    ) -> Result<(), AllocError>
+        requires task { i.0 < length set.now.tasks }
+        requires other { x.0 < length set.now.tasks }
+        requires within { AreWithinDeadlines set.now bounds.now }
+        requires known { AreKnown (length set.now.tasks) (length set.now.resources) columns.now }
+        requires stretch { IsTaskStretch x.0 columns.now stretch.0 stretch.1 }
+        ensures { OnOk result (T.takes taker.old (map column_seen columns.now) (rows_of self.now set.now i.0 x.0) bounds.now taker.new) };
+}
+
+/// Adds the rows of each task behind those that the taker has, over any columns that stand in order.
+pub fn add_per_task<T: RowTaker, R: PerTask>(
+    alloc: Global,
+    taker: &mut T,
+    rows: &R,
+    set: &TaskSet,
+    i: TaskId,
+    bounds: &[u64],
+    columns: &[Fragment],
+) -> Result<(), AllocError>
+    requires task { i.0 < length set.now.tasks }
+    requires within { AreWithinDeadlines set.now bounds.now }
+    requires known { AreKnown (length set.now.tasks) (length set.now.resources) columns.now }
+    requires order { AreInOrder columns.now }
+    ensures { OnOk result (T.takes taker.old (map column_seen columns.now)
+        (collect_below (length set.now.tasks) (R.rows_of rows.now set.now i.0)) bounds.now taker.new) }
+{
+    let mut place = 0;
+    for x in 0..set.tasks() {
+        let end = task_end(set, columns, place, TaskId(x));
+        rows.add(
+            alloc,
+            taker,
+            set,
+            i,
+            TaskId(x),
+            bounds,
+            columns,
+            (place, end),
+        )?;
+        place = end;
+    }
+    Ok(())
+}
+
+/// Rows of which there is one for each task and resource, over the columns of these requests alone.
+pub trait PerRequest {
+    /// The row of a task and a resource, for a set and the analysed task.
+    ghost row_of: { Self → SetDef → ℕ → ℕ → ℕ → ConstraintDef };
+
+    /// Are the rows those of the set and the analysed task at these bounds, where they are made of further numbers?
+    ghost fits: { Self → SetDef → ℕ → List ℕ → Type 0 };
+
+    /// Adds the row of task `x` and resource `q`, whose columns are those of the stretch.
+    fn add<T: RowTaker>(
+        &self,
+        alloc: Global,
+        taker: &mut T,
+        set: &TaskSet,
+        i: TaskId,
+        x: TaskId,
+        q: ResourceId,
+        bounds: &[u64],
+        columns: &[Fragment],
+        stretch: (usize, usize),
+    ) -> Result<(), AllocError>
+        requires fits { fits self.now set.now i.0 bounds.now }
+        requires task { i.0 < length set.now.tasks }
+        requires other { x.0 < length set.now.tasks }
+        requires resource { q.0 < length set.now.resources }
+        requires within { AreWithinDeadlines set.now bounds.now }
+        requires known { AreKnown (length set.now.tasks) (length set.now.resources) columns.now }
+        requires stretch { IsRequestStretch x.0 q.0 columns.now stretch.0 stretch.1 }
+        ensures { OnOk result (T.takes taker.old (map column_seen columns.now) (row_of self.now set.now i.0 x.0 q.0 ∷ []) bounds.now
+            taker.new) };
+}
+
+// Adds the rows of the requests by task `x`, whose columns begin at `from`. Answers where they end.
+fn add_requests_of<T: RowTaker, R: PerRequest>(
+    alloc: Global,
+    taker: &mut T,
+    rows: &R,
+    set: &TaskSet,
+    i: TaskId,
+    x: TaskId,
+    bounds: &[u64],
+    columns: &[Fragment],
+    from: usize,
+) -> Result<usize, AllocError>
+    requires fits { R.fits rows.now set.now i.0 bounds.now }
+    requires task { i.0 < length set.now.tasks }
+    requires other { x.0 < length set.now.tasks }
+    requires within { AreWithinDeadlines set.now bounds.now }
+    requires known { AreKnown (length set.now.tasks) (length set.now.resources) columns.now }
+    requires order { AreInOrder columns.now }
+    requires from { BeginsAt (slot x.0 0) columns.now from }
+    ensures rows { OnOk result (T.takes taker.old (map column_seen columns.now)
+        (per (length set.now.resources) (R.row_of rows.now set.now i.0 x.0)) bounds.now taker.new) }
+    ensures end { IfOk result (λ n. BeginsAt (slot (x.0 + 1) 0) columns.now n) }
+{
+    let mut place = from;
+    for q in 0..set.resources() {
+        let resource = ResourceId(q);
+        let end = requests_end(set, columns, place, x, resource);
+        rows.add(
+            alloc,
+            taker,
+            set,
+            i,
+            x,
+            resource,
+            bounds,
+            columns,
+            (place, end),
+        )?;
+        place = end;
+    }
+    Ok(place)
+}
+
+/// Adds the row of each of the first `tasks` tasks and each resource behind those that the taker has, over any columns that stand in
+/// order.
+pub fn add_per_request<T: RowTaker, R: PerRequest>(
+    alloc: Global,
+    taker: &mut T,
+    rows: &R,
+    set: &TaskSet,
+    tasks: u32,
+    i: TaskId,
+    bounds: &[u64],
+    columns: &[Fragment],
+) -> Result<(), AllocError>
+    requires fits { R.fits rows.now set.now i.0 bounds.now }
+    requires tasks { tasks ≤ length set.now.tasks }
+    requires task { i.0 < length set.now.tasks }
+    requires within { AreWithinDeadlines set.now bounds.now }
+    requires known { AreKnown (length set.now.tasks) (length set.now.resources) columns.now }
+    requires order { AreInOrder columns.now }
+    ensures { OnOk result (T.takes taker.old (map column_seen columns.now)
+        (per_pair tasks (length set.now.resources) (R.row_of rows.now set.now i.0)) bounds.now taker.new) }
+{
+    let mut place = 0;
+    for x in 0..tasks {
+        place = add_requests_of(
+            alloc,
+            taker,
+            rows,
+            set,
+            i,
+            TaskId(x),
+            bounds,
+            columns,
+            place,
+        )?;
+    }
+    Ok(())
+}
+
+/// Rows by number, as of each resource or of each processor, over any columns.
+pub trait PerNumber {
+    /// The rows of a number, for a set and the analysed task.
+    ghost rows_of: { Self → SetDef → ℕ → ℕ → List ConstraintDef };
+
+    /// Has the set rows of this number, which can be formed over these columns?
+    ghost fits: { Self → SetDef → ℕ → List Fragment → ℕ → Type 0 };
+
+    /// Adds the rows of the number.
+    fn add<T: RowTaker>(
+        &self,
+        alloc: Global,
+        taker: &mut T,
+        set: &TaskSet,
+        i: TaskId,
+        number: u32,
+        bounds: &[u64],
+        columns: &[Fragment],
+    ) -> Result<(), AllocError>
+        requires fits { fits self.now set.now i.0 columns.now number }
+        requires task { i.0 < length set.now.tasks }
+        requires within { AreWithinDeadlines set.now bounds.now }
+        requires known { AreKnown (length set.now.tasks) (length set.now.resources) columns.now }
+        ensures { OnOk result (T.takes taker.old (map column_seen columns.now) (rows_of self.now set.now i.0 number) bounds.now taker.new) };
+}
+
+/// Adds the rows of each number below `count` behind those that the taker has.
+pub fn add_per_number<T: RowTaker, R: PerNumber>(
+    alloc: Global,
+    taker: &mut T,
+    rows: &R,
+    set: &TaskSet,
+    count: u32,
+    i: TaskId,
+    bounds: &[u64],
+    columns: &[Fragment],
+) -> Result<(), AllocError>
+    requires fits { (n : ℕ) → n < count → R.fits rows.now set.now i.0 columns.now n }
+    requires task { i.0 < length set.now.tasks }
+    requires within { AreWithinDeadlines set.now bounds.now }
+    requires known { AreKnown (length set.now.tasks) (length set.now.resources) columns.now }
+    ensures { OnOk result (T.takes taker.old (map column_seen columns.now)
+        (collect_below count (R.rows_of rows.now set.now i.0)) bounds.now taker.new) }
+{
+    for number in 0..count {
+        rows.add(alloc, taker, set, i, number, bounds, columns)?;
+    }
+    Ok(())
+}

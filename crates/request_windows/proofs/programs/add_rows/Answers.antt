@@ -1,0 +1,13 @@
+use Rattle.std.proofs.Common.{map}
+use Rattle.sporadic_model.specs.declared.ids.Protocol.TheVariants as protocol
+use Rattle.fragments.specs.ColumnDef.{column_seen}
+use Rattle.program_laws.specs.Programs.{rows_of}
+use Rattle.window_laws.specs.WindowRows.{window_rows}
+use Rattle.request_windows.proofs.programs.add_rows.Goals as goal
+
+pub returns : goal.returns
+returns g c =
+    let set = c.args.set.now in
+    let i = c.args.i.0 in
+    g.met.T.RowTaker.behind c.args.taker.now c.add_rows.new.taker c.add_window_rows.new.taker (map column_seen c.args.columns.now)
+    (rows_of protocol.Dpcp set i) (window_rows set i) c.args.bounds.now c.in_ok-add_rows.ensures c.in_ok-add_window_rows.ensures

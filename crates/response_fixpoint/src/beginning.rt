@@ -1,0 +1,179 @@
+//! The plan of the first round: each task's program is formed once, by the threads that solve it.
+
+ghost use Rattle.std.specs.Prelude.{◌≡◌, ℕ, ◌<◌, length, slice_get, Some, IfOk, IfSome};
+ghost use Rattle.program_sources.specs.Bounds.{IsInRange};
+ghost use Rattle.program_sources.specs.Recurrence.{source_at};
+ghost use Rattle.response_fixpoint.specs.Places.{ArePlaced, AreEachFound};
+ghost use Rattle.response_fixpoint.specs.Solutions.{IsPlanned, IsPlan};
+
+use crate::places::{Placed, in_places};
+use crate::plan::Planned;
+use crate::sharing::{Share, first_threads, goes_on, is_in};
+use crate::task_run::solve_program;
+use program_sources::ProgramSource;
+use simplex::SparseProgram;
+use sporadic_model::{TaskId, TaskSet};
+use std::alloc::{AllocError, Global};
+use std::thread::{Threads, map_indices};
+
+/// Forms the program of task `i` at these bounds, and solves it with the units that are given if that is wanted.
+fn begin_task<P: ProgramSource>(
+    alloc: Global,
+    set: &TaskSet,
+    protocol: &P,
+    i: TaskId,
+    bounds: &[u64],
+    left: u64,
+    is_solved: bool,
+) -> Result<Planned, AllocError>
+    requires serves { P.serves protocol.now set.now }
+    requires range { IsInRange set.now bounds.now }
+    requires task { i.0 < length set.now.tasks }
+    ensures { IfOk result (λ p. IsPlanned (source_at (P.source protocol.now) set.now) bounds.now left i.0 p) }
+{
+    let formed = protocol.program(alloc, set, i, bounds)?;
+    let program = SparseProgram::new(alloc, &formed)?;
+    let ahead = if is_solved {
+        Some(solve_program(alloc, &program, left))
+    } else {
+        None
+    };
+    Ok(Planned {
+        program,
+        ahead,
+        work: 0,
+    })
+}
+
+/// Forms the programs of a thread's share, and solves them up to the first that ends the rounds.
+pub fn begin_some<P: ProgramSource>(
+    alloc: Global,
+    set: &TaskSet,
+    protocol: &P,
+    bounds: &[u64],
+    left: u64,
+    share: Share,
+) -> Result<Vec<Placed<Planned>>, AllocError>
+    requires serves { P.serves protocol.now set.now }
+    requires range { IsInRange set.now bounds.now }
+    ensures { IfOk result (λ v. ArePlaced
+        (IsPlanned (source_at (P.source protocol.now) set.now) bounds.now left) (length set.now.tasks) v.items) }
+{
+    let mut begun = Vec::new(alloc);
+    let mut is_on = true;
+    for i in 0..set.tasks() {
+        if !is_in(share, i as usize) {
+            continue;
+        }
+        let task = TaskId(i);
+        let planned = begin_task(alloc, set, protocol, task, bounds, left, is_on)?;
+        is_on = match &planned.ahead {
+            Some(outcome) => goes_on(set, protocol, task, bounds, outcome),
+            None => false,
+        };
+        begun.push(Placed {
+            task,
+            found: planned,
+        })?;
+    }
+    Ok(begun)
+}
+
+/// Forms and solves the programs in so many threads.
+fn begin_beside<R: Threads + Sync, P: ProgramSource + Sync>(
+    rt: &R,
+    alloc: Global,
+    set: &TaskSet,
+    protocol: &P,
+    bounds: &[u64],
+    left: u64,
+    threads: usize,
+) -> Result<Vec<Result<Vec<Placed<Planned>>, AllocError>>, AllocError>
+    requires serves { P.serves protocol.now set.now }
+    requires range { IsInRange set.now bounds.now }
+    ensures { IfOk result (λ v. (k : ℕ) (part : _) → slice_get v.items k ≡ Some part
+        → IfOk part (λ begun. ArePlaced
+        (IsPlanned (source_at (P.source protocol.now) set.now) bounds.now left) (length set.now.tasks) begun.items)) }
+{
+    map_indices(
+        rt,
+        alloc,
+        threads,
+        &|thread: usize| {
+            begin_some(
+                alloc,
+                set,
+                protocol,
+                bounds,
+                left,
+                Share { thread, threads },
+            )
+        },
+    )
+}
+
+/// The program of task `i` as a thread has begun it, and where none has, formed now.
+fn begun_or_formed<P: ProgramSource>(
+    alloc: Global,
+    set: &TaskSet,
+    protocol: &P,
+    i: TaskId,
+    bounds: &[u64],
+    left: u64,
+    begun: Option<Planned>,
+) -> Result<Planned, AllocError>
+    requires serves { P.serves protocol.now set.now }
+    requires range { IsInRange set.now bounds.now }
+    requires task { i.0 < length set.now.tasks }
+    requires begun { IfSome begun (λ p. IsPlanned (source_at (P.source protocol.now) set.now) bounds.now left i.0 p) }
+    ensures { IfOk result (λ p. IsPlanned (source_at (P.source protocol.now) set.now) bounds.now left i.0 p) }
+{
+    match begun {
+        Some(planned) => Ok(planned),
+        None => begin_task(alloc, set, protocol, i, bounds, left, false),
+    }
+}
+
+/// The plan of what the threads have begun. A program that none has formed is formed now.
+fn in_order<P: ProgramSource>(
+    alloc: Global,
+    set: &TaskSet,
+    protocol: &P,
+    bounds: &[u64],
+    left: u64,
+    places: Vec<Option<Planned>>,
+) -> Result<Vec<Planned>, AllocError>
+    requires serves { P.serves protocol.now set.now }
+    requires range { IsInRange set.now bounds.now }
+    requires places { AreEachFound (IsPlanned (source_at (P.source protocol.now) set.now) bounds.now left) 0 places.items }
+    ensures { IfOk result (λ v. IsPlan (source_at (P.source protocol.now) set.now) bounds.now left v.items) }
+{
+    let mut plan = Vec::new(alloc);
+    let mut begun = places.into_iter();
+    for i in 0..set.tasks() {
+        let place = begun.next().flatten();
+        let planned = begun_or_formed(alloc, set, protocol, TaskId(i), bounds, left, place)?;
+        plan.push(planned)?;
+    }
+    Ok(plan)
+}
+
+/// The plan of the first round, at these bounds and with so many units: each task's program, formed and solved side by side where it is
+/// worth threads. Behind a task that ends the rounds a program may be formed alone.
+pub fn first_plan<R: Threads + Sync, P: ProgramSource + Sync>(
+    rt: &R,
+    alloc: Global,
+    set: &TaskSet,
+    protocol: &P,
+    bounds: &[u64],
+    left: u64,
+) -> Result<Vec<Planned>, AllocError>
+    requires serves { P.serves protocol.now set.now }
+    requires range { IsInRange set.now bounds.now }
+    ensures { IfOk result (λ v. IsPlan (source_at (P.source protocol.now) set.now) bounds.now left v.items) }
+{
+    let threads = first_threads(rt, set);
+    let parts = begin_beside(rt, alloc, set, protocol, bounds, left, threads)?;
+    let places = in_places(alloc, set.tasks() as usize, parts)?;
+    in_order(alloc, set, protocol, bounds, left, places)
+}

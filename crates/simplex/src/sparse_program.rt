@@ -1,0 +1,176 @@
+//! A program kept by its nonzero coefficients.
+
+ghost use Rattle.std.specs.Prelude.{◌≡◌, ◌<◌, ◌≤◌, IfOk};
+ghost use Rattle.program_form.specs.Program.{IsProgram, columns, height, cost, limit};
+ghost use Rattle.simplex.specs.Coefficients.{entries_of};
+ghost use Rattle.simplex.specs.CoefficientRows.{AreRowsOf};
+ghost use Rattle.simplex.specs.Starts.{AreFirstEntries};
+
+use program_form::{MOST_NUMBER, Program};
+use std::alloc::{AllocError, Global};
+use std::marker::Model;
+
+// A coefficient that isn't zero, at its column.
+#[derive(Clone, Copy, Debug)]
+pub(crate) struct Coefficient {
+    pub(crate) column: u32,
+    pub(crate) number: u64,
+}
+
+/// A program kept by its nonzero coefficients, whose limits can be renewed.
+///
+/// To a contract it is the same three lists as a [`Program`]. A coefficient takes 16 bytes, and zeros take none.
+#[derive(Debug, Drop)]
+pub struct SparseProgram {
+    costs: Vec<u64>,
+    rows: Vec<Vec<Coefficient>>,
+    limits: Vec<u64>,
+}
+
+impl Model for SparseProgram {
+    ghost use Rattle.program_form.specs.Program.{ProgramDef};
+
+    ghost Value = { ProgramDef };
+
+    ghost use Rattle.simplex.specs.SparseView.{sparse_view, IsKept};
+
+    ghost view = { sparse_view };
+
+    ghost invariant = { IsKept };
+}
+
+impl SparseProgram {
+    /// The same program. The error comes where there is no memory for it.
+    pub fn new(alloc: Global, program: &Program) -> Result<SparseProgram, AllocError>
+        ensures { IfOk result (λ p. p ≡ program.now) }
+    {
+        let costs = costs_of(alloc, program)?;
+        let rows = rows_of(alloc, program)?;
+        let limits = limits_of(alloc, program)?;
+        Ok(SparseProgram {
+            costs,
+            rows,
+            limits,
+        })
+    }
+
+    /// How many columns there are.
+    pub fn columns(&self) -> u32
+        ensures value { result ≡ columns self.now }
+        ensures program { IsProgram self.now }
+    {
+        self.costs.len() as u32
+    }
+
+    /// How many rows there are.
+    pub fn rows(&self) -> u32
+        ensures value { result ≡ height self.now }
+        ensures program { IsProgram self.now }
+    {
+        self.rows.len() as u32
+    }
+
+    /// What a unit of column `c` is worth, in ticks.
+    pub fn cost(&self, c: u32) -> u64
+        requires { c < columns self.now }
+        ensures value { result ≡ cost self.now c }
+        ensures most { result ≤ MOST_NUMBER }
+    {
+        self.costs[c as usize]
+    }
+
+    /// What the sum of row `r` may be at most.
+    pub fn limit(&self, r: u32) -> u64
+        requires { r < height self.now }
+        ensures value { result ≡ limit self.now r }
+        ensures most { result ≤ MOST_NUMBER }
+    {
+        self.limits[r as usize]
+    }
+
+    /// What the sum of each row may be at most.
+    pub fn limits(&self) -> &[u64]
+        ensures value { result.now ≡ self.now.limits }
+        ensures program { IsProgram self.now }
+    {
+        &self.limits
+    }
+
+    /// Puts other limits in the place of its own, and leaves the rest as it is.
+    pub fn renew(&mut self, limits: Vec<u64>)
+        requires { IsProgram (record { costs = self.old.costs; rows = self.old.rows; limits = limits.items }) }
+        ensures { self.new ≡ record { costs = self.old.costs; rows = self.old.rows; limits = limits.items } }
+    {
+        self.limits = limits;
+    }
+
+    // The coefficients of a row that aren't zero.
+    pub(crate) fn coefficients(&self, r: usize) -> &[Coefficient]
+        requires { r < height self.now }
+        ensures { AreFirstEntries self.now r (columns self.now) (entries_of result.now) }
+    {
+        &self.rows[r]
+    }
+}
+
+// The cost of each column.
+fn costs_of(alloc: Global, program: &Program) -> Result<Vec<u64>, AllocError>
+    ensures { IfOk result (λ v. v.items ≡ program.now.costs) }
+{
+    let mut list = Vec::with_capacity(alloc, program.columns() as usize)?;
+    for c in 0..program.columns() {
+        list.push(program.cost(c))?;
+    }
+    Ok(list)
+}
+
+// The limit of each row.
+fn limits_of(alloc: Global, program: &Program) -> Result<Vec<u64>, AllocError>
+    ensures { IfOk result (λ v. v.items ≡ program.now.limits) }
+{
+    let mut list = Vec::with_capacity(alloc, program.rows() as usize)?;
+    for r in 0..program.rows() {
+        list.push(program.limit(r))?;
+    }
+    Ok(list)
+}
+
+// How many coefficients of a row aren't zero, so that its list gets that much room and no more.
+fn count_of(program: &Program, r: u32) -> usize
+    requires { r < height program.now }
+{
+    let mut count = 0usize;
+    for c in 0..program.columns() {
+        if program.entry(r, c) != 0 {
+            count += 1;
+        }
+    }
+    count
+}
+
+// The coefficients of a row that aren't zero.
+fn list_of(alloc: Global, program: &Program, r: u32) -> Result<Vec<Coefficient>, AllocError>
+    requires { r < height program.now }
+    ensures { IfOk result (λ v. AreFirstEntries program.now r (columns program.now) (entries_of v.items)) }
+{
+    let mut list = Vec::with_capacity(alloc, count_of(program, r))?;
+    for column in 0..program.columns() {
+        let number = program.entry(r, column);
+        if number != 0 {
+            list.push(Coefficient { column, number })?;
+        }
+    }
+    Ok(list)
+}
+
+// Those of each row.
+fn rows_of(alloc: Global, program: &Program) -> Result<Vec<Vec<Coefficient>>, AllocError>
+    ensures rows { IfOk result (λ v. AreRowsOf program.now (height program.now) v.items) }
+    ensures program { IsProgram program.now }
+{
+    let mut rows = Vec::with_capacity(alloc, program.rows() as usize)?;
+    for r in 0..program.rows() {
+        rows.push(list_of(alloc, program, r)?)?;
+    }
+    Ok(rows)
+}
