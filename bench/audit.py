@@ -14,27 +14,26 @@ import sys
 import tempfile
 from pathlib import Path
 
-from commands import run
-from stretched import TICKS, TOP, stretch, timed
+from commands import BUILT, TOP, run
+from stretched import TICKS, stretch, timed
 
 PROTOCOLS = ["mpcp", "fmlp+", "dpcp", "dflp", "dpcp-w", "spin"]
-BLOCK = TOP / "crates" / "block_cli" / "out" / "block_cli"
 
 
 def measure(folder, protocol, ticks):
     """Prints what the commands took, and gives the seconds of `audit`; none where the analysis gives no certificate."""
-    analysed = subprocess.run([BLOCK, "analyse", protocol, "set.json"], cwd=folder, capture_output=True, text=True)
+    analysed = subprocess.run([BUILT, "analyse", protocol, "set.json"], cwd=folder, capture_output=True, text=True)
     if analysed.returncode != 0:
         print(f"{protocol:6} {ticks:9} ticks: analyse ends with status {analysed.returncode}")
         return None
     (folder / "certificate.json").write_text(analysed.stdout)
-    rows = run([BLOCK, "simulate", protocol, "set.json", "jobs.csv", str(ticks)], folder)
+    rows = run([BUILT, "simulate", protocol, "set.json", "jobs.csv", str(ticks)], folder)
     (folder / "rows.csv").write_text(rows)
-    verdict, judging = timed([BLOCK, "conform", protocol, "set.json", "jobs.csv", "rows.csv"], folder)
+    verdict, judging = timed([BUILT, "conform", protocol, "set.json", "jobs.csv", "rows.csv"], folder)
     if not verdict.startswith(f"lawful {ticks}\n"):
         sys.exit(f"{protocol}: {verdict}")
-    _, checking = timed([BLOCK, "check", protocol, "set.json", "certificate.json"], folder)
-    kept, auditing = timed([BLOCK, "audit", protocol, "set.json", "certificate.json", "jobs.csv", "rows.csv"], folder)
+    _, checking = timed([BUILT, "check", protocol, "set.json", "certificate.json"], folder)
+    kept, auditing = timed([BUILT, "audit", protocol, "set.json", "certificate.json", "jobs.csv", "rows.csv"], folder)
     if not kept.startswith(f"kept {ticks}\n"):
         sys.exit(f"{protocol}: {kept}")
     print(f"{protocol:6} {ticks:9} ticks {rows.count(chr(10)) - 1:5} runs: conform {judging * 1000:7.1f} ms,"

@@ -1,6 +1,10 @@
 """What the benchmarks share."""
 import subprocess
 import sys
+from pathlib import Path
+
+TOP = Path(__file__).resolve().parent.parent
+BUILT = TOP / "crates" / "block_cli" / "out" / "block_cli"
 
 
 def run(command, where):
@@ -9,3 +13,11 @@ def run(command, where):
     if done.returncode != 0:
         sys.exit(f"{' '.join(map(str, command))} failed:\n{done.stdout[-3000:]}\n{done.stderr[-3000:]}")
     return done.stdout
+
+
+def built(program):
+    """The whole path of the executable, or the end of the script where there is none."""
+    program = Path(program).resolve()
+    if not program.is_file():
+        sys.exit(f"{program} is missing: ./block builds it, and so does rt ci")
+    return str(program)

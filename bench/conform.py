@@ -18,10 +18,9 @@ import tempfile
 from dataclasses import dataclass, field
 from pathlib import Path
 
-from commands import run
+from commands import TOP, run
 from generated_sets import assembled
 
-TOP = Path(__file__).resolve().parent.parent
 PROTOCOLS = ["mpcp", "fmlp+", "dpcp"]
 PROCESSORS = 4
 RESOURCES = 6

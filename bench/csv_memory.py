@@ -19,8 +19,8 @@ import tempfile
 import time
 from pathlib import Path
 
-TOP = Path(__file__).resolve().parent.parent
-BUILT = TOP / "crates" / "block_cli" / "out" / "block_cli"
+from commands import BUILT, built
+
 MIB = 1 << 20
 
 SET = {
@@ -134,9 +134,7 @@ def main():
     given.add_argument("--size", type=int, default=64)
     given.add_argument("kinds", nargs="*")
     given = given.parse_args()
-    program = str(Path(given.program).resolve())
-    if not Path(program).is_file():
-        sys.exit(f"{program} is missing: ./block builds it, and so does rt ci")
+    program = built(given.program)
     size = given.size * MIB
     every = list(kinds(size))
     unknown = [kind for kind in given.kinds if kind not in every]

@@ -12,9 +12,8 @@ import sys
 import tempfile
 from pathlib import Path
 
-from commands import run
+from commands import TOP, run
 
-TOP = Path(__file__).resolve().parent.parent
 COUNT = 1_000_000
 
 # What both programs are made of: the operands, from one generator, and the operations.

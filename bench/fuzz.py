@@ -23,7 +23,8 @@ import tempfile
 import time
 from pathlib import Path
 
-TOP = Path(__file__).resolve().parent.parent
+from commands import BUILT, TOP, built
+
 EXAMPLES = TOP / "examples"
 PROTOCOLS = ("mpcp", "fmlp+", "dpcp", "dflp", "dpcp-w", "spin")
 # those that ask for the home of each resource
@@ -272,7 +273,7 @@ def keep(folder, seed, number, why, words, files):
 
 def arguments():
     given = argparse.ArgumentParser()
-    given.add_argument("program", nargs="?", default=str(TOP / "crates" / "block_cli" / "out" / "block_cli"))
+    given.add_argument("program", nargs="?", default=str(BUILT))
     given.add_argument("--seconds", type=float, default=60)
     given.add_argument("--seed", default="1")
     given.add_argument("--only", default="")
@@ -284,9 +285,7 @@ def arguments():
 
 def main():
     given = arguments()
-    program = str(Path(given.program).resolve())
-    if not Path(program).is_file():
-        sys.exit(f"{program} is missing: ./block builds it, and so does rt ci")
+    program = built(given.program)
     with tempfile.TemporaryDirectory(prefix="fuzz-") as name:
         commands = [command for command in known_commands(program, Path(name)) if given.only in command.name]
     if not commands:

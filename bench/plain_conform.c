@@ -7,39 +7,16 @@
    release and its segments, as local ticks, resource and length (0 0: no request), after their number; for each run its ticks, the
    job of each processor and the holder of each resource (0: none). It prints the verdict, what is measured of each task, and how many
    nanoseconds the judging took. */
-#include <stdio.h>
-#include <stdlib.h>
 #include <time.h>
 
-enum { MPCP, FMLP, DPCP };
+#include "plain_jobs.h"
+
 enum { LOCAL, ASKING, FINISHED };
 
-typedef struct { long local, resource, length; } Segment;
-typedef struct {
-    long task, release, count;
-    Segment *segments;
-    long at, into, issued, end, blocked;
-} Job;
 typedef struct { long ticks, *running, *holders; } Run;
 
-static long protocol, processors, resources, tasks, count, runs;
-static long *home, *processor, *ceiling, *boost, *kept;
-static char *uses;
-static Job *jobs;
+static long runs, *kept, *last;
 static Run *rows;
-static long *current, *last;
-
-static long number(FILE *file) {
-    long n;
-    if (fscanf(file, "%ld", &n) != 1) exit(2);
-    return n;
-}
-
-static long *numbers(FILE *file, long n) {
-    long *list = malloc((n + 1) * sizeof *list);
-    for (long i = 1; i <= n; i++) list[i] = number(file);
-    return list;
-}
 
 static int phase(const Job *job) {
     if (job->at == job->count) return FINISHED;
@@ -194,52 +171,14 @@ static void advance(const Run *run, long t) {
 }
 
 static void read_file(FILE *file) {
-    protocol = number(file);
-    processors = number(file), resources = number(file), tasks = number(file), count = number(file), runs = number(file);
-    home = numbers(file, resources);
-    processor = malloc((tasks + 1) * sizeof *processor);
-    uses = calloc((tasks + 1) * (resources + 1), 1);
-    for (long x = 1; x <= tasks; x++) {
-        processor[x] = number(file);
-        for (long q = 1; q <= resources; q++) uses[x * (resources + 1) + q] = number(file) != 0;
-    }
-    jobs = calloc(count + 1, sizeof *jobs);
-    for (long j = 1; j <= count; j++) {
-        jobs[j].task = number(file), jobs[j].release = number(file), jobs[j].count = number(file);
-        jobs[j].segments = malloc(jobs[j].count * sizeof(Segment));
-        for (long s = 0; s < jobs[j].count; s++) {
-            Segment *segment = &jobs[j].segments[s];
-            segment->local = number(file), segment->resource = number(file), segment->length = number(file);
-        }
-    }
+    read_sizes(file);
+    runs = number(file);
+    read_set_and_jobs(file);
     rows = malloc((runs + 1) * sizeof *rows);
     for (long i = 0; i < runs; i++) {
         rows[i].ticks = number(file);
         rows[i].running = numbers(file, processors);
         rows[i].holders = numbers(file, resources);
-    }
-}
-
-static void make_tables(void) {
-    ceiling = calloc(resources + 1, sizeof *ceiling);
-    boost = calloc((resources + 1) * (processors + 1), sizeof *boost);
-    kept = calloc(resources + 1, sizeof *kept);
-    last = calloc(resources + 1, sizeof *last);
-    current = calloc(tasks + 1, sizeof *current);
-    for (long q = 1; q <= resources; q++) {
-        for (long x = tasks; x >= 1; x--)
-            if (uses[x * (resources + 1) + q]) ceiling[q] = x;
-        for (long k = 1; k <= processors; k++) {
-            long *b = &boost[q * (processors + 1) + k];
-            *b = ceiling[q];
-            for (long x = tasks; x >= 1; x--)
-                if (uses[x * (resources + 1) + q] && processor[x] != k) *b = x;
-        }
-    }
-    for (long x = 1; x <= tasks; x++) {
-        long j = 1;
-        while (j <= count && jobs[j].task != x) j++;
-        current[x] = j;
     }
 }
 
@@ -263,6 +202,8 @@ int main(int argc, char **argv) {
     if (!file) return 2;
     read_file(file);
     make_tables();
+    kept = calloc(resources + 1, sizeof *kept);
+    last = calloc(resources + 1, sizeof *last);
     struct timespec start, end;
     clock_gettime(CLOCK_MONOTONIC, &start);
     long t = 0;

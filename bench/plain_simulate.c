@@ -6,34 +6,15 @@
    home of each resource; the processor of each task and whether it uses each resource; for each job its task, its release and its
    segments, as local ticks, resource and length (0 0: no request), after their number. It prints a line for each run of equal rows,
    as a file of rows has them after its header. */
-#include <stdio.h>
-#include <stdlib.h>
 #include <string.h>
 
-enum { MPCP, FMLP, DPCP };
+#include "plain_jobs.h"
 
-typedef struct { long local, resource, length; } Segment;
-typedef struct {
-    long task, release, count;
-    Segment *segments;
-    long at, into, issued;
-} Job;
-
-static long protocol, processors, resources, tasks, count;
-static long *home, *processor, *ceiling, *boost;
-static Job *jobs;
-static long *current, *row, *before;
-static char *uses;
+static long *row, *before;
 
 /* What runs on processor k, and who holds resource q, in the row that is made. */
 #define RUNNING(k) row[(k)]
 #define HOLDER(q) row[processors + (q)]
-
-static long number(FILE *file) {
-    long n;
-    if (fscanf(file, "%ld", &n) != 1) exit(2);
-    return n;
-}
 
 /* The active job of a task, or 0. */
 static long active_of(long x, long t) {
@@ -121,56 +102,14 @@ static void print_run(long ticks, const long *cells) {
     putchar('\n');
 }
 
-static void read_file(FILE *file) {
-    protocol = number(file);
-    processors = number(file), resources = number(file), tasks = number(file), count = number(file);
-    home = calloc(resources + 1, sizeof *home);
-    for (long q = 1; q <= resources; q++) home[q] = number(file);
-    processor = calloc(tasks + 1, sizeof *processor);
-    uses = calloc((tasks + 1) * (resources + 1), 1);
-    for (long x = 1; x <= tasks; x++) {
-        processor[x] = number(file);
-        for (long q = 1; q <= resources; q++) uses[x * (resources + 1) + q] = number(file) != 0;
-    }
-    jobs = calloc(count + 1, sizeof *jobs);
-    for (long j = 1; j <= count; j++) {
-        jobs[j].task = number(file), jobs[j].release = number(file), jobs[j].count = number(file);
-        jobs[j].segments = calloc(jobs[j].count, sizeof(Segment));
-        for (long s = 0; s < jobs[j].count; s++) {
-            Segment *segment = &jobs[j].segments[s];
-            segment->local = number(file), segment->resource = number(file), segment->length = number(file);
-        }
-    }
-}
-
-static void make_tables(void) {
-    ceiling = calloc(resources + 1, sizeof *ceiling);
-    boost = calloc((resources + 1) * (processors + 1), sizeof *boost);
-    row = calloc(processors + resources + 1, sizeof *row);
-    before = calloc(processors + resources + 1, sizeof *before);
-    current = calloc(tasks + 1, sizeof *current);
-    for (long q = 1; q <= resources; q++) {
-        for (long x = tasks; x >= 1; x--)
-            if (uses[x * (resources + 1) + q]) ceiling[q] = x;
-        for (long k = 1; k <= processors; k++) {
-            long *b = &boost[q * (processors + 1) + k];
-            *b = ceiling[q];
-            for (long x = tasks; x >= 1; x--)
-                if (uses[x * (resources + 1) + q] && processor[x] != k) *b = x;
-        }
-    }
-    for (long x = 1; x <= tasks; x++) {
-        long j = 1;
-        while (j <= count && jobs[j].task != x) j++;
-        current[x] = j;
-    }
-}
-
 int main(int argc, char **argv) {
     FILE *file = argc == 3 ? fopen(argv[1], "r") : NULL;
     if (!file) return 2;
-    read_file(file);
+    read_sizes(file);
+    read_set_and_jobs(file);
     make_tables();
+    row = calloc(processors + resources + 1, sizeof *row);
+    before = calloc(processors + resources + 1, sizeof *before);
     long ticks = atol(argv[2]), length = 0;
     size_t size = (processors + resources + 1) * sizeof *row;
     for (long t = 0; t < ticks; t++) {

@@ -17,9 +17,8 @@ import tempfile
 import time
 from pathlib import Path
 
-from commands import run
+from commands import TOP, run
 
-TOP = Path(__file__).resolve().parent.parent
 sys.path.insert(0, str(TOP / "tools"))
 
 from blocking_programs import TaskSet, program_of  # noqa: E402
@@ -33,11 +32,11 @@ RATTLE = Path(__file__).with_suffix(".rattle").read_text(encoding="utf-8")
 
 INVARIANT = """use Rattle.std.proofs.Common.{ℕ, ◌<◌, ◌≤◌}
 use Rattle.std.specs.Prelude.{slice_index}
-use Rattle.sporadic_model.specs.SetDef.{task_at}
+use Rattle.sporadic_model.specs.SetDef.{task_at, latest_bound}
 use Rattle.programs_bench.proofs.are_within.Given as goal
 
 abbrev pub invariant-loop-i : goal.invariant-loop-i
-invariant-loop-i l = (k : ℕ) → k < l.i → slice_index l.bounds k ≤ (task_at l.set k).deadline
+invariant-loop-i l = (k : ℕ) → k < l.i → slice_index l.bounds k ≤ latest_bound (task_at l.set k)
 """
 
 

@@ -20,10 +20,8 @@ import sys
 import tempfile
 from pathlib import Path
 
-from commands import run
+from commands import BUILT, TOP, built, run
 
-TOP = Path(__file__).resolve().parent.parent
-BUILT = TOP / "crates" / "block_cli" / "out" / "block_cli"
 PROTOCOLS = ("mpcp", "fmlp+", "dpcp", "dflp", "dpcp-w", "spin")
 EXAMPLES = TOP / "examples"
 
@@ -151,9 +149,7 @@ def arguments():
 
 def main():
     given = arguments()
-    program = str(Path(given.program).resolve())
-    if not Path(program).is_file():
-        sys.exit(f"{program} is missing: ./block builds it, and so does rt ci")
+    program = built(given.program)
     if shutil.which("cc") is None:
         sys.exit("cc is missing: what refuses memory can't be compiled")
     with tempfile.TemporaryDirectory(prefix="refuse-") as name:

@@ -24,10 +24,9 @@ import time
 from fractions import Fraction
 from pathlib import Path
 
-from commands import run
+from commands import TOP, run
 from program_lines import as_line, read
 
-TOP = Path(__file__).resolve().parent.parent
 CRATES = ["number_laws", "bounded_sums", "fraction128", "program_form", "exchange_runs", "simplex"]
 UNITS = 1_000_000
 TRIES = 3

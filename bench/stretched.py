@@ -2,11 +2,9 @@
 import csv
 import json
 import time
-from pathlib import Path
 
-from commands import run
+from commands import TOP, run
 
-TOP = Path(__file__).resolve().parent.parent
 SET = TOP / "examples" / "plant.json"
 JOBS = TOP / "examples" / "plant-jobs.csv"
 TICKS = 1_000_000

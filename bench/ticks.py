@@ -16,8 +16,8 @@ import sys
 import tempfile
 from pathlib import Path
 
-from commands import run
-from stretched import TICKS, TOP, stretch, timed
+from commands import BUILT, TOP, run
+from stretched import TICKS, stretch, timed
 
 PROTOCOLS = ["mpcp", "fmlp+", "dpcp"]
 
@@ -54,7 +54,7 @@ def segments_of(tokens, resources):
 
 
 def measure(folder, protocol, ticks):
-    block = [TOP / "crates" / "block_cli" / "out" / "block_cli"]
+    block = [BUILT]
     (folder / "numbers.txt").write_text(numbers(folder, protocol))
     rows, simulating = timed(block + ["simulate", protocol, "set.json", "jobs.csv", str(ticks)], folder)
     (folder / "rows.csv").write_text(rows)

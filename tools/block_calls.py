@@ -101,6 +101,14 @@ class Block:
         return json.loads(Path(path).read_text(encoding="utf-8"))
 
 
+def write_out(text, output):
+    """Writes a tool's text to the file of this name, or to standard output where there is none."""
+    if output:
+        Path(output).write_text(text, encoding="utf-8")
+    else:
+        sys.stdout.write(text)
+
+
 def folder_of_calls():
     return tempfile.TemporaryDirectory(prefix="block-")
 

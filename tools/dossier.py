@@ -16,13 +16,11 @@ read or a write failed; and 70 where the program is missing.
 import base64
 import re
 import shlex
-import sys
-from pathlib import Path
 
 import bars
 import lanes
 from bars import Bar, Part
-from block_calls import AT_HOMES, DONE, LACKING, TOP, Stop, run_tool, words_of
+from block_calls import AT_HOMES, DONE, LACKING, TOP, Stop, run_tool, words_of, write_out
 from evidence import Evidence
 from pages import element, escaped, figure, listed, marked, page, paragraph, section, section_of, table
 
@@ -295,10 +293,7 @@ def main():
     parts += [recording(evidence)] if evidence.audit else []
     parts += [claim(), again(evidence)]
     text = page(f"{title} under {NAMES[given.protocol]}", re.sub(r"\s+", " ", (TOP / "tools" / "dossier.css").read_text()), "\n".join(parts))
-    if given.output:
-        Path(given.output).write_text(text, encoding="utf-8")
-    else:
-        sys.stdout.write(text)
+    write_out(text, given.output)
     return DONE
 
 

@@ -24,7 +24,7 @@ from dataclasses import dataclass
 from fractions import Fraction
 from pathlib import Path
 
-from block_calls import BUILT, DONE, FAULT, REFUSED, TOP, Block, Stop, folder_of_calls, run_tool
+from block_calls import BUILT, DONE, FAULT, REFUSED, TOP, Block, Stop, folder_of_calls, run_tool, write_out
 
 TASKS = (("task", "processor", "period", "cost"), ("deadline", "local", "jitter"))
 REQUESTS = (("task", "resource", "count", "length"), ("home",))
@@ -248,10 +248,7 @@ def main():
     tables = Tables(given)
     text = as_text(tables.set)
     judged(given.program, text, tables)
-    if given.output:
-        Path(given.output).write_text(text, encoding="utf-8")
-    else:
-        sys.stdout.write(text)
+    write_out(text, given.output)
     return DONE
 
 

@@ -17,10 +17,11 @@ use Rattle.soundness_laws.specs.Sound.{KeepsBounds}
 use Rattle.soundness_laws.proofs.MeasuresKept.{measured_response, measured_blocking}
 use Rattle.charge.specs.declared.item.ChargeItem.{ChargeItem}
 use Rattle.charge.specs.Table.{item_seen, IsChargeTable}
-use Rattle.audit_figures.specs.declared.beside.TaskFigures.{TaskFigures}
-use Rattle.audit_figures.specs.Figures.{class_sum, blocked_sum, figures_of, no_figures, AreFigures, ChargesBlocked}
-use Rattle.audit_figures.specs.Audited.{LieWithin, charged_ticks}
-use Rattle.audit_figures.proofs.AddUp.{BlockedCharged, sums_add_up}
+use Rattle.schedule_answers.specs.declared.audited.TaskFigures.{TaskFigures}
+use Rattle.schedule_answers.specs.TaskAnswers.{no_figures}
+use Rattle.figure_laws.specs.Figures.{class_sum, blocked_sum, figures_of, AreFigures, ChargesBlocked, BlockedCharged}
+use Rattle.figure_laws.specs.Audited.{LieWithin, charged_ticks}
+use Rattle.figure_laws.proofs.AddUp.{sums_add_up}
 
 -- The bounds of a valid certificate are from 1 to the latest bounds.
 pub valid_bounds : (f : SourceDef) (c : CertificateDef) → IsAccepted f.set → IsValid f c → AreBounds f.set (slice_index c.bounds)

@@ -13,10 +13,11 @@ use Rattle.bounded_sums.specs.Sums.{flag}
 use Rattle.bounded_sums.specs.Tests.{count_below}
 use Rattle.bounded_sums.proofs.SumLaws.{sum_below-one}
 use Rattle.bounded_sums.proofs.CountLaws.{count_below-none, flag-of_false}
+use Rattle.fragments.specs.ClassOrder.{class_rank}
 use Rattle.fragments.specs.declared.columns.Class.{Class}
 use Rattle.fragments.specs.declared.columns.Class.TheVariants.{Direct, Indirect, Preemption}
 use Rattle.charge_model.specs.Fractions.{is_same_class}
-use Rattle.charge.specs.Requests.{ChargedRequest, class_rank}
+use Rattle.charge.specs.Requests.{ChargedRequest}
 use Rattle.charge.specs.Table.{ItemDef, is_of, item_cmp}
 
 -- What a look-up past the end gives.

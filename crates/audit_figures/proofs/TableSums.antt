@@ -22,7 +22,7 @@ use Rattle.charge.specs.declared.item.ChargeItem.{ChargeItem}
 use Rattle.charge.specs.Requests.{ChargedRequest, request_in, charged_request}
 use Rattle.charge.specs.Table.{ItemDef, item_seen, is_of, charged_ticks, IsChargeTable}
 use Rattle.audit_figures.specs.Sums.{item_ticks}
-use Rattle.audit_figures.specs.Figures.{is_of_class, class_ticks, class_sum, ChargesBlocked}
+use Rattle.figure_laws.specs.Figures.{is_of_class, class_ticks, class_sum, ChargesBlocked}
 use Rattle.audit_figures.proofs.OneItem.{item_at, no_item, counts_for, counts_once, counts_nowhere}
 
 -- The ticks of an item of job j, tick by tick.

@@ -19,17 +19,18 @@ use Rattle.fragments.specs.declared.columns.Class.{Class}
 use Rattle.fragments.specs.declared.columns.Class.TheVariants.{Direct, Indirect, Preemption}
 use Rattle.charge_model.specs.Charges.{Charge}
 use Rattle.charge_model.specs.Windows.{window_end}
-use Rattle.trace_conform.specs.declared.measures.Measured.{Measured}
-use Rattle.trace_conform.specs.declared.measures.TaskMeasure.{TaskMeasure}
-use Rattle.trace_conform.specs.Conforming.{AreMeasures}
-use Rattle.trace_conform.specs.Measured.{measure_seen, no_measure}
+use Rattle.schedule_answers.specs.declared.judged.Measured.{Measured}
+use Rattle.schedule_answers.specs.declared.judged.TaskMeasure.{TaskMeasure}
+use Rattle.schedule_answers.specs.Conforming.{AreMeasures}
+use Rattle.schedule_answers.specs.TaskAnswers.{measure_seen, no_measure}
 use Rattle.charge.specs.declared.item.ChargeItem.{ChargeItem}
 use Rattle.charge.specs.Table.{item_seen, IsChargeTable}
 use Rattle.audit_figures.specs.declared.sums.ClassSums.{ClassSums}
-use Rattle.audit_figures.specs.declared.beside.TaskFigures.{TaskFigures}
+use Rattle.schedule_answers.specs.declared.audited.TaskFigures.{TaskFigures}
 use Rattle.audit_figures.specs.Sums.{counted, item_ticks, item_sums, sums_at}
 use Rattle.audit_figures.specs.Beside.{figures_from}
-use Rattle.audit_figures.specs.Figures.{is_of_class, class_ticks, class_sum, figures_of, no_figures, AreFigures, ChargesBlocked}
+use Rattle.schedule_answers.specs.TaskAnswers.{no_figures}
+use Rattle.figure_laws.specs.Figures.{is_of_class, class_ticks, class_sum, figures_of, AreFigures, ChargesBlocked}
 use Rattle.audit_figures.proofs.TableSums.{items_sum}
 
 -- A task's sum is no more than all ticks of all jobs.

@@ -1,4 +1,3 @@
 pub mod Sums
-pub mod Figures
 pub mod Beside
-pub mod Audited
+pub mod Walked

@@ -1,4 +1,4 @@
-ghost use Rattle.std.specs.Prelude.{◌≡◌, ℕ, ◌<◌, ◌≤◌, true, length, map, slice_index, slice_index_or, IfOk};
+ghost use Rattle.std.specs.Prelude.{◌≡◌, ℕ, ◌<◌, true, length, slice_index, slice_index_or, IfOk};
 ghost use Rattle.std.specs.List.{All};
 ghost use Rattle.program_form.specs.Certificate.{certificate_seen};
 ghost use Rattle.sporadic_model.specs.Homes.{HasHomesFor};
@@ -6,105 +6,61 @@ ghost use Rattle.program_sources.specs.Recurrence.{source_at};
 ghost use Rattle.program_laws.specs.Programs.{source_of};
 ghost use Rattle.schedule_model.specs.RowDef.{trace_in, ticks_of};
 ghost use Rattle.schedule_model.specs.Fitting.{is_fitting};
-ghost use Rattle.schedule_model.specs.Keeping.{KeepsBefore};
-ghost use Rattle.trace_conform.specs.Conforming.{AreMeasures};
 ghost use Rattle.schedule_model.specs.ByProtocol.{rules_of, interference_of};
 ghost use Rattle.charge_model.specs.Windows.{AreBounds};
-ghost use Rattle.soundness_laws.specs.Sound.{Sound};
-ghost use Rattle.charge.specs.Table.{item_seen, IsChargeTable};
-ghost use Rattle.charge.specs.ByProtocol.{charges_of};
+ghost use Rattle.charged_protocols.specs.ByProtocol.{charges_of};
 ghost use Rattle.dual_check.specs.Answers.{HasDenominators};
-ghost use Rattle.audit_figures.specs.Figures.{no_figures, blocked_sum, blocked_ticks, AreFigures};
-ghost use Rattle.audit_figures.specs.Audited.{Audits, LieWithin, charged_ticks};
+ghost use Rattle.schedule_answers.specs.TaskAnswers.{no_figures};
+ghost use Rattle.figure_laws.specs.Figures.{blocked_sum, blocked_ticks};
+ghost use Rattle.figure_laws.specs.Audited.{Audits, LieWithin, charged_ticks};
+ghost use Rattle.audit_figures.specs.Walked.{HasFigures};
 
-use crate::beside::{TaskFigures, figures};
-use charge::{ChargeStop, ChargeTable, ChargedProtocol, charge_with};
+use crate::beside::figures;
+use charge::{Charger, Ledger, table_of};
+use charged_protocols::ChargedProtocol;
 use dpcp_rules::Dpcp;
-use dual_check::{Invalid, check_with};
+use dual_check::check_with;
 use fmlp_rules::FmlpPlus;
 use mpcp_rules::Mpcp;
 use program_form::Certificate;
+use schedule_answers::{AuditStop, Invalid, TaskFigures, Unlawful};
 use schedule_model::{JobList, RowList};
 use sporadic_model::Protocol;
-use std::alloc::{AllocError, Global};
-use thiserror::Error;
-use trace_conform::{Breach, Measured, Unlawful, conform_with};
+use std::alloc::Global;
+use trace_conform::{JobCounter, measures_of, no_counts};
+use trace_walk::{Both, walk};
 
-/// Why a schedule is not audited. The causes are tried in the order in which they stand here.
-#[derive(Clone, Copy, Debug, PartialEq, Eq, Error)]
-pub enum AuditStop {
-    /// The certificate is not valid: the first test that fails.
-    #[error("the certificate is not valid")]
-    Invalid(Invalid),
-    /// A row breaks a rule.
-    #[error("a row breaks a rule")]
-    Broken(Breach),
-    /// Memory was refused.
-    #[error("out of memory")]
-    Memory,
-}
-
-impl From<AllocError> for AuditStop {
-    ghost use Rattle.audit_figures.specs.declared.auditing.AuditStop.TheVariants.{Memory};
-
-    ghost from_gives = { λ _ stop. stop ≡ Memory };
-
-    fn from(_error: AllocError) -> AuditStop {
-        AuditStop::Memory
-    }
-}
-
-/// The charges of a schedule that keeps the rules, where the bounds are sound: no job has passed its bound.
-fn sound_charges<P: ChargedProtocol>(
+/// The figures of a schedule beside bounds and values, by one walk over it that measures and charges; or the first row that breaks a
+/// rule.
+fn walked_figures<P: ChargedProtocol>(
     alloc: Global,
     protocol: &P,
     jobs: &JobList,
     rows: &RowList,
     bounds: &[u64],
     values: &[u64],
-) -> Result<ChargeTable, AllocError>
-    requires suits { P.suits protocol.now jobs.now.set }
-    requires fits { is_fitting rows.now jobs.now ≡ true }
-    requires one_each { length bounds.now ≡ length jobs.now.set.tasks }
-    requires bounds { AreBounds jobs.now.set (slice_index bounds.now) }
-    requires sound { Sound (P.keeps protocol.now) (P.interferes protocol.now) jobs.now.set bounds.now values.now }
-    requires keeps { KeepsBefore (P.keeps protocol.now) (trace_in jobs.now rows.now.runs) (ticks_of rows.now.runs) }
-    ensures { IfOk result (λ table. IsChargeTable (P.charges protocol.now) (P.interferes protocol.now) (trace_in jobs.now rows.now.runs)
-        (slice_index bounds.now) (ticks_of rows.now.runs) (map item_seen table.charges.items)) }
-{
-    jobs.keeps_its_rules();
-    match charge_with(alloc, protocol, jobs, rows, bounds) {
-        Ok(table) => Ok(table),
-        Err(ChargeStop::Memory) => Err(AllocError),
-        Err(ChargeStop::Unlawful(_)) => unreachable!(),
-        Err(ChargeStop::BoundPassed(_)) => unreachable!(),
-    }
-}
-
-/// The figures of a schedule that keeps the rules, beside sound bounds and values.
-fn sound_figures<P: ChargedProtocol>(
-    alloc: Global,
-    protocol: &P,
-    jobs: &JobList,
-    rows: &RowList,
-    bounds: &[u64],
-    values: &[u64],
-    measured: &Measured,
-) -> Result<Vec<TaskFigures>, AllocError>
+) -> Result<Vec<TaskFigures>, Unlawful>
     requires suits { P.suits protocol.now jobs.now.set }
     requires fits { is_fitting rows.now jobs.now ≡ true }
     requires one_each { length bounds.now ≡ length jobs.now.set.tasks }
     requires values { length values.now ≡ length jobs.now.set.tasks }
     requires bounds { AreBounds jobs.now.set (slice_index bounds.now) }
-    requires sound { Sound (P.keeps protocol.now) (P.interferes protocol.now) jobs.now.set bounds.now values.now }
-    requires keeps { KeepsBefore (P.keeps protocol.now) (trace_in jobs.now rows.now.runs) (ticks_of rows.now.runs) }
-    requires measures { AreMeasures (P.interferes protocol.now) (trace_in jobs.now rows.now.runs) (ticks_of rows.now.runs) measured.now }
-    ensures { IfOk result (λ v. AreFigures (P.charges protocol.now) (P.interferes protocol.now) (trace_in jobs.now rows.now.runs)
-        (slice_index bounds.now) (slice_index values.now) (ticks_of rows.now.runs) v.items) }
+    ensures { HasFigures (P.keeps protocol.now) (P.interferes protocol.now) (P.charges protocol.now) (trace_in jobs.now rows.now.runs)
+        (slice_index bounds.now) (slice_index values.now) (ticks_of rows.now.runs) result }
 {
+    jobs.keeps_its_rules();
     rows.keeps_its_rules();
-    let table = sound_charges(alloc, protocol, jobs, rows, bounds, values)?;
-    figures(alloc, jobs, measured, bounds, values, &table)
+    let keeper = Both {
+        first: JobCounter,
+        second: Charger { bounds },
+    };
+    let counts = no_counts(alloc, jobs.len())?;
+    let mut notes = (counts, Ledger::new(alloc));
+    let machine = walk(alloc, protocol, jobs, rows, &keeper, &mut notes)?;
+    let measured = measures_of(alloc, &machine, &notes.0)?;
+    let table = table_of::<P>(alloc, &notes.1)?;
+    let figures = figures(alloc, jobs, &measured, bounds, values, &table)?;
+    Ok(figures)
 }
 
 /// Judges the certificate, then the rows, and sets what the rows did to each task beside what the certificate proves of it. Each
@@ -144,21 +100,12 @@ pub fn audit_with<P: ChargedProtocol>(
         Err(Invalid::Memory) => return Err(AuditStop::Memory),
         Err(failure) => return Err(AuditStop::Invalid(failure)),
     };
-    let measured = match conform_with(alloc, protocol, jobs, rows) {
-        Ok(measured) => measured,
+    let bounds = &certificate.bounds;
+    let figures = match walked_figures(alloc, protocol, jobs, rows, bounds, &valid.values) {
+        Ok(figures) => figures,
         Err(Unlawful::Broken(breach)) => return Err(AuditStop::Broken(breach)),
         Err(Unlawful::Memory) => return Err(AuditStop::Memory),
     };
-    let bounds = &certificate.bounds;
-    let figures = sound_figures(
-        alloc,
-        protocol,
-        jobs,
-        rows,
-        bounds,
-        &valid.values,
-        &measured,
-    )?;
     Ok(figures)
 }
 

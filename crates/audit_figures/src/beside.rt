@@ -3,37 +3,19 @@ ghost use Rattle.std.specs.List.{All};
 ghost use Rattle.sporadic_model.specs.declared.limits.TheConstants.{MOST_TICKS};
 ghost use Rattle.schedule_model.specs.RowDef.{Trace, jobs_of};
 ghost use Rattle.charge_model.specs.Charges.{Charge};
-ghost use Rattle.trace_conform.specs.Conforming.{AreMeasures};
-ghost use Rattle.trace_conform.specs.Measured.{no_measure};
+ghost use Rattle.schedule_answers.specs.Conforming.{AreMeasures};
+ghost use Rattle.schedule_answers.specs.TaskAnswers.{no_measure};
 ghost use Rattle.charge.specs.Table.{item_seen, IsChargeTable};
 ghost use Rattle.audit_figures.specs.Sums.{sums_at};
-ghost use Rattle.audit_figures.specs.Figures.{no_figures, AreFigures, ChargesBlocked};
+ghost use Rattle.schedule_answers.specs.TaskAnswers.{no_figures};
+ghost use Rattle.figure_laws.specs.Figures.{AreFigures, ChargesBlocked};
 ghost use Rattle.audit_figures.specs.Beside.{figures_from};
 
 use crate::sums::{ClassSums, sums_of_tasks};
 use charge::ChargeTable;
+use schedule_answers::{Measured, TaskFigures, TaskMeasure};
 use schedule_model::JobList;
 use std::alloc::{AllocError, Global};
-use trace_conform::{Measured, TaskMeasure};
-
-/// What a schedule did to a task, beside what was proved of it. All numbers are ticks.
-#[derive(Clone, Copy, Debug, PartialEq, Eq)]
-pub struct TaskFigures {
-    /// The greatest response of a finished job of the task; none where none finished.
-    pub response: Option<u64>,
-    /// The bound on the task's response.
-    pub bound: u64,
-    /// The most ticks at which one of its jobs was blocked.
-    pub blocking: u64,
-    /// The bound on that number.
-    pub value: u64,
-    /// The ticks within the bound at which its jobs, all together, waited for a running holder of what they requested.
-    pub direct: u64,
-    /// Those at which they waited while other requests ran in the holder's place.
-    pub indirect: u64,
-    /// Those at which a request ran in the place of a job that was ready.
-    pub preemption: u64,
-}
 
 /// The figures of a task, put together.
 fn task_figures(measure: TaskMeasure, bound: u64, value: u64, sums: ClassSums) -> TaskFigures

@@ -6,5 +6,5 @@ mod auditing;
 mod beside;
 mod sums;
 
-pub use auditing::{AuditStop, audit, audit_with};
-pub use beside::TaskFigures;
+pub use auditing::{audit, audit_with};
+pub use schedule_answers::{AuditStop, TaskFigures};

@@ -7,11 +7,13 @@ use Rattle.command_words.specs.declared.words.Work.{Work}
 use Rattle.command_words.specs.declared.words.Work.TheVariants as work
 use Rattle.command_words.specs.FormSeen.{form_on}
 use Rattle.run_plans.specs.Plans.{Plan, Reading}
-use Rattle.run_plans.specs.Inputs.{set_input}
+use Rattle.command_inputs.specs.Inputs.{set_input}
 use Rattle.run_plans.specs.Commands.{plan_of}
-use Rattle.run_plans.specs.Outcome.{shown, IsReplyOf}
-use Rattle.run_plans.specs.Replies.{HaltsWith, IsUngot}
-use Rattle.run_plans.specs.declared.halt.Halt.{Halt}
+use Rattle.command_inputs.specs.Known.{shown}
+use Rattle.run_plans.specs.Outcome.{IsReplyOf}
+use Rattle.command_inputs.specs.Got.{IsUngot}
+use Rattle.command_inputs.specs.Halts.{HaltsWith}
+use Rattle.command_inputs.specs.declared.halt.Halt.{Halt}
 use Rattle.run_plans.proofs.ReplyLaws.{replied_ungot}
 
 begins : (P : Plan → Type 0) (protocol : ProtocolName) (name : List ℕ) (w : Work)

@@ -2,25 +2,25 @@
 
 ghost use Rattle.std.specs.Prelude.{◌≡◌, length, IfOk, slice_index_or};
 ghost use Rattle.program_form.specs.Certificate.{certificate_seen};
-ghost use Rattle.named_protocols.specs.Named.{HasHomes};
+ghost use Rattle.named_laws.specs.Named.{HasHomes};
 ghost use Rattle.schedule_model.specs.Fitting.{IsMadeFor};
 ghost use Rattle.dual_check.specs.Answers.{HasDenominators};
-ghost use Rattle.audit_figures.specs.Figures.{no_figures};
+ghost use Rattle.schedule_answers.specs.TaskAnswers.{no_figures};
 ghost use Rattle.reply_texts.specs.Texts.{kept_text};
 ghost use Rattle.run_plans.specs.Commands.{IfTied, IsAuditOf};
 ghost use Rattle.cert_json.specs.File.{file_seen};
-ghost use Rattle.run_plans.specs.Replies.{reply_seen, Answered};
+ghost use Rattle.command_inputs.specs.Halts.{reply_seen, Answered};
 
 use crate::judging::invalid_reply;
 use crate::tying::untied;
 use crate::work::broken_reply;
 use audit_figures::{AuditStop, TaskFigures};
 use cert_json::CertFile;
+use command_inputs::{Halt, Reply, Status};
 use named_protocols::audit;
 use program_form::Certificate;
 use protocol_names::ProtocolName;
 use reply_texts::kept_lines;
-use run_plans::{Halt, Reply, Status};
 use schedule_model::{JobList, RowList};
 use sporadic_model::TaskSet;
 use std::alloc::{AllocError, Global};

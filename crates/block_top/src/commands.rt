@@ -1,6 +1,6 @@
 ghost use Rattle.std.specs.Prelude.{◌≤◌, IfOk};
 ghost use Rattle.sporadic_model.specs.declared.limits.TheConstants.{MOST_TICKS};
-ghost use Rattle.named_protocols.specs.Named.{HasHomes};
+ghost use Rattle.named_laws.specs.Named.{HasHomes};
 ghost use Rattle.command_words.specs.Words.{words_seen};
 ghost use Rattle.command_words.specs.FormSeen.{form_on, form_seen, HasFittingNumbers};
 ghost use Rattle.run_plans.specs.Commands.{check_of, full_table_of, upgrading, with_certificate, judging_rows, judging_jobs};
@@ -8,21 +8,25 @@ ghost use Rattle.run_plans.specs.Commands.{simulating_jobs, plan_of, auditing_ro
 ghost use Rattle.program_form.specs.Certificate.{certificate_seen};
 ghost use Rattle.cert_json.specs.File.{file_seen};
 ghost use Rattle.dual_check.specs.Answers.{HasDenominators};
-ghost use Rattle.run_plans.specs.Outcome.{shown, IsReply};
-ghost use Rattle.run_plans.specs.Replies.{reply_seen, AnswersPlan, Keeps};
+ghost use Rattle.command_inputs.specs.Known.{shown};
+ghost use Rattle.run_plans.specs.Outcome.{IsReply};
+ghost use Rattle.command_inputs.specs.Got.{Keeps};
+ghost use Rattle.command_inputs.specs.Halts.{reply_seen};
+ghost use Rattle.run_plans.specs.Replies.{AnswersPlan};
 
 use crate::auditing::audited;
-use crate::input::{CertFor, JobsOf, OldCertFor, RefusalFor, RowsOf, get, get_tied_set};
 use crate::judging::{judgement, proved_table};
 use crate::refusing::{confirmation, refutation};
 use crate::study::counted;
 use crate::upgrading::upgraded;
 use crate::work::{analysis, conformance, no_form, simulation, table};
 use cert_json::CertFile;
+use command_inputs::{
+    CertFor, Halt, JobsOf, OldCertFor, RefusalFor, Reply, RowsOf, get, get_tied_set, settled,
+};
 use command_words::{Command, Work, command_of};
 use outside_ports::Shelf;
 use protocol_names::ProtocolName;
-use run_plans::{Halt, Reply, settled};
 use schedule_model::JobList;
 use sporadic_model::TaskSet;
 use std::alloc::{AllocError, Global};

@@ -1,24 +1,25 @@
 //! The works on a certificate.
 
-ghost use Rattle.std.specs.Prelude.{◌≡◌, IfOk};
+ghost use Rattle.std.specs.Prelude.{◌≡◌, Ok, IfOk, IfErr};
 ghost use Rattle.program_form.specs.Certificate.{certificate_seen};
-ghost use Rattle.named_protocols.specs.Named.{HasHomes};
-ghost use Rattle.dual_check.specs.Answers.{HasDenominators};
+ghost use Rattle.named_laws.specs.Named.{HasHomes, source_of};
+ghost use Rattle.dual_check.specs.Answers.{HasDenominators, Judges};
 ghost use Rattle.reply_texts.specs.Texts.{invalid_text};
-ghost use Rattle.run_plans.specs.Commands.{IfTied, IsCheck, IsFullTable, checked_answer};
+ghost use Rattle.run_plans.specs.Commands.{IfTied, IsJudgement, IsCheck, IsFullTable, checked_answer};
 ghost use Rattle.cert_json.specs.File.{file_seen};
-ghost use Rattle.run_plans.specs.Replies.{reply_seen, Answered};
+ghost use Rattle.command_inputs.specs.Known.{Answer};
+ghost use Rattle.command_inputs.specs.Halts.{reply_seen, HaltsWith, Answered};
 ghost use Rattle.reply_texts.specs.Failing.{FailsTask};
 
 use crate::tying::untied;
 use cert_json::CertFile;
-use dual_check::Invalid;
+use command_inputs::{Halt, Reply, Status};
+use dual_check::{Invalid, Valid};
 use named_protocols::check;
 use program_form::Certificate;
 use protocol_names::ProtocolName;
 use reply_texts::{invalid_line, valid_line};
 use report::full_table;
-use run_plans::{Halt, Reply, Status};
 use sporadic_model::TaskSet;
 use std::alloc::{AllocError, Global};
 
@@ -47,6 +48,26 @@ fn valid_reply(alloc: Global) -> Result<Reply, AllocError>
     })
 }
 
+/// What the certificate proves, where it is valid. Else halts with the reply that names its first failure, which is the judgement whatever
+/// a valid one is told.
+pub(crate) fn validated(
+    alloc: Global,
+    protocol: ProtocolName,
+    set: &TaskSet,
+    certificate: &Certificate,
+) -> Result<Valid, Halt>
+    requires suits { HasHomes protocol set.now }
+    requires denominators { HasDenominators (certificate_seen certificate.now) }
+    ensures valid { IfOk result (λ v. Judges (Ok v) (source_of protocol set.now) (certificate_seen certificate.now)) }
+    ensures invalid { (told : Answer) → IfErr result (λ h. HaltsWith h (IsJudgement protocol set.now (certificate_seen certificate.now) told)) }
+{
+    match check(alloc, protocol, set, certificate) {
+        Ok(valid) => Ok(valid),
+        Err(Invalid::Memory) => Err(Halt::Memory),
+        Err(failure) => Err(Halt::Reply(invalid_reply(alloc, set, failure)?)),
+    }
+}
+
 /// Judges the certificate.
 fn judged(
     alloc: Global,
@@ -58,11 +79,8 @@ fn judged(
     requires denominators { HasDenominators (certificate_seen certificate.now) }
     ensures { Answered result (IsCheck protocol set.now (certificate_seen certificate.now)) }
 {
-    match check(alloc, protocol, set, certificate) {
-        Ok(_valid) => Ok(valid_reply(alloc)?),
-        Err(Invalid::Memory) => Err(Halt::Memory),
-        Err(failure) => Ok(invalid_reply(alloc, set, failure)?),
-    }
+    validated(alloc, protocol, set, certificate)?;
+    Ok(valid_reply(alloc)?)
 }
 
 /// The work of `check`, on the set of this digest.
@@ -94,14 +112,11 @@ fn tabled(
     requires denominators { HasDenominators (certificate_seen certificate.now) }
     ensures { Answered result (IsFullTable protocol set.now (certificate_seen certificate.now)) }
 {
-    match check(alloc, protocol, set, certificate) {
-        Ok(valid) => Ok(Reply {
-            status: Status::Done,
-            text: full_table(alloc, set, certificate, &valid.values)?,
-        }),
-        Err(Invalid::Memory) => Err(Halt::Memory),
-        Err(failure) => Ok(invalid_reply(alloc, set, failure)?),
-    }
+    let valid = validated(alloc, protocol, set, certificate)?;
+    Ok(Reply {
+        status: Status::Done,
+        text: full_table(alloc, set, certificate, &valid.values)?,
+    })
 }
 
 /// The work of `report` with a certificate, on the set of this digest.

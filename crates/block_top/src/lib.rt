@@ -3,7 +3,6 @@
 
 mod auditing;
 mod commands;
-mod input;
 mod judging;
 mod refusing;
 mod study;
@@ -12,6 +11,6 @@ mod tying;
 mod upgrading;
 mod work;
 
+pub use command_inputs::Status;
 pub use command_words::DEFAULT_ALLOWANCE;
-pub use run_plans::Status;
 pub use top::run;

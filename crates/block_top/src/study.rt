@@ -2,10 +2,10 @@
 
 ghost use Rattle.std.specs.Prelude.{◌≤◌};
 ghost use Rattle.run_plans.specs.Commands.{IsStudyAnswer};
-ghost use Rattle.run_plans.specs.Replies.{Answered};
+ghost use Rattle.command_inputs.specs.Halts.{Answered};
 
+use command_inputs::{Halt, Reply, Status};
 use reply_texts::study_lines;
-use run_plans::{Halt, Reply, Status};
 use std::alloc::Global;
 use std::thread::Threads;
 use study_gen::study;

@@ -1,12 +1,12 @@
 ghost use Rattle.std.specs.Prelude.{◌≡◌, is_some, ◌≤◌};
 ghost use Rattle.command_words.specs.Words.{words_seen};
-ghost use Rattle.run_plans.specs.Replies.{Keeps};
+ghost use Rattle.command_inputs.specs.Got.{Keeps};
 ghost use Rattle.run_plans.specs.Run.{IsRun};
-ghost use Rattle.run_plans.specs.Statuses.{number_of};
+ghost use Rattle.command_inputs.specs.Statuses.{number_of};
 
 use crate::commands::reply_to;
+use command_inputs::Status;
 use outside_ports::{Shelf, Sink, SinkFault, put_all};
-use run_plans::Status;
 use std::alloc::{AllocError, Global};
 use std::thread::Threads;
 

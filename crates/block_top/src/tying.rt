@@ -2,11 +2,11 @@
 
 ghost use Rattle.std.specs.Prelude.{◌≡◌, ◌≢◌, ◌↔◌, IfOk, IsTrue, MatchOption};
 ghost use Rattle.run_plans.specs.Commands.{other_set_answer};
-ghost use Rattle.run_plans.specs.Replies.{reply_seen};
+ghost use Rattle.command_inputs.specs.Halts.{reply_seen};
 
 use cert_json::CertFile;
+use command_inputs::{Reply, Status};
 use reply_texts::other_set_line;
-use run_plans::{Reply, Status};
 use std::alloc::{AllocError, Global};
 
 /// The reply where a certificate is of another set.

@@ -1,18 +1,16 @@
 //! The work on a certificate of the version before.
 
 ghost use Rattle.program_form.specs.Certificate.{certificate_seen};
-ghost use Rattle.named_protocols.specs.Named.{HasHomes};
+ghost use Rattle.named_laws.specs.Named.{HasHomes};
 ghost use Rattle.dual_check.specs.Answers.{HasDenominators};
 ghost use Rattle.run_plans.specs.Commands.{IsJudgement, upgraded_answer};
-ghost use Rattle.run_plans.specs.Replies.{Answered};
+ghost use Rattle.command_inputs.specs.Halts.{Answered};
 
-use crate::judging::invalid_reply;
+use crate::judging::validated;
 use crate::work::certificate_reply;
-use dual_check::Invalid;
-use named_protocols::check;
+use command_inputs::{Halt, Reply};
 use program_form::Certificate;
 use protocol_names::ProtocolName;
-use run_plans::{Halt, Reply};
 use sporadic_model::TaskSet;
 use std::alloc::Global;
 
@@ -29,9 +27,6 @@ pub fn upgraded(
     ensures { Answered result (IsJudgement protocol set.now (certificate_seen certificate.now)
         (upgraded_answer protocol digest.now (certificate_seen certificate.now))) }
 {
-    match check(alloc, protocol, set, certificate) {
-        Ok(_valid) => Ok(certificate_reply(alloc, protocol, digest, certificate)?),
-        Err(Invalid::Memory) => Err(Halt::Memory),
-        Err(failure) => Ok(invalid_reply(alloc, set, failure)?),
-    }
+    validated(alloc, protocol, set, certificate)?;
+    Ok(certificate_reply(alloc, protocol, digest, certificate)?)
 }

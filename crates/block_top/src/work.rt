@@ -1,21 +1,23 @@
 ghost use Rattle.std.specs.Prelude.{◌≡◌, ◌<◌, ◌≤◌, true, length, IfOk, slice_index_or};
 ghost use Rattle.program_form.specs.Certificate.{certificate_seen};
 ghost use Rattle.sporadic_model.specs.declared.limits.TheConstants.{MOST_TICKS};
-ghost use Rattle.named_protocols.specs.Named.{HasHomes};
+ghost use Rattle.named_laws.specs.Named.{HasHomes};
 ghost use Rattle.schedule_model.specs.RowDef.{trace_in, ticks_of};
 ghost use Rattle.schedule_model.specs.Fitting.{is_fitting, IsMadeFor};
 ghost use Rattle.protocol_names.specs.Names.{word_of};
 ghost use Rattle.cert_json.specs.Text.{certificate_text};
 ghost use Rattle.trace_csv.specs.Written.{rows_text};
-ghost use Rattle.trace_conform.specs.Measured.{measure_seen, no_measure};
-ghost use Rattle.named_protocols.specs.Named.{rules_of, interference_of};
+ghost use Rattle.schedule_answers.specs.TaskAnswers.{measure_seen, no_measure};
+ghost use Rattle.named_laws.specs.Named.{rules_of, interference_of};
 ghost use Rattle.sporadic_model.specs.SetDef.{task_at, latest_bound};
 ghost use Rattle.reply_texts.specs.Texts.{not_shown_text, wide_text, allowance_text, lawful_text, broken_text};
 ghost use Rattle.run_plans.specs.Commands.{IsAnalysis, IsTable, IsConformance, IsSimulation};
 ghost use Rattle.run_plans.specs.Outcome.{refused_words};
-ghost use Rattle.run_plans.specs.Replies.{reply_seen, Answered, RepliesTo};
+ghost use Rattle.command_inputs.specs.Halts.{reply_seen, Answered};
+ghost use Rattle.run_plans.specs.Replies.{RepliesTo};
 ghost use Rattle.run_plans.specs.Reached.{NamesTask};
 
+use command_inputs::{Halt, Reply, Status};
 use named_protocols::{analyse, conform, simulate};
 use program_form::Certificate;
 use protocol_names::ProtocolName;
@@ -24,7 +26,6 @@ use reply_texts::{
 };
 use report::set_table;
 use response_fixpoint::{Stop, Verdict};
-use run_plans::{Halt, Reply, Status};
 use schedule_model::{JobList, RowList};
 use sporadic_model::{TaskId, TaskSet};
 use std::alloc::{AllocError, Global};

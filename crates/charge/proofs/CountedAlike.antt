@@ -1,9 +1,8 @@
 -- The ticks of a steady stretch are counted alike, as far as no active job's bound ends within it.
-use Rattle.std.proofs.Common.{◌≡◌, ℕ, ◌+◌, ◌<◌, ◌≤◌, true, List, length, refl, sym, ap, ◌∙◌, subst, arith, inl, inr, Option, Some, None}
+use Rattle.std.proofs.Common.{◌≡◌, ℕ, ◌+◌, ◌<◌, ◌≤◌, true, List, length, refl, sym, ap, ◌∙◌, arith, inl, inr, Option, Some, None}
 use Rattle.std.specs.Prelude.{nat_lt, slice_index, option_map, if◌then◌else◌}
 use Rattle.std.specs.Option.{option_and_then}
 use Rattle.std.proofs.lemmas.Bool.{cases_lt, cases_Bool, both_ways, lt-ltb, le-ltb}
-use Rattle.schedule_model.specs.JobDef.{JobsDef}
 use Rattle.schedule_model.specs.RowDef.{RowDef, Trace}
 use Rattle.schedule_model.specs.Phase.{phase_of}
 use Rattle.schedule_model.specs.Activity.{is_active}
@@ -16,8 +15,7 @@ use Rattle.phase_machine.proofs.Facts.{current_from}
 use Rattle.phase_machine.proofs.Lawful.{task_listed}
 use Rattle.charge_model.specs.Charges.{Charge}
 use Rattle.charge_model.specs.Windows.{bound_end}
-use Rattle.trace_conform.proofs.Counting.{phase_on}
-use Rattle.trace_conform.proofs.Reaching.{over}
+use Rattle.trace_walk.proofs.Stretches.{phase_on}
 use Rattle.charge.specs.Requests.{ChargedRequest, request_in, charged_request}
 use Rattle.charge.specs.Tally.{AreCountedAlike, place_of}
 use Rattle.charge.specs.Due.{IsClearBelow}
@@ -73,7 +71,7 @@ counted_alike charges m rows bounds n shows only steady same clear i j l = elim 
   ]
 
 -- And no job is active at the end of its bound between the first of them and the last.
-ends_elsewhere : (m : MachineDef) (rows : ℕ → RowDef) (bounds : List ℕ) (n : ℕ) → Shows m rows → IsSteady (under m rows) m.tick n
+pub ends_elsewhere : (m : MachineDef) (rows : ℕ → RowDef) (bounds : List ℕ) (n : ℕ) → Shows m rows → IsSteady (under m rows) m.tick n
     → IsClearBelow m bounds n (length m.list.set.tasks) → (k i : ℕ) → 0 < i → i < n → is_active (under m rows) (m.tick + i) k ≡ true
     → bound_end (under m rows) (slice_index bounds) k ≡ m.tick + i → ⊥
 ends_elsewhere m rows bounds n shows steady clear k i some l active e =
@@ -81,11 +79,3 @@ ends_elsewhere m rows bounds n shows steady clear k i some l active e =
     let first : is_active (under m rows) m.tick k ≡ true = sym (active_alike (under m rows) m.tick (m.tick + i) k a) ∙ active in
     let later : m.tick < bound_end (under m rows) (slice_index bounds) k = omega (arith, e, some) in
     absurd (omega (arith, e, l, ends_later m rows bounds n k shows clear first later))
-
-pub none_ends : (m after : MachineDef) (rows : ℕ → RowDef) (bounds : List ℕ) (n : ℕ) → after.list ≡ m.list → Shows m rows
-    → IsSteady (under m rows) m.tick n → IsClearBelow m bounds n (length m.list.set.tasks) → (k i : ℕ) → 0 < i → i < n
-    → is_active (under after rows) (m.tick + i) k ≡ true → bound_end (under after rows) (slice_index bounds) k ≡ m.tick + i → ⊥
-none_ends m after rows bounds n list shows steady clear k i some l active e =
-    ends_elsewhere m rows bounds n shows steady clear k i some l
-    (subst (λ (list : JobsDef). is_active (over list rows) (m.tick + i) k ≡ true) list active)
-    (subst (λ (list : JobsDef). bound_end (over list rows) (slice_index bounds) k ≡ m.tick + i) list e)

@@ -1,10 +1,6 @@
-pub mod SharedNow
-pub mod DistributedNow
-pub mod Uncharged
 mod Passing
 mod PassedNext
 mod TallyLaws
-mod Reaching
 mod CountedAlike
 mod Places
 mod Pushing

@@ -2,6 +2,7 @@
 use Rattle.std.proofs.Common.{◌≡◌, ℕ, ◌+◌, ◌<◌, ◌≤◌, ◌==◌, ◌&&◌, ◌||◌, Bool, true, false, length, refl, sym, ap, ◌∙◌}
 use Rattle.std.proofs.Common.{arith, inl, inr, cond, Option, Some, None, ltb}
 use Rattle.std.specs.Prelude.{nat_lt, nat_le, List}
+use Rattle.std.proofs.Math.Bool.{or-false}
 use Rattle.std.proofs.lemmas.Bool.{cases_lt, cases_order, cases_Bool, cases_eq, both_ways, lt-ltb, le-ltb, le-leb}
 use Rattle.std.proofs.lemmas.Bool.{lt-leb, eq-eqb, ne_eqb, or_from, or_left, or_right, and_right, false_from_ne_true}
 use Rattle.bounded_sums.specs.Tests.{first_below, found_below}
@@ -9,7 +10,7 @@ use Rattle.bounded_sums.proofs.TestLaws.{first_below-before, first_below-is, fou
 use Rattle.schedule_model.specs.RowDef.{is_job}
 use Rattle.phase_machine.specs.MachineDef.{MachineDef, IsMachine, place_of, task_in}
 use Rattle.phase_machine.specs.Now.{current_now, active_now}
-use Rattle.phase_machine.proofs.Facts.{current_some}
+use Rattle.phase_machine.proofs.Facts.{current_some, current_own}
 use Rattle.phase_machine.proofs.Lawful.{task_listed}
 use Rattle.schedule_model.specs.JobDef.{job_of}
 use Rattle.charge.specs.Due.{end_now, is_due, is_due_below, due_of, least_of}
@@ -99,14 +100,6 @@ current_listed m x j e =
     × ((job_of m.list.jobs (place_of m x).job).release ≤ m.tick) = current_some m.list.jobs m.tick (place_of m x) j e in
     omega (arith, parts.0, parts.1)
 
-pub current_own : (m : MachineDef) (x j : ℕ) → IsMachine m → x < length m.list.set.tasks → current_now m x ≡ Some j
-    → task_in m.list.jobs j ≡ x
-unfolding current_now
-current_own m x j machine l e =
-    let parts : ((place_of m x).job ≡ j) × ((place_of m x).job < length m.list.jobs)
-    × ((job_of m.list.jobs (place_of m x).job).release ≤ m.tick) = current_some m.list.jobs m.tick (place_of m x) j e in
-    rw (← parts.0) ((machine.place x l).own parts.1)
-
 -- A job of task x is due exactly where it is the active one and its bound ends now.
 due_here : (m : MachineDef) (bounds : List ℕ) (x k : ℕ) (o : Option ℕ) → current_now m x ≡ o
     → ((j : ℕ) → o ≡ Some j → task_in m.list.jobs j ≡ x)
@@ -173,15 +166,11 @@ least_next m bounds passes x o machine l found = go (due_of m bounds (current_no
   go : (d : Option ℕ) → due_of m bounds (current_now m x) ≡ d
       → least_of o d ≡ found_below (length m.list.jobs) (λ j. passes j || is_due_below m bounds (x + 1) j)
   go None e = least_none o ∙ found ∙ found_below-agree (length m.list.jobs) before (λ j. passes j || is_due_below m bounds (x + 1) j)
-      (λ k b. sym (or_none (before k)) ∙ or_three (passes k) (is_due_below m bounds x k) false (is_due_below m bounds (x + 1) k)
+      (λ k b. sym (or-false (before k)) ∙ or_three (passes k) (is_due_below m bounds x k) false (is_due_below m bounds (x + 1) k)
       (due_next m bounds x k machine l ∙ ap (λ d. is_due_below m bounds x k || is_job k d) e)) where
         least_none : (o : Option ℕ) → least_of o None ≡ o
         least_none None = refl
         least_none (Some i) = refl
-
-        or_none : (b : Bool) → (b || false) ≡ b
-        or_none true = refl
-        or_none false = refl
   go (Some j) e =
       found_with (length m.list.jobs) before j o (due_listed j e) found
       ∙ found_below-agree (length m.list.jobs) (λ k. before k || (k == j)) (λ k. passes k || is_due_below m bounds (x + 1) k)
@@ -216,7 +205,4 @@ unfolding is_due_below
 none_due m bounds passes =
     found_below-agree (length m.list.jobs) passes (λ j. passes j || is_due_below m bounds 0 j)
     (λ j b. let t : nat_lt (task_in m.list.jobs j) 0 ≡ false = le-ltb _ _ (omega arith) in
-    sym (ap (λ c. passes j || (c && is_due m bounds j)) t ∙ or_none (passes j))) where
-      or_none : (b : Bool) → (b || false) ≡ b
-      or_none true = refl
-      or_none false = refl
+    sym (ap (λ c. passes j || (c && is_due m bounds j)) t ∙ or-false (passes j)))

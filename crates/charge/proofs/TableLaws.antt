@@ -16,15 +16,16 @@ use Rattle.schedule_model.specs.Phase.{Phase, phase_of}
 use Rattle.schedule_model.specs.Phase.Phase.{Local, Asking, Finished}
 use Rattle.schedule_model.specs.BlockedTicks.{is_blocked}
 use Rattle.schedule_laws.proofs.ActiveJobs.{active_listed}
+use Rattle.fragments.specs.ClassOrder.{class_rank}
 use Rattle.charge_model.specs.Charges.{Charge, Executes}
 use Rattle.charge_model.specs.Windows.{bound_end, window_end}
-use Rattle.charge.specs.declared.tally.Place.{Place}
-use Rattle.charge.specs.Requests.{ChargedRequest, request_in, charged_request, class_rank}
+use Rattle.charge.specs.declared.tally.ChargePlace.{ChargePlace}
+use Rattle.charge.specs.Requests.{ChargedRequest, request_in, charged_request}
 use Rattle.charge.specs.Table.{ItemDef, is_of, charged_ticks, IsChargeTable}
-use Rattle.charge.specs.Tally.{IsTally, positive, place_cmp, is_same_place, is_place, place_of, place_at, class_ranked}
+use Rattle.charge.specs.Tally.{IsTally, positive, place_cmp, is_same_place, is_place, place_of, place_at}
 use Rattle.charge.specs.Tally.{item_of, ticks_before}
 use Rattle.charge.proofs.TallyLaws.{Charges, OfActive}
-use Rattle.charge.proofs.Places.{places_total, same_by_order, same_itself, class_back, Known, table_sorted}
+use Rattle.charge.proofs.Places.{places_total, same_by_order, same_itself, rank_one, Known, table_sorted}
 
 -- A number that is there is the count, and positive.
 some_count : (n v : ℕ) → Some v ≡ positive n → (v ≡ n) × (0 < n)
@@ -61,14 +62,14 @@ asked_is charges w t j r h = go (charges w t j) refl where
   go (Some c) e = in_phase c (phase_of w t c.job) e refl (rw e at h)
 
 -- The parts of a place.
-record SamePlace (j : ℕ) (r : ChargedRequest) (p : Place) : Type 0 where
+record SamePlace (j : ℕ) (r : ChargedRequest) (p : ChargePlace) : Type 0 where
   blocked : j ≡ p.blocked
   blocker : r.job ≡ p.blocker
   request : r.number ≡ p.request
   resource : r.resource ≡ p.resource
-  class : class_rank r.class ≡ p.class
+  class : r.class ≡ p.class
 
-place_parts : (j : ℕ) (r : ChargedRequest) (p : Place) → is_same_place (place_of j r) p ≡ true → SamePlace j r p
+place_parts : (j : ℕ) (r : ChargedRequest) (p : ChargePlace) → is_same_place (place_of j r) p ≡ true → SamePlace j r p
 place_parts j r p h =
     let one = and_parts _ _ h in
     let two = and_parts _ _ one.1 in
@@ -79,16 +80,16 @@ place_parts j r p h =
       blocker = eqb-true _ _ two.0;
       request = eqb-true _ _ three.0;
       resource = eqb-true _ _ four.0;
-      class = eqb-true _ _ four.1;
+      class = rank_one _ _ (eqb-true _ _ four.1);
     }
 
 -- A tick that is counted to a place.
-record Spot (charges : Charges) (w : Trace) (bound : ℕ → ℕ) (t j : ℕ) (p : Place) : Type 0 where
+record Spot (charges : Charges) (w : Trace) (bound : ℕ → ℕ) (t j : ℕ) (p : ChargePlace) : Type 0 where
   request : ChargedRequest
   is_it : charged_request charges w t j ≡ Some request
   same : SamePlace j request p
 
-spot_is : (charges : Charges) (w : Trace) (bound : ℕ → ℕ) (t j : ℕ) (p : Place) → is_place p (place_at charges w bound t j) ≡ true
+spot_is : (charges : Charges) (w : Trace) (bound : ℕ → ℕ) (t j : ℕ) (p : ChargePlace) → is_place p (place_at charges w bound t j) ≡ true
     → Spot charges w bound t j p
 spot_is charges w bound t j p h = elim (cases_Bool (nat_lt t (bound_end w bound j))) [
   | inl within ↦ go (charged_request charges w t j) refl (rw within at h)
@@ -100,13 +101,13 @@ spot_is charges w bound t j p h = elim (cases_Bool (nat_lt t (bound_end w bound 
   go (Some r) e g = record { request = r; is_it = e; same = place_parts j r p g }
 
 -- What is known of a place with ticks.
-record Counted (charges : Charges) (w : Trace) (e : Place × ℕ) : Type 0 where
+record Counted (charges : Charges) (w : Trace) (e : ChargePlace × ℕ) : Type 0 where
   known : Known w e
   tick : ℕ
   charge : Charge
   is_it : charges w tick e.0.blocked ≡ Some charge
 
-counted_is : (charges : Charges) (w : Trace) (bound : ℕ → ℕ) (n : ℕ) (e : Place × ℕ) → 0 < ticks_before charges w bound n e.0
+counted_is : (charges : Charges) (w : Trace) (bound : ℕ → ℕ) (n : ℕ) (e : ChargePlace × ℕ) → 0 < ticks_before charges w bound n e.0
     → Counted charges w e
 unfolding ticks_before
 counted_is charges w bound n e some =
@@ -118,7 +119,6 @@ counted_is charges w bound n e some =
       known = record {
         tick = at.0;
         request = ap (phase_of w at.0) (sym spot.same.blocker) ∙ asked.request ∙ rw (spot.same.request, spot.same.resource) refl;
-        class = ap (λ c. class_rank (class_ranked c)) (sym spot.same.class) ∙ class_back spot.request.class ∙ spot.same.class;
       };
       tick = at.0;
       charge = asked.charge;
@@ -143,16 +143,16 @@ count_within e (suc n) f = elim (cases_lt n e) [
 ]
 
 -- The ticks of a place are those of its item.
-ticks_of_item : (charges : Charges) (w : Trace) (bound : ℕ → ℕ) (n : ℕ) (e : Place × ℕ)
-    → class_rank (class_ranked e.0.class) ≡ e.0.class → ticks_before charges w bound n e.0 ≡ charged_ticks charges w bound n (item_of e)
+ticks_of_item : (charges : Charges) (w : Trace) (bound : ℕ → ℕ) (n : ℕ) (e : ChargePlace × ℕ)
+    → ticks_before charges w bound n e.0 ≡ charged_ticks charges w bound n (item_of e)
 unfolding ticks_before charged_ticks
-ticks_of_item charges w bound n e class =
+ticks_of_item charges w bound n e =
     count_below-agree n (λ u. is_place e.0 (place_at charges w bound u e.0.blocked))
     (λ u. nat_lt u (bound_end w bound e.0.blocked) && is_of (item_of e) (charged_request charges w u e.0.blocked)) (λ u l. same u)
     ∙ count_within (bound_end w bound e.0.blocked) n (λ t. is_of (item_of e) (charged_request charges w t e.0.blocked)) where
       inside : (o : Option ChargedRequest) → is_place e.0 (option_map (place_of e.0.blocked) o) ≡ is_of (item_of e) o
       inside None = refl
-      inside (Some r) = rw (eq-eqb e.0.blocked e.0.blocked refl, class) refl
+      inside (Some r) = rw (eq-eqb e.0.blocked e.0.blocked refl) refl
 
       same : (u : ℕ) → is_place e.0 (place_at charges w bound u e.0.blocked)
           ≡ (nat_lt u (bound_end w bound e.0.blocked) && is_of (item_of e) (charged_request charges w u e.0.blocked))
@@ -165,7 +165,7 @@ contains_map : {X Y : Type 0} (f : X → Y) (xs : List X) (x : X) → Contains x
 contains_map f xs x c = (c.0, rw (length-map xs f) c.1, get_or-map f xs c.0 x (f x) c.1 ∙ ap f c.2)
 
 -- Each blocked tick of a window is in the table.
-tick_there : (charges : Charges) (w : Trace) (bound : ℕ → ℕ) (n : ℕ) (ticks : BTreeMap Place ℕ) (t j : ℕ)
+tick_there : (charges : Charges) (w : Trace) (bound : ℕ → ℕ) (n : ℕ) (ticks : BTreeMap ChargePlace ℕ) (t j : ℕ)
     → IsTally ticks (ticks_before charges w bound n) → t < window_end w bound n j → (charge : Charge) → charges w t j ≡ Some charge
     → Executes w t charge
     → (item : ItemDef) × Contains (map item_of ticks.entries) item × (item.blocked ≡ j)
@@ -176,7 +176,7 @@ tick_there charges w bound n ticks t j tally l charge is_it executes =
       r : ChargedRequest
       r = record { job = charge.job; number = executes.number; resource = executes.resource; class = charge.class }
 
-      p : Place
+      p : ChargePlace
       p = place_of j r
 
       asked : charged_request charges w t j ≡ Some r
@@ -203,16 +203,16 @@ tick_there charges w bound n ticks t j tally l charge is_it executes =
       among = Contains-from_lookup same_by_order p count ticks.entries found
 
       here : is_of (item_of (p, count)) (charged_request charges w t j) ≡ true
-      here = rw asked (rw (class_back charge.class) (
+      here = rw asked (
           rw (
             eq-eqb charge.job charge.job refl,
             eq-eqb executes.number executes.number refl,
             eq-eqb executes.resource executes.resource refl,
             eq-eqb (class_rank charge.class) (class_rank charge.class) refl,
-          ) refl))
+          ) refl)
 
 -- So the items of a tally of all rows are the table.
-pub table_is : (charges : Charges) (interferes : Trace → ℕ → ℕ → Bool) (w : Trace) (bound : ℕ → ℕ) (n : ℕ) (ticks : BTreeMap Place ℕ)
+pub table_is : (charges : Charges) (interferes : Trace → ℕ → ℕ → Bool) (w : Trace) (bound : ℕ → ℕ) (n : ℕ) (ticks : BTreeMap ChargePlace ℕ)
     → IsTally ticks (ticks_before charges w bound n) → IsOrdered place_cmp ticks
     → ((t : ℕ) → OfActive charges w t)
     → ((t j : ℕ) → t < n → is_blocked interferes w t j ≡ true → (charge : Charge) × (charges w t j ≡ Some charge) × Executes w t charge)
@@ -227,18 +227,18 @@ table_is charges interferes w bound n ticks tally ordered only charged = record 
       (All-weaker Counts (λ e. 0 < e.1) (λ e c. omega (arith, c.0, c.1)) ticks.entries counts);
   counted = All-map (λ item. item.ticks ≡ charged_ticks charges w bound n item) item_of ticks.entries
       (All-weaker Counts (λ e. e.1 ≡ charged_ticks charges w bound n (item_of e))
-      (λ e c. c.0 ∙ ticks_of_item charges w bound n e (counted e c).known.class) ticks.entries counts);
+      (λ e c. c.0 ∙ ticks_of_item charges w bound n e) ticks.entries counts);
   all = λ t j listed l blocked.
       let a : (charge : Charge) × (charges w t j ≡ Some charge) × Executes w t charge = charged t j (omega (arith, l)) blocked in
       tick_there charges w bound n ticks t j tally l a.0 a.1 a.2;
 } where
-  Counts : Place × ℕ → Type 0
+  Counts : ChargePlace × ℕ → Type 0
   Counts e = (e.1 ≡ ticks_before charges w bound n e.0) × (0 < ticks_before charges w bound n e.0)
 
   counts : All Counts ticks.entries
-  counts = All-weaker (λ (e : Place × ℕ). get place_cmp ticks e.0 ≡ Some e.1) Counts
+  counts = All-weaker (λ (e : ChargePlace × ℕ). get place_cmp ticks e.0 ≡ Some e.1) Counts
       (λ e found. some_count (ticks_before charges w bound n e.0) e.1 (sym found ∙ tally e.0)) ticks.entries
       (All-found places_total ticks ordered)
 
-  counted : (e : Place × ℕ) → Counts e → Counted charges w e
+  counted : (e : ChargePlace × ℕ) → Counts e → Counted charges w e
   counted e c = counted_is charges w bound n e c.1

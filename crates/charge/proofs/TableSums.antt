@@ -15,10 +15,11 @@ use Rattle.bounded_sums.proofs.SumLaws.{sum_below-agree, sum_below-zero, sum_bel
 use Rattle.bounded_sums.proofs.CountLaws.{flag-at_most, flag-of_true}
 use Rattle.schedule_model.specs.RowDef.{Trace}
 use Rattle.schedule_model.specs.BlockedTicks.{is_blocked}
+use Rattle.fragments.specs.ClassOrder.{class_rank}
 use Rattle.row_laws.proofs.ColumnSums.{sum_by-swap, sum_by-element}
 use Rattle.charge_model.specs.Charges.{Charge}
 use Rattle.charge_model.specs.Windows.{window_end}
-use Rattle.charge.specs.Requests.{ChargedRequest, charged_request, class_rank}
+use Rattle.charge.specs.Requests.{ChargedRequest, charged_request}
 use Rattle.charge.specs.Table.{ItemDef, is_of, charged_ticks, item_cmp, IsChargeTable}
 use Rattle.charge.proofs.TallyLaws.{Charges}
 

@@ -1,10 +1,11 @@
 -- Counting ticks as the first of them: for the active job of each task in turn.
-use Rattle.std.proofs.Common.{◌≡◌, ℕ, ◌+◌, ◌<◌, ◌≤◌, ◌==◌, ◌&&◌, Bool, true, false, length, refl, sym, ap, ◌∙◌}
+use Rattle.std.proofs.Common.{◌≡◌, ℕ, zero, suc, ◌+◌, ◌<◌, ◌≤◌, ◌==◌, ◌&&◌, Bool, true, false, length, refl, sym, ap, ◌∙◌}
 use Rattle.std.proofs.Common.{arith, inl, inr, Option, Some, None}
-use Rattle.std.specs.Prelude.{nat_lt, unwrap_or, option_map}
+use Rattle.std.specs.Prelude.{nat_lt, unwrap_or, option_map, cond}
+use Rattle.std.specs.Ordering.{is_eq}
 use Rattle.std.specs.Option.{option_and_then}
 use Rattle.std.proofs.lemmas.Bool.{cases_lt, cases_order, cases_Bool, cases_eq, lt-ltb, le-ltb, eq-eqb, eqb-true, ne_eqb, and_left}
-use Rattle.std.specs.BTreeMap.{BTreeMap}
+use Rattle.std.specs.BTreeMap.{BTreeMap, get}
 use Rattle.bounded_sums.specs.Sums.{only_if}
 use Rattle.bounded_sums.proofs.CountLaws.{count_below-at_most, count_below-split, count_below-same}
 use Rattle.schedule_model.specs.RowDef.{RowDef, Trace}
@@ -14,14 +15,15 @@ use Rattle.schedule_laws.proofs.ActiveJobs.{active_listed}
 use Rattle.phase_machine.specs.MachineDef.{MachineDef, task_in, under}
 use Rattle.phase_machine.specs.Now.{current_now}
 use Rattle.phase_machine.specs.Shows.{Shows}
-use Rattle.phase_machine.proofs.Facts.{current_from}
+use Rattle.phase_machine.proofs.Facts.{current_from, current_own}
 use Rattle.phase_machine.proofs.Lawful.{task_listed}
 use Rattle.charge_model.specs.Charges.{Charge}
 use Rattle.charge_model.specs.Windows.{bound_end}
-use Rattle.charge.specs.declared.tally.Place.{Place}
+use Rattle.charge.specs.declared.tally.ChargePlace.{ChargePlace}
 use Rattle.charge.specs.Requests.{ChargedRequest, request_in, charged_request}
-use Rattle.charge.specs.Tally.{IsTally, AreCountedAlike, positive, count_at, is_place, place_of, place_at, ticks_before, ticks_with}
-use Rattle.charge.proofs.Passing.{current_own}
+use Rattle.charge.specs.Tally.{IsTally, AreCountedAlike, positive, count_at, place_cmp, is_same_place, is_place, place_of, place_at}
+use Rattle.charge.specs.Tally.{ticks_before, ticks_with}
+use Rattle.charge.proofs.Places.{same_by_order, same_place}
 
 -- How ticks are charged, of active jobs alone.
 abbrev pub Charges : Type 0
@@ -31,11 +33,11 @@ abbrev pub OfActive : Charges → Trace → ℕ → Type 0
 OfActive charges w t = (k : ℕ) (c : Charge) → charges w t k ≡ Some c → is_active w t k ≡ true
 
 -- Counts that agree are the same tally.
-pub tally_agree : (ticks : BTreeMap Place ℕ) (f g : Place → ℕ) → ((p : Place) → f p ≡ g p) → IsTally ticks f → IsTally ticks g
+pub tally_agree : (ticks : BTreeMap ChargePlace ℕ) (f g : ChargePlace → ℕ) → ((p : ChargePlace) → f p ≡ g p) → IsTally ticks f → IsTally ticks g
 tally_agree ticks f g same tally p = tally p ∙ ap positive (same p)
 
 -- What the map has is the count.
-pub count_is : (ticks : BTreeMap Place ℕ) (f : Place → ℕ) (p : Place) → IsTally ticks f → count_at ticks p ≡ f p
+pub count_is : (ticks : BTreeMap ChargePlace ℕ) (f : ChargePlace → ℕ) (p : ChargePlace) → IsTally ticks f → count_at ticks p ≡ f p
 count_is ticks f p tally = ap (λ o. unwrap_or o 0) (tally p) ∙ back (f p) where
   back : (n : ℕ) → unwrap_or (positive n) 0 ≡ n
   back n = elim (cases_Bool (n == 0)) [
@@ -63,7 +65,7 @@ inactive_nowhere : (charges : Charges) (w : Trace) (bound : ℕ → ℕ) (t k : 
 inactive_nowhere charges w bound t k only idle = uncharged_nowhere charges w bound t k (inactive_uncharged charges w t k only idle)
 
 -- A tick of job j is counted for job j.
-other_place : (charges : Charges) (w : Trace) (bound : ℕ → ℕ) (t j : ℕ) (p : Place) → (j ≡ p.blocked → ⊥)
+other_place : (charges : Charges) (w : Trace) (bound : ℕ → ℕ) (t j : ℕ) (p : ChargePlace) → (j ≡ p.blocked → ⊥)
     → is_place p (place_at charges w bound t j) ≡ false
 other_place charges w bound t j p other = elim (cases_Bool (nat_lt t (bound_end w bound j))) [
   | inr past ↦ rw past refl
@@ -103,7 +105,7 @@ not_current m rows x k o shows e other own h =
     other (sym e ∙ ap (current_now m) (sym own) ∙ current_from m rows k shows h)
 
 -- A job of task x is counted where the task's active job is.
-counted_here : (charges : Charges) (m : MachineDef) (rows : ℕ → RowDef) (bound : ℕ → ℕ) (x : ℕ) (p : Place) (o : Option ℕ) → Shows m rows
+counted_here : (charges : Charges) (m : MachineDef) (rows : ℕ → RowDef) (bound : ℕ → ℕ) (x : ℕ) (p : ChargePlace) (o : Option ℕ) → Shows m rows
     → OfActive charges (under m rows) m.tick → x < length m.list.set.tasks → current_now m x ≡ o
     → ((task_of (under m rows) p.blocked == x) && is_place p (place_at charges (under m rows) bound m.tick p.blocked))
     ≡ is_place p (option_and_then (place_at charges (under m rows) bound m.tick) o)
@@ -133,8 +135,35 @@ counted_here charges m rows bound x p o shows only l e = elim (cases_eq (task_of
   none (Some j) f other = other_place charges (under m rows) bound m.tick j p
       (λ here. other (ap (task_in m.list.jobs) (sym here) ∙ current_own m x j shows.machine l f))
 
+-- Ticks are counted at a place, and at no other.
+pub counted_there : (ticks new : BTreeMap ChargePlace ℕ) (place : ChargePlace) (before more : ℕ) (count : ChargePlace → ℕ) (p : ChargePlace)
+    → 1 ≤ more → before ≡ count_at ticks place → IsTally ticks count
+    → get place_cmp new p ≡ cond (is_eq (place_cmp place p)) (Some (before + more)) (get place_cmp ticks p)
+    → get place_cmp new p ≡ positive (count p + only_if (is_same_place place p) more)
+counted_there ticks new place before more count p some is tally updated = elim (cases_Bool (is_eq (place_cmp place p))) [
+  | inl here ↦
+      let same : place ≡ p = same_by_order place p here in
+      let counted : before ≡ count p =
+      is ∙ ap (λ o. unwrap_or o 0) (tally place) ∙ as_counted (count place) ∙ ap count same in
+      let now : get place_cmp new p ≡ Some (count p + more) = updated ∙ rw (here, counted) refl in
+      now ∙ there (count p + more) (omega (arith, some)) ∙ rw (← same_place place p, here) refl
+  | inr elsewhere ↦
+      let kept : get place_cmp new p ≡ get place_cmp ticks p = updated ∙ rw elsewhere refl in
+      let none : count p ≡ count p + 0 = omega arith in
+      kept ∙ tally p ∙ rw (← same_place place p, elsewhere) (ap positive none)
+] where
+  some_there : (n : ℕ) → 0 < n → (n == 0) ≡ false
+  some_there n l = ne_eqb n 0 (λ e. absurd (omega (arith, e, l)))
+
+  as_counted : (n : ℕ) → unwrap_or (positive n) 0 ≡ n
+  as_counted zero = refl
+  as_counted (suc n) = rw (some_there (suc n) (omega arith)) refl
+
+  there : (n : ℕ) → 0 < n → Some n ≡ positive n
+  there n l = rw (some_there n l) refl
+
 -- One task more is counted.
-pub count_more : (charges : Charges) (m : MachineDef) (rows : ℕ → RowDef) (bound : ℕ → ℕ) (n x : ℕ) (p : Place) → Shows m rows
+pub count_more : (charges : Charges) (m : MachineDef) (rows : ℕ → RowDef) (bound : ℕ → ℕ) (n x : ℕ) (p : ChargePlace) → Shows m rows
     → OfActive charges (under m rows) m.tick → x < length m.list.set.tasks
     → ticks_with charges (under m rows) bound m.tick n x p
     + only_if (is_place p (option_and_then (place_at charges (under m rows) bound m.tick) (current_now m x))) n
@@ -151,7 +180,7 @@ count_more charges m rows bound n x p shows only l =
     )
 
 -- Before the first task none of the ticks is counted.
-pub count_first : (charges : Charges) (w : Trace) (bound : ℕ → ℕ) (t n : ℕ) (p : Place)
+pub count_first : (charges : Charges) (w : Trace) (bound : ℕ → ℕ) (t n : ℕ) (p : ChargePlace)
     → ticks_before charges w bound t p ≡ ticks_with charges w bound t n 0 p
 unfolding ticks_with
 count_first charges w bound t n p =
@@ -159,7 +188,7 @@ count_first charges w bound t n p =
     rw none (omega arith)
 
 -- Where ticks are counted alike, they are counted to a place all or none.
-counted_on : (charges : Charges) (w : Trace) (bound : ℕ → ℕ) (t n : ℕ) (p : Place) → AreCountedAlike charges w bound t n
+counted_on : (charges : Charges) (w : Trace) (bound : ℕ → ℕ) (t n : ℕ) (p : ChargePlace) → AreCountedAlike charges w bound t n
     → ticks_before charges w bound t p + only_if (is_place p (place_at charges w bound t p.blocked)) n
     ≡ ticks_before charges w bound (t + n) p
 unfolding ticks_before
@@ -173,7 +202,7 @@ counted_on charges w bound t n p alike =
     )
 
 -- After the last one all of them are.
-pub count_all : (charges : Charges) (m : MachineDef) (rows : ℕ → RowDef) (bound : ℕ → ℕ) (n x : ℕ) (p : Place) → Shows m rows
+pub count_all : (charges : Charges) (m : MachineDef) (rows : ℕ → RowDef) (bound : ℕ → ℕ) (n x : ℕ) (p : ChargePlace) → Shows m rows
     → OfActive charges (under m rows) m.tick → AreCountedAlike charges (under m rows) bound m.tick n → length m.list.set.tasks ≤ x
     → ticks_with charges (under m rows) bound m.tick n x p ≡ ticks_before charges (under m rows) bound (m.tick + n) p
 unfolding ticks_with
@@ -181,7 +210,7 @@ count_all charges m rows bound n x p shows only alike l =
     ap (λ b. ticks_before charges (under m rows) bound m.tick p + only_if b n)
     (all (place_at charges (under m rows) bound m.tick p.blocked) refl)
     ∙ counted_on charges (under m rows) bound m.tick n p alike where
-      all : (o : Option Place) → place_at charges (under m rows) bound m.tick p.blocked ≡ o
+      all : (o : Option ChargePlace) → place_at charges (under m rows) bound m.tick p.blocked ≡ o
           → (nat_lt (task_of (under m rows) p.blocked) x && is_place p (place_at charges (under m rows) bound m.tick p.blocked))
           ≡ is_place p (place_at charges (under m rows) bound m.tick p.blocked)
       all o e = elim (cases_lt p.blocked (length m.list.jobs)) [
@@ -200,7 +229,7 @@ count_all charges m rows bound n x p shows only alike l =
         and_false false = refl
 
 -- And it is no more than the ticks so far.
-pub count_most : (charges : Charges) (w : Trace) (bound : ℕ → ℕ) (t n x : ℕ) (p : Place) → ticks_with charges w bound t n x p ≤ t + n
+pub count_most : (charges : Charges) (w : Trace) (bound : ℕ → ℕ) (t n x : ℕ) (p : ChargePlace) → ticks_with charges w bound t n x p ≤ t + n
 unfolding ticks_with ticks_before
 count_most charges w bound t n x p =
     omega (

@@ -1,10 +1,7 @@
-pub mod Seen
-pub mod ChargeNow
 pub mod Requests
 pub mod Table
 pub mod Passed
 pub mod Charging
-pub mod ByProtocol
 pub mod Tally
 pub mod Due
-pub mod Reached
+pub mod Ledgers

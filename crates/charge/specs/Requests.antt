@@ -5,7 +5,6 @@ use Rattle.schedule_model.specs.RowDef.{Trace}
 use Rattle.schedule_model.specs.Phase.{Phase, phase_of}
 use Rattle.schedule_model.specs.Phase.Phase.{Asking}
 use Rattle.fragments.specs.declared.columns.Class.{Class}
-use Rattle.fragments.specs.declared.columns.Class.TheVariants.{Direct, Indirect, Preemption}
 use Rattle.charge_model.specs.Charges.{Charge}
 
 -- A request as it blocks: the job that makes it, its number among the segments of the job's script, its resource, and the way in
@@ -24,9 +23,3 @@ request_in charge _ = None
 -- To which request is tick t charged for job j, where ticks are charged so?
 abbrev pub charged_request : (Trace → ℕ → ℕ → Option Charge) → Trace → ℕ → ℕ → Option ChargedRequest
 charged_request charges w t j = option_and_then (λ charge. request_in charge (phase_of w t charge.job)) (charges w t j)
-
--- The number of a class in the order of the table: Direct, Indirect, Preemption.
-abbrev pub class_rank : Class → ℕ
-class_rank Direct = 0
-class_rank Indirect = 1
-class_rank Preemption = 2

@@ -8,11 +8,12 @@ use Rattle.std.specs.declared.cmp.Ordering.{Ordering}
 use Rattle.bounded_sums.specs.Tests.{count_below}
 use Rattle.schedule_model.specs.RowDef.{Trace}
 use Rattle.schedule_model.specs.BlockedTicks.{is_blocked}
+use Rattle.fragments.specs.ClassOrder.{class_rank, class_cmp}
 use Rattle.fragments.specs.declared.columns.Class.{Class}
 use Rattle.charge_model.specs.Charges.{Charge}
 use Rattle.charge_model.specs.Windows.{window_end}
 use Rattle.charge.specs.declared.item.ChargeItem.{ChargeItem}
-use Rattle.charge.specs.Requests.{ChargedRequest, charged_request, class_rank}
+use Rattle.charge.specs.Requests.{ChargedRequest, charged_request}
 
 -- So many ticks of job `blocked`, charged to this request of job `blocker`, in this way.
 pub record ItemDef : Type 0 where
@@ -49,7 +50,7 @@ charged_ticks charges w bound n item =
 abbrev pub item_cmp : ItemDef → ItemDef → Ordering
 item_cmp a b =
     ordering_then (nat_cmp a.blocked b.blocked) (ordering_then (nat_cmp a.blocker b.blocker)
-    (ordering_then (nat_cmp a.request b.request) (nat_cmp (class_rank a.class) (class_rank b.class))))
+    (ordering_then (nat_cmp a.request b.request) (class_cmp a.class b.class)))
 
 -- Is it the table of a schedule of n rows: strictly in order, each item of a listed job with all its ticks and at least one, and
 -- an item for each blocked tick of each job's window?

@@ -9,46 +9,47 @@ use Rattle.bounded_sums.specs.Sums.{only_if}
 use Rattle.bounded_sums.specs.Tests.{count_below}
 use Rattle.schedule_model.specs.RowDef.{Trace}
 use Rattle.schedule_model.specs.Activity.{task_of}
+use Rattle.fragments.specs.ClassOrder.{class_rank}
+use Rattle.fragments.specs.contracts.columns.ClassOrd.TheImpl as class_order
 use Rattle.fragments.specs.declared.columns.Class.{Class}
-use Rattle.fragments.specs.declared.columns.Class.TheVariants.{Direct, Indirect, Preemption}
 use Rattle.charge_model.specs.Charges.{Charge}
 use Rattle.charge_model.specs.Windows.{bound_end}
-use Rattle.charge.specs.declared.tally.Place.{Place}
-use Rattle.charge.specs.Requests.{ChargedRequest, charged_request, class_rank}
+use Rattle.charge.specs.declared.tally.ChargePlace.{ChargePlace}
+use Rattle.charge.specs.Requests.{ChargedRequest, charged_request}
 use Rattle.charge.specs.Table.{ItemDef}
 
 -- The place of a request that job j is charged to.
-abbrev pub place_of : ℕ → ChargedRequest → Place
-place_of j r = record { blocked = j; blocker = r.job; request = r.number; resource = r.resource; class = class_rank r.class }
-
--- The class with this number.
-abbrev pub class_ranked : ℕ → Class
-class_ranked n = if n == 0 then Direct else (if n == 1 then Indirect else Preemption)
+abbrev pub place_of : ℕ → ChargedRequest → ChargePlace
+place_of j r = record { blocked = j; blocker = r.job; request = r.number; resource = r.resource; class = r.class }
 
 -- The item of a place with so many ticks.
-abbrev pub item_of : Place × ℕ → ItemDef
+abbrev pub item_of : ChargePlace × ℕ → ItemDef
 item_of e = record {
   blocked = e.0.blocked;
   blocker = e.0.blocker;
   request = e.0.request;
   resource = e.0.resource;
-  class = class_ranked e.0.class;
+  class = e.0.class;
   ticks = e.1;
 }
 
+-- The order that classes have as keys.
+abbrev pub by_class : Class → Class → Ordering
+by_class = (class_order.ghosts).cmp
+
 -- The order of places.
-abbrev pub place_cmp : Place → Place → Ordering
+abbrev pub place_cmp : ChargePlace → ChargePlace → Ordering
 place_cmp a b =
     ordering_then (nat_cmp a.blocked b.blocked) (ordering_then (nat_cmp a.blocker b.blocker)
-    (ordering_then (nat_cmp a.request b.request) (ordering_then (nat_cmp a.resource b.resource) (nat_cmp a.class b.class))))
+    (ordering_then (nat_cmp a.request b.request) (ordering_then (nat_cmp a.resource b.resource) (by_class a.class b.class))))
 
-abbrev pub is_same_place : Place → Place → Bool
+abbrev pub is_same_place : ChargePlace → ChargePlace → Bool
 is_same_place a b =
     (a.blocked == b.blocked) && ((a.blocker == b.blocker)
-    && ((a.request == b.request) && ((a.resource == b.resource) && (a.class == b.class))))
+    && ((a.request == b.request) && ((a.resource == b.resource) && (class_rank a.class == class_rank b.class))))
 
 -- Is it the named place?
-abbrev pub is_place : Place → Option Place → Bool
+abbrev pub is_place : ChargePlace → Option ChargePlace → Bool
 is_place p named = option_map_or (λ q. is_same_place q p) named false
 
 -- The number, where it is not 0.
@@ -56,20 +57,20 @@ abbrev pub positive : ℕ → Option ℕ
 positive n = if n == 0 then None else Some n
 
 -- Has the map each place's count, where it is not 0?
-abbrev pub IsTally : BTreeMap Place ℕ → (Place → ℕ) → Type 0
-IsTally ticks count = (p : Place) → get place_cmp ticks p ≡ positive (count p)
+abbrev pub IsTally : BTreeMap ChargePlace ℕ → (ChargePlace → ℕ) → Type 0
+IsTally ticks count = (p : ChargePlace) → get place_cmp ticks p ≡ positive (count p)
 
 -- What the map has at the place.
-abbrev pub count_at : BTreeMap Place ℕ → Place → ℕ
+abbrev pub count_at : BTreeMap ChargePlace ℕ → ChargePlace → ℕ
 count_at ticks p = unwrap_or (get place_cmp ticks p) 0
 
 -- To which place is tick t counted for job j? To none where its window has ended.
-abbrev pub place_at : (Trace → ℕ → ℕ → Option Charge) → Trace → (ℕ → ℕ) → ℕ → ℕ → Option Place
+abbrev pub place_at : (Trace → ℕ → ℕ → Option Charge) → Trace → (ℕ → ℕ) → ℕ → ℕ → Option ChargePlace
 place_at charges w bound t j =
     if nat_lt t (bound_end w bound j) then option_map (place_of j) (charged_request charges w t j) else None
 
 -- At how many ticks before t is its blocked job counted to the place?
-unfoldable pub ticks_before : (Trace → ℕ → ℕ → Option Charge) → Trace → (ℕ → ℕ) → ℕ → Place → ℕ
+unfoldable pub ticks_before : (Trace → ℕ → ℕ → Option Charge) → Trace → (ℕ → ℕ) → ℕ → ChargePlace → ℕ
 ticks_before charges w bound t p = count_below t (λ u. is_place p (place_at charges w bound u p.blocked))
 
 -- Are the n ticks from tick t on counted to the same place as the first of them, for each job?
@@ -77,7 +78,7 @@ abbrev pub AreCountedAlike : (Trace → ℕ → ℕ → Option Charge) → Trace
 AreCountedAlike charges w bound t n = (i j : ℕ) → i < n → place_at charges w bound (t + i) j ≡ place_at charges w bound t j
 
 -- The count before t with n ticks more, each as tick t, for the jobs of the first x tasks.
-unfoldable pub ticks_with : (Trace → ℕ → ℕ → Option Charge) → Trace → (ℕ → ℕ) → ℕ → ℕ → ℕ → Place → ℕ
+unfoldable pub ticks_with : (Trace → ℕ → ℕ → Option Charge) → Trace → (ℕ → ℕ) → ℕ → ℕ → ℕ → ChargePlace → ℕ
 ticks_with charges w bound t n x p =
     ticks_before charges w bound t p
     + only_if (nat_lt (task_of w p.blocked) x && is_place p (place_at charges w bound t p.blocked)) n

@@ -6,22 +6,23 @@ ghost use Rattle.charge_model.specs.Windows.{AreBounds};
 ghost use Rattle.fragments.specs.Columns.{columns_of};
 ghost use Rattle.program_laws.specs.Programs.{program_of};
 ghost use Rattle.schedule_model.specs.ByProtocol.{rules_of, interference_of};
-ghost use Rattle.charge.specs.ByProtocol.{charges_of};
+ghost use Rattle.charged_protocols.specs.ByProtocol.{charges_of};
 ghost use Rattle.charge.specs.Charging.{Charged, MeetRows};
 
+use crate::charger::Charger;
+use crate::due::first_of_due;
 use crate::item::{ChargeStop, ChargeTable};
-use crate::protocol::ChargedProtocol;
-use crate::table::items_of;
+use crate::table::table_of;
 use crate::tally::Ledger;
-use crate::walking::walk_all;
+use charged_protocols::ChargedProtocol;
 use dpcp_rules::Dpcp;
 use fmlp_rules::FmlpPlus;
 use mpcp_rules::Mpcp;
-use phase_machine::Machine;
+use schedule_answers::Unlawful;
 use schedule_model::{JobList, RowList};
 use sporadic_model::Protocol;
 use std::alloc::Global;
-use std::collections::BTreeMap;
+use trace_walk::walk;
 
 /// The charges of each job at each blocked tick within its bound, where these are the bounds, in ticks, one for each task and at most
 /// its latest bound. The schedule is judged first: see [`ChargeStop`] for what stops it.
@@ -42,17 +43,23 @@ pub fn charge_with<P: ChargedProtocol>(
         (P.charges protocol.now) (trace_in jobs.now rows.now.runs) bounds.now (ticks_of rows.now.runs)) }
 {
     jobs.set().keeps_the_model();
-    let mut machine = Machine::new(alloc, jobs)?;
-    let mut ledger = Ledger {
-        ticks: BTreeMap::new(alloc),
-        passed: None,
+    let mut ledger = Ledger::new(alloc);
+    let machine = match walk(
+        alloc,
+        protocol,
+        jobs,
+        rows,
+        &Charger { bounds },
+        &mut ledger,
+    ) {
+        Ok(machine) => machine,
+        Err(Unlawful::Broken(breach)) => return Err(ChargeStop::Unlawful(breach)),
+        Err(Unlawful::Memory) => return Err(ChargeStop::Memory),
     };
-    walk_all(protocol, rows, &mut machine, bounds, &mut ledger)?;
-    if let Some(j) = ledger.passed {
+    if let Some(j) = first_of_due(&machine, bounds, ledger.passed) {
         return Err(ChargeStop::BoundPassed(j));
     }
-    let charges = items_of(alloc, &ledger.ticks)?;
-    Ok(ChargeTable { charges })
+    Ok(table_of::<P>(alloc, &ledger)?)
 }
 
 /// The same by the protocol's name. Under DPCP each resource has a home.

@@ -9,45 +9,34 @@ ghost use Rattle.phase_machine.specs.Shows.{Shows};
 ghost use Rattle.fragments.specs.declared.columns.Class.{Class as ClassDef};
 ghost use Rattle.charge_model.specs.Charges.{Charge};
 ghost use Rattle.charge_model.specs.Windows.{AreBounds};
-ghost use Rattle.trace_conform.specs.Runs.{IsAtRun};
-ghost use Rattle.charge.specs.Requests.{class_rank, request_in};
+ghost use Rattle.trace_walk.specs.Runs.{IsAtRun};
+ghost use Rattle.charge.specs.Requests.{request_in};
 ghost use Rattle.charge.specs.Tally.{IsTally, AreCountedAlike, place_of, place_at, ticks_before};
 
 use crate::due::end_of;
-use crate::protocol::ChargedProtocol;
-use crate::tally::{Place, add_named};
+use crate::tally::{ChargePlace, add_named};
+use charged_protocols::ChargedProtocol;
 use fragments::Class;
+use phase_machine::lookup::tasks_of;
 use phase_machine::{Machine, Phase};
 use schedule_model::{JobId, RowList};
-use shared_rules::lookup::tasks_of;
 use sporadic_model::TaskId;
 use std::alloc::AllocError;
 use std::collections::BTreeMap;
-use trace_conform::runs::run_at;
-
-/// The number of a class in the order of the table.
-fn class_rank(class: Class) -> u8
-    ensures { result ≡ class_rank class }
-{
-    match class {
-        Class::Direct => 0,
-        Class::Indirect => 1,
-        Class::Preemption => 2,
-    }
-}
+use trace_walk::runs::run_at;
 
 /// The place of the request that the blocker is in.
-fn place_of(machine: &Machine, j: JobId, y: JobId, class: Class) -> Option<Place>
+fn place_of(machine: &Machine, j: JobId, y: JobId, class: Class) -> Option<ChargePlace>
     requires { y.0 < length machine.now.list.jobs }
     ensures { result ≡ option_map (place_of j.0) (request_in (record { job = y.0; class = class }) (phase_now machine.now y.0)) }
 {
     match machine.phase(y) {
-        Phase::Asking(n, q) => Some(Place {
+        Phase::Asking(n, q) => Some(ChargePlace {
             blocked: j.0,
             blocker: y.0,
             request: n,
             resource: q.0,
-            class: class_rank(class),
+            class,
         }),
         Phase::Local => None,
         Phase::Finished => None,
@@ -63,7 +52,7 @@ fn place_at<P: ChargedProtocol>(
     machine: &Machine,
     bounds: &[u64],
     j: JobId,
-) -> Option<Place>
+) -> Option<ChargePlace>
     requires suits { P.suits protocol.now machine.now.list.set }
     requires at { IsAtRun rows.now i machine.now }
     requires shows { Shows machine.now (row_in rows.now.runs) }
@@ -91,7 +80,7 @@ fn place_in<P: ChargedProtocol>(
     machine: &Machine,
     bounds: &[u64],
     x: TaskId,
-) -> Option<Place>
+) -> Option<ChargePlace>
     requires suits { P.suits protocol.now machine.now.list.set }
     requires at { IsAtRun rows.now i machine.now }
     requires shows { Shows machine.now (row_in rows.now.runs) }
@@ -118,7 +107,7 @@ pub(crate) fn charge_ticks<P: ChargedProtocol>(
     machine: &Machine,
     bounds: &[u64],
     more: u64,
-    ticks: &mut BTreeMap<Place, u64>,
+    ticks: &mut BTreeMap<ChargePlace, u64>,
 ) -> Result<(), AllocError>
     requires suits { P.suits protocol.now machine.now.list.set }
     requires at { IsAtRun rows.now i machine.now }

@@ -6,8 +6,8 @@ ghost use Rattle.charge_model.specs.Windows.{AreBounds};
 ghost use Rattle.charge.specs.Due.{end_now, due_of, is_due, least_of, IsClearBelow};
 
 use phase_machine::Machine;
+use phase_machine::lookup::{task_of, tasks_of};
 use schedule_model::JobId;
-use shared_rules::lookup::{task_of, tasks_of};
 use sporadic_model::TaskId;
 
 /// By when the job is to be finished: its release plus its task's bound.

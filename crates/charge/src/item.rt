@@ -1,11 +1,11 @@
 ghost use Rattle.std.specs.Prelude.{◌≡◌};
 
 use fragments::Class;
+use schedule_answers::Breach;
 use schedule_model::JobId;
 use sporadic_model::ResourceId;
 use std::alloc::AllocError;
 use thiserror::Error;
-use trace_conform::Breach;
 
 /// So many ticks at which a job was blocked, all charged to one request of another job, in one way.
 #[derive(Clone, Copy, Debug, PartialEq, Eq)]

@@ -1,13 +1,9 @@
-//! What follows from the laws of charged protocols alone. Each function is a law: it does nothing.
+//! What follows from the laws of charged protocols for tables, bounds and stretches. Each function is a law: it does nothing.
 
 ghost use Rattle.std.specs.Prelude.{◌≡◌, ℕ, ◌+◌, ◌≤◌, ◌<◌, Bool, List, None, length, slice_index, sum_by};
 ghost use Rattle.bounded_sums.specs.Sums.{sum_below, only_if};
 ghost use Rattle.bounded_sums.specs.Tests.{count_below};
-ghost use Rattle.program_form.specs.Certificate.{CertificateDef};
-ghost use Rattle.program_sources.specs.Recurrence.{SourceDef, source_at};
-ghost use Rattle.program_sources.specs.Valid.{IsValid};
 ghost use Rattle.sporadic_model.specs.SetDef.{SetDef};
-ghost use Rattle.sporadic_model.specs.Accepted.{IsAccepted};
 ghost use Rattle.schedule_model.specs.LawfulJobs.{AreLawfulJobs};
 ghost use Rattle.schedule_model.specs.RowDef.{Trace, jobs_of};
 ghost use Rattle.schedule_model.specs.Phase.{phase_of};
@@ -15,22 +11,14 @@ ghost use Rattle.schedule_model.specs.Phase.Phase.{Finished};
 ghost use Rattle.schedule_model.specs.Keeping.{KeepsRow};
 ghost use Rattle.schedule_model.specs.BlockedTicks.{is_blocked};
 ghost use Rattle.schedule_laws.specs.Steady.{IsSteady};
-ghost use Rattle.charge_model.specs.Windows.{AreBounds, bound_end, window_end};
+ghost use Rattle.charge_model.specs.Windows.{bound_end, window_end};
 ghost use Rattle.soundness_laws.specs.Sound.{IsLawfulSchedule, Sound};
-ghost use Rattle.soundness_laws.specs.Analyses.{Analyses};
 ghost use Rattle.charge.specs.Passed.{first_passed};
 ghost use Rattle.charge.specs.Requests.{charged_request};
 ghost use Rattle.charge.specs.Table.{ItemDef, IsChargeTable};
 
-use crate::protocol::ChargedProtocol;
+use charged_protocols::ChargedProtocol;
 use schedule_model::BlockingProtocol;
-
-/// The programs of a charged protocol analyse it, on every accepted set that suits it. So the bounds and the values of each
-/// certificate that is valid for them are sound.
-pub fn charged_protocols_are_analysed<P: ChargedProtocol>()
-    ensures { (p : P) (set : SetDef) → IsAccepted set → P.suits p set
-        → Analyses (P.keeps p) (P.interferes p) (source_at (P.source p) set) }
-{}
 
 /// Under every protocol no job of a lawful schedule passes a sound bound: each job whose release plus bound lies within the
 /// schedule is finished by then.
@@ -41,11 +29,6 @@ pub fn sound_bounds_are_never_passed<P: BlockingProtocol>()
     ensures none { (p : P) (set : SetDef) (bounds values : List ℕ) (w : Trace) (n : ℕ)
         → Sound (P.keeps p) (P.interferes p) set bounds values → IsLawfulSchedule (P.keeps p) set w n
         → first_passed w (slice_index bounds) n ≡ None }
-{}
-
-/// The bounds of a valid certificate are from 1 to the latest bounds.
-pub fn valid_certificates_bound_each_task()
-    ensures { (f : SourceDef) (c : CertificateDef) → IsAccepted f.set → IsValid f c → AreBounds f.set (slice_index c.bounds) }
 {}
 
 /// The ticks of a table's items add up, for whichever blocked jobs, to the blocked ticks within these jobs' windows.

@@ -1,31 +1,22 @@
-ghost use Rattle.std.specs.Prelude.{◌≡◌, map, IfOk, OnOk};
+ghost use Rattle.std.specs.Prelude.{◌≡◌, ℕ, map, IfOk, OnOk};
 ghost use Rattle.std.specs.BTreeMap.{IsOrdered};
-ghost use Rattle.charge.specs.Table.{item_seen};
-ghost use Rattle.charge.specs.Tally.{place_cmp, class_ranked, item_of};
+ghost use Rattle.schedule_model.specs.LawfulJobs.{AreLawfulJobs};
+ghost use Rattle.schedule_model.specs.RowDef.{Trace, jobs_of};
+ghost use Rattle.schedule_model.specs.Keeping.{KeepsBefore};
+ghost use Rattle.charge.specs.Ledgers.{IsLedger};
+ghost use Rattle.charge.specs.Table.{item_seen, IsChargeTable};
+ghost use Rattle.charge.specs.Tally.{place_cmp, item_of};
 
-use crate::item::ChargeItem;
-use crate::tally::Place;
-use fragments::Class;
+use crate::item::{ChargeItem, ChargeTable};
+use crate::tally::{ChargePlace, Ledger};
+use charged_protocols::ChargedProtocol;
 use schedule_model::JobId;
 use sporadic_model::ResourceId;
 use std::alloc::{AllocError, Global};
 use std::collections::BTreeMap;
 
-/// The class with this number in the order of the table.
-fn class_ranked(rank: u8) -> Class
-    ensures { result ≡ class_ranked rank }
-{
-    if rank == 0 {
-        return Class::Direct;
-    }
-    if rank == 1 {
-        return Class::Indirect;
-    }
-    Class::Preemption
-}
-
 /// The item of a place with so many ticks.
-fn item_of(place: &Place, ticks: u64) -> ChargeItem
+fn item_of(place: &ChargePlace, ticks: u64) -> ChargeItem
     ensures { item_seen result ≡ item_of (place.now, ticks) }
 {
     ChargeItem {
@@ -33,15 +24,15 @@ fn item_of(place: &Place, ticks: u64) -> ChargeItem
         blocker: JobId(place.blocker),
         request: place.request,
         resource: ResourceId(place.resource),
-        class: class_ranked(place.class),
+        class: place.class,
         ticks,
     }
 }
 
 /// The items of all places, in their order.
-pub(crate) fn items_of(
+fn items_of(
     alloc: Global,
-    ticks: &BTreeMap<Place, u64>,
+    ticks: &BTreeMap<ChargePlace, u64>,
 ) -> Result<Vec<ChargeItem>, AllocError>
     ensures items { IfOk result (λ v. map item_seen v.items ≡ map item_of ticks.now.entries) }
     ensures ordered { IsOrdered place_cmp ticks.now }
@@ -51,4 +42,17 @@ pub(crate) fn items_of(
         items.push(item_of(place, *count))?;
     }
     Ok(items)
+}
+
+/// The table of the charges of a schedule, by the ledger of all its rows, where these keep the rules of the protocol.
+pub fn table_of<P: ChargedProtocol>(
+    alloc: Global,
+    ledger: &Ledger,
+) -> Result<ChargeTable, AllocError>
+    ensures { IfOk result (λ table. (p : P) (w : Trace) (bound : ℕ → ℕ) (n : ℕ) → P.suits p w.set → AreLawfulJobs (jobs_of w)
+        → KeepsBefore (P.keeps p) w n → IsLedger (P.charges p) w bound n ledger.now
+        → IsChargeTable (P.charges p) (P.interferes p) w bound n (map item_seen table.charges.items)) }
+{
+    let charges = items_of(alloc, &ledger.ticks)?;
+    Ok(ChargeTable { charges })
 }

@@ -1,36 +1,58 @@
-ghost use Rattle.std.specs.Prelude.{◌≡◌, ℕ, ◌+◌, ◌≤◌, OnOk};
+ghost use Rattle.std.specs.Prelude.{◌≡◌, ℕ, ◌+◌, ◌≤◌, Option, OnOk};
 ghost use Rattle.bounded_sums.specs.Sums.{only_if};
 ghost use Rattle.sporadic_model.specs.declared.limits.TheConstants.{MOST_TICKS};
+ghost use Rattle.schedule_model.specs.RowDef.{Trace};
+ghost use Rattle.charge_model.specs.Charges.{Charge};
+ghost use Rattle.charge.specs.Ledgers.{IsLedger};
 ghost use Rattle.charge.specs.Tally.{IsTally, count_at, is_same_place, is_place};
 
+use fragments::Class;
 use schedule_model::JobId;
-use std::alloc::AllocError;
+use std::alloc::{AllocError, Global};
 use std::collections::BTreeMap;
 
-/// Where in the table ticks are counted: the numbers of the blocked job, the blocker, its request, the resource and the class, whose
-/// order is that of the table.
+/// Where in the table ticks are counted: the numbers of the blocked job, the blocker, its request and the resource, and the class.
+/// Their order is that of the table.
 #[derive(Clone, Copy, Debug, PartialEq, Eq, PartialOrd, Ord)]
-pub struct Place {
+pub struct ChargePlace {
     pub blocked: u32,
     pub blocker: u32,
     pub request: u32,
     pub resource: u32,
-    pub class: u8,
+    pub class: Class,
 }
 
-/// What is charged so far, and the first job that has passed its bound.
+/// What is charged of a schedule so far, and which job has passed its bound.
 #[derive(Drop)]
 pub struct Ledger {
-    pub ticks: BTreeMap<Place, u64>,
+    /// The ticks that are counted at each place.
+    pub ticks: BTreeMap<ChargePlace, u64>,
+    /// The first job that was not finished at its release plus its bound, where that was before the last row.
     pub passed: Option<JobId>,
 }
 
+impl Ledger {
+    /// The ledger before the first row.
+    pub fn new(alloc: Global) -> Ledger
+        ensures { (charges : Trace → ℕ → ℕ → Option Charge) (w : Trace) (bound : ℕ → ℕ) → IsLedger charges w bound 0 result }
+    {
+        Ledger {
+            ticks: BTreeMap::new(alloc),
+            passed: None,
+        }
+    }
+}
+
 /// Counts so many ticks more at the place.
-fn add_ticks(ticks: &mut BTreeMap<Place, u64>, place: Place, more: u64) -> Result<(), AllocError>
+fn add_ticks(
+    ticks: &mut BTreeMap<ChargePlace, u64>,
+    place: ChargePlace,
+    more: u64,
+) -> Result<(), AllocError>
     requires some { 1 ≤ more }
     requires most { more ≤ MOST_TICKS }
     requires room { count_at ticks.old place ≤ MOST_TICKS }
-    ensures { OnOk result ((count : Place → ℕ) → IsTally ticks.old count
+    ensures { OnOk result ((count : ChargePlace → ℕ) → IsTally ticks.old count
         → IsTally ticks.new (λ p. count p + only_if (is_same_place place p) more)) }
 {
     let before = ticks.get(&place).copied().unwrap_or(0);
@@ -40,14 +62,14 @@ fn add_ticks(ticks: &mut BTreeMap<Place, u64>, place: Place, more: u64) -> Resul
 
 /// The same, if a place is named.
 pub(crate) fn add_named(
-    ticks: &mut BTreeMap<Place, u64>,
-    named: Option<Place>,
+    ticks: &mut BTreeMap<ChargePlace, u64>,
+    named: Option<ChargePlace>,
     more: u64,
 ) -> Result<(), AllocError>
     requires some { 1 ≤ more }
     requires most { more ≤ MOST_TICKS }
-    requires room { (p : Place) → count_at ticks.old p ≤ MOST_TICKS }
-    ensures { OnOk result ((count : Place → ℕ) → IsTally ticks.old count
+    requires room { (p : ChargePlace) → count_at ticks.old p ≤ MOST_TICKS }
+    ensures { OnOk result ((count : ChargePlace → ℕ) → IsTally ticks.old count
         → IsTally ticks.new (λ p. count p + only_if (is_place p named) more)) }
 {
     match named {

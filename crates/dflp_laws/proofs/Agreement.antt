@@ -1,19 +1,16 @@
 -- Whether a row keeps the rules depends on the rows up to it alone, and so whether it is the chosen one.
 use Rattle.std.proofs.Common.{◌≡◌, ℕ, ◌<◌, ◌≤◌, true, length, sym, ◌∙◌, arith, Some}
 use Rattle.schedule_model.specs.declared.rule.Rule.TheVariants as rule
-use Rattle.schedule_model.specs.RowDef.{Trace, running_on, holder_in, held_before}
+use Rattle.schedule_model.specs.RowDef.{running_on, holder_in, held_before}
 use Rattle.schedule_model.specs.Activity.{task_of, is_requester, issue_tick_of}
 use Rattle.schedule_model.specs.DpcpRules.{holds_at}
 use Rattle.schedule_model.specs.Ranks.{fmlp_plus}
-use Rattle.schedule_laws.specs.Agreement.{AgreeBefore, RulesReadUpTo, ChoiceReadsUpTo}
-use Rattle.schedule_laws.proofs.Agreement.{listed_agree, task_agree, requester_agree}
+use Rattle.schedule_laws.specs.Agreement.{RulesReadUpTo, ChoiceReadsUpTo}
+use Rattle.schedule_laws.proofs.Agreement.{listed_back, task_agree, requester_agree}
 use Rattle.schedule_laws.proofs.Agreement.{issue_agree, held_before_agree, running_agree, holder_agree}
 use Rattle.schedule_laws.proofs.SharedAgreement.{fmlp_plus_agree, keep_agree, grant_agree, sized_agree}
 use Rattle.schedule_laws.proofs.DpcpAgreement.{holds_at_agree, dpcp_run_agree, dpcp_idle_agree, home_priority_agree}
 use Rattle.dflp_laws.specs.Rules.{dflp_rule, IsDflpChoice}
-
-listed_back : (v w : Trace) (n i : ℕ) → AgreeBefore v w n → i < length w.jobs → i < length v.jobs
-listed_back v w n i a l = omega (arith, l, listed_agree v w n a)
 
 -- A row keeps a rule in one schedule where it does in the other.
 pub dflp_rules_read : RulesReadUpTo dflp_rule

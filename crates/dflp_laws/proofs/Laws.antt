@@ -1,40 +1,21 @@
 -- The laws of `BlockingProtocol` for the distributed FIFO protocol, and that its rows run requests at homes, in the order of issue.
-use Rattle.std.proofs.Common.{◌≡◌, ℕ, true, sym, ap, ◌∙◌, refl, Some}
-use Rattle.std.proofs.lemmas.Bool.{both_ways}
+use Rattle.std.proofs.Common.{ℕ, sym, ◌∙◌, refl}
 use Rattle.schedule_model.specs.declared.rule.Rule.TheVariants as rule
-use Rattle.schedule_model.specs.RowDef.{Trace, running_on}
-use Rattle.schedule_model.specs.Phase.{Phase, is_finished, phase_of}
-use Rattle.schedule_model.specs.Phase.Phase.{Local, Asking, Finished}
-use Rattle.schedule_model.specs.Activity.{processor_of, issue_tick_of}
+use Rattle.schedule_model.specs.RowDef.{Trace}
+use Rattle.schedule_model.specs.Phase.{phase_of}
+use Rattle.schedule_model.specs.Activity.{issue_tick_of}
 use Rattle.schedule_model.specs.SharedRules.{KeepsGrant}
-use Rattle.schedule_model.specs.DpcpRules.{home_of, KeepsRun}
+use Rattle.schedule_model.specs.DpcpRules.{KeepsRun}
 use Rattle.schedule_model.specs.Ranks.{fmlp_plus}
 use Rattle.schedule_model.specs.Keeping.{KeepsRow, KeepsBefore}
 use Rattle.schedule_model.specs.BlockedTicks.{is_dpcp_interference}
-use Rattle.schedule_model.specs.ProtocolLaws.{HasHigherRunner, IsSoundRow}
+use Rattle.schedule_model.specs.ProtocolLaws.{IsSoundRow}
 use Rattle.schedule_laws.specs.Agreement.{RunsActiveBefore}
-use Rattle.schedule_laws.proofs.Ticks.{asking_is}
-use Rattle.schedule_laws.proofs.ActiveJobs.{Active, active_is, active_listed, requester_listed}
-use Rattle.schedule_laws.proofs.DpcpLaws.{HigherLocalRunner, dpcp_interfering}
+use Rattle.schedule_laws.proofs.ActiveJobs.{active_listed, requester_listed}
+use Rattle.schedule_laws.proofs.DpcpLaws.{column_is, dpcp_higher}
 use Rattle.charge_laws.proofs.DpcpCharging.{RunsAtHomes, RunsAtHomesBefore, at_homes}
 use Rattle.row_laws.proofs.Fifo.{GrantsByIssue}
 use Rattle.dflp_laws.specs.Rules.{dflp_rule, IsDflpChoice}
-
--- The processor at which a job runs: its own where it is Local, the home of what it requests where it is in a request.
-abbrev column_of : Trace → ℕ → Phase → ℕ
-column_of w j (Asking m q) = home_of w q
-column_of w j _ = processor_of w j
-
-column_is : (w : Trace) (t k j : ℕ) → KeepsRun w t → running_on (w.row t) k ≡ Some j → (p : Phase) → phase_of w t j ≡ p
-    → k ≡ column_of w j p
-column_is w t k j run e Local h = run.local k j e (rw h refl)
-column_is w t k j run e (Asking m q) h = (run.request k j q e (asking_is m q (phase_of w t j) h)).0
-column_is w t k j run e Finished h =
-    let a : Active w t j = active_is w t j (run.active k j e) in
-    absurd (both_ways (is_finished (phase_of w t j)) a.unfinished (ap is_finished h))
-
-higher : (w : Trace) (t j : ℕ) → is_dpcp_interference w t j ≡ true → HasHigherRunner w t j
-higher w t j h = let r : HigherLocalRunner w t j = dpcp_interfering w t j h in record { runner = r.runner; runs = r.runs; higher = r.higher }
 
 -- A row that keeps the rules is sound.
 pub dflp_sound_row : (w : Trace) (t : ℕ) → KeepsRow dflp_rule w t → IsSoundRow is_dpcp_interference w t
@@ -46,7 +27,7 @@ dflp_sound_row w t keeps =
       holders_listed = λ q j e. requester_listed w t q j (grant.requests q j e);
       active = λ k j e. run.active k j e;
       one_column = λ k l j e f. column_is w t k j run e (phase_of w t j) refl ∙ sym (column_is w t l j run f (phase_of w t j) refl);
-      interfering = λ j h. higher w t j h;
+      interfering = λ j h. dpcp_higher w t j h;
     }
 
 -- A chosen row keeps the rules.

@@ -18,16 +18,15 @@ use Rattle.schedule_laws.proofs.Rows.{named_job}
 use Rattle.phase_machine.specs.MachineDef.{MachineDef, task_in, under}
 use Rattle.phase_machine.specs.Now.{active_now}
 use Rattle.phase_machine.specs.Shows.{Shows}
-use Rattle.dpcp_rules.proofs.Chosen.{task_below}
 use Rattle.phase_machine.proofs.Facts.{active_back}
-use Rattle.shared_rules.specs.RowTests.{is_local_now, holds_now, may_run_now}
-use Rattle.shared_rules.specs.Scene.{Scene, scene_in, scene_now, place_in, running_in}
-use Rattle.shared_rules.specs.Choosing.{Leads, Granted, Placed}
+use Rattle.phase_machine.specs.Now.{is_local_now, holds_now, may_run_now}
+use Rattle.shared_choosing.specs.Scene.{Scene, scene_in, scene_now, place_in, running_in}
+use Rattle.shared_choosing.specs.Choosing.{Leads, Granted, Placed}
 use Rattle.shared_rules.proofs.RunTest.{stands_from}
-use Rattle.shared_rules.proofs.Currents.{each_from}
-use Rattle.shared_rules.proofs.Walks.{placed_same}
-use Rattle.shared_rules.proofs.Scenes.{scene_shown, running_same}
-use Rattle.shared_rules.proofs.Chosen.{IsSceneOf, granted_keep, granted_grant, grants_tie}
+use Rattle.shared_rules.proofs.Currents.{task_below, each_from}
+use Rattle.shared_choosing.proofs.Walks.{placed_same}
+use Rattle.shared_choosing.proofs.Scenes.{scene_shown, running_same}
+use Rattle.shared_choosing.proofs.Chosen.{IsSceneOf, granted_keep, granted_grant, grants_tie}
 use Rattle.fmlp_rules.specs.IssueOrder.{issue_now}
 use Rattle.fmlp_rules.specs.IssueOrderLaw.{issue_gives}
 use Rattle.dpcp_rules.specs.Homes.{column_now}

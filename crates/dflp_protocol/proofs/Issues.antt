@@ -7,7 +7,7 @@ use Rattle.phase_machine.specs.MachineDef.{MachineDef, under}
 use Rattle.phase_machine.specs.Shows.{Shows}
 use Rattle.fmlp_rules.specs.IssueOrder.{issue_now}
 use Rattle.fmlp_rules.specs.IssueOrderLaw.{issue_gives}
-use Rattle.dpcp_rules.proofs.Shown.{RequestAt}
+use Rattle.schedule_laws.proofs.DpcpStretches.{RequestAt}
 use Rattle.dpcp_rules.proofs.ReadyTests.{Gives, number_shown}
 
 pub issues_give : Gives issue_tick_of issue_now

@@ -20,13 +20,13 @@ use Rattle.phase_machine.specs.Now.{current_now}
 use Rattle.phase_machine.specs.Shows.{Shows, Shown}
 use Rattle.phase_machine.proofs.Existence.{shown}
 use Rattle.phase_machine.proofs.Facts.{reads_before, active_shown}
-use Rattle.shared_rules.specs.Scene.{place_in, running_in}
-use Rattle.shared_rules.specs.Choosing.{Granted, Placed}
-use Rattle.shared_rules.specs.NextRow.{with_row}
-use Rattle.shared_rules.proofs.NextRow.{places_of, place_of_list, places_length, same_before, row_there}
-use Rattle.shared_rules.proofs.Scenes.{scene_shown, active_job_in, active_job_now}
-use Rattle.shared_rules.proofs.Walks.{held_at, running_at, granted_at, granted_same, placed_at, placed_same}
-use Rattle.shared_rules.proofs.Chosen.{requests_shown}
+use Rattle.shared_choosing.specs.Scene.{place_in, running_in}
+use Rattle.shared_choosing.specs.Choosing.{Granted, Placed}
+use Rattle.shared_choosing.specs.NextRow.{with_row}
+use Rattle.shared_choosing.proofs.NextRow.{places_of, place_of_list, places_length, same_before, row_there}
+use Rattle.shared_choosing.proofs.Scenes.{scene_shown, active_job_in, active_job_now}
+use Rattle.shared_choosing.proofs.Walks.{held_at, running_at, granted_at, granted_same, placed_at, placed_same}
+use Rattle.shared_choosing.proofs.Chosen.{requests_shown}
 use Rattle.fmlp_rules.specs.IssueOrder.{issue_now}
 use Rattle.fmlp_rules.specs.IssueOrderLaw.{issue_gives}
 use Rattle.dpcp_rules.specs.Homes.{column_now}

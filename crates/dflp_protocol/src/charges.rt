@@ -12,8 +12,8 @@ ghost use Rattle.dflp_laws.proofs.Placement.{dflp_is_charged};
 ghost use Rattle.dflp_laws.proofs.Points.{dflp_point_within};
 
 use crate::Dflp;
-use charge::ChargedProtocol;
-use charge::distributed::charged_distributed;
+use charged_protocols::ChargedProtocol;
+use charged_protocols::distributed::charged_distributed;
 use fragments::Class;
 use phase_machine::Machine;
 use schedule_model::{JobId, Row};

@@ -11,7 +11,7 @@ use dpcp_rules::lookup::AtHomes;
 use fmlp_rules::FmlpPlus;
 use phase_machine::Machine;
 use schedule_model::Row;
-use shared_rules::choosing::choose_ordered;
+use shared_choosing::choosing::choose_ordered;
 
 /// Makes the lent row the chosen one: requests are granted and run in the order of issue, at their homes.
 pub(crate) fn choose(machine: &Machine, row: &mut Row)

@@ -64,7 +64,12 @@ fn may_block(set: &TaskSet, i: TaskId, column: Fragment) -> bool
 }
 
 impl ColumnTest for Dflp {
+    ghost use Rattle.fragments.specs.Requested.{columns_are_requests};
+    ghost use Rattle.fragments.specs.Columns.{blocks_at_home};
+
     ghost passes = { λ k set i c. is_dflp_column set i c };
+
+    ghost requests = { λ k set i. columns_are_requests (λ x. blocks_at_home set i) set i };
 
     ghost fits = { λ k set i x. Unit {0} };
 

@@ -1,33 +1,18 @@
 //! The rows of queues at each processor.
 
-ghost use Rattle.std.specs.Prelude.{◌≡◌, ◌<◌, ◌+◌, [], ◌∷◌, map, length, OnOk};
+ghost use Rattle.std.specs.Prelude.{◌<◌, ◌+◌, [], ◌∷◌, map, length, OnOk};
 ghost use Rattle.program_sources.specs.Bounds.{AreWithinDeadlines};
 ghost use Rattle.fragments.specs.ColumnDef.{column_seen, AreKnown};
 ghost use Rattle.fragments.specs.Constraints.{per, per_pair};
 ghost use Rattle.fragments.specs.Stretches.{AreInOrder, IsStretch};
-ghost use Rattle.fragments.specs.Windows.{requests_at};
 ghost use Rattle.dflp_laws.specs.Programs.{home_queue_row};
 
 use fragments::{
     Constraint, Fragment, PerNumber, PerTask, RowKind, RowTaker, add_per_number, add_per_task,
-    add_row_within, home,
+    add_row_within, home, requests_at,
 };
-use sporadic_model::{ResourceId, TaskId, TaskSet};
+use sporadic_model::{TaskId, TaskSet};
 use std::alloc::{AllocError, Global};
-
-/// How often does a job of `i` request resources of processor `k`?
-fn count_at(set: &TaskSet, i: TaskId, k: u32) -> u64
-    requires { i.0 < length set.now.tasks }
-    ensures { result ≡ requests_at set.now i.0 k }
-{
-    let mut total = 0;
-    for q in 0..set.resources() {
-        if home(set, ResourceId(q)) == k {
-            total += set.count(i, ResourceId(q));
-        }
-    }
-    total
-}
 
 /// Of a task and a processor: each request of the analysed task that runs there waits for at most one of the task's.
 #[derive(Drop)]
@@ -55,7 +40,7 @@ impl RowKind for HomeQueueRow {
 
 impl Constraint for HomeQueueRow {
     fn limit(&self, set: &TaskSet, i: TaskId, _bounds: &[u64]) -> u64 {
-        count_at(set, i, self.processor)
+        requests_at(set, i, self.processor)
     }
 }
 

@@ -14,7 +14,8 @@ ghost use Rattle.direct_constraints.specs.Asked.{AreAskedFor};
 ghost use Rattle.direct_constraints.specs.Rows.{request_row, time_row, turn_row, lower_holder_row, common_rows, own_rows};
 
 use fragments::{
-    Fragment, RowTaker, add_per_number, add_per_request, add_per_task, columns_stand_in_order,
+    EachRequest, EachTask, Fragment, RowTaker, add_per_number, add_per_request, add_per_task,
+    columns_stand_in_order,
 };
 use kinds::{LowerHolders, Requests, Times, Turns};
 use program_form::RowBlock;
@@ -42,7 +43,7 @@ pub fn add_request_rows<T: RowTaker>(
     add_per_request(
         alloc,
         taker,
-        &Requests,
+        &EachRequest(Requests),
         set,
         set.tasks(),
         i,
@@ -67,7 +68,7 @@ pub fn add_time_rows<T: RowTaker>(
     ensures { OnOk result (T.takes taker.old (map column_seen columns.now)
         (per (length set.now.tasks) (time_row set.now i.0)) bounds.now taker.new) }
 {
-    add_per_task(alloc, taker, &Times, set, i, bounds, columns)
+    add_per_task(alloc, taker, &EachTask(Times), set, i, bounds, columns)
 }
 
 /// Adds the rows of turns with each task behind those that the taker has, over any columns that stand in order.
@@ -86,7 +87,16 @@ pub fn add_turn_rows<T: RowTaker>(
     ensures { OnOk result (T.takes taker.old (map column_seen columns.now)
         (per_pair (length set.now.tasks) (length set.now.resources) (turn_row set.now i.0)) bounds.now taker.new) }
 {
-    add_per_request(alloc, taker, &Turns, set, set.tasks(), i, bounds, columns)
+    add_per_request(
+        alloc,
+        taker,
+        &EachRequest(Turns),
+        set,
+        set.tasks(),
+        i,
+        bounds,
+        columns,
+    )
 }
 
 // Adds the rows of lower holders of each resource.

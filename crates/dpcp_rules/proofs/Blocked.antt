@@ -14,7 +14,7 @@ use Rattle.schedule_laws.proofs.Rows.{job_named, named_job, runs_from, runs_wher
 use Rattle.phase_machine.specs.MachineDef.{MachineDef, task_in, under}
 use Rattle.phase_machine.specs.Shows.{Shows}
 use Rattle.phase_machine.proofs.Facts.{phase_shown, active_shown}
-use Rattle.shared_rules.specs.RowTests.{processor_now}
+use Rattle.phase_machine.specs.Now.{processor_now}
 use Rattle.phase_machine.proofs.Facts.{same_bool}
 use Rattle.shared_rules.proofs.Blocked.{three_tests}
 use Rattle.dpcp_rules.specs.Homes.{column_now}

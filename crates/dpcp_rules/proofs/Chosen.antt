@@ -28,19 +28,20 @@ use Rattle.schedule_laws.proofs.Rows.{job_named, named_job}
 use Rattle.schedule_laws.proofs.RuleUses.{request_among}
 use Rattle.schedule_laws.proofs.Segments.{open_resource, open_user}
 use Rattle.schedule_laws.proofs.DpcpStretches.{ceiling_low}
+use Rattle.schedule_laws.proofs.DpcpStretches.{RequestAt, request_at_is}
 use Rattle.phase_machine.specs.MachineDef.{MachineDef, task_in, under}
 use Rattle.phase_machine.specs.Now.{phase_now, active_now, holder_now, requester_now, waiting_now}
 use Rattle.phase_machine.specs.Shows.{Shows}
-use Rattle.phase_machine.proofs.Lawful.{task_listed}
 use Rattle.phase_machine.proofs.Facts.{active_true, active_back, requester_shown}
-use Rattle.shared_rules.specs.RowTests.{is_local_now, holds_now}
-use Rattle.shared_rules.specs.Scene.{stays, resource_in}
-use Rattle.shared_rules.specs.Filling.{Takes}
+use Rattle.phase_machine.specs.Now.{is_local_now, holds_now}
+use Rattle.shared_choosing.specs.Scene.{stays, resource_in}
+use Rattle.shared_choosing.specs.Filling.{Takes}
+use Rattle.shared_rules.proofs.Currents.{task_below}
 use Rattle.shared_rules.proofs.HolderTests.{right_of}
 use Rattle.dpcp_rules.specs.Homes.{column_now, entry_at}
 use Rattle.dpcp_rules.specs.RowTests.{is_due}
 use Rattle.dpcp_rules.specs.Choosing.{grant_claim, holder_claim, local_claim, AreHolders, IsRunning}
-use Rattle.dpcp_rules.proofs.Shown.{RequestAt, request_at_is, request_at_from, HolderAt, holds_at_is, holds_at_from}
+use Rattle.dpcp_rules.proofs.Shown.{request_at_from, HolderAt, holds_at_is, holds_at_from}
 use Rattle.dpcp_rules.proofs.Shown.{phase_is, column_is, column_within, processors_within, unfinished}
 use Rattle.dpcp_rules.proofs.Waiting.{Requesting, waiting_asks, waits_new, waiting_of}
 use Rattle.dpcp_rules.proofs.Entries.{Waits, waits_is, waits_from, WaitsOf, entry_low, first_of, below_is, barred_shown}
@@ -71,10 +72,6 @@ cond_some false o k h = absurd (cc)
 
 pub cond_from : (b : Bool) (o : Option ℕ) (k : ℕ) → b ≡ true → o ≡ Some k → cond b o None ≡ Some k
 cond_from b o k e f = ap (λ c. cond c o None) e ∙ f
-
-pub task_below : (m : MachineDef) (rows : ℕ → RowDef) (j : ℕ) → Shows m rows → is_active (under m rows) m.tick j ≡ true
-    → task_in m.list.jobs j < length m.list.set.tasks
-task_below m rows j shows a = task_listed m.list j shows.machine.lawful (active_listed (under m rows) m.tick j a)
 
 -- What a job that is granted q is.
 pub record Due (m : MachineDef) (rows : ℕ → RowDef) (first bars : List ℕ) (q j : ℕ) : Type 0 where

@@ -19,17 +19,18 @@ use Rattle.schedule_model.specs.Activity.{task_of, is_active, is_requester, hold
 use Rattle.schedule_model.specs.DpcpRules.{home_of, ceiling_rank, is_at, has_request_at, is_kept, waits_at}
 use Rattle.schedule_model.specs.DpcpRules.{is_first_waiting, is_barred, is_granted}
 use Rattle.schedule_laws.proofs.ActiveJobs.{active_listed}
+use Rattle.schedule_laws.proofs.DpcpStretches.{RequestAt, request_at_is}
 use Rattle.phase_machine.specs.MachineDef.{MachineDef, task_in, under}
 use Rattle.phase_machine.specs.Now.{current_now, holder_now, requester_now, waiting_now, is_ready_before, is_waiting_before}
 use Rattle.phase_machine.specs.Shows.{Shows}
 use Rattle.phase_machine.proofs.Lawful.{task_listed}
 use Rattle.phase_machine.proofs.Facts.{phase_shown, current_shown, current_from, requester_shown, waiting_shown}
-use Rattle.shared_rules.specs.Scene.{stays}
+use Rattle.shared_choosing.specs.Scene.{stays}
 use Rattle.shared_rules.proofs.HolderTests.{right_of}
 use Rattle.phase_machine.proofs.Facts.{same_bool}
 use Rattle.dpcp_rules.specs.Homes.{home_now, ceiling_now, column_in, column_now, waiting_place, kept_place, entry_at, IsLeast}
 use Rattle.dpcp_rules.specs.RowTests.{is_due}
-use Rattle.dpcp_rules.proofs.Shown.{RequestAt, request_at_is, unfinished, column_within, processors_within}
+use Rattle.dpcp_rules.proofs.Shown.{unfinished, column_within, processors_within}
 
 -- A place that is none where a test fails.
 placed : (b : Bool) (c k : ℕ) → 1 ≤ k → (cond b c 0 == k) ≡ ((c == k) && b)

@@ -16,7 +16,8 @@ use Rattle.phase_machine.specs.MachineDef.{MachineDef, under}
 use Rattle.phase_machine.specs.Now.{requester_now, waiting_now}
 use Rattle.phase_machine.specs.Shows.{Shows}
 use Rattle.phase_machine.proofs.Facts.{requester_shown}
-use Rattle.shared_rules.specs.RowTests.{each_current, holds_now, holder_passes}
+use Rattle.phase_machine.specs.Now.{holds_now}
+use Rattle.shared_rules.specs.RowTests.{each_current, holder_passes}
 use Rattle.shared_rules.proofs.Currents.{each_is, each_from}
 use Rattle.shared_rules.proofs.HolderTests.{right_of}
 use Rattle.dpcp_rules.specs.Homes.{ceiling_now, waiting_place, kept_place, IsLeast}

@@ -1,6 +1,7 @@
 -- Tables of least keys, while things are noted in them.
 use Rattle.std.proofs.Common.{◌≡◌, ℕ, ◌+◌, ◌<◌, ◌≤◌, ◌==◌, ◌&&◌, ◌||◌, Bool, true, false, List, refl, sym, ap}
 use Rattle.std.proofs.Common.{◌∙◌, arith, inl, inr, leb, add-one, min, replicate}
+use Rattle.std.proofs.Math.Bool.{or-false}
 use Rattle.std.proofs.lemmas.List.{get_or-replicate}
 use Rattle.std.proofs.lemmas.Bool.{cases_Bool, false_from_ne_true, leb-true, le-leb, eqb-true, eqb-false, ne_eqb}
 use Rattle.std.proofs.lemmas.Bool.{leb-false, or_left, or_right, or_cases}
@@ -69,10 +70,6 @@ least_next place key most n k old new own least here others r y l h = elim (case
 pub least_skip : (place key : ℕ → ℕ) (most n : ℕ) (table : List ℕ) → IsLeast place key most n table → PLACES ≤ place n
     → IsLeast place key most (n + 1) table
 least_skip place key most n table least past r y l h =
-    least r y l h ∙ rw (add-one, ne_eqb (place n) r (λ e. far e)) (sym (or_none (any_below n (λ i. (place i == r) && leb (key i) y)))) where
+    least r y l h ∙ rw (add-one, ne_eqb (place n) r (λ e. far e)) (sym (or-false (any_below n (λ i. (place i == r) && leb (key i) y)))) where
       far : place n ≡ r → ⊥
       far e = absurd (omega (arith, l))
-
-      or_none : (b : Bool) → (b || false) ≡ b
-      or_none true = refl
-      or_none false = refl

@@ -24,18 +24,18 @@ use Rattle.phase_machine.specs.Now.{active_now, current_now, holder_now, request
 use Rattle.phase_machine.specs.Shows.{Shows, Shown}
 use Rattle.phase_machine.proofs.Existence.{shown}
 use Rattle.phase_machine.proofs.Facts.{active_true, reads_before}
-use Rattle.shared_rules.specs.RowTests.{is_local_now, holds_now}
-use Rattle.shared_rules.specs.Scene.{stays, place_in, running_in}
-use Rattle.shared_rules.specs.NextRow.{with_row}
+use Rattle.phase_machine.specs.Now.{is_local_now, holds_now}
+use Rattle.shared_choosing.specs.Scene.{stays, place_in, running_in}
+use Rattle.shared_choosing.specs.NextRow.{with_row}
 use Rattle.shared_rules.proofs.HolderTests.{held_within}
-use Rattle.shared_rules.proofs.NextRow.{places_of, place_of_list, places_length, same_before, row_there}
+use Rattle.shared_choosing.proofs.NextRow.{places_of, place_of_list, places_length, same_before, row_there}
 use Rattle.dpcp_rules.specs.Homes.{ceiling_now, column_now, waiting_place, kept_place, entry_at, IsLeast}
 use Rattle.dpcp_rules.specs.declared.tables.TheConstants.{PLACES}
 use Rattle.dpcp_rules.specs.Choosing.{grant_claim, holder_claim, local_claim, AreHolders, IsRunning}
 use Rattle.dpcp_rules.specs.NextRow.{HasChoice}
 use Rattle.dpcp_rules.proofs.Shown.{column_within}
 use Rattle.dpcp_rules.proofs.Least.{least_first, least_next, least_skip}
-use Rattle.shared_rules.proofs.Filling.{filled_at, all_filled, filled_same, running_read}
+use Rattle.shared_choosing.proofs.Filling.{filled_at, all_filled, filled_same, running_read}
 use Rattle.dpcp_rules.proofs.Chosen.{stays_is, cond_some, some_same, Due, due_of}
 use Rattle.dpcp_rules.proofs.Written.{choice_made}
 

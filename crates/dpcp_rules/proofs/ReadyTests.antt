@@ -14,14 +14,15 @@ use Rattle.schedule_model.specs.DpcpRules.{RunsFirstHolder, KeepsPriority}
 use Rattle.schedule_laws.proofs.ActiveJobs.{active_listed, requester_from, ActiveLocal, active_local_is, active_local_from}
 use Rattle.schedule_laws.proofs.Rows.{job_named, named_job}
 use Rattle.schedule_laws.proofs.RuleUses.{request_among}
+use Rattle.schedule_laws.proofs.DpcpStretches.{RequestAt, request_at_is}
 use Rattle.phase_machine.specs.MachineDef.{MachineDef, task_in, under}
 use Rattle.phase_machine.specs.Shows.{Shows}
-use Rattle.shared_rules.specs.RowTests.{is_local_now, holds_now}
+use Rattle.phase_machine.specs.Now.{is_local_now, holds_now}
 use Rattle.shared_rules.proofs.Currents.{each_is, each_from}
 use Rattle.shared_rules.proofs.HolderTests.{right_of}
 use Rattle.dpcp_rules.specs.Homes.{column_now}
 use Rattle.dpcp_rules.specs.RowTests.{idle_passes, passes_idle, is_no_later, goes_first, priority_passes, passes_priority}
-use Rattle.dpcp_rules.proofs.Shown.{RequestAt, request_at_is, request_at_from, HolderAt, holds_at_is, holds_at_from}
+use Rattle.dpcp_rules.proofs.Shown.{request_at_from, HolderAt, holds_at_is, holds_at_from}
 use Rattle.dpcp_rules.proofs.Shown.{phase_is, column_is, unfinished}
 
 -- Where some job has a request at a processor, there is one.

@@ -12,7 +12,8 @@ use Rattle.phase_machine.specs.MachineDef.{MachineDef, under}
 use Rattle.phase_machine.specs.Now.{active_now}
 use Rattle.phase_machine.specs.Shows.{Shows}
 use Rattle.phase_machine.proofs.Facts.{active_shown}
-use Rattle.shared_rules.specs.RowTests.{may_run_now, may_stand}
+use Rattle.phase_machine.specs.Now.{may_run_now}
+use Rattle.shared_rules.specs.RowTests.{may_stand}
 use Rattle.shared_rules.proofs.RunTest.{Stands, stands, stands_from}
 use Rattle.dpcp_rules.specs.Homes.{column_now}
 use Rattle.dpcp_rules.specs.RowTests.{passes_run}

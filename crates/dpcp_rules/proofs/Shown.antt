@@ -1,7 +1,7 @@
 -- What an active job does, at a machine and in a schedule that it shows.
-use Rattle.std.proofs.Common.{◌≡◌, ℕ, ◌<◌, ◌≤◌, true, false, length, refl, sym, ap, ◌∙◌, Option, Some, None}
+use Rattle.std.proofs.Common.{◌≡◌, ℕ, ◌<◌, ◌≤◌, true, length, refl, sym, ap, ◌∙◌, Option, Some, None}
 use Rattle.std.specs.Prelude.{IsSome, unwrap_or}
-use Rattle.std.proofs.lemmas.Bool.{and_parts, and_from, both_ways, eq-eqb, eqb-true}
+use Rattle.std.proofs.lemmas.Bool.{and_parts, and_from, both_ways, eq-eqb}
 use Rattle.sporadic_model.specs.SetDef.{SetDef, resource_at}
 use Rattle.sporadic_model.specs.Homes.{home_in, EachHasHome}
 use Rattle.sporadic_model.specs.Accepted.{KeepsRanges, IsAccepted, TaskNumbers}
@@ -14,12 +14,12 @@ use Rattle.schedule_model.specs.DpcpRules.{home_of, is_at, has_request_at, holds
 use Rattle.schedule_laws.proofs.ActiveJobs.{Active, active_is, active_listed}
 use Rattle.schedule_laws.proofs.Rows.{job_named, holds_from}
 use Rattle.schedule_laws.proofs.Segments.{open_resource}
+use Rattle.schedule_laws.proofs.DpcpStretches.{RequestAt, request_at_is}
 use Rattle.phase_machine.specs.MachineDef.{MachineDef, task_in, under}
-use Rattle.phase_machine.specs.Now.{phase_now}
+use Rattle.phase_machine.specs.Now.{phase_now, processor_now}
 use Rattle.phase_machine.specs.Shows.{Shows}
 use Rattle.phase_machine.proofs.Lawful.{task_listed}
 use Rattle.phase_machine.proofs.Facts.{phase_shown}
-use Rattle.shared_rules.specs.RowTests.{processor_now}
 use Rattle.dpcp_rules.specs.Homes.{column_in, column_now}
 
 -- An active job is in a phase at the machine that is its phase in the schedule.
@@ -36,31 +36,7 @@ pub unfinished : (w : Trace) (t j : ℕ) → is_active w t j ≡ true → phase_
 unfinished w t j a e = let act : Active w t j = active_is w t j a in
     both_ways (is_finished (phase_of w t j)) act.unfinished (ap is_finished e)
 
--- What a request at a processor is.
-pub record RequestAt (w : Trace) (t k j : ℕ) : Type 0 where
-  pub active : is_active w t j ≡ true
-  pub number : ℕ
-  pub resource : ℕ
-  pub phase : phase_of w t j ≡ Asking number resource
-  pub home : home_of w resource ≡ k
-
-pub request_at_is : (w : Trace) (t k j : ℕ) → has_request_at w t k j ≡ true → RequestAt w t k j
-unfolding has_request_at
-request_at_is w t k j h = go (phase_of w t j) refl where
-  parts : (is_active w t j ≡ true) × (is_at w k (phase_of w t j) ≡ true)
-  parts = and_parts (is_active w t j) (is_at w k (phase_of w t j)) h
-
-  go : (p : Phase) → phase_of w t j ≡ p → RequestAt w t k j
-  go Local e = let x : false ≡ true = sym (ap (is_at w k) e) ∙ parts.1 in absurd (cc)
-  go Finished e = let x : false ≡ true = sym (ap (is_at w k) e) ∙ parts.1 in absurd (cc)
-  go (Asking n q) e = record {
-    active = parts.0;
-    number = n;
-    resource = q;
-    phase = e;
-    home = eqb-true (home_of w q) k (sym (ap (is_at w k) e) ∙ parts.1);
-  }
-
+-- What makes a request at a processor.
 pub request_at_from : (w : Trace) (t k j n q : ℕ) → is_active w t j ≡ true → phase_of w t j ≡ Asking n q
     → home_of w q ≡ k → has_request_at w t k j ≡ true
 unfolding has_request_at

@@ -3,9 +3,9 @@ use Rattle.std.proofs.Common.{◌≡◌, ℕ, List, sym, subst}
 use Rattle.schedule_model.specs.RowDef.{RowDef, running_on, holder_in}
 use Rattle.schedule_model.specs.Chosen.{IsSized, IsDpcpChoice}
 use Rattle.phase_machine.specs.MachineDef.{MachineDef, under}
-use Rattle.shared_rules.specs.Scene.{place_in, running_in}
-use Rattle.shared_rules.proofs.Scenes.{running_same}
-use Rattle.shared_rules.proofs.Filling.{running_read}
+use Rattle.shared_choosing.specs.Scene.{place_in, running_in}
+use Rattle.shared_choosing.proofs.Scenes.{running_same}
+use Rattle.shared_choosing.proofs.Filling.{running_read}
 use Rattle.dpcp_rules.specs.Choosing.{holder_claim, local_claim, AreHolders, IsRunning}
 use Rattle.dpcp_rules.proofs.GrantTest.{Noted}
 use Rattle.dpcp_rules.proofs.Chosen.{chosen_from}

@@ -4,8 +4,7 @@ use Rattle.std.specs.Option.{option_map_or}
 use Rattle.sporadic_model.specs.SetDef.{is_higher_local}
 use Rattle.schedule_model.specs.RowDef.{RowDef, is_job, running_on}
 use Rattle.phase_machine.specs.MachineDef.{MachineDef, task_in}
-use Rattle.phase_machine.specs.Now.{active_now}
-use Rattle.shared_rules.specs.RowTests.{processor_now, is_local_now}
+use Rattle.phase_machine.specs.Now.{active_now, processor_now, is_local_now}
 use Rattle.dpcp_rules.specs.Homes.{column_now}
 
 -- Is what runs on job j's processor a Local job of a higher task of it?

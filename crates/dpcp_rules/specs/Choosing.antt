@@ -2,9 +2,9 @@
 use Rattle.std.specs.Prelude.{ℕ, ◌&&◌, if◌then◌else◌, List, length, Option, None}
 use Rattle.phase_machine.specs.MachineDef.{MachineDef}
 use Rattle.phase_machine.specs.Now.{phase_now, holder_now, requester_now, waiting_now}
-use Rattle.shared_rules.specs.Scene.{stays, resource_in}
-use Rattle.shared_rules.specs.Filling as filling
-use Rattle.shared_rules.specs.Filling.{Filled, FilledTwice}
+use Rattle.shared_choosing.specs.Scene.{stays, resource_in}
+use Rattle.shared_choosing.specs.Filling as filling
+use Rattle.shared_choosing.specs.Filling.{Filled, FilledTwice}
 use Rattle.dpcp_rules.specs.Homes.{column_now}
 use Rattle.dpcp_rules.specs.RowTests.{is_due}
 

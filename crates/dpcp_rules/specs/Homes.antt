@@ -9,9 +9,8 @@ use Rattle.sporadic_model.specs.Users.{ceiling_of}
 use Rattle.schedule_model.specs.Phase.{Phase}
 use Rattle.schedule_model.specs.Phase.Phase.{Asking}
 use Rattle.phase_machine.specs.MachineDef.{MachineDef}
-use Rattle.phase_machine.specs.Now.{phase_now, current_now, holder_now, requester_now, waiting_now}
-use Rattle.shared_rules.specs.RowTests.{processor_now}
-use Rattle.shared_rules.specs.Scene.{stays}
+use Rattle.phase_machine.specs.Now.{phase_now, current_now, holder_now, requester_now, waiting_now, processor_now}
+use Rattle.shared_choosing.specs.Scene.{stays}
 
 -- The home of resource q, and its ceiling: its highest user, and the number of tasks where no task uses it.
 abbrev pub home_now : MachineDef → ℕ → ℕ

@@ -2,7 +2,7 @@
 use Rattle.std.specs.Prelude.{ℕ}
 use Rattle.schedule_model.specs.RowDef.{RowDef, Trace}
 use Rattle.schedule_model.specs.Chosen.{IsDpcpChoice}
-use Rattle.shared_rules.specs.NextRow.{with_row}
+use Rattle.shared_choosing.specs.NextRow.{with_row}
 
 pub record HasChoice (w : Trace) (t : ℕ) : Type 0 where
   pub row : RowDef

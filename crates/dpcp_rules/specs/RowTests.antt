@@ -6,8 +6,8 @@ use Rattle.bounded_sums.specs.Tests.{all_below}
 use Rattle.schedule_model.specs.RowDef.{RowDef, running_on, holder_in}
 use Rattle.schedule_model.specs.declared.rule.Rule.{Rule}
 use Rattle.phase_machine.specs.MachineDef.{MachineDef, task_in}
-use Rattle.phase_machine.specs.Now.{waiting_now}
-use Rattle.shared_rules.specs.RowTests.{each_stands, each_current, is_local_now, holds_now, passes_keep, holder_passes, first_of}
+use Rattle.phase_machine.specs.Now.{waiting_now, is_local_now, holds_now}
+use Rattle.shared_rules.specs.RowTests.{each_stands, each_current, passes_keep, holder_passes, first_of}
 use Rattle.dpcp_rules.specs.Homes.{column_now, entry_at}
 use Rattle.dpcp_rules.specs.TaskOrder.{task_now}
 

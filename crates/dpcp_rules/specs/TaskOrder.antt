@@ -3,7 +3,7 @@ use Rattle.std.specs.Prelude.{refl, ℕ}
 use Rattle.schedule_model.specs.SharedRules.{Ranks}
 use Rattle.schedule_model.specs.Ranks.{by_task}
 use Rattle.phase_machine.specs.MachineDef.{MachineDef, task_in}
-use Rattle.shared_rules.specs.Order.{GivesRanks}
+use Rattle.phase_machine.specs.Order.{GivesRanks}
 
 abbrev pub task_ranks : Ranks
 task_ranks = record { grant = by_task; run = by_task }

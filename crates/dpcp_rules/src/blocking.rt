@@ -11,9 +11,9 @@ ghost use Rattle.dpcp_rules.specs.Blocked.{is_interfered, blocked_now};
 
 use crate::lookup::AtHomes;
 use phase_machine::Machine;
+use phase_machine::columns::running_instead;
+use phase_machine::lookup::{is_local, running_beside, task_of};
 use schedule_model::{JobId, Row};
-use shared_rules::columns::running_instead;
-use shared_rules::lookup::{is_local, running_beside, task_of};
 
 /// Is what runs on the job's processor a Local job of a higher task of it?
 fn is_interfered(machine: &Machine, j: JobId, running: Option<JobId>) -> bool

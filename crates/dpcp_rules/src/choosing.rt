@@ -5,8 +5,8 @@ ghost use Rattle.schedule_model.specs.Chosen.{IsSized, IsDpcpChoice};
 ghost use Rattle.schedule_model.specs.Seen.{row_seen, place_seen};
 ghost use Rattle.phase_machine.specs.MachineDef.{under};
 ghost use Rattle.phase_machine.specs.Shows.{Shows};
-ghost use Rattle.shared_rules.specs.Scene.{place_in, running_in};
-ghost use Rattle.shared_rules.specs.Filling.{filled};
+ghost use Rattle.shared_choosing.specs.Scene.{place_in, running_in};
+ghost use Rattle.shared_choosing.specs.Filling.{filled};
 ghost use Rattle.dpcp_rules.specs.Choosing.{grant_claim, AreHolders, IsRunning};
 
 use crate::judging::is_due;
@@ -14,10 +14,10 @@ use crate::lookup::AtHomes;
 use crate::tables::{Tables, tables_of};
 use phase_machine::Machine;
 use schedule_model::{JobId, Row};
-use shared_rules::choosing::{keep_all, requested};
-use shared_rules::claims::{HolderClaim, LocalClaim, fill, fill_twice};
-use shared_rules::row_choice::{RowChoice, choose_row};
-use shared_rules::walking::{Visitor, visit_each};
+use shared_choosing::choosing::{keep_all, requested};
+use shared_choosing::claims::{HolderClaim, LocalClaim, fill, fill_twice};
+use shared_choosing::row_choice::{RowChoice, choose_row};
+use shared_choosing::visiting::{Visitor, visit_each};
 use sporadic_model::ResourceId;
 
 /// The resource that is granted to the job: what it requests, where it waits and is due.

@@ -16,12 +16,11 @@ ghost use Rattle.dpcp_rules.specs.TaskOrder.{task_now};
 use crate::Dpcp;
 use crate::lookup::{AtHomes, keeps_the_model};
 use crate::tables::{Tables, tables_of};
-use phase_machine::Machine;
+use phase_machine::columns::{Columns, running_instead};
+use phase_machine::lookup::{holds, is_local, task_of};
+use phase_machine::{Machine, Order};
 use schedule_model::{JobId, Row, Rule};
-use shared_rules::Order;
-use shared_rules::columns::{Columns, running_instead};
 use shared_rules::judging::{each_stands, holders_pass, passes_keep};
-use shared_rules::lookup::{holds, is_local, task_of};
 use shared_rules::rule_tests::{RuleTests, first_failed};
 use shared_rules::walking::{JobTest, each_passes};
 

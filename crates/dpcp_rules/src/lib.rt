@@ -21,9 +21,8 @@ ghost use Rattle.schedule_laws.proofs.DpcpStretches.{dpcp_stays_lawful};
 ghost use Rattle.dpcp_rules.specs.TaskOrder.{task_ranks, task_now, tasks_give};
 
 pub use laws::each_schedule_has_a_next_row;
-use phase_machine::{Judge, Machine};
+use phase_machine::{Judge, Machine, Order};
 use schedule_model::{BlockingProtocol, JobId, Row, Rule};
-use shared_rules::Order;
 
 /// The distributed priority ceiling protocol. It suits task sets in which each resource has a home.
 #[derive(Clone, Copy, Debug, PartialEq, Eq)]

@@ -3,10 +3,10 @@ ghost use Rattle.sporadic_model.specs.Accepted.{IsAccepted, SetSizes};
 ghost use Rattle.sporadic_model.specs.Homes.{EachHasHome};
 ghost use Rattle.dpcp_rules.specs.Homes.{home_now, ceiling_now, column_now};
 
+use phase_machine::columns::Columns;
+use phase_machine::lookup::{processor_of, tasks_of};
 use phase_machine::{Machine, Phase};
 use schedule_model::JobId;
-use shared_rules::columns::Columns;
-use shared_rules::lookup::{processor_of, tasks_of};
 use sporadic_model::ResourceId;
 
 /// The machine's set is one that the model accepts. This says so, and does nothing.

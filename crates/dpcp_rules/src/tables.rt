@@ -6,9 +6,9 @@ ghost use Rattle.dpcp_rules.specs.declared.tables.TheConstants.{PLACES};
 
 use crate::lookup::{AtHomes, ceiling_of, home_of, keeps_the_model};
 use phase_machine::Machine;
-use shared_rules::choosing::kept;
-use shared_rules::columns::Columns;
-use shared_rules::lookup::{resources_of, tasks_of};
+use phase_machine::columns::Columns;
+use phase_machine::lookup::{resources_of, tasks_of};
+use shared_choosing::choosing::kept;
 use sporadic_model::{ResourceId, TaskId};
 
 /// One place for each of the at most 64 processors, which count from 1, and one for none.

@@ -1,7 +1,7 @@
 -- Tests of the numbers below a bound, one after another.
 use Rattle.std.proofs.Common.{◌≡◌, ℕ, ◌+◌, subst, arith, inl, inr}
 use Rattle.std.proofs.lemmas.Bool.{cases_lt}
-use Rattle.dual_check.specs.Failures.{AllPass}
+use Rattle.schedule_answers.specs.Failures.{AllPass}
 
 -- One more passes.
 pub one_more : (n : ℕ) (test : ℕ → Type 0) → AllPass n test → test n → AllPass (n + 1) test

@@ -9,8 +9,8 @@ use Rattle.program_sources.specs.Valid.{IsValid}
 use Rattle.soundness_laws.specs.Sound.{Sound}
 use Rattle.soundness_laws.specs.Analyses.{AreValues}
 use Rattle.dual_check.specs.Answers.{Judges}
-use Rattle.dual_check.specs.declared.answer.Valid.{Valid}
-use Rattle.dual_check.specs.declared.answer.Invalid.{Invalid}
+use Rattle.schedule_answers.specs.declared.checked.Valid.{Valid}
+use Rattle.schedule_answers.specs.declared.checked.Invalid.{Invalid}
 
 -- What is Ok is sound where valid certificates are.
 pub sound_where_valid : (keeps : Rule → Trace → ℕ → Type 0) (interferes : Trace → ℕ → ℕ → Bool) (f : SourceDef)

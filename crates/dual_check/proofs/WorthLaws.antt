@@ -6,7 +6,7 @@ use Rattle.program_form.specs.Certificate.{CertificateDef, dual_seen}
 use Rattle.program_form.specs.declared.certificate.Dual.{Dual}
 use Rattle.program_sources.specs.Recurrence.{SourceDef}
 use Rattle.program_sources.specs.Valid.{dual_at, no_dual}
-use Rattle.dual_check.specs.Tests.{HasDualSize}
+use Rattle.schedule_answers.specs.Tests.{HasDualSize}
 use Rattle.dual_check.specs.Answers.{IsWorthOf, AreWorths, worth_at}
 use Rattle.dual_check.specs.declared.duals.DualWorth.{DualWorth}
 use Rattle.dual_check.specs.declared.duals.DualWorth.TheVariants as worth

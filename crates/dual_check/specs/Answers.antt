@@ -9,11 +9,11 @@ use Rattle.program_sources.specs.Recurrence.{SourceDef}
 use Rattle.program_sources.specs.Fitting.{tasks_of}
 use Rattle.program_sources.specs.Valid.{IsValid, dual_at, value_at}
 use Rattle.soundness_laws.specs.Analyses.{AreValues}
-use Rattle.dual_check.specs.Tests.{HoldsColumn, HoldsColumns, HasDualSize, IsEnough}
-use Rattle.dual_check.specs.Failures.{AllPass, IsFirstFailing, IsFailure}
-use Rattle.dual_check.specs.declared.answer.Valid.{Valid}
-use Rattle.dual_check.specs.declared.answer.Invalid.{Invalid}
-use Rattle.dual_check.specs.declared.answer.Invalid.TheVariants as invalid
+use Rattle.schedule_answers.specs.Tests.{HoldsColumn, HoldsColumns, HasDualSize, IsEnough}
+use Rattle.schedule_answers.specs.Failures.{AllPass, IsFirstFailing, IsFailure}
+use Rattle.schedule_answers.specs.declared.checked.Valid.{Valid}
+use Rattle.schedule_answers.specs.declared.checked.Invalid.{Invalid}
+use Rattle.schedule_answers.specs.declared.checked.Invalid.TheVariants as invalid
 use Rattle.dual_check.specs.declared.duals.DualWorth.{DualWorth}
 use Rattle.dual_check.specs.declared.duals.DualWorth.TheVariants as worth
 

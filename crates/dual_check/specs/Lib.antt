@@ -1,4 +1,2 @@
-pub mod Tests
-pub mod Failures
 pub mod Answers
 pub mod Soundness

@@ -5,14 +5,14 @@ ghost use Rattle.program_form.specs.Certificate.{dual_seen, certificate_seen};
 ghost use Rattle.program_form.specs.Program.{columns, height};
 ghost use Rattle.program_sources.specs.Bounds.{AreWithinDeadlines};
 ghost use Rattle.program_sources.specs.Recurrence.{source_at};
-ghost use Rattle.dual_check.specs.Tests.{HoldsColumn};
-ghost use Rattle.dual_check.specs.Failures.{Finds};
+ghost use Rattle.schedule_answers.specs.Tests.{HoldsColumn};
+ghost use Rattle.schedule_answers.specs.Failures.{Finds};
 ghost use Rattle.dual_check.specs.Answers.{HasDenominators, IsWorth, Weighs, FindsUncovered};
 
-use crate::answer::Invalid;
 use crate::sums::{holds_column, value_to};
-use charge::ChargedProtocol;
+use charged_protocols::ChargedProtocol;
 use program_form::{Certificate, Dual, Program};
+use schedule_answers::Invalid;
 use sporadic_model::{TaskId, TaskSet};
 use std::alloc::Global;
 

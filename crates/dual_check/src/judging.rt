@@ -7,19 +7,19 @@ ghost use Rattle.sporadic_model.specs.SetDef.{task_at, latest_bound};
 ghost use Rattle.program_sources.specs.Valid.{IsValid};
 ghost use Rattle.program_laws.specs.Programs.{source_of};
 ghost use Rattle.soundness_laws.specs.Sound.{Sound};
-ghost use Rattle.dual_check.specs.Failures.{Finds};
+ghost use Rattle.schedule_answers.specs.Failures.{Finds};
 ghost use Rattle.dual_check.specs.Answers.{HasDenominators, worth_at, IsCovering, counted, AreWorths, Judges, Sums};
 ghost use Rattle.dual_check.specs.Soundness.{SoundUnder};
 
-use crate::answer::{Invalid, Valid};
 use crate::duals::{DualWorth, first_uncovered_of, weigh_duals};
 use crate::laws::what_passes_is_sound;
-use charge::{ChargedProtocol, charged_protocols_are_analysed};
+use charged_protocols::{ChargedProtocol, charged_protocols_are_analysed};
 use dpcp_rules::Dpcp;
 use fmlp_rules::FmlpPlus;
 use mpcp_rules::Mpcp;
 use program_form::Certificate;
 use program_sources::response;
+use schedule_answers::{Invalid, Valid};
 use sporadic_model::{Protocol, TaskId, TaskSet};
 use std::alloc::Global;
 

@@ -7,10 +7,10 @@ ghost use Rattle.program_sources.specs.Recurrence.{SourceDef};
 ghost use Rattle.program_sources.specs.Valid.{IsValid};
 ghost use Rattle.soundness_laws.specs.Sound.{Sound};
 ghost use Rattle.soundness_laws.specs.Analyses.{Analyses};
-ghost use Rattle.dual_check.specs.Failures.{IsFailure};
+ghost use Rattle.schedule_answers.specs.Failures.{IsFailure};
 ghost use Rattle.dual_check.specs.Answers.{Judges};
-ghost use Rattle.dual_check.specs.declared.answer.Valid.{Valid};
-ghost use Rattle.dual_check.specs.declared.answer.Invalid.{Invalid};
+ghost use Rattle.schedule_answers.specs.declared.checked.Valid.{Valid};
+ghost use Rattle.schedule_answers.specs.declared.checked.Invalid.{Invalid};
 
 use schedule_model::BlockingProtocol;
 use soundness_laws::analysed_protocols_are_sound;

@@ -1,16 +1,15 @@
 //! Judging certificates: whether bounds and duals prove that a task set meets every deadline, without trust in what made them.
 //!
 //! A certificate is valid where each bound and its task's jitter together are within the deadline, each dual holds every column of
-//! its program, and the response time with the dual's value as blocking is within the bound. `specs/Tests.antt` has these tests,
-//! `specs/Failures.antt` their order.
+//! its program, and the response time with the dual's value as blocking is within the bound. Of `schedule_answers`
+//! `specs/Tests.antt` has these tests, `specs/Failures.antt` their order.
 #![tactic(auto)]
 
-mod answer;
 mod duals;
 mod judging;
 mod laws;
 mod sums;
 
-pub use answer::{Invalid, Valid};
 pub use judging::{check, check_with, has_denominators};
 pub use laws::{failures_are_exact, what_passes_is_sound};
+pub use schedule_answers::{Invalid, Valid};

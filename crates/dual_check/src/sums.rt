@@ -5,7 +5,7 @@ ghost use Rattle.bounded_sums.specs.Sums.{sum_below};
 ghost use Rattle.program_form.specs.Certificate.{dual_seen};
 ghost use Rattle.program_form.specs.Program.{columns, height, entry, limit};
 ghost use Rattle.program_form.specs.Duals.{dual_total, dual_value};
-ghost use Rattle.dual_check.specs.Tests.{HoldsColumn};
+ghost use Rattle.schedule_answers.specs.Tests.{HoldsColumn};
 
 use program_form::{Dual, Program};
 

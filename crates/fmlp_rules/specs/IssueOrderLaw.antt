@@ -8,7 +8,7 @@ use Rattle.phase_machine.specs.MachineDef.{MachineDef, under}
 use Rattle.phase_machine.specs.Now.{issued_in, issue_of}
 use Rattle.phase_machine.specs.Shows.{Shows}
 use Rattle.phase_machine.proofs.Facts.{issued_shown}
-use Rattle.shared_rules.specs.Order.{GivesRanks}
+use Rattle.phase_machine.specs.Order.{GivesRanks}
 use Rattle.fmlp_rules.specs.IssueOrder.{issue_now}
 
 issue_given : (m : MachineDef) (rows : ℕ → RowDef) → Shows m rows → (q j : ℕ) → is_requester (under m rows) m.tick q j ≡ true

@@ -15,9 +15,10 @@ ghost use Rattle.schedule_laws.proofs.SharedStretches.{fmlp_plus_stays_lawful};
 ghost use Rattle.fmlp_rules.specs.IssueOrder.{issue_now};
 ghost use Rattle.fmlp_rules.specs.IssueOrderLaw.{issue_gives};
 
-use phase_machine::{Judge, Machine};
+use phase_machine::{Judge, Machine, Order};
 use schedule_model::{BlockingProtocol, JobId, Row, Rule};
-use shared_rules::{Order, blocked_shared, choose_shared, judge_shared};
+use shared_choosing::choose_shared;
+use shared_rules::{blocked_shared, judge_shared};
 
 /// The FIFO multiprocessor locking protocol in its partitioned form.
 #[derive(Clone, Copy, Debug, PartialEq, Eq)]

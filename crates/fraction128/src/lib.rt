@@ -1,10 +1,11 @@
 //! Exact fractions of two 64-bit parts. Each operation gives the exact value in lowest terms, or `Wide` exactly where those
 //! lowest terms don't fit. It forms the unreduced value in 128 bits, which always hold it, and divides once by the greatest
-//! common divisor. Nothing here takes memory but `scale`.
+//! common divisor, but where the terms are lowest as they stand. Nothing here takes memory but `scale`.
 #![tactic(auto)]
 
 ghost use Rattle.std.specs.Prelude.{◌≡◌, ◌≢◌, ℕ, ◌<◌, ◌^◌, pos, ◌*ℤ◌, ◌≤ℤ◌, ◌<ℤ◌, neg_ℤ, unsigned_abs, IsTrue, ◌↔◌};
 ghost use Rattle.std.specs.Ordering.{MatchOrdering};
+ghost use Rattle.number_laws.specs.Divisors.{IsCoprime};
 ghost use Rattle.fraction128.specs.Fraction.{IsForm};
 
 use std::cmp::Ordering;
@@ -75,6 +76,18 @@ impl Frac {
         Frac { num, den }
     }
 
+    // num over the denominator of another, with which it has no common divisor; Wide where it doesn't fit.
+    fn over_same(num: i128, other: Frac) -> Result<Frac, Wide>
+        requires { IsCoprime (unsigned_abs num) (unsigned_abs other.den) }
+        ensures { Gives result (IsSame (over num other.den)) }
+    {
+        let den = other.den;
+        if num.unsigned_abs() > MOST {
+            return Err(Wide);
+        }
+        Ok(Frac::of_parts(num as i64, den))
+    }
+
     /// The whole number n, below 2^63.
     pub fn whole(n: u64) -> Frac
         requires { n < 2 ^ 63 }
@@ -110,14 +123,30 @@ impl Frac {
     pub fn sub(self, other: Frac) -> Result<Frac, Wide>
         ensures { Gives result (IsDifference self other) }
     {
-        Frac::ratio(cross(self, other) - cross(other, self), dens(self, other))
+        let top = cross(self, other) - cross(other, self);
+        // a whole number taken away leaves lowest terms
+        if other.is_whole() {
+            return Frac::over_same(top, self);
+        }
+        Frac::ratio(top, dens(self, other))
     }
 
     /// The product; Wide where its lowest terms don't fit.
     pub fn mul(self, other: Frac) -> Result<Frac, Wide>
         ensures { Gives result (IsProduct self other) }
     {
-        Frac::ratio(nums(self, other), dens(self, other))
+        let top = nums(self, other);
+        // whole numbers, 1 and -1 leave lowest terms
+        if are_whole(self, other) {
+            return Frac::over_same(top, self);
+        }
+        if other.is_unit() {
+            return Frac::over_same(top, self);
+        }
+        if self.is_unit() {
+            return Frac::over_same(top, other);
+        }
+        Frac::ratio(top, dens(self, other))
     }
 
     /// The quotient by a fraction that isn't 0; Wide where its lowest terms don't fit.
@@ -154,6 +183,20 @@ impl Frac {
         ensures { IsTrue result ↔ IsAtMost self other }
     {
         cross(self, other) <= cross(other, self)
+    }
+
+    // Whether this is a whole number.
+    fn is_whole(self) -> bool
+        ensures { IsTrue result ↔ (self.den ≡ pos 1) }
+    {
+        self.den == 1
+    }
+
+    // Whether this is 1 or -1.
+    fn is_unit(self) -> bool
+        ensures { IsTrue result → (unsigned_abs self.num ≡ 1) × (self.den ≡ pos 1) }
+    {
+        self.den == 1 && (self.num == 1 || self.num == -1)
     }
 
     /// Whether this is 0.
@@ -225,6 +268,13 @@ impl fmt::Display for Frac {
     }
 }
 
+// Whether both are whole numbers.
+fn are_whole(a: Frac, b: Frac) -> bool
+    ensures { IsTrue result → (a.den ≡ pos 1) × (b.den ≡ pos 1) }
+{
+    a.den == 1 && b.den == 1
+}
+
 // The products that the operations are made of. Each part is below 2^63 in size, so 128 bits hold them, and a sum of two.
 
 fn cross(a: Frac, b: Frac) -> i128
@@ -237,6 +287,8 @@ fn cross(a: Frac, b: Frac) -> i128
 }
 
 fn nums(a: Frac, b: Frac) -> i128
+    ensures left { IsForm a }
+    ensures right { IsForm b }
     ensures value { result ≡ a.num *ℤ b.num }
     ensures small { unsigned_abs result < 2 ^ 126 }
 {

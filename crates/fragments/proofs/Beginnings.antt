@@ -14,7 +14,7 @@ one_more_below : (s : ℕ) (cs : List Fragment) (p : ℕ) (e : Fragment) → p <
 one_more_below s cs p e l here before = AllWithin-more (λ c. slot_of c < s) cs 0 p before (λ d. rw (get_or_default cs p d e l) here)
 
 -- The first column that isn't below the slot s begins what isn't.
-begins_here : (s : ℕ) (cs : List Fragment) (p : ℕ) (e : Fragment) → AreInOrder cs → p < length cs → s ≤ slot_of (get_or cs p e)
+pub begins_here : (s : ℕ) (cs : List Fragment) (p : ℕ) (e : Fragment) → AreInOrder cs → p < length cs → s ≤ slot_of (get_or cs p e)
     → AllWithin (λ c. slot_of c < s) cs 0 p → BeginsAt s cs p
 begins_here s cs p e order l here before = record {
   within = omega arith;

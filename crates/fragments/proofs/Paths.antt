@@ -21,7 +21,7 @@ any_below-swap n m p = elim (cases_Bool (any_below n (λ y. any_below m (λ r. p
       any_below-none m (λ r. p y r) (any_below-none n (λ y. any_below m (λ r. p y r)) none y a) r b)))
 ]
 
-any_below-both : (b : Bool) (n : ℕ) (p : ℕ → Bool) → any_below n (λ y. b && p y) ≡ (b && any_below n p)
+pub any_below-both : (b : Bool) (n : ℕ) (p : ℕ → Bool) → any_below n (λ y. b && p y) ≡ (b && any_below n p)
 any_below-both true n p = refl
 any_below-both false n p = any_below-none_from n (λ y. false) (λ y a. refl)
 

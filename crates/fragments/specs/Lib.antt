@@ -6,3 +6,5 @@ pub mod Constraints
 pub mod Taking
 pub mod Stretches
 pub mod Links
+pub mod ClassOrder
+pub mod Requested

@@ -40,3 +40,16 @@ pub record IsRequestStretch (x q : ℕ) (columns : List Fragment) (a b : ℕ) : 
   pub from : BeginsAt (slot x q) columns a
   pub to : BeginsAt (slot x (q + 1)) columns b
   pub order : a ≤ b
+
+-- Is the column at the place one of requests of q by task x, with q below m? Then those of x and q begin there, if those of x and some
+-- resource k do, and k isn't above q.
+pub record IsNextRequest (m x q : ℕ) (columns : List Fragment) (place : ℕ) : Type 0 where
+  pub known : q < m
+  pub within : place < length columns
+  pub further : (end : ℕ) → BeginsAt (slot x (q + 1)) columns end → place < end
+  pub order : (k : ℕ) → BeginsAt (slot x k) columns place → k ≤ q
+  pub begins : (k : ℕ) → BeginsAt (slot x k) columns place → BeginsAt (slot x q) columns place
+
+-- Do the next task's columns begin at the place, if those of x and a resource up to m do?
+abbrev pub ArePast : ℕ → ℕ → List Fragment → ℕ → Type 0
+ArePast m x columns place = (k : ℕ) → k ≤ m → BeginsAt (slot x k) columns place → BeginsAt (slot (x + 1) 0) columns place

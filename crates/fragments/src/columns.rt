@@ -8,15 +8,16 @@ ghost use Rattle.fragments.specs.Ceilings.{ceiling_rank};
 ghost use Rattle.fragments.specs.ColumnDef.{column_seen, classes_of, is_direct, is_indirect, is_preemption};
 ghost use Rattle.fragments.specs.Columns.{have_one_processor, may_run_before, has_path, requests_beside};
 ghost use Rattle.fragments.specs.Columns.{blocks_by_sharing, blocks_at_home, may_block, is_column, columns_of};
-ghost use Rattle.fragments.specs.Links.{is_used_beside, is_link, AreLinks};
+ghost use Rattle.fragments.specs.Links.{AreLinks, AreRivals, AreKnownRivals};
 
-use crate::passing::{ColumnTest, add_task};
-use crate::places::{boost_place, ceiling_place, home, lower_local, share_processor, uses};
+use crate::linking::{Rival, asked_by, links_of, rivals_of};
+use crate::passing::{ColumnTest, add_task, fragments_where};
+use crate::places::{boost_place, ceiling_place, home, lower_local, uses};
 use sporadic_model::{Protocol, ResourceId, TaskId, TaskSet};
 use std::alloc::{AllocError, Global};
 
-/// How a request blocks a job that it is charged to.
-#[derive(Clone, Copy, Debug, PartialEq, Eq)]
+/// How a request blocks a job that it is charged to. Classes are ordered as they stand here.
+#[derive(Clone, Copy, Debug, PartialEq, Eq, PartialOrd, Ord)]
 pub enum Class {
     /// The job waits for the resource that the request holds.
     Direct,
@@ -82,15 +83,6 @@ fn runs_before(set: &TaskSet, protocol: Protocol, k: u32, q: ResourceId, r: Reso
     }
 }
 
-// Is the task `y` beside `x`, and neither `x` nor `i`?
-fn stands_beside(set: &TaskSet, i: TaskId, x: TaskId, y: TaskId) -> bool
-    requires task { x.0 < length set.now.tasks }
-    requires other { y.0 < length set.now.tasks }
-    ensures { result ≡ (have_one_processor set.now y.0 x.0 && (not (y.0 == x.0) && not (y.0 == i.0))) }
-{
-    share_processor(set, y, x) && y.0 != x.0 && y.0 != i.0
-}
-
 // Is the resource `r` another one than the requests', and may its holder wait for its processor while they run there?
 fn stands_behind(set: &TaskSet, protocol: Protocol, c: Fragment, r: ResourceId) -> bool
     requires column { c.task.0 < length set.now.tasks }
@@ -100,83 +92,6 @@ fn stands_behind(set: &TaskSet, protocol: Protocol, c: Fragment, r: ResourceId) 
         && may_run_before protocol set.now (task_at set.now c.task.0).processor c.resource.0 r.0) }
 {
     r.0 != c.resource.0 && runs_before(set, protocol, set.processor(c.task), c.resource, r)
-}
-
-// Is `y` a task beside `x`, and neither `x` nor `i`, that uses the resource `r`?
-fn is_user_beside(set: &TaskSet, i: TaskId, x: TaskId, r: ResourceId, y: TaskId) -> bool
-    requires task { x.0 < length set.now.tasks }
-    requires by { r.0 < length set.now.resources }
-    requires other { y.0 < length set.now.tasks }
-    ensures { result ≡ ((have_one_processor set.now y.0 x.0 && (not (y.0 == x.0) && not (y.0 == i.0))) && is_user set.now r.0 y.0) }
-{
-    stands_beside(set, i, x, y) && uses(set, y, r)
-}
-
-// Is there one?
-fn has_user_beside(set: &TaskSet, i: TaskId, x: TaskId, r: ResourceId) -> bool
-    requires task { x.0 < length set.now.tasks }
-    requires by { r.0 < length set.now.resources }
-    ensures { result ≡ is_used_beside set.now i.0 x.0 r.0 }
-{
-    for y in 0..set.tasks() {
-        if is_user_beside(set, i, x, r, TaskId(y)) {
-            return true;
-        }
-    }
-    false
-}
-
-// Can requests by `x` block `i` indirectly by the resource `r`?
-fn links(set: &TaskSet, protocol: Protocol, i: TaskId, x: TaskId, r: ResourceId) -> bool
-    requires task { i.0 < length set.now.tasks }
-    requires other { x.0 < length set.now.tasks }
-    requires by { r.0 < length set.now.resources }
-    ensures { result ≡ is_link protocol set.now i.0 x.0 r.0 }
-{
-    match protocol {
-        Protocol::Mpcp | Protocol::FmlpPlus => uses(set, i, r) && has_user_beside(set, i, x, r),
-        Protocol::Dpcp => uses(set, i, r),
-    }
-}
-
-// Adds the resource, if requests by `x` can block `i` indirectly by it.
-fn add_link(
-    list: &mut Vec<ResourceId>,
-    set: &TaskSet,
-    protocol: Protocol,
-    i: TaskId,
-    x: TaskId,
-    r: ResourceId,
-) -> Result<(), AllocError>
-    requires task { i.0 < length set.now.tasks }
-    requires other { x.0 < length set.now.tasks }
-    requires by { r.0 < length set.now.resources }
-    ensures { OnOk result (list.new.items ≡ list.old.items ++ (if is_link protocol set.now i.0 x.0 r.0 then r ∷ [] else [])) }
-{
-    if links(set, protocol, i, x, r) {
-        list.push(r)?;
-    }
-    Ok(())
-}
-
-// The resources by which requests by `x` can block `i` indirectly.
-fn links_of(
-    alloc: Global,
-    set: &TaskSet,
-    protocol: Protocol,
-    i: TaskId,
-    x: TaskId,
-) -> Result<Vec<ResourceId>, AllocError>
-    requires task { i.0 < length set.now.tasks }
-    requires other { x.0 < length set.now.tasks }
-    ensures links { IfOk result (λ v. AreLinks protocol set.now i.0 x.0 v.items) }
-    ensures known { IfOk result (λ v. All (λ r. r.0 < length set.now.resources) v.items) }
-{
-    let mut list = Vec::new(alloc);
-    for r in 0..set.resources() {
-        add_link(&mut list, set, protocol, i, x, ResourceId(r))?;
-    }
-    Ok(list)
 }
 
 // Does one of the resources lie on a path to the requests?
@@ -331,7 +246,11 @@ struct LinkedTest {
 }
 
 impl ColumnTest for LinkedTest {
+    ghost use Rattle.fragments.specs.Requested.{linked_requests};
+
     ghost passes = { λ k set i c. is_column k.protocol set i c };
+
+    ghost requests = { λ t set i. linked_requests t.protocol set i };
 
     ghost fits = { λ k set i x. (AreLinks k.protocol set i x k.links.items) × All (λ r. r.0 < length set.resources) k.links.items };
 
@@ -340,7 +259,7 @@ impl ColumnTest for LinkedTest {
     }
 }
 
-// Adds the columns of the requests by task `x`.
+// Under MPCP and FMLP+, adds the columns of the requests by task `x`.
 fn add_requests_by(
     alloc: Global,
     columns: &mut Vec<Fragment>,
@@ -348,15 +267,48 @@ fn add_requests_by(
     protocol: Protocol,
     i: TaskId,
     x: TaskId,
+    rivals: &[Rival],
 ) -> Result<(), AllocError>
+    requires sharing { protocol ≡ Protocol.Dpcp → ⊥ }
     requires task { i.0 < length set.now.tasks }
     requires other { x.0 < length set.now.tasks }
+    requires rivals { AreRivals set.now i.0 rivals.now }
+    requires known { AreKnownRivals set.now rivals.now }
     ensures { OnOk result (map column_seen columns.new.items ≡ map column_seen columns.old.items
         ++ filter (is_column protocol set.now i.0) (collect_below (length set.now.resources) (λ q. classes_of x.0 q))) }
 {
-    let links = links_of(alloc, set, protocol, i, x)?;
+    let links = links_of(alloc, set, protocol, i, x, rivals)?;
     let test = LinkedTest { protocol, links };
     add_task(columns, &test, set, i, x)
+}
+
+// The columns under MPCP and FMLP+.
+fn shared_fragments(
+    alloc: Global,
+    set: &TaskSet,
+    protocol: Protocol,
+    i: TaskId,
+) -> Result<Vec<Fragment>, AllocError>
+    requires sharing { protocol ≡ Protocol.Dpcp → ⊥ }
+    requires task { i.0 < length set.now.tasks }
+    ensures { IfOk result (λ v. map column_seen v.items ≡ columns_of protocol set.now i.0) }
+{
+    let rivals = rivals_of(alloc, set, i)?;
+    let mut columns = Vec::new(alloc);
+    for x in 0..set.tasks() {
+        add_requests_by(alloc, &mut columns, set, protocol, i, TaskId(x), &rivals)?;
+    }
+    Ok(columns)
+}
+
+// The columns under DPCP.
+fn home_fragments(alloc: Global, set: &TaskSet, i: TaskId) -> Result<Vec<Fragment>, AllocError>
+    requires task { i.0 < length set.now.tasks }
+    ensures { IfOk result (λ v. map column_seen v.items ≡ columns_of Protocol.Dpcp set.now i.0) }
+{
+    let links = asked_by(alloc, set, i)?;
+    let protocol = Protocol::Dpcp;
+    fragments_where(alloc, &LinkedTest { protocol, links }, set, i)
 }
 
 /// The columns of task `i`'s blocking program: requests of other tasks, by resource and by how they block. They stand in
@@ -371,9 +323,8 @@ pub fn fragments(
     requires suits { HasHomesFor protocol set.now }
     ensures { IfOk result (λ v. map column_seen v.items ≡ columns_of protocol set.now i.0) }
 {
-    let mut columns = Vec::new(alloc);
-    for x in 0..set.tasks() {
-        add_requests_by(alloc, &mut columns, set, protocol, i, TaskId(x))?;
+    match protocol {
+        Protocol::Mpcp | Protocol::FmlpPlus => shared_fragments(alloc, set, protocol, i),
+        Protocol::Dpcp => home_fragments(alloc, set, i),
     }
-    Ok(columns)
 }

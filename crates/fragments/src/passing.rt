@@ -3,9 +3,10 @@ ghost use Rattle.std.specs.List.{filter};
 ghost use Rattle.bounded_sums.specs.Sums.{collect_below};
 ghost use Rattle.sporadic_model.specs.SetDef.{SetDef};
 ghost use Rattle.fragments.specs.ColumnDef.{ColumnDef, column_seen, classes_of, all_columns};
-ghost use Rattle.fragments.specs.Columns.{columns_where};
+ghost use Rattle.fragments.specs.Columns.{columns_where, AreRequests};
 
 use crate::columns::{Class, Fragment};
+use crate::places::uses;
 use sporadic_model::{ResourceId, TaskId, TaskSet};
 use std::alloc::{AllocError, Global};
 
@@ -16,6 +17,9 @@ pub trait ColumnTest {
 
     /// Can it judge the columns that are requests of the task with the last number, for a set and the analysed task?
     ghost fits: { Self → SetDef → ℕ → ℕ → Type 0 };
+
+    /// Only requests of a resource that their task uses pass.
+    ghost requests: { (t : Self) (set : SetDef) (i : ℕ) → AreRequests (passes t set i) set };
 
     /// Does the column pass?
     fn test(&self, set: &TaskSet, i: TaskId, column: Fragment) -> bool
@@ -63,42 +67,36 @@ fn add_classes<T: ColumnTest>(
         ≡ map column_seen columns.old.items ++ filter (T.passes test.now set.now i.0) (classes_of of.0.0 of.1.0)) }
 {
     let (task, resource) = of;
-    let class = Class::Direct;
-    add_column(
-        columns,
-        test,
-        set,
-        i,
-        Fragment {
+    for class in [Class::Direct, Class::Indirect, Class::Preemption] {
+        let column = Fragment {
             task,
             resource,
             class,
-        },
-    )?;
-    let class = Class::Indirect;
-    add_column(
-        columns,
-        test,
-        set,
-        i,
-        Fragment {
-            task,
-            resource,
-            class,
-        },
-    )?;
-    let class = Class::Preemption;
-    add_column(
-        columns,
-        test,
-        set,
-        i,
-        Fragment {
-            task,
-            resource,
-            class,
-        },
-    )
+        };
+        add_column(columns, test, set, i, column)?;
+    }
+    Ok(())
+}
+
+// The same, where the task may not use the resource.
+fn add_used<T: ColumnTest>(
+    columns: &mut Vec<Fragment>,
+    test: &T,
+    set: &TaskSet,
+    i: TaskId,
+    of: (TaskId, ResourceId),
+) -> Result<(), AllocError>
+    requires fits { T.fits test.now set.now i.0 of.0.0 }
+    requires task { i.0 < length set.now.tasks }
+    requires other { of.0.0 < length set.now.tasks }
+    requires resource { of.1.0 < length set.now.resources }
+    ensures { OnOk result (map column_seen columns.new.items
+        ≡ map column_seen columns.old.items ++ filter (T.passes test.now set.now i.0) (classes_of of.0.0 of.1.0)) }
+{
+    if !uses(set, of.0, of.1) {
+        return Ok(());
+    }
+    add_classes(columns, test, set, i, of)
 }
 
 /// Adds the columns of the requests by task `x` that pass.
@@ -116,7 +114,7 @@ pub(crate) fn add_task<T: ColumnTest>(
         ++ filter (T.passes test.now set.now i.0) (collect_below (length set.now.resources) (λ q. classes_of x.0 q))) }
 {
     for q in 0..set.resources() {
-        add_classes(columns, test, set, i, (x, ResourceId(q)))?;
+        add_used(columns, test, set, i, (x, ResourceId(q)))?;
     }
     Ok(())
 }

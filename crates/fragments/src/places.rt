@@ -60,6 +60,12 @@ pub(crate) fn boost_place(set: &TaskSet, q: ResourceId, k: u32) -> u32
     requires { q.0 < length set.now.resources }
     ensures { result ≡ remote_ceiling_rank set.now q.0 k }
 {
+    if let Some(highest) = set.ceiling(q) {
+        // the highest of all users is the highest of those that aren't on `k`, where it isn't
+        if set.processor(highest) != k {
+            return highest.0;
+        }
+    }
     match set.boost(q, k) {
         Some(task) => task.0,
         None => set.tasks(),

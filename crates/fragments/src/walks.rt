@@ -1,12 +1,12 @@
 //! Walks over the rows of all tasks or of all requests, each over the stretch of its columns, and over rows by number.
 
-ghost use Rattle.std.specs.Prelude.{◌≡◌, ℕ, ◌<◌, ◌≤◌, ◌+◌, List, [], ◌∷◌, map, length, IfOk, OnOk};
+ghost use Rattle.std.specs.Prelude.{◌≡◌, ℕ, ◌<◌, ◌≤◌, ◌+◌, ◌==◌, ◌&&◌, false, List, [], ◌∷◌, map, length, IfOk, OnOk, IfSome, IfNone};
 ghost use Rattle.bounded_sums.specs.Sums.{collect_below};
 ghost use Rattle.sporadic_model.specs.SetDef.{SetDef};
 ghost use Rattle.program_sources.specs.Bounds.{AreWithinDeadlines};
-ghost use Rattle.fragments.specs.ColumnDef.{column_seen, AreKnown};
+ghost use Rattle.fragments.specs.ColumnDef.{ColumnDef, column_seen, AreKnown};
 ghost use Rattle.fragments.specs.Constraints.{ConstraintDef, per, per_pair};
-ghost use Rattle.fragments.specs.Stretches.{slot, AreInOrder, BeginsAt, IsTaskStretch, IsRequestStretch};
+ghost use Rattle.fragments.specs.Stretches.{slot, AreInOrder, BeginsAt, IsTaskStretch, IsRequestStretch, IsNextRequest, ArePast};
 ghost use Rattle.fragments.specs.declared.columns.Fragment.{Fragment};
 
 use crate::columns::Fragment;
@@ -105,6 +105,25 @@ pub trait PerRequest {
         requires stretch { IsRequestStretch x.0 q.0 columns.now stretch.0 stretch.1 }
         ensures { OnOk result (T.takes taker.old (map column_seen columns.now) (row_of self.now set.now i.0 x.0 q.0 ∷ []) bounds.now
             taker.new) };
+
+    /// No column of another task or resource has a coefficient in the row.
+    ghost apart: { (k : Self) (set : SetDef) (i x q : ℕ) (c : ColumnDef) → ((c.task == x) && (c.resource == q)) ≡ false
+        → (row_of k set i x q).coefficient c ≡ 0 };
+}
+
+// The resource of the column at the place, if there is one and it is of task `x`.
+fn requested_at(set: &TaskSet, columns: &[Fragment], place: usize, x: TaskId) -> Option<ResourceId>
+    requires known { AreKnown (length set.now.tasks) (length set.now.resources) columns.now }
+    requires order { AreInOrder columns.now }
+    ensures some { IfSome result (λ q. IsNextRequest (length set.now.resources) x.0 q.0 columns.now place) }
+    ensures none { IfNone result (ArePast (length set.now.resources) x.0 columns.now place) }
+{
+    // a set has at most 32 resources, so the slots of a task end before those of the next one
+    let _resources = set.resources();
+    if place >= columns.len() || columns[place].task.0 != x.0 {
+        return None;
+    }
+    Some(columns[place].resource)
 }
 
 // Adds the rows of the requests by task `x`, whose columns begin at `from`. Answers where they end.
@@ -130,21 +149,12 @@ fn add_requests_of<T: RowTaker, R: PerRequest>(
         (per (length set.now.resources) (R.row_of rows.now set.now i.0 x.0)) bounds.now taker.new) }
     ensures end { IfOk result (λ n. BeginsAt (slot (x.0 + 1) 0) columns.now n) }
 {
+    // a set has at most 32 resources, so the slots of a task end before those of the next one
+    let _resources = set.resources();
     let mut place = from;
-    for q in 0..set.resources() {
-        let resource = ResourceId(q);
-        let end = requests_end(set, columns, place, x, resource);
-        rows.add(
-            alloc,
-            taker,
-            set,
-            i,
-            x,
-            resource,
-            bounds,
-            columns,
-            (place, end),
-        )?;
+    while let Some(q) = requested_at(set, columns, place, x) {
+        let end = requests_end(set, columns, place, x, q);
+        rows.add(alloc, taker, set, i, x, q, bounds, columns, (place, end))?;
         place = end;
     }
     Ok(place)

@@ -1,7 +1,8 @@
 ghost use Rattle.std.specs.Prelude.{◌≡◌, ◌<◌, ◌≤◌, length, slice_index};
 ghost use Rattle.program_sources.specs.Bounds.{AreWithinDeadlines};
-ghost use Rattle.fragments.specs.Windows.{jobs_in as jobs_in_window, requests_in, all_requests};
+ghost use Rattle.fragments.specs.Windows.{jobs_in as jobs_in_window, requests_in, all_requests, requests_at};
 
+use crate::places::home;
 use sporadic_model::{ResourceId, TaskId, TaskSet, jobs_in};
 
 /// How many jobs of task `x` can run within the bound of a job of task `i`: the bounds of both and `x`'s jitter together over `x`'s
@@ -29,6 +30,20 @@ pub fn requests_of(set: &TaskSet, i: TaskId) -> u64
     let mut total = 0;
     for q in 0..set.resources() {
         total += set.count(i, ResourceId(q));
+    }
+    total
+}
+
+/// How many requests one job of task `i` can make, over the resources whose requests run on processor `k`.
+pub fn requests_at(set: &TaskSet, i: TaskId, k: u32) -> u64
+    requires { i.0 < length set.now.tasks }
+    ensures { result ≡ requests_at set.now i.0 k }
+{
+    let mut total = 0;
+    for q in 0..set.resources() {
+        if home(set, ResourceId(q)) == k {
+            total += set.count(i, ResourceId(q));
+        }
     }
     total
 }

@@ -2,10 +2,9 @@ ghost use Rattle.std.specs.Prelude.{◌≡◌, ◌<◌, ◌≤◌, ◌*◌, ◌&
 ghost use Rattle.bounded_sums.specs.Tests.{any_below};
 ghost use Rattle.sporadic_model.specs.Users.{is_user};
 ghost use Rattle.program_sources.specs.Bounds.{AreWithinDeadlines};
-ghost use Rattle.fragments.specs.Windows.{requests_at};
 ghost use Rattle.indirect_constraints.specs.Rows.{is_beside, higher_holdings, lower_holdings, holdings};
 
-use fragments::{cnt, home, share_processor, uses};
+use fragments::{cnt, share_processor, uses};
 use sporadic_model::{ResourceId, TaskId, TaskSet};
 
 // Is `y` another task on `x`'s processor?
@@ -90,20 +89,6 @@ pub(crate) fn holding_count(set: &TaskSet, i: TaskId, x: TaskId, bounds: &[u64])
         let resource = ResourceId(q);
         if uses(set, i, resource) {
             total += higher_count(set, i, x, resource, bounds) + lower_count(set, i, x, resource);
-        }
-    }
-    total
-}
-
-/// How often may a job of `i` request resources of processor `k`?
-pub(crate) fn home_count(set: &TaskSet, i: TaskId, k: u32) -> u64
-    requires { i.0 < length set.now.tasks }
-    ensures { result ≡ requests_at set.now i.0 k }
-{
-    let mut total = 0;
-    for q in 0..set.resources() {
-        if home(set, ResourceId(q)) == k {
-            total += set.count(i, ResourceId(q));
         }
     }
     total

@@ -1,12 +1,16 @@
-//! The kinds of rows, each with the rows of its kind for every task or processor.
+//! The kinds of rows, each with its row for every task or processor.
 
-ghost use Rattle.std.specs.Prelude.{◌<◌, ◌≤◌, ◌+◌, [], ◌∷◌, length};
+ghost use Rattle.std.specs.Prelude.{◌<◌, ◌≤◌, ◌+◌, ◌&&◌, not, [], ◌∷◌};
+ghost use Rattle.std.proofs.Common.{ap};
+ghost use Rattle.bounded_sums.specs.Sums.{flag};
+ghost use Rattle.fragments.specs.declared.columns.Class.TheVariants.{Indirect, Preemption};
+ghost use Rattle.fragments.specs.ColumnDef.{is_class};
 ghost use Rattle.indirect_constraints.specs.Asked.{AreAskedAtHome};
 ghost use Rattle.indirect_constraints.specs.Rows.{queue_row, holding_row, home_row};
 
-use crate::holdings::{holding_count, home_count};
+use crate::holdings::holding_count;
 use fragments::{
-    Constraint, Fragment, PerNumber, PerTask, RowKind, RowTaker, add_row, add_row_within, home,
+    Constraint, Fragment, PerNumber, RowKind, RowTaker, TaskRow, add_row, home, requests_at,
     requests_of,
 };
 use sporadic_model::{TaskId, TaskSet};
@@ -14,103 +18,45 @@ use std::alloc::{AllocError, Global};
 
 /// Of a task: each request of the analysed task waits for at most one of the task's.
 #[derive(Drop)]
-struct QueueRow {
-    task: TaskId,
-}
+pub(crate) struct Queues;
 
-impl RowKind for QueueRow {
-    ghost row_of = { λ k set i. queue_row set i k.task.0 };
+impl TaskRow for Queues {
+    ghost row_of = { λ k. queue_row };
 
-    ghost fits = { λ k set. k.task.0 < length set.tasks };
+    ghost alone = { λ k set i x c other. ap (λ b. flag (b && not (is_class Preemption c.class))) other };
 
-    fn coefficient(&self, _set: &TaskSet, _i: TaskId, column: Fragment) -> u64 {
-        if column.task.0 == self.task.0 && !column.class.is_preemption() {
+    fn coefficient(&self, _set: &TaskSet, _i: TaskId, x: TaskId, column: Fragment) -> u64 {
+        if column.task == x && !column.class.is_preemption() {
             1
         } else {
             0
         }
     }
-}
 
-impl Constraint for QueueRow {
-    fn limit(&self, set: &TaskSet, i: TaskId, _bounds: &[u64]) -> u64 {
+    fn limit(&self, set: &TaskSet, i: TaskId, _x: TaskId, _bounds: &[u64]) -> u64 {
         requests_of(set, i)
-    }
-}
-
-/// The rows of the queues with each task.
-#[derive(Drop)]
-pub(crate) struct Queues;
-
-impl PerTask for Queues {
-    ghost rows_of = { λ k set i x. queue_row set i x ∷ [] };
-
-    fn add<T: RowTaker>(
-        &self,
-        alloc: Global,
-        taker: &mut T,
-        set: &TaskSet,
-        i: TaskId,
-        x: TaskId,
-        bounds: &[u64],
-        columns: &[Fragment],
-        stretch: (usize, usize),
-    ) -> Result<(), AllocError> {
-        // a set has at most 32 resources, so the slots of a task end before those of the next one
-        let _resources = set.resources();
-        let row = QueueRow { task: x };
-        add_row_within(alloc, taker, &row, set, i, bounds, columns, stretch)
     }
 }
 
 /// Of a task: in each holding of another task on its processor it runs at most one request.
 #[derive(Drop)]
-struct HoldingRow {
-    task: TaskId,
-}
+pub(crate) struct Holdings;
 
-impl RowKind for HoldingRow {
-    ghost row_of = { λ k set i. holding_row set i k.task.0 };
+impl TaskRow for Holdings {
+    ghost row_of = { λ k. holding_row };
 
-    ghost fits = { λ k set. k.task.0 < length set.tasks };
+    ghost alone = { λ k set i x c other. ap (λ b. flag (b && is_class Indirect c.class)) other };
 
-    fn coefficient(&self, _set: &TaskSet, _i: TaskId, column: Fragment) -> u64 {
-        if column.task.0 == self.task.0 && column.class.is_indirect() {
+    fn coefficient(&self, _set: &TaskSet, _i: TaskId, x: TaskId, column: Fragment) -> u64 {
+        if column.task == x && column.class.is_indirect() {
             1
         } else {
             0
         }
     }
-}
 
-impl Constraint for HoldingRow {
-    fn limit(&self, set: &TaskSet, i: TaskId, bounds: &[u64]) -> u64 {
-        holding_count(set, i, self.task, bounds)
-    }
-}
-
-/// The rows of the holdings beside each task.
-#[derive(Drop)]
-pub(crate) struct Holdings;
-
-impl PerTask for Holdings {
-    ghost rows_of = { λ k set i x. holding_row set i x ∷ [] };
-
-    fn add<T: RowTaker>(
-        &self,
-        alloc: Global,
-        taker: &mut T,
-        set: &TaskSet,
-        i: TaskId,
-        x: TaskId,
-        bounds: &[u64],
-        columns: &[Fragment],
-        stretch: (usize, usize),
-    ) -> Result<(), AllocError> {
-        // a set has at most 32 resources, so the slots of a task end before those of the next one
-        let _resources = set.resources();
-        let row = HoldingRow { task: x };
-        add_row_within(alloc, taker, &row, set, i, bounds, columns, stretch)
+    fn limit(&self, set: &TaskSet, i: TaskId, x: TaskId, bounds: &[u64]) -> u64 {
+        holding_count(set, i, x, bounds)
     }
 }
 
@@ -139,7 +85,7 @@ impl RowKind for HomeRow {
 
 impl Constraint for HomeRow {
     fn limit(&self, set: &TaskSet, i: TaskId, _bounds: &[u64]) -> u64 {
-        home_count(set, i, self.processor)
+        requests_at(set, i, self.processor)
     }
 }
 
@@ -165,7 +111,7 @@ impl PerNumber for Homes {
         // processors are numbered from 1, and a set has few
         let _processors = set.processors();
         let processor = number + 1;
-        let asked = home_count(set, i, processor);
+        let asked = requests_at(set, i, processor);
         if asked == 0 {
             return Ok(());
         }

@@ -12,7 +12,9 @@ ghost use Rattle.fragments.specs.Stretches.{AreInOrder};
 ghost use Rattle.indirect_constraints.specs.Asked.{AreAskedAtHome};
 ghost use Rattle.indirect_constraints.specs.Rows.{home_row, indirect_rows};
 
-use fragments::{Fragment, RowTaker, add_per_number, add_per_task, columns_stand_in_order};
+use fragments::{
+    EachTask, Fragment, RowTaker, add_per_number, add_per_task, columns_stand_in_order,
+};
 use kinds::{Holdings, Homes, Queues};
 use program_form::RowBlock;
 use sporadic_model::{Protocol, TaskId, TaskSet};
@@ -58,8 +60,16 @@ pub fn add_rows<T: RowTaker>(
 {
     columns_stand_in_order(set, protocol, i, columns);
     match protocol {
-        Protocol::FmlpPlus => add_per_task(alloc, taker, &Queues, set, i, bounds, columns),
-        Protocol::Mpcp => add_per_task(alloc, taker, &Holdings, set, i, bounds, columns),
+        Protocol::FmlpPlus => add_per_task(
+            alloc,
+            taker,
+            &EachTask(Queues),
+            set,
+            i,
+            bounds,
+            columns,
+        ),
+        Protocol::Mpcp => add_per_task(alloc, taker, &EachTask(Holdings), set, i, bounds, columns),
         Protocol::Dpcp => add_home_rows(alloc, taker, set, i, bounds, columns),
     }
 }

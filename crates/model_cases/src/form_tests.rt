@@ -1,37 +1,26 @@
-ghost use Rattle.std.specs.Prelude.{◌≡◌, length, vec_len, IfOk};
-
+use crate::simplex_tests::rows_of;
 use crate::threads::may_cross_threads;
 use program_form::{Certificate, Dual, MOST_NUMBER, Program, ProgramRefusal, RowBlock};
 use std::alloc::{AllocError, Global};
 
 const COSTS: [u64; 3] = [3, 2, 2];
 
-const ROWS: [[u64; 3]; 7] = [
-    [1, 0, 0],
-    [0, 1, 0],
-    [0, 0, 1],
-    [3, 2, 0],
-    [0, 0, 2],
-    [1, 0, 1],
-    [0, 1, 0],
+const ROWS: &[&[u64]] = &[
+    &[1, 0, 0],
+    &[0, 1, 0],
+    &[0, 0, 1],
+    &[3, 2, 0],
+    &[0, 0, 2],
+    &[1, 0, 1],
+    &[0, 1, 0],
 ];
 
 const LIMITS: [u64; 7] = [1, 1, 1, 4, 3, 1, 1];
 
-fn rows_of(alloc: Global, rows: &[[u64; 3]]) -> Result<Vec<Vec<u64>>, AllocError>
-    ensures { IfOk result (λ v. vec_len v ≡ length rows.now) }
-{
-    let mut list = Vec::new(alloc);
-    for row in rows {
-        list.push(Vec::from_slice(alloc, row)?)?;
-    }
-    Ok(list)
-}
-
 #[test]
 fn keeps_the_lists_that_it_is_given(rt: HostRuntime) -> Result<(), AllocError> {
     let costs = Vec::from_slice(rt.alloc(), &COSTS)?;
-    let rows = rows_of(rt.alloc(), &ROWS)?;
+    let rows = rows_of(rt.alloc(), ROWS)?;
     let limits = Vec::from_slice(rt.alloc(), &LIMITS)?;
     let Ok(program) = Program::new(costs, rows, limits) else {
         assert!(rt; false, "seven rows over three columns are a program");
@@ -45,7 +34,7 @@ fn keeps_the_lists_that_it_is_given(rt: HostRuntime) -> Result<(), AllocError> {
     }
     for r in 0..program.rows() {
         assert_eq!(rt; Some(program.limit(r)), LIMITS.get(r as usize).copied());
-        let row = ROWS.get(r as usize).copied().unwrap_or([9; 3]);
+        let row = ROWS.get(r as usize).copied().unwrap_or(&[]);
         for c in 0..program.columns() {
             assert_eq!(rt;
                 Some(program.entry(r, c)),

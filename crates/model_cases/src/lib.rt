@@ -18,6 +18,8 @@ mod protocol_tests;
 #[cfg(test)]
 mod refusal_tests;
 #[cfg(test)]
+mod rounds_tests;
+#[cfg(test)]
 mod set_tests;
 #[cfg(test)]
 mod simplex_tests;

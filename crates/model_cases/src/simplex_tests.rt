@@ -9,7 +9,7 @@ use std::process::Abort;
 
 const MOST: u64 = u64::MAX;
 
-fn rows_of(alloc: Global, rows: &[&[u64]]) -> Result<Vec<Vec<u64>>, AllocError>
+pub(crate) fn rows_of(alloc: Global, rows: &[&[u64]]) -> Result<Vec<Vec<u64>>, AllocError>
     ensures { IfOk result (λ v. vec_len v ≡ length rows.now) }
 {
     let mut list = Vec::new(alloc);

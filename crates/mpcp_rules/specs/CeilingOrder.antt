@@ -5,8 +5,7 @@ use Rattle.sporadic_model.specs.Users.{remote_ceiling_of}
 use Rattle.schedule_model.specs.Phase.{Phase}
 use Rattle.schedule_model.specs.Phase.Phase.{Asking}
 use Rattle.phase_machine.specs.MachineDef.{MachineDef, task_in}
-use Rattle.phase_machine.specs.Now.{phase_now}
-use Rattle.shared_rules.specs.RowTests.{processor_now}
+use Rattle.phase_machine.specs.Now.{phase_now, processor_now}
 
 -- The task of job j.
 abbrev pub task_now : MachineDef → ℕ → ℕ

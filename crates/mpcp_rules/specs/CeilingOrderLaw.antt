@@ -9,8 +9,8 @@ use Rattle.schedule_laws.proofs.ActiveJobs.{requester_listed}
 use Rattle.phase_machine.specs.MachineDef.{MachineDef, under}
 use Rattle.phase_machine.specs.Shows.{Shows}
 use Rattle.phase_machine.proofs.Facts.{phase_shown}
-use Rattle.shared_rules.specs.Order.{GivesRanks}
-use Rattle.shared_rules.specs.RowTests.{processor_now}
+use Rattle.phase_machine.specs.Order.{GivesRanks}
+use Rattle.phase_machine.specs.Now.{processor_now}
 use Rattle.mpcp_rules.specs.CeilingOrder.{task_now, boost_at, boost_now}
 
 boost_same : (m : MachineDef) (rows : ℕ → RowDef) (k : ℕ) (p : Phase) → boost_at m.list.set k p ≡ boost_in (under m rows) k p

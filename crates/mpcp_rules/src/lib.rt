@@ -16,9 +16,10 @@ ghost use Rattle.schedule_laws.proofs.SharedStretches.{mpcp_stays_lawful};
 ghost use Rattle.mpcp_rules.specs.CeilingOrder.{task_now, boost_now};
 ghost use Rattle.mpcp_rules.specs.CeilingOrderLaw.{ceilings_give};
 
-use phase_machine::{Judge, Machine, Phase};
+use phase_machine::{Judge, Machine, Order, Phase};
 use schedule_model::{BlockingProtocol, JobId, Row, Rule};
-use shared_rules::{Order, blocked_shared, choose_shared, judge_shared};
+use shared_choosing::choose_shared;
+use shared_rules::{blocked_shared, judge_shared};
 use sporadic_model::{ResourceId, TaskSet};
 
 /// The multiprocessor priority ceiling protocol.

@@ -11,11 +11,12 @@ ghost use Rattle.response_fixpoint.specs.Rounds.{Ending, EndsIn};
 ghost use Rattle.response_fixpoint.specs.Runs.{rounds_of, RequestsNothing};
 ghost use Rattle.response_fixpoint.specs.Answers.{Answers, IsAnswerOf, IsRight, IsSchedulable};
 ghost use Rattle.dual_check.specs.Answers.{HasDenominators, Judges};
-ghost use Rattle.trace_conform.specs.Conforming.{Conforms};
+ghost use Rattle.schedule_answers.specs.Conforming.{Conforms};
 ghost use Rattle.sim_engine.specs.Simulated.{IsSimulated};
-ghost use Rattle.audit_figures.specs.Audited.{Audits, LieWithin, charged_ticks};
-ghost use Rattle.audit_figures.specs.Figures.{no_figures, blocked_sum, blocked_ticks};
-ghost use Rattle.named_protocols.specs.Named.{HasHomes, rules_of, choice_of, interference_of, charges_of, source_of, SoundUnder};
+ghost use Rattle.figure_laws.specs.Audited.{Audits, LieWithin, charged_ticks};
+ghost use Rattle.schedule_answers.specs.TaskAnswers.{no_figures};
+ghost use Rattle.figure_laws.specs.Figures.{blocked_sum, blocked_ticks};
+ghost use Rattle.named_laws.specs.Named.{HasHomes, rules_of, choice_of, interference_of, charges_of, source_of, SoundUnder};
 
 use audit_figures::{AuditStop, TaskFigures, audit_with};
 use dflp_protocol::Dflp;

@@ -2,11 +2,10 @@
 #![tactic(auto)]
 
 mod calls;
-mod laws;
 mod refusing;
 
 pub use calls::{analyse, audit, check, conform, simulate};
-pub use laws::{
+pub use named_laws::{
     figures_are_proved, programs_are_sound, programs_rise, refusals_are_right,
     rounds_give_refusals_that_hold, schedules_are_unique, words_are_texts,
 };

@@ -7,7 +7,7 @@ ghost use Rattle.refusal_confirm.specs.Faults.{IsFault, Confirms, Names};
 ghost use Rattle.refusal_cert.specs.Refuting.{refuting};
 ghost use Rattle.refusal_cert.specs.Steps.{refusal_of};
 ghost use Rattle.refusal_cert.specs.Answers.{Refutes, IsAnswerOf, FollowsAnalysis, IsRight};
-ghost use Rattle.named_protocols.specs.Named.{HasHomes, source_of};
+ghost use Rattle.named_laws.specs.Named.{HasHomes, source_of};
 
 use dflp_protocol::Dflp;
 use protocol_names::ProtocolName;

@@ -12,7 +12,7 @@ use Rattle.schedule_model.specs.JobDef.{JobDef, JobsDef, job_of, segment_ticks}
 use Rattle.schedule_model.specs.LawfulJobs.{AreLawfulJobs}
 use Rattle.schedule_model.specs.RowDef.{RowDef, Trace, jobs_of, is_job, runs_in}
 use Rattle.schedule_model.specs.TakenRows.{CanBeTakenBefore}
-use Rattle.phase_machine.specs.declared.place.Place.{Place}
+use Rattle.phase_machine.specs.declared.place.ScriptPlace.{ScriptPlace}
 use Rattle.phase_machine.specs.MachineDef.{MachineDef, IsNext, IsComing, IsDue, place_of, coming_of, task_in, segment_in, no_place}
 use Rattle.phase_machine.specs.Shows.{Shows, Shown, ArePlacesAtFirst}
 use Rattle.phase_machine.specs.Taking.{CanTake}
@@ -82,7 +82,7 @@ coming_exists list t x due lawful numbers is = elim (cases_lt due (length list.j
 ]
 
 -- The place after the row.
-step_exists : (jobs : List JobDef) (after x : ℕ) (p : Place) → p.job < length jobs → (n : Place) × StepsTo jobs after 1 x p n
+step_exists : (jobs : List JobDef) (after x : ℕ) (p : ScriptPlace) → p.job < length jobs → (n : ScriptPlace) × StepsTo jobs after 1 x p n
 step_exists jobs after x p l = elim (cases_lt (p.ticks + 1) (segment_ticks (segment_in jobs p.job p.segment))) [
   | inl further ↦ (
     record {
@@ -107,11 +107,11 @@ step_exists jobs after x p l = elim (cases_lt (p.ticks + 1) (segment_ticks (segm
 ]
 
 move_exists : (m : MachineDef) (row : RowDef) (x : ℕ) → CanTake m row
-    → (n : Place) × MovesTo m.list.jobs (m.tick + 1) 1 row.running x (place_of m x) n
+    → (n : ScriptPlace) × MovesTo m.list.jobs (m.tick + 1) 1 row.running x (place_of m x) n
 unfolding runs_in
 move_exists m row x can = elim (cases_Bool (list_any (is_job (place_of m x).job) row.running)) [
   | inl runs ↦
-      let step : (n : Place) × StepsTo m.list.jobs (m.tick + 1) 1 x (place_of m x) n =
+      let step : (n : ScriptPlace) × StepsTo m.list.jobs (m.tick + 1) 1 x (place_of m x) n =
       step_exists m.list.jobs (m.tick + 1) x (place_of m x) (runs_listed m row (place_of m x).job can runs).0 in
       (step.0, record { runs = λ _. step.1; stays = λ waits. absurd (cc) })
   | inr waits ↦ (place_of m x, record { runs = λ runs. absurd (cc); stays = λ _. refl })
@@ -120,7 +120,7 @@ move_exists m row x can = elim (cases_Bool (list_any (is_job (place_of m x).job)
 -- Before any row.
 at_first : (w : Trace) → AreLawfulJobs (jobs_of w) → ((x : ℕ) → x < length w.set.tasks → TaskNumbers w.set x) → Shown w 0
 at_first w lawful numbers =
-    let places : (l : List Place) × (length l ≡ length w.set.tasks) × ArePlacesAtFirst w.jobs (length w.set.tasks) l =
+    let places : (l : List ScriptPlace) × (length l ≡ length w.set.tasks) × ArePlacesAtFirst w.jobs (length w.set.tasks) l =
     listed_each no_place (λ x p. IsNext w.jobs x 0 p.job × (p.segment ≡ 0) × (p.ticks ≡ 0)) (length w.set.tasks)
     (λ x l. let next : (j : ℕ) × IsNext w.jobs x 0 j = next_exists w.jobs x 0 (omega arith) in
     (record { job = next.0; segment = 0; ticks = 0; issued = 0 }, (next.1, refl, refl))) in
@@ -145,7 +145,7 @@ at_first w lawful numbers =
 -- After one row more.
 one_more : (w : Trace) (m : MachineDef) → m.list ≡ jobs_of w → Shows m w.row → CanTake m (w.row m.tick) → Shown w (m.tick + 1)
 one_more w m list shows can =
-    let places : (l : List Place) × (length l ≡ length m.list.set.tasks)
+    let places : (l : List ScriptPlace) × (length l ≡ length m.list.set.tasks)
     × ((x : ℕ) → x < length m.list.set.tasks
     → MovesTo m.list.jobs (m.tick + 1) 1 (w.row m.tick).running x (place_of m x) (get_or l x no_place)) =
     listed_each no_place (λ x p. MovesTo m.list.jobs (m.tick + 1) 1 (w.row m.tick).running x (place_of m x) p)

@@ -14,8 +14,8 @@ use Rattle.schedule_laws.proofs.Agreement.{executed_agree, phase_agree, issue_ag
 use Rattle.schedule_laws.proofs.Ticks.{finished_true, finished_executed}
 use Rattle.schedule_laws.proofs.ActiveJobs.{Active, active_is, active_from, active_listed, active_job_from, active_job_missing}
 use Rattle.schedule_laws.proofs.Rows.{job_named, named_job}
-use Rattle.phase_machine.specs.declared.place.Place.{Place}
-use Rattle.phase_machine.specs.MachineDef.{MachineDef, IsPlace, place_of, task_in, segment_in, under}
+use Rattle.phase_machine.specs.declared.place.ScriptPlace.{ScriptPlace}
+use Rattle.phase_machine.specs.MachineDef.{MachineDef, IsMachine, IsPlace, place_of, task_in, segment_in, under}
 use Rattle.phase_machine.specs.Now.{phase_in, phase_at_place, phase_now, current_in, current_now, active_now}
 use Rattle.phase_machine.specs.Now.{holder_now, ready_now, waiting_now, requester_now, issued_in, issued_now}
 use Rattle.phase_machine.specs.Now.{is_ready_before, is_waiting_before, issue_of}
@@ -25,13 +25,13 @@ use Rattle.phase_machine.proofs.ScriptPlaces.{phase_after, phase_in_local, ticks
 use Rattle.phase_machine.proofs.Lawful.{script_of, task_listed, unstarted_local}
 
 -- The phase of a job by its place in order: before the place's job, after it, or that job itself.
-pub phase_before_place : (jobs : List JobDef) (j : ℕ) (p : Place) → j < p.job → phase_at_place jobs j p ≡ Finished
+pub phase_before_place : (jobs : List JobDef) (j : ℕ) (p : ScriptPlace) → j < p.job → phase_at_place jobs j p ≡ Finished
 phase_before_place jobs j p l = rw (lt-ltb j p.job l) refl
 
-pub phase_behind_place : (jobs : List JobDef) (j : ℕ) (p : Place) → p.job < j → phase_at_place jobs j p ≡ Local
+pub phase_behind_place : (jobs : List JobDef) (j : ℕ) (p : ScriptPlace) → p.job < j → phase_at_place jobs j p ≡ Local
 phase_behind_place jobs j p l = let past : p.job ≤ j = omega arith in rw (le-ltb j p.job past, lt-ltb p.job j l) refl
 
-pub phase_of_place : (jobs : List JobDef) (j : ℕ) (p : Place) → p.job ≡ j
+pub phase_of_place : (jobs : List JobDef) (j : ℕ) (p : ScriptPlace) → p.job ≡ j
     → phase_at_place jobs j p ≡ phase_in p.segment (segment_in jobs p.job p.segment) p.ticks
 phase_of_place jobs j p e =
     let a : p.job ≤ j = omega arith in let b : j ≤ p.job = omega arith in rw (le-ltb j p.job a, le-ltb p.job j b) refl
@@ -55,12 +55,12 @@ phase_standing w t j n i stands l h =
     rw stands (phase_after 0 (job_of w.jobs j).script n i l h) ∙ ap (λ k. phase_in k (segment_in w.jobs j n) i) number
 
 -- The phase of a place's own job.
-pub own_phase : (w : Trace) (t x : ℕ) (p : Place) → ShowsPlace w t x p → IsPlace w.jobs x p → p.job < length w.jobs
+pub own_phase : (w : Trace) (t x : ℕ) (p : ScriptPlace) → ShowsPlace w t x p → IsPlace w.jobs x p → p.job < length w.jobs
     → phase_of w t p.job ≡ phase_in p.segment (segment_in w.jobs p.job p.segment) p.ticks
 own_phase w t x p shows place l = phase_standing w t p.job p.segment p.ticks (shows.stands l) (place.segment l) (place.ticks l)
 
 -- It isn't finished.
-pub own_unfinished : (w : Trace) (t x : ℕ) (p : Place) → ShowsPlace w t x p → IsPlace w.jobs x p → p.job < length w.jobs
+pub own_unfinished : (w : Trace) (t x : ℕ) (p : ScriptPlace) → ShowsPlace w t x p → IsPlace w.jobs x p → p.job < length w.jobs
     → is_finished (phase_of w t p.job) ≡ false
 own_unfinished w t x p shows place l = elim (cases_Bool (is_finished (phase_of w t p.job))) [
   | inr fails ↦ fails
@@ -76,7 +76,7 @@ pub phase_shown : (m : MachineDef) (rows : ℕ → RowDef) (j : ℕ) → Shows m
     → phase_now m j ≡ phase_of (under m rows) m.tick j
 unfolding phase_now
 phase_shown m rows j shows l =
-    let p : Place = place_of m (task_in m.list.jobs j) in
+    let p : ScriptPlace = place_of m (task_in m.list.jobs j) in
     let s : ShowsPlace (under m rows) m.tick (task_in m.list.jobs j) p = place_shown m rows j shows l in
     let k : IsPlace m.list.jobs (task_in m.list.jobs j) p = place_kept m rows j shows l in
     elim (cases_order p.job j) [
@@ -92,7 +92,7 @@ phase_shown m rows j shows l =
     ]
 
 -- The place's job is the current one where it is listed and released.
-pub current_some : (jobs : List JobDef) (tick : ℕ) (p : Place) (j : ℕ) → current_in jobs tick p ≡ Some j
+pub current_some : (jobs : List JobDef) (tick : ℕ) (p : ScriptPlace) (j : ℕ) → current_in jobs tick p ≡ Some j
     → (p.job ≡ j) × (p.job < length jobs) × ((job_of jobs p.job).release ≤ tick)
 current_some jobs tick p j h = elim (cases_Bool (ltb p.job (length jobs) && leb (job_of jobs p.job).release tick)) [
   | inl passes ↦
@@ -102,7 +102,16 @@ current_some jobs tick p j h = elim (cases_Bool (ltb p.job (length jobs) && leb 
   | inr fails ↦ let e : None ≡ Some j = rw fails at h in absurd (cc)
 ]
 
-current_in_from : (jobs : List JobDef) (tick : ℕ) (p : Place) (j : ℕ) → p.job ≡ j → j < length jobs
+-- The active job of a task is of that task.
+pub current_own : (m : MachineDef) (x j : ℕ) → IsMachine m → x < length m.list.set.tasks → current_now m x ≡ Some j
+    → task_in m.list.jobs j ≡ x
+unfolding current_now
+current_own m x j machine l e =
+    let parts : ((place_of m x).job ≡ j) × ((place_of m x).job < length m.list.jobs)
+    × ((job_of m.list.jobs (place_of m x).job).release ≤ m.tick) = current_some m.list.jobs m.tick (place_of m x) j e in
+    rw (← parts.0) ((machine.place x l).own parts.1)
+
+current_in_from : (jobs : List JobDef) (tick : ℕ) (p : ScriptPlace) (j : ℕ) → p.job ≡ j → j < length jobs
     → (job_of jobs j).release ≤ tick → current_in jobs tick p ≡ Some j
 current_in_from jobs tick p j e l r =
     let listed : p.job < length jobs = rw e l in
@@ -114,7 +123,7 @@ pub current_shown : (m : MachineDef) (rows : ℕ → RowDef) (x j : ℕ) → Sho
     → (is_active (under m rows) m.tick j ≡ true) × (task_of (under m rows) j ≡ x)
 unfolding current_now
 current_shown m rows x j shows l h =
-    let p : Place = place_of m x in
+    let p : ScriptPlace = place_of m x in
     let parts : (p.job ≡ j) × (p.job < length m.list.jobs) × ((job_of m.list.jobs p.job).release ≤ m.tick) =
     current_some m.list.jobs m.tick p j h in
     let s : ShowsPlace (under m rows) m.tick x p = shows.places x l in
@@ -135,7 +144,7 @@ unfolding current_now
 current_from m rows j shows h =
     let l : j < length m.list.jobs = active_listed (under m rows) m.tick j h in
     let a : Active (under m rows) m.tick j = active_is (under m rows) m.tick j h in
-    let p : Place = place_of m (task_in m.list.jobs j) in
+    let p : ScriptPlace = place_of m (task_in m.list.jobs j) in
     let s : ShowsPlace (under m rows) m.tick (task_in m.list.jobs j) p = place_shown m rows j shows l in
     let k : IsPlace m.list.jobs (task_in m.list.jobs j) p = place_kept m rows j shows l in
     elim (cases_order p.job j) [
@@ -248,7 +257,7 @@ issued_same Local a b h = refl
 issued_same Finished a b h = refl
 
 -- A job in a request is its place's own, past the local ticks of the segment.
-asking_own : (jobs : List JobDef) (j : ℕ) (p : Place) (n q : ℕ) → phase_at_place jobs j p ≡ Asking n q
+asking_own : (jobs : List JobDef) (j : ℕ) (p : ScriptPlace) (n q : ℕ) → phase_at_place jobs j p ≡ Asking n q
     → (p.job ≡ j) × ((segment_in jobs p.job p.segment).local ≤ p.ticks)
 asking_own jobs j p n q h = elim (cases_order p.job j) [
   | inl same ↦ elim (cases_lt p.ticks (segment_in jobs p.job p.segment).local) [
@@ -269,7 +278,7 @@ pub issue_shown : (m : MachineDef) (rows : ℕ → RowDef) (j n q : ℕ) → Sho
     → (place_of m (task_in m.list.jobs j)).issued ≡ issue_tick_of (under m rows) m.tick j
 unfolding phase_now
 issue_shown m rows j n q shows l h =
-    let p : Place = place_of m (task_in m.list.jobs j) in
+    let p : ScriptPlace = place_of m (task_in m.list.jobs j) in
     let own : (p.job ≡ j) × ((segment_in m.list.jobs p.job p.segment).local ≤ p.ticks) = asking_own m.list.jobs j p n q h in
     let listed : p.job < length m.list.jobs = omega (arith, own.0) in
     (place_shown m rows j shows l).issued listed own.1 ∙ ap (issue_tick_of (under m rows) m.tick) own.0

@@ -7,7 +7,7 @@ use Rattle.schedule_model.specs.LawfulJobs.{AreLawfulJobs}
 use Rattle.schedule_model.specs.RowDef.{Trace, runs_in}
 use Rattle.schedule_model.specs.Phase.{phase_of}
 use Rattle.schedule_model.specs.Activity.{task_of}
-use Rattle.phase_machine.specs.declared.place.Place.{Place}
+use Rattle.phase_machine.specs.declared.place.ScriptPlace.{ScriptPlace}
 use Rattle.phase_machine.specs.MachineDef.{IsPlace, segment_in}
 use Rattle.phase_machine.specs.Now.{phase_in}
 use Rattle.phase_machine.specs.Shows.{ShowsPlace}
@@ -51,7 +51,7 @@ none_begins s ticks i l e = elim (cases_lt ticks s.local) [
 ]
 
 -- Rows in which the place's job runs, and no other of the task, no longer than its phase lasts.
-pub record GoesOn (w : Trace) (t x : ℕ) (p : Place) (n : ℕ) : Type 0 where
+pub record GoesOn (w : Trace) (t x : ℕ) (p : ScriptPlace) (n : ℕ) : Type 0 where
   pub lawful : AreLawfulJobs (record { set = w.set; jobs = w.jobs })
   pub listed : p.job < length w.jobs
   pub place : IsPlace w.jobs x p
@@ -61,10 +61,10 @@ pub record GoesOn (w : Trace) (t x : ℕ) (p : Place) (n : ℕ) : Type 0 where
   pub left : n ≤ left_at w.jobs p
 
 -- The place so many ticks further in its phase.
-abbrev pub further_on : Place → ℕ → Place
+abbrev pub further_on : ScriptPlace → ℕ → ScriptPlace
 further_on p i = record { job = p.job; segment = p.segment; ticks = p.ticks + i; issued = p.issued }
 
-pub further_place : (jobs : List JobDef) (x : ℕ) (p : Place) (i : ℕ) → p.job < length jobs → IsPlace jobs x p
+pub further_place : (jobs : List JobDef) (x : ℕ) (p : ScriptPlace) (i : ℕ) → p.job < length jobs → IsPlace jobs x p
     → i < left_at jobs p → IsPlace jobs x (further_on p i)
 further_place jobs x p i listed place l = record {
   most = place.most;
@@ -74,7 +74,7 @@ further_place jobs x p i listed place l = record {
 }
 
 -- It shows the schedule.
-pub further_on_shows : (w : Trace) (t x : ℕ) (p : Place) (n : ℕ) → GoesOn w t x p n → (i : ℕ) → i < n
+pub further_on_shows : (w : Trace) (t x : ℕ) (p : ScriptPlace) (n : ℕ) → GoesOn w t x p n → (i : ℕ) → i < n
     → ShowsPlace w (t + i) x (further_on p i)
 further_on_shows w t x p n goes zero l =
     let tick : t ≡ t + 0 = omega arith in
@@ -115,7 +115,7 @@ further_on_shows w t x p n goes (suc i) l =
     (subst (λ u. ShowsPlace w u x (record { job = p.job; segment = p.segment; ticks = p.ticks + i + 1; issued = p.issued })) tick plain)
 
 -- So the job's phase stays.
-pub phase_goes_on : (w : Trace) (t x : ℕ) (p : Place) (n i : ℕ) → GoesOn w t x p n → i < n → phase_of w (t + i) p.job ≡ phase_of w t p.job
+pub phase_goes_on : (w : Trace) (t x : ℕ) (p : ScriptPlace) (n i : ℕ) → GoesOn w t x p n → i < n → phase_of w (t + i) p.job ≡ phase_of w t p.job
 phase_goes_on w t x p n i goes l =
     let inside : i < left_at w.jobs p = omega (arith, l, goes.left) in
     own_phase w (t + i) x (further_on p i) (further_on_shows w t x p n goes i l)
@@ -124,7 +124,7 @@ phase_goes_on w t x p n i goes l =
     ∙ sym (own_phase w t x p goes.shows goes.place goes.listed)
 
 -- A step of all the ticks is one from the last place before.
-last_step : (jobs : List JobDef) (after x k : ℕ) (p q : Place) → StepsTo jobs after (suc k) x p q
+last_step : (jobs : List JobDef) (after x k : ℕ) (p q : ScriptPlace) → StepsTo jobs after (suc k) x p q
     → StepsTo jobs after 1 x (further_on p k) q
 last_step jobs after x k p q steps = record {
   further = λ l. steps.further (omega (arith, l))
@@ -141,7 +141,7 @@ last_step jobs after x k p q steps = record {
   sum = omega arith
 
 -- After the rows the stepped place shows the schedule.
-pub stepped_on : (w : Trace) (t x : ℕ) (p q : Place) (n : ℕ) → 1 ≤ n → GoesOn w t x p n → StepsTo w.jobs (t + n) n x p q
+pub stepped_on : (w : Trace) (t x : ℕ) (p q : ScriptPlace) (n : ℕ) → 1 ≤ n → GoesOn w t x p n → StepsTo w.jobs (t + n) n x p q
     → ShowsPlace w (t + n) x q
 stepped_on w t x p q zero some goes steps = absurd (omega (arith, some))
 stepped_on w t x p q (suc k) some goes steps =
@@ -160,7 +160,7 @@ stepped_on w t x p q (suc k) some goes steps =
     subst (λ u. ShowsPlace w u x q) (sym tick) (stepped_shows w (t + k) x (further_on p k) q turn step)
 
 -- Through rows in which no job of the task runs, its place shows the schedule on.
-pub stayed_on : (w : Trace) (t x : ℕ) (p : Place) (n : ℕ) → IsPlace w.jobs x p
+pub stayed_on : (w : Trace) (t x : ℕ) (p : ScriptPlace) (n : ℕ) → IsPlace w.jobs x p
     → ((i e : ℕ) → i < n → task_of w e ≡ x → runs_in (w.row (t + i)) e ≡ false) → ShowsPlace w t x p
     → ShowsPlace w (t + n) x p
 stayed_on w t x p zero place idle shows = let tick : t ≡ t + 0 = omega arith in subst (λ u. ShowsPlace w u x p) tick shows

@@ -6,7 +6,7 @@ use Rattle.std.proofs.lemmas.List.{length-map}
 use Rattle.schedule_model.specs.declared.job.JobId.{JobId}
 use Rattle.schedule_model.specs.Seen.{place_seen}
 use Rattle.schedule_model.specs.JobDef.{JobDef, job_of}
-use Rattle.phase_machine.specs.declared.place.Place.{Place}
+use Rattle.phase_machine.specs.declared.place.ScriptPlace.{ScriptPlace}
 use Rattle.phase_machine.specs.MachineDef.{task_in, no_place}
 use Rattle.phase_machine.specs.Stretch.{left_at}
 use Rattle.phase_machine.specs.Least.{IsLeastOf, IsLeft, IsAhead}
@@ -39,7 +39,7 @@ least_same : (most n : ℕ) (P Q : ℕ → Type 0) → ((u : ℕ) → Q u → P 
 least_same most n P Q all old is = record { at_most = is.at_most; each = λ u h. is.each u (all u h); reached = λ l. old n (is.reached l) }
 
 -- None but the first is before the first column.
-pub least_left_none : (jobs : List JobDef) (places : List Place) (running : List (Option ℕ)) (most : ℕ)
+pub least_left_none : (jobs : List JobDef) (places : List ScriptPlace) (running : List (Option ℕ)) (most : ℕ)
     → IsLeastOf most (IsLeft jobs places running 0) most
 least_left_none jobs places running most = record {
   at_most = omega arith;
@@ -48,7 +48,7 @@ least_left_none jobs places running most = record {
 }
 
 -- A column more: one that names a job, and one that names none.
-pub least_left_named : (jobs : List JobDef) (places : List Place) (running : List (Option ℕ)) (most n c j : ℕ)
+pub least_left_named : (jobs : List JobDef) (places : List ScriptPlace) (running : List (Option ℕ)) (most n c j : ℕ)
     → get_or running c None ≡ Some j → IsLeastOf most (IsLeft jobs places running c) n
     → IsLeastOf most (IsLeft jobs places running (c + 1)) (min n (left_at jobs (get_or places (task_in jobs j) no_place)))
 least_left_named jobs places running most n c j e is =
@@ -68,7 +68,7 @@ least_left_named jobs places running most n c j e is =
       old : (u : ℕ) → IsLeft jobs places running c u → IsLeft jobs places running (c + 1) u
       old u (d, i, l, f, v) = (d, i, omega (arith, l), f, v)
 
-pub least_left_unnamed : (jobs : List JobDef) (places : List Place) (running : List (Option ℕ)) (most n c : ℕ)
+pub least_left_unnamed : (jobs : List JobDef) (places : List ScriptPlace) (running : List (Option ℕ)) (most n c : ℕ)
     → get_or running c None ≡ None → IsLeastOf most (IsLeft jobs places running c) n
     → IsLeastOf most (IsLeft jobs places running (c + 1)) n
 least_left_unnamed jobs places running most n c e is =
@@ -113,7 +113,7 @@ least_ahead_more jobs tick coming most n v x some none is =
     ]
 
 -- As many columns as contracts see.
-pub left_seen : (most n : ℕ) (jobs : List JobDef) (places : List Place) (running : List (Option JobId))
+pub left_seen : (most n : ℕ) (jobs : List JobDef) (places : List ScriptPlace) (running : List (Option JobId))
     → IsLeastOf most (IsLeft jobs places (map place_seen running) (length running)) n
     → IsLeastOf most (IsLeft jobs places (map place_seen running) (length (map place_seen running))) n
 left_seen most n jobs places running is = subst (λ k. IsLeastOf most (IsLeft jobs places (map place_seen running) k) n)

@@ -1,7 +1,7 @@
 pub mod ScriptPlaces
 pub mod Lawful
 pub mod Facts
-pub mod Columns
+pub mod TakenColumns
 pub mod Placing
 pub mod GoingOn
 pub mod PhaseEnds

@@ -13,7 +13,7 @@ use Rattle.schedule_model.specs.Phase.Phase.{Local, Asking, Finished}
 use Rattle.schedule_model.proofs.Scripts.{list_all-each}
 use Rattle.schedule_laws.specs.Counting.{no_segment}
 use Rattle.schedule_laws.proofs.Ticks.{executed_runs, finished_at, script_segments}
-use Rattle.phase_machine.specs.declared.place.Place.{Place}
+use Rattle.phase_machine.specs.declared.place.ScriptPlace.{ScriptPlace}
 use Rattle.phase_machine.specs.MachineDef.{segment_in}
 use Rattle.phase_machine.specs.Now.{phase_in}
 use Rattle.phase_machine.specs.Stretch.{left_at}
@@ -51,7 +51,7 @@ more_than_local script n lawful l = go (get_or script n no_segment) asks takes w
         omega (arith, ltb-true 0 r.1 some, ticks)
 
 -- So many ticks are executed.
-runs_on : (w : Trace) (t x : ℕ) (p : Place) (n i : ℕ) → GoesOn w t x p n → i ≤ n → executed w (t + i) p.job ≡ executed w t p.job + i
+runs_on : (w : Trace) (t x : ℕ) (p : ScriptPlace) (n i : ℕ) → GoesOn w t x p n → i ≤ n → executed w (t + i) p.job ≡ executed w t p.job + i
 runs_on w t x p n zero goes l = let here : t + 0 ≡ t = omega arith in omega (arith, ap (λ u. executed w u p.job) here)
 runs_on w t x p n (suc i) goes l =
     let next : t + suc i ≡ suc (t + i) = omega arith in
@@ -62,12 +62,12 @@ runs_on w t x p n (suc i) goes l =
       runs_on w t x p n i goes (omega (arith, l)),
     )
 
-done : (w : Trace) (t x : ℕ) (p : Place) (n : ℕ) → GoesOn w t x p n
+done : (w : Trace) (t x : ℕ) (p : ScriptPlace) (n : ℕ) → GoesOn w t x p n
     → executed w (t + n) p.job ≡ total_ticks (take p.segment (job_of w.jobs p.job).script) + (p.ticks + n)
 done w t x p n goes = omega (arith, runs_on w t x p n n goes (omega arith), goes.shows.stands goes.listed)
 
 -- At the end of the segment the job is in the next one's local ticks, or finished.
-after_segment : (w : Trace) (t x : ℕ) (p : Place) (n : ℕ) → GoesOn w t x p n
+after_segment : (w : Trace) (t x : ℕ) (p : ScriptPlace) (n : ℕ) → GoesOn w t x p n
     → p.ticks + n ≡ segment_ticks (segment_in w.jobs p.job p.segment)
     → p.segment + 1 < length (job_of w.jobs p.job).script → phase_of w (t + n) p.job ≡ Local
 after_segment w t x p n goes e more =
@@ -88,7 +88,7 @@ after_segment w t x p n goes e more =
         segment_more (job_of w.jobs p.job).script p.segment (goes.place.segment goes.listed),
       )
 
-after_script : (w : Trace) (t x : ℕ) (p : Place) (n : ℕ) → GoesOn w t x p n
+after_script : (w : Trace) (t x : ℕ) (p : ScriptPlace) (n : ℕ) → GoesOn w t x p n
     → p.ticks + n ≡ segment_ticks (segment_in w.jobs p.job p.segment)
     → length (job_of w.jobs p.job).script ≤ p.segment + 1 → phase_of w (t + n) p.job ≡ Finished
 after_script w t x p n goes e last =
@@ -99,7 +99,7 @@ after_script w t x p n goes e last =
       script_ends (job_of w.jobs p.job).script p.segment (goes.place.segment goes.listed) (omega (arith, last)),
     ))
 
-local_ends : (w : Trace) (t x : ℕ) (p : Place) (n : ℕ) → GoesOn w t x p n
+local_ends : (w : Trace) (t x : ℕ) (p : ScriptPlace) (n : ℕ) → GoesOn w t x p n
     → p.ticks + n ≡ (segment_in w.jobs p.job p.segment).local → phase_of w (t + n) p.job ≡ Local → ⊥
 local_ends w t x p n goes e unchanged =
     elim (cases_lt (segment_in w.jobs p.job p.segment).local (segment_ticks (segment_in w.jobs p.job p.segment))) [
@@ -127,7 +127,7 @@ local_ends w t x p n goes e unchanged =
         | inr end ↦ end
       ]
 
-request_ends : (w : Trace) (t x : ℕ) (p : Place) (n q : ℕ) → GoesOn w t x p n
+request_ends : (w : Trace) (t x : ℕ) (p : ScriptPlace) (n q : ℕ) → GoesOn w t x p n
     → p.ticks + n ≡ segment_ticks (segment_in w.jobs p.job p.segment) → phase_of w (t + n) p.job ≡ Asking p.segment q
     → ⊥
 request_ends w t x p n q goes e unchanged = elim (cases_lt (p.segment + 1) (length (job_of w.jobs p.job).script)) [
@@ -136,7 +136,7 @@ request_ends w t x p n q goes e unchanged = elim (cases_lt (p.segment + 1) (leng
 ]
 
 -- After what was left of its phase a running job is in another phase.
-pub phase_ends : (w : Trace) (t x : ℕ) (p : Place) (n : ℕ) → GoesOn w t x p n → n ≡ left_at w.jobs p
+pub phase_ends : (w : Trace) (t x : ℕ) (p : ScriptPlace) (n : ℕ) → GoesOn w t x p n → n ≡ left_at w.jobs p
     → phase_of w (t + n) p.job ≡ phase_of w t p.job → ⊥
 phase_ends w t x p n goes e unchanged = elim (cases_lt p.ticks (segment_in w.jobs p.job p.segment).local) [
   | inl local ↦

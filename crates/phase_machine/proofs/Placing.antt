@@ -10,7 +10,7 @@ use Rattle.schedule_model.specs.Phase.Phase.{Local, Asking, Finished}
 use Rattle.schedule_model.specs.Activity.{task_of, issue_tick_of}
 use Rattle.schedule_laws.proofs.Ticks.{executed_runs, executed_waits, phase_waits, finished_stays, finished_at, same_from}
 use Rattle.schedule_laws.proofs.Issues.{issue_kept, issue_new}
-use Rattle.phase_machine.specs.declared.place.Place.{Place}
+use Rattle.phase_machine.specs.declared.place.ScriptPlace.{ScriptPlace}
 use Rattle.phase_machine.specs.MachineDef.{IsPlace, IsNext, segment_in}
 use Rattle.phase_machine.specs.Now.{phase_in}
 use Rattle.phase_machine.specs.Shows.{ShowsPlace}
@@ -20,7 +20,7 @@ use Rattle.phase_machine.proofs.Lawful.{script_of, script_some, local_some}
 use Rattle.phase_machine.proofs.Facts.{own_phase, phase_standing}
 
 -- A place that steps is a place.
-pub stepped_place : (list : JobsDef) (after more x : ℕ) (p n : Place) → AreLawfulJobs list → p.job < length list.jobs
+pub stepped_place : (list : JobsDef) (after more x : ℕ) (p n : ScriptPlace) → AreLawfulJobs list → p.job < length list.jobs
     → IsPlace list.jobs x p → StepsTo list.jobs after more x p n
     → IsPlace list.jobs x n
 stepped_place list after more x p n lawful l place steps =
@@ -48,7 +48,7 @@ stepped_place list after more x p n lawful l place steps =
           omega arith
 
 -- In a row in which no job of the task runs, its place shows the next tick too.
-pub stayed_shows : (w : Trace) (t x : ℕ) (p : Place) → IsPlace w.jobs x p
+pub stayed_shows : (w : Trace) (t x : ℕ) (p : ScriptPlace) → IsPlace w.jobs x p
     → ((e : ℕ) → task_of w e ≡ x → runs_in (w.row t) e ≡ false) → ShowsPlace w t x p → ShowsPlace w (suc t) x p
 stayed_shows w t x p place idle shows = record {
   before = λ e l same. finished_stays w t (suc t) e (omega arith) (shows.before e l same);
@@ -66,7 +66,7 @@ stayed_shows w t x p place idle shows = record {
       (phase_waits w t p.job (idle p.job (place.own l)) ∙ now)
 
 -- A row in which the place's job runs, and no other of the task.
-pub record Turn (w : Trace) (t x : ℕ) (p : Place) : Type 0 where
+pub record Turn (w : Trace) (t x : ℕ) (p : ScriptPlace) : Type 0 where
   pub lawful : AreLawfulJobs (record { set = w.set; jobs = w.jobs })
   pub listed : p.job < length w.jobs
   pub place : IsPlace w.jobs x p
@@ -75,7 +75,7 @@ pub record Turn (w : Trace) (t x : ℕ) (p : Place) : Type 0 where
   pub others : (e : ℕ) → task_of w e ≡ x → (e ≡ p.job → ⊥) → runs_in (w.row t) e ≡ false
 
 -- The job goes on in its segment, and its request's issue tick is the one that it was, or this one.
-further_issued : (w : Trace) (t x : ℕ) (p : Place) → Turn w t x p → p.ticks + 1 < segment_ticks (segment_in w.jobs p.job p.segment)
+further_issued : (w : Trace) (t x : ℕ) (p : ScriptPlace) → Turn w t x p → p.ticks + 1 < segment_ticks (segment_in w.jobs p.job p.segment)
     → executed w (suc t) p.job ≡ total_ticks (take p.segment (job_of w.jobs p.job).script) + (p.ticks + 1)
     → (segment_in w.jobs p.job p.segment).local ≤ p.ticks + 1
     → cond (p.ticks + 1 == (segment_in w.jobs p.job p.segment).local) (suc t) p.issued ≡ issue_tick_of w (suc t) p.job
@@ -100,7 +100,7 @@ further_issued w t x p turn further stands past = elim (cases_eq (p.ticks + 1) (
 ]
 
 -- So its place goes on there.
-pub further_shows : (w : Trace) (t x : ℕ) (p : Place) → Turn w t x p → p.ticks + 1 < segment_ticks (segment_in w.jobs p.job p.segment)
+pub further_shows : (w : Trace) (t x : ℕ) (p : ScriptPlace) → Turn w t x p → p.ticks + 1 < segment_ticks (segment_in w.jobs p.job p.segment)
     → ShowsPlace w (suc t) x (record {
       job = p.job;
       segment = p.segment;
@@ -117,7 +117,7 @@ further_shows w t x p turn further = record {
   more = omega (arith, executed_runs w t p.job turn.runs, turn.shows.stands turn.listed)
 
 -- It comes to its next segment.
-next_shows : (w : Trace) (t x : ℕ) (p : Place) → Turn w t x p → segment_ticks (segment_in w.jobs p.job p.segment) ≤ p.ticks + 1
+next_shows : (w : Trace) (t x : ℕ) (p : ScriptPlace) → Turn w t x p → segment_ticks (segment_in w.jobs p.job p.segment) ≤ p.ticks + 1
     → p.segment + 1 < length (job_of w.jobs p.job).script
     → ShowsPlace w (suc t) x (record { job = p.job; segment = p.segment + 1; ticks = 0; issued = p.issued })
 next_shows w t x p turn ends more = record {
@@ -138,7 +138,7 @@ next_shows w t x p turn ends more = record {
       omega (arith, executed_runs w t p.job turn.runs, turn.shows.stands turn.listed, turn.place.ticks turn.listed)
 
 -- It is finished, and the task's next job comes.
-over_shows : (w : Trace) (t x : ℕ) (p n : Place) → Turn w t x p → segment_ticks (segment_in w.jobs p.job p.segment) ≤ p.ticks + 1
+over_shows : (w : Trace) (t x : ℕ) (p n : ScriptPlace) → Turn w t x p → segment_ticks (segment_in w.jobs p.job p.segment) ≤ p.ticks + 1
     → length (job_of w.jobs p.job).script ≤ p.segment + 1 → IsNext w.jobs x (p.job + 1) n.job → n.segment ≡ 0
     → n.ticks ≡ 0 → ShowsPlace w (suc t) x n
 over_shows w t x p n turn ends last next first none = record {
@@ -182,7 +182,7 @@ over_shows w t x p n turn ends last next first none = record {
       omega arith
 
 -- After a row in which its job runs, the stepped place shows the schedule.
-pub stepped_shows : (w : Trace) (t x : ℕ) (p n : Place) → Turn w t x p → StepsTo w.jobs (suc t) 1 x p n → ShowsPlace w (suc t) x n
+pub stepped_shows : (w : Trace) (t x : ℕ) (p n : ScriptPlace) → Turn w t x p → StepsTo w.jobs (suc t) 1 x p n → ShowsPlace w (suc t) x n
 stepped_shows w t x p n turn steps = elim (cases_lt (p.ticks + 1) (segment_ticks (segment_in w.jobs p.job p.segment))) [
   | inl further ↦ rw (steps.further further) (further_shows w t x p turn further)
   | inr ends ↦ elim (cases_lt (p.segment + 1) (length (job_of w.jobs p.job).script)) [

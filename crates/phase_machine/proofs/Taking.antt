@@ -11,7 +11,7 @@ use Rattle.schedule_model.specs.RowDef.{RowDef, is_job, running_on, holder_in, h
 use Rattle.schedule_model.specs.Phase.{executed}
 use Rattle.schedule_laws.proofs.Rows.{runs_from, runs_where}
 use Rattle.schedule_laws.proofs.Ticks.{executed_none}
-use Rattle.phase_machine.specs.declared.place.Place.{Place}
+use Rattle.phase_machine.specs.declared.place.ScriptPlace.{ScriptPlace}
 use Rattle.phase_machine.specs.MachineDef.{MachineDef, IsMachine, IsPlace, IsNext, IsComing, place_of, coming_of}
 use Rattle.phase_machine.specs.MachineDef.{task_in, segment_in, no_place, under}
 use Rattle.phase_machine.specs.Now.{current_now, active_now}
@@ -55,7 +55,7 @@ pub record Took (m : MachineDef) (row : RowDef) (more : ℕ) (n : MachineDef) : 
   pub coming : (x : ℕ) → x < length m.list.set.tasks → IsComing m.list.jobs (m.tick + more) x (get_or n.coming x 0)
 
 -- From the parts that the machine's fields were made of.
-pub took_from : (m : MachineDef) (row : RowDef) (more : ℕ) (old moved kept : List Place) (before come held : List ℕ)
+pub took_from : (m : MachineDef) (row : RowDef) (more : ℕ) (old moved kept : List ScriptPlace) (before come held : List ℕ)
     (running holders : List (Option ℕ))
     → kept ≡ moved → old ≡ m.places → running ≡ row.running → holders ≡ row.holders → held ≡ come → before ≡ m.coming
     → length moved ≡ length old
@@ -86,7 +86,7 @@ taken_place : (m : MachineDef) (row : RowDef) (more : ℕ) (n : MachineDef) (x :
     → IsPlace m.list.jobs x (get_or n.places x no_place)
 unfolding runs_in
 taken_place m row more n x machine can took l =
-    let p : Place = place_of m x in
+    let p : ScriptPlace = place_of m x in
     let moves : MovesTo m.list.jobs (m.tick + more) more row.running x p (get_or n.places x no_place) = took.moved x l in
     elim (cases_Bool (list_any (is_job p.job) row.running)) [
       | inl runs ↦ stepped_place m.list (m.tick + more) more x p (get_or n.places x no_place) machine.lawful
@@ -177,7 +177,7 @@ taken_shows_place : (m : MachineDef) (rows : ℕ → RowDef) (row : RowDef) (mor
     → ShowsPlace (under m rows) (m.tick + more) x (get_or n.places x no_place)
 unfolding runs_in
 taken_shows_place m rows row more n x shows can quiet some took same l =
-    let p : Place = place_of m x in
+    let p : ScriptPlace = place_of m x in
     let moves : MovesTo m.list.jobs (m.tick + more) more row.running x p (get_or n.places x no_place) = took.moved x l in
     elim (cases_Bool (runs_in row p.job)) [
       | inl runs ↦ stepped_on (under m rows) m.tick x p (get_or n.places x no_place) more some
@@ -226,7 +226,7 @@ no_holder (suc n) zero = refl
 no_holder (suc n) (suc q) = no_holder n q
 
 -- At the start of its first job each task has a place.
-place_at_first : (list : JobsDef) (x : ℕ) (p : Place) → AreLawfulJobs list → IsNext list.jobs x 0 p.job → p.segment ≡ 0
+place_at_first : (list : JobsDef) (x : ℕ) (p : ScriptPlace) → AreLawfulJobs list → IsNext list.jobs x 0 p.job → p.segment ≡ 0
     → p.ticks ≡ 0 → IsPlace list.jobs x p
 place_at_first list x p lawful next first none = record {
   most = next.most;
@@ -277,7 +277,7 @@ shows_at_first m rows machine e places none = rebuilt m (λ n. Shows n rows) m.l
 }) where
   at_first : (x : ℕ) → x < length m.list.set.tasks → ShowsPlace (under m rows) 0 x (place_of m x)
   at_first x l =
-      let p : Place = place_of m x in
+      let p : ScriptPlace = place_of m x in
       let first = places x l in
       record {
         before = λ e b same. absurd (first.0.first e (omega arith) b same);

@@ -1,7 +1,7 @@
 -- The least of numbers, and of which ones the length of a stretch is the least.
 use Rattle.std.specs.Prelude.{◌≡◌, ℕ, ◌+◌, ◌<◌, ◌≤◌, List, length, Option, None, Some, slice_index_or}
 use Rattle.schedule_model.specs.JobDef.{JobDef, job_of}
-use Rattle.phase_machine.specs.declared.place.Place.{Place}
+use Rattle.phase_machine.specs.declared.place.ScriptPlace.{ScriptPlace}
 use Rattle.phase_machine.specs.MachineDef.{task_in, no_place}
 use Rattle.phase_machine.specs.Stretch.{left_at}
 
@@ -12,7 +12,7 @@ pub record IsLeastOf (most : ℕ) (among : ℕ → Type 0) (n : ℕ) : Type 0 wh
   pub reached : n < most → among n
 
 -- Is v what is left of the phase of a job in one of the first columns?
-abbrev pub IsLeft : List JobDef → List Place → List (Option ℕ) → ℕ → ℕ → Type 0
+abbrev pub IsLeft : List JobDef → List ScriptPlace → List (Option ℕ) → ℕ → ℕ → Type 0
 IsLeft jobs places running columns v = (c j : ℕ) × (c < columns) × (slice_index_or running c None ≡ Some j)
     × (left_at jobs (slice_index_or places (task_in jobs j) no_place) ≡ v)
 

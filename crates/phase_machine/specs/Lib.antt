@@ -8,3 +8,4 @@ pub mod Stretch
 pub mod Least
 pub mod Judged
 pub mod MachineView
+pub mod Order

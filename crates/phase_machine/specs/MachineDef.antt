@@ -7,23 +7,23 @@ use Rattle.schedule_model.specs.JobLists.{IsJobList}
 use Rattle.sporadic_model.specs.Accepted.{TaskNumbers}
 use Rattle.schedule_model.specs.RowDef.{RowDef, Trace}
 use Rattle.schedule_laws.specs.Counting.{no_segment}
-use Rattle.phase_machine.specs.declared.place.Place.{Place}
+use Rattle.phase_machine.specs.declared.place.ScriptPlace.{ScriptPlace}
 
 -- The jobs that a machine carries, the number of rows that it took, the place of each task, the holder of each
 -- resource in the last row, and for each task its next job to be released.
 pub record MachineDef : Type 0 where
   pub list : JobsDef
   pub tick : ℕ
-  pub places : List Place
+  pub places : List ScriptPlace
   pub holders : List (Option ℕ)
   pub coming : List ℕ
 
 -- What a look-up past the end gives.
-abbrev pub no_place : Place
+abbrev pub no_place : ScriptPlace
 no_place = record { job = 0; segment = 0; ticks = 0; issued = 0 }
 
 -- The place of task x.
-abbrev pub place_of : MachineDef → ℕ → Place
+abbrev pub place_of : MachineDef → ℕ → ScriptPlace
 place_of m x = slice_index_or m.places x no_place
 
 -- The task's next job to be released, or the number of jobs where none is left.
@@ -50,7 +50,7 @@ pub record IsNext (jobs : List JobDef) (x from j : ℕ) : Type 0 where
   pub first : (e : ℕ) → from ≤ e → e < j → task_in jobs e ≡ x → ⊥
 
 -- A place of task x: its job is one of the task or the end of the list, and the job stands inside one of its segments.
-pub record IsPlace (jobs : List JobDef) (x : ℕ) (p : Place) : Type 0 where
+pub record IsPlace (jobs : List JobDef) (x : ℕ) (p : ScriptPlace) : Type 0 where
   pub most : p.job ≤ length jobs
   pub own : p.job < length jobs → task_in jobs p.job ≡ x
   pub segment : p.job < length jobs → p.segment < length (job_of jobs p.job).script

@@ -1,12 +1,13 @@
 -- What a machine answers of the tick that it stands at.
 use Rattle.std.specs.Prelude.{◌≡◌, refl, ℕ, ◌&&◌, ◌||◌, not, Bool, nat_lt, nat_le, if◌then◌else◌, List, length, Option}
 use Rattle.std.specs.Prelude.{None, Some, slice_index_or}
+use Rattle.sporadic_model.specs.SetDef.{task_at}
 use Rattle.schedule_model.specs.JobDef.{SegmentDef, JobDef, job_of}
 use Rattle.schedule_model.specs.RowDef.{Trace, is_job, held_before}
 use Rattle.schedule_model.specs.Phase.{Phase, is_local, is_asking, asking, phase_of}
 use Rattle.schedule_model.specs.Phase.Phase.{Local, Asking, Finished}
 use Rattle.schedule_model.specs.Activity.{is_active, issue_tick_of, holds_by}
-use Rattle.phase_machine.specs.declared.place.Place.{Place}
+use Rattle.phase_machine.specs.declared.place.ScriptPlace.{ScriptPlace}
 use Rattle.phase_machine.specs.MachineDef.{MachineDef, place_of, task_in, segment_in}
 
 -- The phase in segment number n after so many of its ticks.
@@ -21,7 +22,7 @@ then_a_request = refl
 
 -- The phase of job j, where its task is at this place: the jobs before the place's are finished, the later ones have
 -- executed nothing.
-abbrev pub phase_at_place : List JobDef → ℕ → Place → Phase
+abbrev pub phase_at_place : List JobDef → ℕ → ScriptPlace → Phase
 phase_at_place jobs j p =
     if nat_lt j p.job then Finished
     else (if nat_lt p.job j then Local else phase_in p.segment (segment_in jobs p.job p.segment) p.ticks)
@@ -30,7 +31,7 @@ unfoldable pub phase_now : MachineDef → ℕ → Phase
 phase_now m j = phase_at_place m.list.jobs j (place_of m (task_in m.list.jobs j))
 
 -- The active job of task x, where it has one.
-abbrev pub current_in : List JobDef → ℕ → Place → Option ℕ
+abbrev pub current_in : List JobDef → ℕ → ScriptPlace → Option ℕ
 current_in jobs tick p = if nat_lt p.job (length jobs) && nat_le (job_of jobs p.job).release tick then Some p.job else None
 
 unfoldable pub current_now : MachineDef → ℕ → Option ℕ
@@ -67,6 +68,20 @@ issued_in _ tick = None
 
 unfoldable pub issued_now : MachineDef → ℕ → Option ℕ
 issued_now m j = issued_in (phase_now m j) (place_of m (task_in m.list.jobs j)).issued
+
+-- The processor of job j's task.
+abbrev pub processor_now : MachineDef → ℕ → ℕ
+processor_now m j = (task_at m.list.set (task_in m.list.jobs j)).processor
+
+-- Is job j Local, or with these holders the holder of what it requests, if it is active?
+abbrev pub is_local_now : MachineDef → ℕ → Bool
+is_local_now m j = is_local (phase_now m j)
+
+abbrev pub holds_now : MachineDef → (ℕ → Option ℕ) → ℕ → Bool
+holds_now m held j = holds_by held j (phase_now m j)
+
+abbrev pub may_run_now : MachineDef → (ℕ → Option ℕ) → ℕ → Bool
+may_run_now m held j = is_local_now m j || holds_now m held j
 
 -- The same notions of a schedule, at a tick, by the holders of the row before.
 unfoldable pub is_ready_before : Trace → ℕ → ℕ → Bool

@@ -5,14 +5,14 @@ use Rattle.schedule_model.specs.RowDef.{RowDef, Trace, jobs_of, held_before}
 use Rattle.schedule_model.specs.Phase.{executed, phase_of}
 use Rattle.schedule_model.specs.Phase.Phase.{Finished}
 use Rattle.schedule_model.specs.Activity.{task_of, issue_tick_of}
-use Rattle.phase_machine.specs.declared.place.Place.{Place}
+use Rattle.phase_machine.specs.declared.place.ScriptPlace.{ScriptPlace}
 use Rattle.phase_machine.specs.MachineDef.{MachineDef, IsMachine, IsNext, no_place, place_of, segment_in, under}
 use Rattle.phase_machine.specs.Now.{holder_now}
 
 -- Has task x at tick t of the schedule come to this place: its earlier jobs are finished, its later ones have executed
 -- nothing, the place's own has executed the segments before the place's and so many ticks of that one, and its request,
 -- where it is in one, was issued at the tick that the place says?
-pub record ShowsPlace (w : Trace) (t x : ℕ) (p : Place) : Type 0 where
+pub record ShowsPlace (w : Trace) (t x : ℕ) (p : ScriptPlace) : Type 0 where
   pub before : (e : ℕ) → e < p.job → task_of w e ≡ x → phase_of w t e ≡ Finished
   pub after : (e : ℕ) → p.job < e → e < length w.jobs → task_of w e ≡ x → executed w t e ≡ 0
   pub stands : p.job < length w.jobs → executed w t p.job ≡ total_ticks (take p.segment (job_of w.jobs p.job).script) + p.ticks
@@ -24,7 +24,7 @@ pub record Shows (m : MachineDef) (rows : ℕ → RowDef) : Type 0 where
   pub holders : (q : ℕ) → holder_now m q ≡ held_before (under m rows) m.tick q
 
 -- Is each of these the place of its task before the first row: at the start of the task's first job?
-abbrev pub ArePlacesAtFirst : List JobDef → ℕ → List Place → Type 0
+abbrev pub ArePlacesAtFirst : List JobDef → ℕ → List ScriptPlace → Type 0
 ArePlacesAtFirst jobs tasks places = (x : ℕ) → x < tasks →
     IsNext jobs x 0 (slice_index_or places x no_place).job
     × ((slice_index_or places x no_place).segment ≡ 0)
@@ -32,7 +32,7 @@ ArePlacesAtFirst jobs tasks places = (x : ℕ) → x < tasks →
 
 -- A machine that shows the schedule after its rows before tick n.
 pub record Shown (w : Trace) (n : ℕ) : Type 0 where
-  pub places : List Place
+  pub places : List ScriptPlace
   pub holders : List (Option ℕ)
   pub coming : List ℕ
   pub shows : Shows (record { list = jobs_of w; tick = n; places = places; holders = holders; coming = coming }) w.row

@@ -4,7 +4,7 @@ use Rattle.std.specs.Prelude.{◌≡◌, refl, ◌⊎◌, ℕ, ◌+◌, ◌-◌,
 use Rattle.sporadic_model.specs.declared.limits.TheConstants.{MOST_TICKS}
 use Rattle.schedule_model.specs.JobDef.{SegmentDef, JobDef, job_of, segment_ticks}
 use Rattle.schedule_model.specs.RowDef.{RowDef, runs_in}
-use Rattle.phase_machine.specs.declared.place.Place.{Place}
+use Rattle.phase_machine.specs.declared.place.ScriptPlace.{ScriptPlace}
 use Rattle.phase_machine.specs.MachineDef.{MachineDef, place_of, task_in, segment_in}
 
 -- How many ticks are left of the phase in which a job is after so many ticks of the segment?
@@ -18,7 +18,7 @@ pub one_tick_of_the_request_left : left_in (record { local = 3; request = Some (
 one_tick_of_the_request_left = refl
 
 -- The same of the job at a place, and of active job j.
-abbrev pub left_at : List JobDef → Place → ℕ
+abbrev pub left_at : List JobDef → ScriptPlace → ℕ
 left_at jobs p = left_in (segment_in jobs p.job p.segment) p.ticks
 
 unfoldable pub left_now : MachineDef → ℕ → ℕ

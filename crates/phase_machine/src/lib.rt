@@ -1,10 +1,14 @@
-//! A machine that carries what the rows of a schedule have brought about, and what judges and chooses rows with it.
+//! A machine that carries what the rows of a schedule have brought about, what it and a row say of a job, and the traits of what
+//! judges and chooses rows with it.
 #![tactic(auto)]
 
+mod at_place;
+pub mod columns;
 mod judge;
 mod laws;
-mod lookup;
+pub mod lookup;
 mod machine;
+mod order;
 mod phase;
 mod place;
 mod script;
@@ -19,6 +23,7 @@ pub use laws::{
     machines_take_what_can_be_taken,
 };
 pub use machine::Machine;
+pub use order::Order;
 pub use phase::Phase;
 pub use schedule_model::Rule;
 pub use trying::{can_take, is_row_for};

@@ -10,9 +10,9 @@ ghost use Rattle.phase_machine.specs.Taking.{CanTake};
 ghost use Rattle.phase_machine.specs.Stretch.{IsQuiet, IsStretch};
 ghost use Rattle.schedule_laws.specs.Steady.{IsSteady, Changes};
 
-use crate::lookup::{current_at, phase_at};
+use crate::at_place::{current_at, phase_at};
 use crate::phase::Phase;
-use crate::place::Place;
+use crate::place::ScriptPlace;
 use crate::script::{list_is_lawful, task_of};
 use crate::starting::{first_coming, first_places, no_holders};
 use crate::stepping::{move_on, step_all};
@@ -28,7 +28,7 @@ use std::marker::Model;
 pub struct Machine<'a> {
     jobs: &'a JobList<'a>,
     tick: u64,
-    places: Vec<Place>,
+    places: Vec<ScriptPlace>,
     holders: Vec<Option<JobId>>,
     coming: Vec<u32>,
 }
@@ -85,7 +85,7 @@ impl<'a> Machine<'a> {
     }
 
     /// The place of the job's task.
-    fn place(&self, j: JobId) -> &Place
+    fn place(&self, j: JobId) -> &ScriptPlace
         requires { j.0 < length self.now.list.jobs }
         ensures value { result.now ≡ place_of self.now (task_in self.now.list.jobs j.0) }
         ensures place { IsPlace self.now.list.jobs (task_in self.now.list.jobs j.0) result.now }

@@ -1,6 +1,6 @@
 /// How far a task has come: where the first of its jobs stands that isn't finished.
 #[derive(Clone, Copy, Debug, PartialEq, Eq)]
-pub struct Place {
+pub struct ScriptPlace {
     /// That job, in the order of the list; the number of jobs where all jobs of the task are finished.
     pub job: u32,
     /// The segment of its script that it is in, counted from 0.

@@ -3,21 +3,21 @@ ghost use Rattle.schedule_model.specs.Seen.{place_seen};
 ghost use Rattle.phase_machine.specs.MachineDef.{IsNext, IsComing, no_place};
 ghost use Rattle.phase_machine.specs.Shows.{ArePlacesAtFirst};
 
-use crate::place::Place;
+use crate::place::ScriptPlace;
 use crate::script::next_of;
 use crate::stepping::coming_after;
 use schedule_model::{JobId, JobList};
 use std::alloc::{AllocError, Global};
 
 /// The place of each task before the first row: at the start of its first job.
-pub(crate) fn first_places(alloc: Global, jobs: &JobList) -> Result<Vec<Place>, AllocError>
+pub(crate) fn first_places(alloc: Global, jobs: &JobList) -> Result<Vec<ScriptPlace>, AllocError>
     ensures len { IfOk result (λ v. length v.items ≡ length jobs.now.set.tasks) }
     ensures each { IfOk result (λ v. ArePlacesAtFirst jobs.now.jobs (length jobs.now.set.tasks) v.items) }
 {
     let tasks = jobs.set().tasks();
     let mut places = Vec::with_capacity(alloc, tasks as usize)?;
     for x in 0..tasks {
-        places.push(Place {
+        places.push(ScriptPlace {
             job: next_of(jobs, x, 0),
             segment: 0,
             ticks: 0,

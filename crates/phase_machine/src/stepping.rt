@@ -5,12 +5,12 @@ ghost use Rattle.schedule_model.specs.Seen.{place_seen};
 ghost use Rattle.phase_machine.specs.MachineDef.{IsPlace, IsDue, IsComing, no_place, task_in};
 ghost use Rattle.phase_machine.specs.Steps.{StepsTo, MovesTo, ArePlaces, AreCurrent};
 
-use crate::place::Place;
+use crate::place::ScriptPlace;
 use crate::script::{list_is_lawful, next_of, segment_at, segments_of, task_of, ticks_of};
 use schedule_model::{JobId, JobList};
 
 /// The place of task `x` after its job has executed so many more ticks of the segment, at tick `after`.
-fn stepped(jobs: &JobList, after: u64, more: u64, x: u32, place: &Place) -> Place
+fn stepped(jobs: &JobList, after: u64, more: u64, x: u32, place: &ScriptPlace) -> ScriptPlace
     requires listed { place.now.job < length jobs.now.jobs }
     requires place { IsPlace jobs.now.jobs x place.now }
     requires most { more ≤ MOST_TICKS }
@@ -26,7 +26,7 @@ fn stepped(jobs: &JobList, after: u64, more: u64, x: u32, place: &Place) -> Plac
         } else {
             place.issued
         };
-        return Place {
+        return ScriptPlace {
             job: place.job,
             segment: place.segment,
             ticks,
@@ -34,14 +34,14 @@ fn stepped(jobs: &JobList, after: u64, more: u64, x: u32, place: &Place) -> Plac
         };
     }
     if place.segment + 1 < segments {
-        return Place {
+        return ScriptPlace {
             job: place.job,
             segment: place.segment + 1,
             ticks: 0,
             issued: place.issued,
         };
     }
-    Place {
+    ScriptPlace {
         job: next_of(jobs, x, place.job + 1),
         segment: 0,
         ticks: 0,
@@ -50,7 +50,7 @@ fn stepped(jobs: &JobList, after: u64, more: u64, x: u32, place: &Place) -> Plac
 }
 
 /// Steps the place of the task whose current job this is.
-fn step_one(jobs: &JobList, after: u64, more: u64, j: JobId, places: &mut [Place])
+fn step_one(jobs: &JobList, after: u64, more: u64, j: JobId, places: &mut [ScriptPlace])
     requires len { length places.old ≡ length jobs.now.set.tasks }
     requires listed { j.0 < length jobs.now.jobs }
     requires place { IsPlace jobs.now.jobs (task_in jobs.now.jobs j.0) (slice_index_or places.old (task_in jobs.now.jobs j.0) no_place) }
@@ -72,7 +72,7 @@ pub(crate) fn step_all(
     after: u64,
     more: u64,
     running: &[Option<JobId>],
-    places: &mut [Place],
+    places: &mut [ScriptPlace],
 )
     requires places { ArePlaces jobs.now places.old }
     requires running { AreCurrent jobs.now.jobs places.old (map place_seen running.now) }

@@ -7,13 +7,13 @@ ghost use Rattle.phase_machine.specs.Steps.{ArePlaces, AreCurrent};
 ghost use Rattle.phase_machine.specs.Stretch.{left_at};
 ghost use Rattle.phase_machine.specs.Least.{IsLeastOf, IsLeft, IsAhead};
 
-use crate::place::Place;
+use crate::place::ScriptPlace;
 use crate::script::{segment_at, task_of, ticks_of};
 use schedule_model::{JobId, JobList};
 use sporadic_model::MOST_TICKS;
 
 /// How many ticks are left of the phase that the place's job is in.
-fn left_at(jobs: &JobList, place: &Place) -> u64
+fn left_at(jobs: &JobList, place: &ScriptPlace) -> u64
     requires listed { place.now.job < length jobs.now.jobs }
     requires segment { place.now.segment < length (job_of jobs.now.jobs place.now.job).script }
     requires ticks { place.now.ticks < segment_ticks (segment_in jobs.now.jobs place.now.job place.now.segment) }
@@ -28,7 +28,7 @@ fn left_at(jobs: &JobList, place: &Place) -> u64
 }
 
 /// How many ticks are left of the phase that the current job of a task is in.
-fn left_of(jobs: &JobList, j: JobId, places: &[Place]) -> u64
+fn left_of(jobs: &JobList, j: JobId, places: &[ScriptPlace]) -> u64
     requires places { ArePlaces jobs.now places.now }
     requires listed { j.0 < length jobs.now.jobs }
     requires current { (slice_index_or places.now (task_in jobs.now.jobs j.0) no_place).job ≡ j.0 }
@@ -42,7 +42,7 @@ fn left_of(jobs: &JobList, j: JobId, places: &[Place]) -> u64
 pub(crate) fn least_left(
     jobs: &JobList,
     running: &[Option<JobId>],
-    places: &[Place],
+    places: &[ScriptPlace],
     most: u64,
 ) -> u64
     requires places { ArePlaces jobs.now places.now }

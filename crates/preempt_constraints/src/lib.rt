@@ -1,19 +1,22 @@
 //! The rows of preemption blocking: what requests of lower tasks on the analysed task's processor can do to it.
 #![tactic(auto)]
 
-ghost use Rattle.std.specs.Prelude.{◌≡◌, ◌<◌, map, length, IfOk, OnOk, [], ◌∷◌, if◌then◌else◌};
+ghost use Rattle.std.specs.Prelude.{◌≡◌, ◌<◌, map, length, IfOk, OnOk, [], ◌∷◌, if◌then◌else◌, ◌&&◌};
+ghost use Rattle.std.proofs.Common.{ap};
+ghost use Rattle.bounded_sums.specs.Sums.{flag};
 ghost use Rattle.program_form.specs.RowBlock.{block_seen};
 ghost use Rattle.program_sources.specs.Bounds.{AreWithinDeadlines};
 ghost use Rattle.sporadic_model.specs.Homes.{HasHomesFor};
-ghost use Rattle.fragments.specs.ColumnDef.{column_seen, AreKnown};
+ghost use Rattle.fragments.specs.declared.columns.Class.TheVariants.{Preemption};
+ghost use Rattle.fragments.specs.ColumnDef.{column_seen, is_class, AreKnown};
 ghost use Rattle.fragments.specs.Columns.{columns_of, is_lower_local};
 ghost use Rattle.fragments.specs.Constraints.{block_of};
 ghost use Rattle.fragments.specs.Stretches.{AreInOrder};
 ghost use Rattle.preempt_constraints.specs.Rows.{interval_row, preemption_rows};
 
 use fragments::{
-    Constraint, Fragment, PerTask, RowKind, RowTaker, add_per_task, add_row_within,
-    columns_stand_in_order, lower_local, requests_of,
+    Fragment, PerTask, RowTaker, TaskRow, add_per_task, add_row_of_task, columns_stand_in_order,
+    lower_local, requests_of,
 };
 use program_form::RowBlock;
 use sporadic_model::{Protocol, TaskId, TaskSet};
@@ -21,26 +24,22 @@ use std::alloc::{AllocError, Global};
 
 // Of one task: in each interval at which a job of the analysed task can be preempted, at most one of its requests preempts.
 #[derive(Drop)]
-struct IntervalRow {
-    task: TaskId,
-}
+struct Interval;
 
-impl RowKind for IntervalRow {
-    ghost row_of = { λ k set i. interval_row set i k.task.0 };
+impl TaskRow for Interval {
+    ghost row_of = { λ k. interval_row };
 
-    ghost fits = { λ k set. k.task.0 < length set.tasks };
+    ghost alone = { λ k set i x c other. ap (λ b. flag (b && is_class Preemption c.class)) other };
 
-    fn coefficient(&self, _set: &TaskSet, _i: TaskId, column: Fragment) -> u64 {
-        if column.task.0 == self.task.0 && column.class.is_preemption() {
+    fn coefficient(&self, _set: &TaskSet, _i: TaskId, x: TaskId, column: Fragment) -> u64 {
+        if column.task == x && column.class.is_preemption() {
             1
         } else {
             0
         }
     }
-}
 
-impl Constraint for IntervalRow {
-    fn limit(&self, set: &TaskSet, i: TaskId, _bounds: &[u64]) -> u64 {
+    fn limit(&self, set: &TaskSet, i: TaskId, _x: TaskId, _bounds: &[u64]) -> u64 {
         1 + requests_of(set, i)
     }
 }
@@ -63,13 +62,10 @@ impl PerTask for Intervals {
         columns: &[Fragment],
         stretch: (usize, usize),
     ) -> Result<(), AllocError> {
-        // a set has at most 32 resources, so the slots of a task end before those of the next one
-        let _resources = set.resources();
         if !lower_local(set, i, x) {
             return Ok(());
         }
-        let row = IntervalRow { task: x };
-        add_row_within(alloc, taker, &row, set, i, bounds, columns, stretch)
+        add_row_of_task(alloc, taker, &Interval, set, i, x, bounds, columns, stretch)
     }
 }
 

@@ -7,8 +7,8 @@ use Rattle.std.specs.declared.alloc.AllocError.{AllocError}
 use Rattle.std.specs.declared.vec.IntoIter.{IntoIter}
 use Rattle.std.specs.declared.io.Error.{Error}
 use Rattle.std.specs.declared.io.ErrorKind.TheVariants.{OutOfMemory}
-use Rattle.run_plans.specs.Statuses.{number_of}
-use Rattle.run_plans.specs.declared.status.Status.{Status}
+use Rattle.command_inputs.specs.Statuses.{number_of}
+use Rattle.command_inputs.specs.declared.status.Status.{Status}
 
 -- The words after the program's name. Where std has none for another reason than want of memory, as for a word that isn't UTF-8,
 -- there are none.

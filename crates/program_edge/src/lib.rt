@@ -5,7 +5,7 @@ ghost use Rattle.std.specs.Prelude.{◌≡◌, drop, IfOk};
 ghost use Rattle.std.specs.Vec.Iter.{into_iter_items};
 ghost use Rattle.std.specs.Process.{exit_status};
 ghost use Rattle.command_words.specs.Words.{words_seen};
-ghost use Rattle.run_plans.specs.Statuses.{number_of};
+ghost use Rattle.command_inputs.specs.Statuses.{number_of};
 ghost use Rattle.run_plans.specs.Run.{IsRun};
 ghost use Rattle.program_edge.specs.Edge.{GivesWords, number_ended};
 

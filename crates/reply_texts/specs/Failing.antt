@@ -1,8 +1,8 @@
 -- Which tasks a failure may name.
 use Rattle.std.specs.Prelude.{◌<◌, length}
 use Rattle.sporadic_model.specs.SetDef.{SetDef}
-use Rattle.dual_check.specs.declared.answer.Invalid.{Invalid}
-use Rattle.dual_check.specs.declared.answer.Invalid.TheVariants as invalid
+use Rattle.schedule_answers.specs.declared.checked.Invalid.{Invalid}
+use Rattle.schedule_answers.specs.declared.checked.Invalid.TheVariants as invalid
 
 -- Is the task that the failure names, if any, one of the set? Want of memory is no failure.
 abbrev pub FailsTask : SetDef → Invalid → Type 0

@@ -5,9 +5,9 @@ use Rattle.sporadic_model.specs.SetDef.{SetDef, task_at}
 use Rattle.schedule_model.specs.Measures.{MeasuresDef}
 use Rattle.schedule_model.specs.declared.rule.Rule.{Rule}
 use Rattle.schedule_model.specs.declared.rule.Rule.TheVariants as rule
-use Rattle.audit_figures.specs.declared.beside.TaskFigures.{TaskFigures}
-use Rattle.dual_check.specs.declared.answer.Invalid.{Invalid}
-use Rattle.dual_check.specs.declared.answer.Invalid.TheVariants as invalid
+use Rattle.schedule_answers.specs.declared.audited.TaskFigures.{TaskFigures}
+use Rattle.schedule_answers.specs.declared.checked.Invalid.{Invalid}
+use Rattle.schedule_answers.specs.declared.checked.Invalid.TheVariants as invalid
 
 -- An input of this word that is refused for this reason.
 abbrev pub refused_text : List ℕ → List ℕ → List ℕ

@@ -1,20 +1,18 @@
 ghost use Rattle.std.specs.Prelude.{◌≡◌, ◌<◌, ◌++◌, IfOk, OnOk, map, length, slice_index_or};
 ghost use Rattle.sporadic_model.specs.SetDef.{task_at};
-ghost use Rattle.trace_conform.specs.Measured.{measure_seen, no_measure};
-ghost use Rattle.audit_figures.specs.Figures.{no_figures};
+ghost use Rattle.schedule_answers.specs.TaskAnswers.{measure_seen, no_measure};
+ghost use Rattle.schedule_answers.specs.TaskAnswers.{no_figures};
 ghost use Rattle.reply_texts.specs.Failing.{FailsTask};
 ghost use Rattle.reply_texts.specs.Texts.{not_shown_text, wide_text, response_text, measures_text, measures_line};
 ghost use Rattle.reply_texts.specs.Texts.{measures_lines, lawful_text, rule_text, broken_text, failing_task};
 ghost use Rattle.reply_texts.specs.Texts.{invalid_text, behind_space, bounded_text, classes_text, figures_text};
 ghost use Rattle.reply_texts.specs.Texts.{figures_line, figures_lines, kept_text};
 
-use audit_figures::TaskFigures;
-use dual_check::Invalid;
+use schedule_answers::{Breach, Invalid, TaskFigures, TaskMeasure};
 use schedule_model::Rule;
 use sporadic_model::{TaskId, TaskSet};
 use std::alloc::{AllocError, Global};
 use text_pieces::push_number;
-use trace_conform::{Breach, TaskMeasure};
 
 /// The text for a task whose value passes its latest bound, which is its deadline less its jitter.
 pub fn not_shown_line(

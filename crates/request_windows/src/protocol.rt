@@ -22,7 +22,7 @@ ghost use Rattle.window_laws.proofs.Points.{windowed_point};
 ghost use Rattle.window_laws.proofs.Programs.{windowed_covered, windowed_rises, windowed_is_program};
 
 use crate::programs::{limits, program};
-use charge::ChargedProtocol;
+use charged_protocols::ChargedProtocol;
 use dpcp_rules::Dpcp;
 use fragments::Class;
 use phase_machine::{Judge, Machine};

@@ -45,7 +45,11 @@ struct WindowRows {
 }
 
 impl PerRequest for WindowRows {
+    ghost use Rattle.std.proofs.Common.{refl};
+
     ghost row_of = { λ k set i x q. window_row set i x q };
+
+    ghost apart = { λ k set i x q c other. rw other refl };
 
     ghost fits = { λ k set i bounds. AreWindows set (slice_index bounds) i k.windows.items };
 

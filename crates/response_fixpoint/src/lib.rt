@@ -25,6 +25,4 @@ pub use task_run::whole_part;
 pub use verdict::{Stop, Verdict};
 
 #[cfg(test)]
-mod meeting;
-#[cfg(test)]
 mod tests;

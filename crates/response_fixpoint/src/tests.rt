@@ -1,13 +1,11 @@
 use crate::analysis::costs;
 use crate::beginning::begin_some;
-use crate::meeting::{Meeting, Side};
 use crate::sharing::Share;
-use crate::{Stop, Verdict, analyse, analyse_with};
+use crate::{Stop, Verdict, analyse};
 use program_form::Dual;
 use protocol_programs::Written;
 use sporadic_model::{Protocol, TaskSet};
 use std::alloc::{AllocError, Global};
-use std::sync::atomic::{AtomicBool, Ordering};
 use std::test::Fail;
 use std::thread::Threads;
 use worked_sets::{EntryRow, SetRow, TaskRow, entry_rows, set_of, suits, task_row};
@@ -383,30 +381,6 @@ fn has_bounds(verdict: &Result<Verdict, Stop>, bounds: &[u64]) -> bool {
         Ok(Verdict::Schedulable(found)) => found.bounds.as_slice() == bounds,
         _ => false,
     }
-}
-
-// The first round of any set in which two tasks have columns is solved by two threads.
-#[test]
-fn two_tasks_are_at_work_at_the_same_time(rt: HostRuntime) -> Result<(), Fail> {
-    let (first_came, first_saw) = (AtomicBool::new(false), AtomicBool::new(false));
-    let (others_came, others_saw) = (AtomicBool::new(false), AtomicBool::new(false));
-    let meeting = Meeting {
-        first: Side {
-            came: &first_came,
-            saw: &first_saw,
-        },
-        others: Side {
-            came: &others_came,
-            saw: &others_saw,
-        },
-        written: Written(Protocol::FmlpPlus),
-    };
-    let set = set_of(rt.alloc(), PAIR)?;
-    let verdict = analyse_with(&rt, rt.alloc(), &set, &meeting, MOST);
-    assert!(rt; has_bounds(&verdict, &[5, 5]));
-    assert!(rt; first_saw.load(Ordering::SeqCst));
-    assert!(rt; others_saw.load(Ordering::SeqCst));
-    Ok(())
 }
 
 // Twenty tasks, each on a processor of its own, that request each of four resources. The first one has this cost.

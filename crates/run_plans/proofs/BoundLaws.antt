@@ -1,20 +1,16 @@
 -- What is written and what is checked lists bounds that every lawful schedule keeps.
-use Rattle.std.proofs.Common.{◌≡◌, ℕ, ◌<◌, ◌≤◌, List, length, map, sym, ap, subst, arith}
+use Rattle.std.proofs.Common.{◌≡◌, ℕ, ◌<◌, ◌≤◌, List, length, sym, ap, subst, arith}
 use Rattle.std.specs.Prelude.{codes, slice_index, slice_index_or}
-use Rattle.std.specs.List.{range_with_len}
 use Rattle.std.proofs.lemmas.List.{get_or_default}
-use Rattle.std.proofs.lemmas.List.FromFn.{length-map-range_with_len, get_or-map-range_with_len}
 use Rattle.serde_json.specs.Data.{Data}
 use Rattle.program_form.specs.Certificate.{CertificateDef}
 use Rattle.program_sources.specs.Bounds.{AreWithinDeadlines}
-use Rattle.program_sources.specs.Recurrence.{SourceDef}
-use Rattle.program_sources.specs.Fitting.{tasks_of}
-use Rattle.program_sources.specs.Valid.{dual_at, no_dual, value_at, IsValid}
+use Rattle.program_sources.specs.Valid.{dual_at, no_dual, IsValid}
 use Rattle.sporadic_model.specs.SetDef.{SetDef, latest_bound, task_at}
-use Rattle.sporadic_model.specs.Accepted.{IsAccepted, TaskNumbers}
+use Rattle.sporadic_model.specs.Accepted.{IsAccepted}
+use Rattle.sporadic_model.proofs.Laws.{numbers_of_accepted}
 use Rattle.protocol_names.specs.declared.ProtocolName.{ProtocolName}
-use Rattle.soundness_laws.specs.Analyses.{AreValues}
-use Rattle.named_protocols.specs.Named.{SoundUnder, source_of}
+use Rattle.named_laws.specs.Named.{SoundUnder, source_of}
 use Rattle.response_fixpoint.specs.Answers.{IsBest}
 use Rattle.taskset_json.specs.Answers.{IsValue}
 use Rattle.taskset_json.specs.Members.{list_at}
@@ -27,22 +23,18 @@ use Rattle.cert_json.specs.FileDef.{FileDef}
 use Rattle.set_digests.proofs.Bytes.{is_digest}
 use Rattle.sha2.specs.Sha256.{sha256}
 use Rattle.protocol_names.specs.Names.{word_of}
-use Rattle.run_plans.specs.Inputs.{IsFileText}
+use Rattle.command_inputs.specs.Inputs.{IsFileText}
 use Rattle.run_plans.specs.Headline.{Call, ReadsSome, ReadsValid}
 use Rattle.run_plans.specs.Bounding.{AreKept, ListsBounds}
-use Rattle.named_protocols.proofs.EachName.{named_sound, named_word_is_text}
-
--- The numbers of a set that is read have 64 bits.
-numbers_of : (set : SetDef) → IsAccepted set → (i : ℕ) → i < length set.tasks → TaskNumbers set i
-unfolding IsAccepted
-numbers_of set accepted i here = accepted.numbers i here
+use Rattle.named_laws.proofs.EachName.{named_sound, named_word_is_text}
+use Rattle.named_laws.proofs.Values.{values_of, are_values}
 
 -- The best certificate of such a set can be written: its bounds have 64 bits, and its duals are small.
 pub writable : (protocol : ProtocolName) (set : SetDef) (c : CertificateDef) → IsAccepted set → IsBest (source_of protocol set) c → IsWritable c
 writable protocol set c accepted best = record {
   bounds = λ k d here. (
       let task : k < length set.tasks = omega (arith, here, best.valid.bound_each) in
-      let numbers = numbers_of set accepted k task in
+      let numbers = numbers_of_accepted set k accepted task in
       let within : slice_index c.bounds k ≤ latest_bound (task_at set k) = (best.valid.proved k task).within in
       let same : slice_index_or c.bounds k d ≡ slice_index c.bounds k = get_or_default c.bounds k d 0 here in
       omega (arith, same, within, numbers.deadline_to, numbers.period_to));
@@ -67,17 +59,6 @@ text_is_read protocol bytes c w =
       formed word digest c (is_digest bytes) w,
       sym (file-written word (record { certificate = c; digest = digest }) (is_digest bytes)),
     )
-
--- There are values of any certificate's duals.
-values_of : (f : SourceDef) (c : CertificateDef) → List ℕ
-values_of f c = map (value_at f c) (range_with_len 0 (tasks_of f))
-
-are_values : (f : SourceDef) (c : CertificateDef) → AreValues f c (values_of f c)
-unfolding values_of
-are_values f c = record {
-  one_each = length-map-range_with_len (value_at f c) 0 (tasks_of f);
-  each = λ i here. get_or-map-range_with_len (value_at f c) 0 (tasks_of f) i i 0 here (omega arith);
-}
 
 -- The bounds of a valid certificate are within all deadlines, and every lawful schedule keeps them.
 within : (protocol : ProtocolName) (set : SetDef) (c : CertificateDef) → IsValid (source_of protocol set) c → AreWithinDeadlines set c.bounds

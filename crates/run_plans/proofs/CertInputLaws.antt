@@ -17,7 +17,7 @@ use Rattle.cert_json.specs.declared.refusal.CertRefusal.TheVariants as cert
 use Rattle.cert_json.specs.declared.version.Version.{Version}
 use Rattle.cert_json.specs.declared.version.Version.TheVariants as version
 use Rattle.cert_json.proofs.FormLaws.{none_from_form}
-use Rattle.run_plans.specs.Inputs.{ReadsCert, cert_input, old_cert_input}
+use Rattle.command_inputs.specs.Inputs.{ReadsCert, cert_input, old_cert_input}
 use Rattle.run_plans.proofs.PlanLaws.{ReadsOnce}
 
 -- What reading says of a value, as a function of the value.

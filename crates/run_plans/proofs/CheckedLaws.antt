@@ -9,16 +9,18 @@ use Rattle.sha2.specs.Sha256.{sha256}
 use Rattle.sporadic_model.specs.SetDef.{SetDef}
 use Rattle.protocol_names.specs.declared.ProtocolName.{ProtocolName}
 use Rattle.cert_json.specs.FileDef.{FileDef}
-use Rattle.run_plans.specs.Plans.{Answer, IsRead, IsOutcomeOf}
+use Rattle.command_inputs.specs.Known.{Answer, IsRead, told}
+use Rattle.run_plans.specs.Plans.{IsOutcomeOf}
 use Rattle.command_words.specs.Words.{Form, Analyse, Check, form_of}
 use Rattle.command_words.specs.Spelled.{analyse_words}
 use Rattle.command_words.proofs.SpelledLaws.{analyse_has_form, check_is_form}
-use Rattle.run_plans.specs.Inputs.{IsFileText, set_input}
+use Rattle.command_inputs.specs.Inputs.{IsFileText, set_input}
 use Rattle.run_plans.specs.Commands.{checked_answer, other_set_answer, plan_of}
-use Rattle.run_plans.specs.Outcome.{told, refused_words, IsOutcome}
+use Rattle.run_plans.specs.Outcome.{refused_words, IsOutcome}
 use Rattle.run_plans.specs.Headline.{Call}
 use Rattle.run_plans.specs.Run.{shelf_of, IsRun}
 use Rattle.run_plans.specs.Checked.{ChecksWhatWasWritten, ChecksForAnotherSet, Finds, FindsValid, FindsOtherSet}
+use Rattle.run_plans.proofs.PlanLaws.{same_bytes}
 use Rattle.run_plans.proofs.RunLaws.{replied, of_form}
 use Rattle.run_plans.proofs.SoundLaws.{accepted_of}
 use Rattle.run_plans.proofs.SetTextLaws.{told_reads}
@@ -58,9 +60,6 @@ check_outcome inputs later protocol name again cert text a w same short set_agai
 )
 
 -- And where another set is there, of another digest, it is that the certificate is of another set.
-pub same_bytes : (o : Option (List ℕ)) (xs ys : List ℕ) → o ≡ Some xs → o ≡ Some ys → xs ≡ ys
-same_bytes o xs ys p q = let both : Some xs ≡ Some ys = sym p ∙ q in cc
-
 other_outcome : (inputs later : Inputs) (protocol : ProtocolName) (name other cert text bytes others : List ℕ) (tasks : SetDef) (a : Answer)
     → WroteBest (told inputs) protocol name a → a.text ≡ text → bytes_of inputs name ≡ Some bytes
     → length text ≤ GREATEST_INPUT_BYTES → IsRead (told later) (set_input protocol) other others tasks → (sha256 others ≡ sha256 bytes → ⊥)

@@ -8,28 +8,29 @@ use Rattle.program_sources.specs.Valid.{IsValid}
 use Rattle.refusal_laws.specs.Steps.{StepDef}
 use Rattle.sporadic_model.specs.SetDef.{SetDef}
 use Rattle.protocol_names.specs.declared.ProtocolName.{ProtocolName}
-use Rattle.named_protocols.specs.Named.{source_of}
-use Rattle.named_protocols.proofs.Refusals.{named_none_valid}
+use Rattle.named_laws.specs.Named.{source_of}
+use Rattle.named_laws.proofs.Refusals.{named_none_valid}
 use Rattle.refusal_json.specs.Ranges.{IsWritable}
 use Rattle.command_words.specs.Words.{Refute, Confirm}
 use Rattle.command_words.proofs.SpelledLaws.{refute_has_form, confirm_is_form}
-use Rattle.run_plans.specs.Plans.{Answer, IsOutcomeOf}
-use Rattle.run_plans.specs.RefusalDef.{RefusalDef}
+use Rattle.command_inputs.specs.Known.{Answer, told}
+use Rattle.run_plans.specs.Plans.{IsOutcomeOf}
+use Rattle.command_inputs.specs.RefusalDef.{RefusalDef}
 use Rattle.run_plans.specs.Refuting.{confirmed_answer}
 use Rattle.run_plans.specs.Commands.{plan_of}
-use Rattle.run_plans.specs.Outcome.{told}
-use Rattle.run_plans.specs.Inputs.{ReadsSet, IsRefusalText}
+use Rattle.command_inputs.specs.Inputs.{ReadsSet, IsRefusalText}
 use Rattle.run_plans.specs.Headline.{Call, IsSetText, ReadsSome}
 use Rattle.run_plans.specs.Run.{IsRun}
 use Rattle.run_plans.specs.Confirmed.{ConfirmsWhatWasWritten, FindsConfirmed, ChecksAndConfirms}
 use Rattle.run_plans.proofs.InputLaws.{set_reads_once}
 use Rattle.run_plans.proofs.SetTextLaws.{reads_text}
+use Rattle.run_plans.proofs.PlanLaws.{same_bytes}
 use Rattle.run_plans.proofs.RunLaws.{of_form}
 use Rattle.run_plans.proofs.SoundLaws.{accepted_of}
 use Rattle.run_plans.proofs.RefusalInputLaws.{text_is_read}
 use Rattle.run_plans.proofs.RefusedLaws.{WroteRefusal, wrote_refusal}
 use Rattle.run_plans.proofs.WritableRefusal.{refusal_writable}
-use Rattle.run_plans.proofs.CheckedLaws.{same_bytes, one_text, gave_zero, has_form, finds}
+use Rattle.run_plans.proofs.CheckedLaws.{one_text, gave_zero, has_form, finds}
 
 -- Bytes are the text of one set.
 one_set : (p : ProtocolName) (bytes others : List ℕ) (set other : SetDef) → bytes ≡ others → IsSetText p bytes set

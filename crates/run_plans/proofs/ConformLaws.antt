@@ -11,15 +11,16 @@ use Rattle.schedule_model.specs.Keeping.{rule_number, KeepsBefore, IsFirstUnlawf
 use Rattle.schedule_model.specs.Measures.{MeasuresDef, measures_of}
 use Rattle.schedule_model.specs.declared.rule.Rule.{Rule}
 use Rattle.schedule_model.specs.declared.rule.Rule.TheVariants as rule
-use Rattle.named_protocols.specs.Named.{interference_of, rules_of}
-use Rattle.trace_conform.specs.Measured.{measure_seen, no_measure}
-use Rattle.trace_conform.specs.Conforming.{AreMeasures}
-use Rattle.trace_conform.specs.declared.measures.Measured.{Measured}
-use Rattle.run_plans.specs.Plans.{Answer}
-use Rattle.reply_texts.specs.Texts.{measures_line, measures_lines, lawful_text, broken_text}
-use Rattle.run_plans.specs.Commands.{IsConformance, conformance_of}
-use Rattle.reply_texts.proofs.Lines.{lines_same}
-use Rattle.run_plans.proofs.PlanLaws.{IsPlain, IsLawfulWork, plain_at, plain_same}
+use Rattle.named_laws.specs.Named.{interference_of, rules_of}
+use Rattle.schedule_answers.specs.TaskAnswers.{measure_seen, no_measure}
+use Rattle.schedule_answers.specs.Conforming.{AreMeasures}
+use Rattle.schedule_answers.specs.declared.judged.Measured.{Measured}
+use Rattle.command_inputs.specs.Known.{Answer}
+use Rattle.reply_texts.specs.Texts.{measures_line, measures_lines, lawful_text}
+use Rattle.run_plans.specs.Commands.{IsKept, broken_answer, lawful_answer, IsConformance, conformance_of}
+use Rattle.text_pieces.proofs.Lines.{lines_same}
+use Rattle.run_plans.proofs.PlanLaws.{IsLawfulWork}
+use Rattle.run_plans.proofs.WorkLaws.{always, always_lawful}
 
 -- A rule is known by its number.
 rule_with : ℕ → Rule
@@ -63,10 +64,7 @@ one_rule keeps w n t r s p q = elim (cases_lt (rule_number r) (rule_number s)) [
   ]
 ]
 
-abbrev pub broken_answer : ℕ → Rule → Answer
-broken_answer tick r = record { status = 1; text = broken_text tick r }
-
-pub one_broken : (keeps : Rule → Trace → ℕ → Type 0) (w : Trace) (n t u : ℕ) (r s : Rule)
+one_broken : (keeps : Rule → Trace → ℕ → Type 0) (w : Trace) (n t u : ℕ) (r s : Rule)
     → IsFirstUnlawful keeps w n t r → IsFirstUnlawful keeps w n u s → broken_answer t r ≡ broken_answer u s
 one_broken keeps w n t u r s p q =
     let ticks : t ≡ u = one_tick keeps w n t u r s p q in
@@ -74,42 +72,32 @@ one_broken keeps w n t u r s p q =
     ap (λ x. broken_answer x r) ticks ∙ ap (λ x. broken_answer u x) (one_rule keeps w n u r s p' q)
 
 -- A schedule that keeps the rules has no row that breaks one.
-pub not_both : (keeps : Rule → Trace → ℕ → Type 0) (w : Trace) (n t : ℕ) (r : Rule) → KeepsBefore keeps w n
+not_both : (keeps : Rule → Trace → ℕ → Type 0) (w : Trace) (n t : ℕ) (r : Rule) → KeepsBefore keeps w n
     → IsFirstUnlawful keeps w n t r → ⊥
 not_both keeps w n t r kept p = p.breaks.broken (kept t p.within r)
 
-one_conformance : (keeps : Rule → Trace → ℕ → Type 0) (interferes : Trace → ℕ → ℕ → Bool) (w : Trace) (n : ℕ)
-    (a b : Answer) → IsConformance keeps interferes w n a → IsConformance keeps interferes w n b → a ≡ b
-one_conformance keeps interferes w n a b (inl (kept, is)) (inl (kept', is')) = is ∙ sym is'
-one_conformance keeps interferes w n a b (inl (kept, is)) (inr (t, r, first, is')) = absurd (not_both keeps w n t r kept first)
-one_conformance keeps interferes w n a b (inr (t, r, first, is)) (inl (kept, is')) = absurd (not_both keeps w n t r kept first)
-one_conformance keeps interferes w n a b (inr (t, r, first, is)) (inr (u, s, first', is')) =
-    is ∙ one_broken keeps w n t u r s first first' ∙ sym is'
+one_kept : (keeps : Rule → Trace → ℕ → Type 0) (w : Trace) (n : ℕ) (kept a b : Answer) → IsKept keeps w n kept a
+    → IsKept keeps w n kept b → a ≡ b
+one_kept keeps w n kept a b (inl (holds, is)) (inl (holds', is')) = is ∙ sym is'
+one_kept keeps w n kept a b (inl (holds, is)) (inr (t, r, first, is')) = absurd (not_both keeps w n t r holds first)
+one_kept keeps w n kept a b (inr (t, r, first, is)) (inl (holds, is')) = absurd (not_both keeps w n t r holds first)
+one_kept keeps w n kept a b (inr (t, r, first, is)) (inr (u, s, first', is')) = is ∙ one_broken keeps w n t u r s first first' ∙ sym is'
 
-conformance_status : (keeps : Rule → Trace → ℕ → Type 0) (interferes : Trace → ℕ → ℕ → Bool) (w : Trace) (n : ℕ)
-    (a : Answer) → IsConformance keeps interferes w n a → (a.status ≡ 0) ⊎ (a.status ≡ 1)
-conformance_status keeps interferes w n a (inl (kept, is)) = inl (ap (λ x. x.status) is)
-conformance_status keeps interferes w n a (inr (t, r, first, is)) = inr (ap (λ x. x.status) is)
+kept_status : (keeps : Rule → Trace → ℕ → Type 0) (w : Trace) (n : ℕ) (kept a : Answer) → kept.status ≡ 0 → IsKept keeps w n kept a
+    → (a.status ≡ 0) ⊎ (a.status ≡ 1)
+kept_status keeps w n kept a zero (inl (holds, is)) = inl (ap (λ x. x.status) is ∙ zero)
+kept_status keeps w n kept a zero (inr (t, r, first, is)) = inr (ap (λ x. x.status) is)
 
-conformance_plain : (keeps : Rule → Trace → ℕ → Type 0) (interferes : Trace → ℕ → ℕ → Bool) (w : Trace) (n : ℕ)
-    (a : Answer) → IsConformance keeps interferes w n a → IsPlain a
-conformance_plain keeps interferes w n a (inl (kept, is)) =
-    let text = lawful_text w.set n (measures_of interferes w n) in
-    plain_same a (record { status = 0; text = text }) is (plain_at 0 text (inl (inl refl)))
-conformance_plain keeps interferes w n a (inr (t, r, first, is)) =
-    plain_same a (broken_answer t r) is (plain_at 1 (broken_text t r) (inl (inr refl)))
+pub kept_lawful : (keeps : Rule → Trace → ℕ → Type 0) (w : Trace) (n : ℕ) (kept : Answer) → kept.status ≡ 0
+    → IsLawfulWork (always (IsKept keeps w n kept))
+kept_lawful keeps w n kept zero =
+    always_lawful (IsKept keeps w n kept) (one_kept keeps w n kept) (λ a is. kept_status keeps w n kept a zero is)
 
 pub conformance_lawful : (protocol : ProtocolName) (jobs : JobsDef) (rows : RowsDef) → IsLawfulWork (conformance_of protocol jobs rows)
 conformance_lawful protocol jobs rows =
-    let keeps = rules_of protocol in
-    let interferes = interference_of protocol in
     let w = trace_in jobs rows.runs in
     let n = ticks_of rows.runs in
-    record {
-      one = one_conformance keeps interferes w n;
-      plain = conformance_plain keeps interferes w n;
-      well = λ well a is. conformance_status keeps interferes w n a is;
-    }
+    kept_lawful (rules_of protocol) w n (lawful_answer (interference_of protocol) w n) refl
 
 -- The text with the measures that were taken is that with the measures of the schedule.
 lawful_same : (set : SetDef) (n : ℕ) (f g : ℕ → MeasuresDef) → ((x : ℕ) → x < length set.tasks → f x ≡ g x)

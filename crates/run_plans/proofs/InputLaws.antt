@@ -16,7 +16,7 @@ use Rattle.taskset_json.proofs.FormRelation.{none_from_form}
 use Rattle.taskset_json.specs.Written.{set_written}
 use Rattle.taskset_json.specs.declared.refusal.SetRefusal.{SetRefusal}
 use Rattle.taskset_json.specs.declared.refusal.SetRefusal.TheVariants as refusal
-use Rattle.run_plans.specs.Inputs.{ReadsSet, set_input}
+use Rattle.command_inputs.specs.Inputs.{ReadsSet, set_input}
 use Rattle.run_plans.proofs.PlanLaws.{ReadsOnce}
 
 -- Is the answer of reading one that says something of the bytes?

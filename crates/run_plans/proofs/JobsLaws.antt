@@ -4,7 +4,7 @@ use Rattle.std.proofs.Common.{subst, arith, Option, Some, None, Ok, option_map, 
 use Rattle.std.specs.Prelude.{unwrap_or}
 use Rattle.std.specs.Option.{option_or}
 use Rattle.std.specs.List.{list_all}
-use Rattle.std.proofs.lemmas.Bool.{and_parts, lt-ltb}
+use Rattle.std.proofs.lemmas.Bool.{and_parts, lt-ltb, not-false}
 use Rattle.sporadic_model.specs.SetDef.{SetDef}
 use Rattle.sporadic_model.specs.Users.{task_with_name, resource_with_name}
 use Rattle.sporadic_model.proofs.Laws.{named_task, named_resource}
@@ -22,7 +22,7 @@ use Rattle.trace_csv.specs.JobsFile.{job_lines}
 use Rattle.trace_csv.specs.declared.refusal.JobsRefusal.{JobsRefusal}
 use Rattle.trace_csv.specs.declared.refusal.JobsRefusal.TheVariants as refusal
 use Rattle.trace_csv.proofs.JobsTaken.{taken_here}
-use Rattle.run_plans.specs.Inputs.{ReadsJobs}
+use Rattle.command_inputs.specs.Inputs.{ReadsJobs}
 
 -- ---- where nothing is refused
 
@@ -37,10 +37,6 @@ neither (Some r) b e = absurd (cc)
 unmapped : (f : JobRefusal → JobsRefusal) (o : Option JobRefusal) → option_map f o ≡ None → o ≡ None
 unmapped f None e = refl
 unmapped f (Some r) e = absurd (cc)
-
-known : (b : Bool) → not b ≡ false → b ≡ true
-known true e = refl
-known false e = absurd (cc)
 
 -- ---- the job of a line is of the set
 
@@ -77,7 +73,7 @@ fields_of_set set name arrival release script k none =
     let e = unless (not (list_all (has_known_resource set) (unwrap_or (script_in script) []))) (refusal.UnknownName k) None d.1 in
     record {
       task = task_within set name (task_with_name set name) refl c.0;
-      resources = requests_within set (unwrap_or (script_in script) []) (known _ e.0);
+      resources = requests_within set (unwrap_or (script_in script) []) (not-false _ e.0);
     }
 
 line_of_set : (set : SetDef) (line : Fields) (k : ℕ) → form_refusal set line k ≡ None → IsOfSet set (job_written set line)

@@ -10,25 +10,24 @@ use Rattle.schedule_model.specs.JobDef.{JobsDef}
 use Rattle.schedule_model.specs.RowDef.{Trace, trace_in, ticks_of}
 use Rattle.schedule_model.specs.Fitting.{RowsDef}
 use Rattle.schedule_model.specs.Keeping.{KeepsBefore}
-use Rattle.named_protocols.specs.Named.{rules_of, source_of}
-use Rattle.named_protocols.specs.Audited.{figures_under}
-use Rattle.named_protocols.proofs.FigureLaws.{proved_figures}
+use Rattle.named_laws.specs.Named.{rules_of, source_of}
+use Rattle.named_laws.specs.Audited.{figures_under}
+use Rattle.named_laws.proofs.FigureLaws.{proved_figures}
 use Rattle.reply_texts.specs.Texts.{kept_text}
 use Rattle.command_words.specs.Words.{Audit}
-use Rattle.cert_json.specs.FileDef.{FileDef}
 use Rattle.sha2.specs.Sha256.{sha256}
-use Rattle.run_plans.specs.Plans.{Answer, Known, IsRead, IsOutcomeOf}
-use Rattle.run_plans.specs.Inputs.{set_input, cert_input, jobs_input, rows_input}
+use Rattle.command_inputs.specs.Known.{Answer, Known, IsRead, shown_by}
+use Rattle.run_plans.specs.Plans.{IsOutcomeOf}
+use Rattle.command_inputs.specs.Inputs.{set_input, cert_input, jobs_input, rows_input}
 use Rattle.run_plans.specs.Commands.{kept_answer, IsAudit, IsAuditOf, plan_of}
-use Rattle.run_plans.specs.Outcome.{shown_by}
 use Rattle.run_plans.specs.Headline.{Call}
 use Rattle.run_plans.specs.Auditing.{IsProvedAudit}
 use Rattle.run_plans.specs.Run.{shelf_of, Gives}
-use Rattle.run_plans.proofs.PlanLaws.{stopped_status}
+use Rattle.run_plans.proofs.PlanLaws.{stopped_not_zero}
 use Rattle.run_plans.proofs.JobsLaws.{read_lawful}
 use Rattle.run_plans.proofs.SoundLaws.{accepted_of}
 use Rattle.run_plans.proofs.ShownLaws.{reads_valid}
-use Rattle.run_plans.proofs.TiedLaws.{tied_at_zero}
+use Rattle.run_plans.proofs.WorkLaws.{tied_at_zero}
 
 -- What the outcome of `audit` with status 0 is: the figures of a schedule that keeps the rules, beside a valid certificate.
 record FoundKept (known : Known) (protocol : ProtocolName) (name cert jobs rows : List ℕ) (a : Answer) : Type 0 where
@@ -65,14 +64,14 @@ kept_at_zero p c w n a (inr (e, fails, is)) zero =
 found_kept : (known : Known) (p : ProtocolName) (name cert jobs rows : List ℕ) (a : Answer)
     → IsOutcomeOf known (plan_of (Audit p name cert jobs rows)) a → a.status ≡ 0 → FoundKept known p name cert jobs rows a
 found_kept known p name cert jobs rows a (inl stopped) zero =
-    let three : a.status ≡ 3 = stopped_status known (set_input p) name a stopped in absurd (omega (arith, three, zero))
+    absurd (stopped_not_zero known (set_input p) name a stopped zero)
 found_kept known p name cert jobs rows a (inr (bytes, set, read, none, inl stopped)) zero =
-    let three : a.status ≡ 3 = stopped_status known (cert_input p) cert a stopped in absurd (omega (arith, three, zero))
+    absurd (stopped_not_zero known (cert_input p) cert a stopped zero)
 found_kept known p name cert jobs rows a (inr (bytes, set, read, none, inr (text, file, also, more, inl stopped))) zero =
-    let three : a.status ≡ 3 = stopped_status known (jobs_input set) jobs a stopped in absurd (omega (arith, three, zero))
+    absurd (stopped_not_zero known (jobs_input set) jobs a stopped zero)
 found_kept known p name cert jobs rows a
     (inr (bytes, set, read, none, inr (text, file, also, more, inr (jobs_bytes, list, jobs_read, yet, inl stopped)))) zero =
-    let three : a.status ≡ 3 = stopped_status known (rows_input list) rows a stopped in absurd (omega (arith, three, zero))
+    absurd (stopped_not_zero known (rows_input list) rows a stopped zero)
 found_kept known p name cert jobs rows a
     (inr (
       bytes,
@@ -93,17 +92,15 @@ found_kept known p name cert jobs rows a
         ),
       ),
     )) zero =
-    let own = tied_at_zero (sha256 bytes) file (IsAuditOf p list schedule) a tied zero in
+    let own = tied_at_zero (sha256 bytes) file.digest (IsAuditOf p list schedule file.certificate) a tied zero in
     let kept = kept_at_zero p file.certificate (trace_in list schedule.runs) (ticks_of schedule.runs) a own.1 zero in
-    let same : file ≡ record { certificate = file.certificate; digest = sha256 bytes } =
-    ap (λ (digest : List ℕ). record { certificate = file.certificate; digest = digest }) own.0 in
     record {
       bytes = bytes;
       set = set;
       read = read;
       text = text;
       certificate = file.certificate;
-      also = subst (λ (f : FileDef). IsRead known (cert_input p) cert text f) same also;
+      also = subst (λ (d : List ℕ). IsRead known (cert_input p) cert text (record { certificate = file.certificate; digest = d })) own.0 also;
       jobs_bytes = jobs_bytes;
       list = list;
       jobs_read = jobs_read;

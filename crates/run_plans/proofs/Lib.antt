@@ -1,4 +1,5 @@
 pub mod PlanLaws
+pub mod WorkLaws
 pub mod InputLaws
 pub mod TraceLaws
 pub mod ConformLaws
@@ -12,7 +13,6 @@ pub mod RefusalReplyLaws
 pub mod RunLaws
 pub mod TwiceLaws
 pub mod JudgementLaws
-pub mod TiedLaws
 pub mod CertInputLaws
 pub mod SoundLaws
 pub mod ShownLaws

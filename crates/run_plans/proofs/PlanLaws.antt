@@ -4,9 +4,10 @@ use Rattle.std.specs.Prelude.{Option, Result, IsSomeAnd, codes}
 use Rattle.outside_ports.specs.Counts.{Rose}
 use Rattle.outside_ports.specs.Names.{Inputs, bytes_of, IsNamed, IsLonger, IsAbsent}
 use Rattle.outside_ports.specs.declared.whole.TheConstants.{GREATEST_INPUT_BYTES}
-use Rattle.run_plans.specs.Plans.{Answer, Input, Work, Plan, Working, Reading, refused, Known, IsWorking, IsStopped}
-use Rattle.run_plans.specs.Plans.{IsRead, IsOutcomeOf, IsReadFaultOf, EndsWell}
-use Rattle.run_plans.specs.Outcome.{Shown, shown_by, told, IsReplyOf}
+use Rattle.command_inputs.specs.Known.{Answer, Input, refused, Known, IsStopped, IsRead, Shown, shown_by, told}
+use Rattle.run_plans.specs.Plans.{Work, Plan, Working, Reading, IsWorking}
+use Rattle.run_plans.specs.Plans.{IsOutcomeOf, IsReadFaultOf, EndsWell}
+use Rattle.run_plans.specs.Outcome.{IsReplyOf}
 
 -- Is whatever one knows also known by the other?
 pub record Implies (k l : Known) : Type 0 where
@@ -80,17 +81,31 @@ pub record IsPlain (a : Answer) : Type 0 where
   pub fault : a.status ≢ 4
   pub most : a.status ≤ 6
 
+pub plain_is : (a : Answer) (n : ℕ) → a.status ≡ n → (n ≤ 1) ⊎ ((n ≡ 3) ⊎ ((n ≡ 5) ⊎ (n ≡ 6))) → IsPlain a
+plain_is a n is (inl e) = record {
+  words = λ h. absurd (omega (arith, is, e, h));
+  fault = λ h. absurd (omega (arith, is, e, h));
+  most = omega (arith, is, e);
+}
+plain_is a n is (inr (inl e)) = record {
+  words = λ h. absurd (omega (arith, is, e, h));
+  fault = λ h. absurd (omega (arith, is, e, h));
+  most = omega (arith, is, e);
+}
+plain_is a n is (inr (inr (inl e))) = record {
+  words = λ h. absurd (omega (arith, is, e, h));
+  fault = λ h. absurd (omega (arith, is, e, h));
+  most = omega (arith, is, e);
+}
+plain_is a n is (inr (inr (inr e))) = record {
+  words = λ h. absurd (omega (arith, is, e, h));
+  fault = λ h. absurd (omega (arith, is, e, h));
+  most = omega (arith, is, e);
+}
+
 pub plain_of_status : (a : Answer) → (a.status ≡ 0) ⊎ (a.status ≡ 1) → IsPlain a
-plain_of_status a (inl zero) = record {
-  words = λ e. absurd (omega (arith, zero, e));
-  fault = λ e. absurd (omega (arith, zero, e));
-  most = omega (arith, zero);
-}
-plain_of_status a (inr one) = record {
-  words = λ e. absurd (omega (arith, one, e));
-  fault = λ e. absurd (omega (arith, one, e));
-  most = omega (arith, one);
-}
+plain_of_status a (inl zero) = plain_is a 0 zero (inl (omega arith))
+plain_of_status a (inr one) = plain_is a 1 one (inl (omega arith))
 
 pub at_most_one : (a : Answer) → (a.status ≡ 0) ⊎ (a.status ≡ 1) → a.status ≤ 1
 at_most_one a (inl zero) = omega (arith, zero)
@@ -124,7 +139,7 @@ not_longer o bytes some short longer =
 absent_not_longer : (o : Option (List ℕ)) → o ≡ None → IsSomeAnd o (λ b. GREATEST_INPUT_BYTES < length b) → ⊥
 absent_not_longer o none longer = subst (λ (x : Option (List ℕ)). IsSomeAnd x (λ b. GREATEST_INPUT_BYTES < length b)) none longer
 
-same_bytes : (o : Option (List ℕ)) (bytes other : List ℕ) → o ≡ Some bytes → o ≡ Some other → bytes ≡ other
+pub same_bytes : (o : Option (List ℕ)) (bytes other : List ℕ) → o ≡ Some bytes → o ≡ Some other → bytes ≡ other
 same_bytes o bytes other p q = let both : Some bytes ≡ Some other = sym p ∙ q in cc
 
 -- Two readings of the same bytes are one.
@@ -202,20 +217,6 @@ one_of_plan inputs (Reading input name next) lawful a b (inr (bytes, value, read
     one_of_plan inputs (next bytes value) (lawful.1 bytes value) a b out (rest_of inputs input name next bytes value b lawful.0 read other)
 
 -- The statuses of answers.
-pub plain_at : (n : ℕ) (text : List ℕ) → ((n ≡ 0) ⊎ (n ≡ 1)) ⊎ ((n ≡ 3) ⊎ ((n ≡ 5) ⊎ (n ≡ 6)))
-    → IsPlain (record { status = n; text = text })
-plain_at n text (inl (inl e)) = record { words = λ h. absurd (omega arith); fault = λ h. absurd (omega arith); most = omega arith }
-plain_at n text (inl (inr e)) = record { words = λ h. absurd (omega arith); fault = λ h. absurd (omega arith); most = omega arith }
-plain_at n text (inr (inl e)) = record { words = λ h. absurd (omega arith); fault = λ h. absurd (omega arith); most = omega arith }
-plain_at n text (inr (inr (inl e))) = record { words = λ h. absurd (omega arith); fault = λ h. absurd (omega arith); most = omega arith }
-plain_at n text (inr (inr (inr e))) = record { words = λ h. absurd (omega arith); fault = λ h. absurd (omega arith); most = omega arith }
-
-pub plain_same : (a b : Answer) → a ≡ b → IsPlain b → IsPlain a
-plain_same a b e plain = subst (λ (x : Answer). IsPlain x) (sym e) plain
-
-pub refused_plain : (word reason : List ℕ) → IsPlain (refused word reason)
-refused_plain word reason = plain_at 3 (refused word reason).text (inr (inl refl))
-
 stopped_reason : (k : Known) (input : Input) (name : List ℕ) (a : Answer) → IsStopped k input name a
     → (reason : List ℕ) × (a ≡ refused input.word reason)
 stopped_reason k input name a (inl (absent, is)) = (codes "absent", is)
@@ -225,10 +226,13 @@ stopped_reason k input name a (inr (inr (bytes, refusal, has, last, reads, is)))
 pub stopped_status : (k : Known) (input : Input) (name : List ℕ) (a : Answer) → IsStopped k input name a → a.status ≡ 3
 stopped_status k input name a stopped = ap (λ x. x.status) (stopped_reason k input name a stopped).1
 
+pub stopped_not_zero : (k : Known) (input : Input) (name : List ℕ) (a : Answer) → IsStopped k input name a → a.status ≡ 0 → ⊥
+stopped_not_zero k input name a stopped zero = absurd (omega (arith, stopped_status k input name a stopped, zero))
+
 pub plan_plain : (k : Known) (p : Plan) → IsLawful p → (a : Answer) → IsOutcomeOf k p a → IsPlain a
 plan_plain k (Working work) lawful a out = lawful.plain a out
 plan_plain k (Reading input name next) lawful a (inl stopped) =
-    let r = stopped_reason k input name a stopped in plain_same a (refused input.word r.0) r.1 (refused_plain input.word r.0)
+    plain_is a 3 (stopped_status k input name a stopped) (inr (inl refl))
 plan_plain k (Reading input name next) lawful a (inr (bytes, value, read, last, out)) =
     plan_plain k (next bytes value) (lawful.1 bytes value) a out
 

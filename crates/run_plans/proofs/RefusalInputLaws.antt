@@ -22,9 +22,9 @@ use Rattle.refusal_json.specs.Answers.{Reads}
 use Rattle.refusal_json.specs.declared.fault.ReadFault.{ReadFault}
 use Rattle.refusal_json.specs.declared.fault.ReadFault.TheVariants as fault
 use Rattle.refusal_json.proofs.ReadBack.{is_value, formed, steps-written, digest-written}
-use Rattle.named_protocols.proofs.EachName.{named_word_is_text}
-use Rattle.run_plans.specs.RefusalDef.{RefusalDef}
-use Rattle.run_plans.specs.Inputs.{IsRefusalText, ReadsRefusal, refusal_input}
+use Rattle.named_laws.proofs.EachName.{named_word_is_text}
+use Rattle.command_inputs.specs.RefusalDef.{RefusalDef}
+use Rattle.command_inputs.specs.Inputs.{IsRefusalText, ReadsRefusal, refusal_input}
 use Rattle.run_plans.proofs.PlanLaws.{ReadsOnce}
 
 -- What reading says of a value, as a function of the value.

@@ -1,23 +1,26 @@
 -- Laws of the works on refusals: each has one answer, with a status that is its own, and what status 0 says.
-use Rattle.std.proofs.Common.{◌≡◌, ℕ, ◌≤◌, List, refl, sym, ◌∙◌, ap, subst, arith, inl, inr, ◌⊎◌}
+use Rattle.std.proofs.Common.{◌≡◌, ℕ, List, refl, sym, ◌∙◌, ap, subst, arith, inl, inr}
 use Rattle.sporadic_model.specs.SetDef.{SetDef}
 use Rattle.sporadic_model.specs.Accepted.{IsAccepted}
 use Rattle.protocol_names.specs.Names.{word_of}
 use Rattle.protocol_names.specs.declared.ProtocolName.{ProtocolName}
 use Rattle.response_fixpoint.specs.Rounds.{Ending, Schedulable, NotShown, Wide, Allowance, EndsIn}
 use Rattle.refusal_laws.specs.Steps.{StepDef, Holds}
+use Rattle.refusal_confirm.specs.Faults.{IsFault}
 use Rattle.refusal_confirm.proofs.FaultLaws.{no_fault, one_fault}
+use Rattle.program_sources.specs.Recurrence.{SourceDef}
 use Rattle.refusal_cert.specs.Refuting.{refuting}
 use Rattle.refusal_cert.specs.Steps.{refusal_of}
 use Rattle.refusal_cert.proofs.OneEnding.{points_once, refuting_once, one_refusal}
 use Rattle.refusal_json.specs.Text.{refusal_text}
-use Rattle.named_protocols.specs.Named.{source_of}
-use Rattle.named_protocols.proofs.Refusals.{named_holds}
-use Rattle.run_plans.specs.Plans.{Answer}
-use Rattle.run_plans.specs.RefusalDef.{RefusalDef}
-use Rattle.run_plans.specs.Refuting.{refuting_answer, IsRefutation, refutation_of, IsConfirmation, unconfirmed_answer}
+use Rattle.named_laws.specs.Named.{source_of}
+use Rattle.named_laws.proofs.Refusals.{named_holds}
+use Rattle.command_inputs.specs.Known.{Answer}
+use Rattle.command_inputs.specs.RefusalDef.{RefusalDef}
+use Rattle.run_plans.specs.Refuting.{refuting_answer, IsRefutation, refutation_of, IsConfirmation, confirmed_answer, unconfirmed_answer}
 use Rattle.run_plans.specs.Commands.{IsTiedConfirmation, confirmation_of}
-use Rattle.run_plans.proofs.PlanLaws.{IsPlain, IsLawfulWork, plain_at, plain_same, plain_of_status, at_most_one}
+use Rattle.run_plans.proofs.PlanLaws.{IsLawfulWork}
+use Rattle.run_plans.proofs.WorkLaws.{always, fixed_lawful, judged_lawful, tied_lawful, tied_at_zero, TellsEnding, told_plain, told_well}
 
 -- ---- the rounds that refuse
 
@@ -47,52 +50,24 @@ one_refutation : (p : ProtocolName) (digest : List ℕ) (set : SetDef) (n : ℕ)
 one_refutation p digest set n a b (e, ends, is) (g, ends', is') =
     is ∙ at_same p digest set n e g (refuting_once (source_of p set) n e g ends ends') ends ends' ∙ sym is'
 
-refuting_plain : (p : ProtocolName) (digest : List ℕ) (set : SetDef) (e : Ending) (steps : List StepDef)
-    → IsPlain (refuting_answer p digest set e steps)
-refuting_plain p digest set (Schedulable bounds points) steps =
-    plain_at 1 (refuting_answer p digest set (Schedulable bounds points) steps).text (inl (inr refl))
-refuting_plain p digest set (NotShown i v) steps = plain_at 0 (refuting_answer p digest set (NotShown i v) steps).text (inl (inl refl))
-refuting_plain p digest set (Wide i) steps = plain_at 5 (refuting_answer p digest set (Wide i) steps).text (inr (inr (inl refl)))
-refuting_plain p digest set Allowance steps = plain_at 6 (refuting_answer p digest set Allowance steps).text (inr (inr (inr refl)))
+-- Its status tells how the rounds ended.
+pub refuting_tells : (p : ProtocolName) (digest : List ℕ) (set : SetDef) (e : Ending) (steps : List StepDef) (a : Answer)
+    → a ≡ refuting_answer p digest set e steps → TellsEnding e a
+refuting_tells p digest set (Schedulable bounds points) steps a is = inr (ap (λ x. x.status) is)
+refuting_tells p digest set (NotShown i v) steps a is = inl (ap (λ x. x.status) is)
+refuting_tells p digest set (Wide i) steps a is = ap (λ x. x.status) is
+refuting_tells p digest set Allowance steps a is = ap (λ x. x.status) is
 
-refuting_well : (p : ProtocolName) (digest : List ℕ) (set : SetDef) (n : ℕ) (e : Ending) (steps : List StepDef) (a : Answer)
-    → EndsIn (refuting (source_of p set)) n e → a ≡ refuting_answer p digest set e steps
-    → ((i : ℕ) → EndsIn (refuting (source_of p set)) n (Wide i) → ⊥)
-    → (EndsIn (refuting (source_of p set)) n Allowance → ⊥) → (a.status ≡ 0) ⊎ (a.status ≡ 1)
-refuting_well p digest set n (Schedulable bounds points) steps a ends is no_wide no_allowance = inr (ap (λ x. x.status) is)
-refuting_well p digest set n (NotShown i v) steps a ends is no_wide no_allowance = inl (ap (λ x. x.status) is)
-refuting_well p digest set n (Wide i) steps a ends is no_wide no_allowance = absurd (no_wide i ends)
-refuting_well p digest set n Allowance steps a ends is no_wide no_allowance = absurd (no_allowance ends)
+refutation_tells : (p : ProtocolName) (digest : List ℕ) (set : SetDef) (n : ℕ) (a : Answer) (is : IsRefutation p digest set n a)
+    → TellsEnding is.0 a
+refutation_tells p digest set n a (e, ends, is) = refuting_tells p digest set e (refusal_of (refuting (source_of p set)) n e ends) a is
 
 pub refutation_lawful : (p : ProtocolName) (digest : List ℕ) (set : SetDef) (n : ℕ) → IsLawfulWork (refutation_of p digest set n)
 refutation_lawful p digest set n = record {
   one = one_refutation p digest set n;
-  plain = λ a is. (
-      let steps : List StepDef = refusal_of (refuting (source_of p set)) n is.0 is.1 in
-      plain_same a (refuting_answer p digest set is.0 steps) is.2 (refuting_plain p digest set is.0 steps));
-  well = λ well a is. refuting_well p digest set n is.0 (refusal_of (refuting (source_of p set)) n is.0 is.1) a is.1 is.2 well.0 well.1;
+  plain = λ a is. told_plain is.0 a (refutation_tells p digest set n a is);
+  well = λ well a is. told_well (EndsIn (refuting (source_of p set)) n) is.0 a (refutation_tells p digest set n a is) is.1 well.0 well.1;
 }
-
--- It has status 5 or 6 only where the rounds end so.
-pub wide_refutation : (p : ProtocolName) (digest : List ℕ) (set : SetDef) (e : Ending) (steps : List StepDef) (a : Answer)
-    → a ≡ refuting_answer p digest set e steps → a.status ≡ 5 → (i : ℕ) × (e ≡ Wide i)
-wide_refutation p digest set (Schedulable bounds points) steps a is five =
-    let s : a.status ≡ 1 = ap (λ x. x.status) is in absurd (omega (arith, s, five))
-wide_refutation p digest set (NotShown i v) steps a is five =
-    let s : a.status ≡ 0 = ap (λ x. x.status) is in absurd (omega (arith, s, five))
-wide_refutation p digest set (Wide i) steps a is five = (i, refl)
-wide_refutation p digest set Allowance steps a is five =
-    let s : a.status ≡ 6 = ap (λ x. x.status) is in absurd (omega (arith, s, five))
-
-pub short_refutation : (p : ProtocolName) (digest : List ℕ) (set : SetDef) (e : Ending) (steps : List StepDef) (a : Answer)
-    → a ≡ refuting_answer p digest set e steps → a.status ≡ 6 → e ≡ Allowance
-short_refutation p digest set (Schedulable bounds points) steps a is six =
-    let s : a.status ≡ 1 = ap (λ x. x.status) is in absurd (omega (arith, s, six))
-short_refutation p digest set (NotShown i v) steps a is six =
-    let s : a.status ≡ 0 = ap (λ x. x.status) is in absurd (omega (arith, s, six))
-short_refutation p digest set (Wide i) steps a is six =
-    let s : a.status ≡ 5 = ap (λ x. x.status) is in absurd (omega (arith, s, six))
-short_refutation p digest set Allowance steps a is six = refl
 
 -- With status 0 it is the text of a refusal of these rounds, which holds.
 pub record RefusedSo (p : ProtocolName) (digest : List ℕ) (set : SetDef) (n : ℕ) (a : Answer) : Type 0 where
@@ -129,44 +104,26 @@ refused_at_zero p digest set n a accepted (e, ends, is) zero = refused_ending p 
 
 -- ---- judging a refusal
 
-one_confirmation : (p : ProtocolName) (set : SetDef) (steps : List StepDef) (a b : Answer) → IsConfirmation p set steps a
-    → IsConfirmation p set steps b → a ≡ b
-one_confirmation p set steps a b (inl (holds, is)) (inl (holds', is')) = is ∙ sym is'
-one_confirmation p set steps a b (inl (holds, is)) (inr (e, fault, is')) = absurd (no_fault e (source_of p set) steps fault holds)
-one_confirmation p set steps a b (inr (e, fault, is)) (inl (holds, is')) = absurd (no_fault e (source_of p set) steps fault holds)
-one_confirmation p set steps a b (inr (e, fault, is)) (inr (e', fault', is')) =
-    is ∙ ap unconfirmed_answer (one_fault e e' (source_of p set) steps fault fault') ∙ sym is'
-
-one_tied : (p : ProtocolName) (digest : List ℕ) (set : SetDef) (file : RefusalDef) (a b : Answer)
-    → IsTiedConfirmation p digest set file a → IsTiedConfirmation p digest set file b → a ≡ b
-one_tied p digest set file a b (inl (other, is)) (inl (other', is')) = is ∙ sym is'
-one_tied p digest set file a b (inl (other, is)) (inr (same, is')) = absurd (other same)
-one_tied p digest set file a b (inr (same, is)) (inl (other, is')) = absurd (other same)
-one_tied p digest set file a b (inr (same, is)) (inr (same', is')) = one_confirmation p set file.steps a b is is'
-
-tied_status : (p : ProtocolName) (digest : List ℕ) (set : SetDef) (file : RefusalDef) (a : Answer)
-    → IsTiedConfirmation p digest set file a → (a.status ≡ 0) ⊎ (a.status ≡ 1)
-tied_status p digest set file a (inl (other, is)) = inr (ap (λ x. x.status) is)
-tied_status p digest set file a (inr (same, inl (holds, is))) = inl (ap (λ x. x.status) is)
-tied_status p digest set file a (inr (same, inr (e, fault, is))) = inr (ap (λ x. x.status) is)
+own_confirmation : (p : ProtocolName) (set : SetDef) (steps : List StepDef) → IsLawfulWork (always (IsConfirmation p set steps))
+own_confirmation p set steps =
+    let f : SourceDef = source_of p set in
+    judged_lawful (Holds f steps) (λ a. a ≡ confirmed_answer) (λ e. IsFault e f steps) unconfirmed_answer
+    (fixed_lawful confirmed_answer refl) (λ e. refl) (λ e fault holds. no_fault e f steps fault holds)
+    (λ d e fault fault'. one_fault d e f steps fault fault')
 
 pub confirmation_lawful : (p : ProtocolName) (digest : List ℕ) (set : SetDef) (file : RefusalDef)
     → IsLawfulWork (confirmation_of p digest set file)
-confirmation_lawful p digest set file = record {
-  one = one_tied p digest set file;
-  plain = λ a is. plain_of_status a (tied_status p digest set file a is);
-  well = λ ends a is. tied_status p digest set file a is;
-}
-
-pub confirmation_quiet : (p : ProtocolName) (digest : List ℕ) (set : SetDef) (file : RefusalDef) (a : Answer)
-    → IsTiedConfirmation p digest set file a → a.status ≤ 1
-confirmation_quiet p digest set file a is = at_most_one a (tied_status p digest set file a is)
+confirmation_lawful p digest set file =
+    tied_lawful digest file.digest (IsConfirmation p set file.steps) (own_confirmation p set file.steps)
 
 -- With status 0 the refusal is of the set, and holds.
+holds_at_zero : (p : ProtocolName) (set : SetDef) (steps : List StepDef) (a : Answer) → IsConfirmation p set steps a → a.status ≡ 0
+    → Holds (source_of p set) steps
+holds_at_zero p set steps a (inl (holds, is)) zero = holds
+holds_at_zero p set steps a (inr (e, fault, is)) zero = let one : a.status ≡ 1 = ap (λ x. x.status) is in absurd (omega (arith, one, zero))
+
 pub confirmed_at_zero : (p : ProtocolName) (digest : List ℕ) (set : SetDef) (file : RefusalDef) (a : Answer)
     → IsTiedConfirmation p digest set file a → a.status ≡ 0 → (file.digest ≡ digest) × Holds (source_of p set) file.steps
-confirmed_at_zero p digest set file a (inl (other, is)) zero =
-    let s : a.status ≡ 1 = ap (λ x. x.status) is in absurd (omega (arith, s, zero))
-confirmed_at_zero p digest set file a (inr (same, inl (holds, is))) zero = (same, holds)
-confirmed_at_zero p digest set file a (inr (same, inr (e, fault, is))) zero =
-    let s : a.status ≡ 1 = ap (λ x. x.status) is in absurd (omega (arith, s, zero))
+confirmed_at_zero p digest set file a tied zero =
+    let own = tied_at_zero digest file.digest (IsConfirmation p set file.steps) a tied zero in
+    (own.0, holds_at_zero p set file.steps a own.1 zero)

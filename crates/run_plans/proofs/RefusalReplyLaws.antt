@@ -13,12 +13,12 @@ use Rattle.refusal_cert.specs.declared.answer.RefuteStop.{RefuteStop}
 use Rattle.refusal_cert.specs.declared.answer.RefuteStop.TheVariants as stop
 use Rattle.refusal_json.specs.Ranges.{HasSmallPoints}
 use Rattle.refusal_json.specs.Text.{refusal_text}
-use Rattle.named_protocols.specs.Named.{source_of}
-use Rattle.run_plans.specs.Plans.{Answer}
+use Rattle.named_laws.specs.Named.{source_of}
+use Rattle.command_inputs.specs.Known.{Answer}
 use Rattle.run_plans.specs.Refuting.{IsRefutation}
-use Rattle.run_plans.specs.Replies.{reply_seen}
+use Rattle.command_inputs.specs.Halts.{reply_seen}
 use Rattle.run_plans.specs.RefusalReplies.{NamesWide, RepliesToRefutation}
-use Rattle.run_plans.specs.declared.halt.Reply.{Reply}
+use Rattle.command_inputs.specs.declared.halt.Reply.{Reply}
 
 refutation_of_answer : (p : ProtocolName) (digest : List ℕ) (set : SetDef) (n : ℕ) (r : Result Refutation RefuteStop) (a : Answer)
     → Refutes r (source_of p set) n → RepliesToRefutation p digest set r a → IsRefutation p digest set n a

@@ -1,22 +1,22 @@
 -- What status 0 of `refute` and of `confirm` says, whatever is known of the inputs.
-use Rattle.std.proofs.Common.{◌≡◌, ℕ, List, ap, subst, arith, inl, inr}
+use Rattle.std.proofs.Common.{◌≡◌, ℕ, List, subst, arith, inl, inr}
 use Rattle.std.specs.Io.KnownBytes.{Appends}
 use Rattle.sha2.specs.Sha256.{sha256}
 use Rattle.sporadic_model.specs.SetDef.{SetDef}
 use Rattle.protocol_names.specs.declared.ProtocolName.{ProtocolName}
 use Rattle.refusal_laws.specs.Steps.{StepDef, Holds}
-use Rattle.named_protocols.specs.Named.{source_of}
-use Rattle.named_protocols.proofs.Refusals.{named_none_fits}
+use Rattle.named_laws.specs.Named.{source_of}
+use Rattle.named_laws.proofs.Refusals.{named_none_fits}
 use Rattle.command_words.specs.Words.{Refute, Confirm}
-use Rattle.run_plans.specs.Plans.{Answer, Known, IsRead, IsOutcomeOf}
-use Rattle.run_plans.specs.RefusalDef.{RefusalDef}
-use Rattle.run_plans.specs.Inputs.{set_input, refusal_input}
+use Rattle.command_inputs.specs.Known.{Answer, Known, IsRead}
+use Rattle.run_plans.specs.Plans.{IsOutcomeOf}
+use Rattle.command_inputs.specs.Inputs.{set_input, refusal_input}
 use Rattle.run_plans.specs.Commands.{plan_of}
-use Rattle.run_plans.specs.Outcome.{shown_by}
+use Rattle.command_inputs.specs.Known.{shown_by}
 use Rattle.run_plans.specs.Headline.{Call}
 use Rattle.run_plans.specs.Refused.{IsProvedRefutation, ReadsHolding, IsProvedConfirmation}
 use Rattle.run_plans.specs.Run.{shelf_of, Gives}
-use Rattle.run_plans.proofs.PlanLaws.{stopped_status}
+use Rattle.run_plans.proofs.PlanLaws.{stopped_not_zero}
 use Rattle.run_plans.proofs.SoundLaws.{accepted_of}
 use Rattle.run_plans.proofs.ShownLaws.{some_read}
 use Rattle.run_plans.proofs.RefusalLaws.{RefusedSo, refused_at_zero, confirmed_at_zero}
@@ -32,7 +32,7 @@ pub record WroteRefusal (known : Known) (protocol : ProtocolName) (name : List �
 pub wrote_refusal : (known : Known) (protocol : ProtocolName) (name : List ℕ) (allowance : ℕ) (a : Answer)
     → IsOutcomeOf known (plan_of (Refute protocol name allowance)) a → a.status ≡ 0 → WroteRefusal known protocol name allowance a
 wrote_refusal known protocol name allowance a (inl stopped) zero =
-    let three : a.status ≡ 3 = stopped_status known (set_input protocol) name a stopped in absurd (omega (arith, three, zero))
+    absurd (stopped_not_zero known (set_input protocol) name a stopped zero)
 wrote_refusal known protocol name allowance a (inr (bytes, set, read, last, is)) zero = record {
   bytes = bytes;
   set = set;
@@ -71,20 +71,18 @@ record FoundHolding (known : Known) (protocol : ProtocolName) (name cert : List 
 found_holding : (known : Known) (protocol : ProtocolName) (name cert : List ℕ) (a : Answer)
     → IsOutcomeOf known (plan_of (Confirm protocol name cert)) a → a.status ≡ 0 → FoundHolding known protocol name cert
 found_holding known protocol name cert a (inl stopped) zero =
-    let three : a.status ≡ 3 = stopped_status known (set_input protocol) name a stopped in absurd (omega (arith, three, zero))
+    absurd (stopped_not_zero known (set_input protocol) name a stopped zero)
 found_holding known protocol name cert a (inr (bytes, set, read, none, inl stopped)) zero =
-    let three : a.status ≡ 3 = stopped_status known (refusal_input protocol) cert a stopped in absurd (omega (arith, three, zero))
+    absurd (stopped_not_zero known (refusal_input protocol) cert a stopped zero)
 found_holding known protocol name cert a (inr (bytes, set, read, none, inr (text, file, also, last, tied))) zero =
     let own = confirmed_at_zero protocol (sha256 bytes) set file a tied zero in
-    let same : file ≡ record { steps = file.steps; digest = sha256 bytes } =
-    ap (λ (digest : List ℕ). record { steps = file.steps; digest = digest }) own.0 in
     record {
       bytes = bytes;
       set = set;
       read = read;
       text = text;
       steps = file.steps;
-      also = subst (λ (f : RefusalDef). IsRead known (refusal_input protocol) cert text f) same also;
+      also = subst (λ (d : List ℕ). IsRead known (refusal_input protocol) cert text (record { steps = file.steps; digest = d })) own.0 also;
       last = last tt;
       holds = own.1;
     }

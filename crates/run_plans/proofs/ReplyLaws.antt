@@ -6,22 +6,25 @@ use Rattle.program_form.specs.Certificate.{dual_seen}
 use Rattle.sporadic_model.specs.SetDef.{SetDef}
 use Rattle.protocol_names.specs.declared.ProtocolName.{ProtocolName}
 use Rattle.response_fixpoint.specs.Rounds.{Schedulable, NotShown, Wide, Allowance}
-use Rattle.named_protocols.specs.Named.{source_of}
+use Rattle.named_laws.specs.Named.{source_of}
 use Rattle.response_fixpoint.specs.Answers.{Answers}
 use Rattle.response_fixpoint.specs.declared.verdict.Verdict.{Verdict}
 use Rattle.response_fixpoint.specs.declared.verdict.Verdict.TheVariants as verdict
 use Rattle.response_fixpoint.specs.declared.verdict.Stop.{Stop}
 use Rattle.response_fixpoint.specs.declared.verdict.Stop.TheVariants as stop
-use Rattle.run_plans.specs.Plans.{Answer, Input, Work, Plan, Working, Reading, IsWorking, IsOutcomeOf}
+use Rattle.command_inputs.specs.Known.{Answer, Input, Shown, shown, shown_by}
+use Rattle.run_plans.specs.Plans.{Work, Plan, Working, Reading, IsWorking, IsOutcomeOf}
 use Rattle.sha2.specs.Sha256.{sha256}
-use Rattle.run_plans.specs.Inputs.{set_input}
+use Rattle.command_inputs.specs.Inputs.{set_input}
 use Rattle.run_plans.specs.Commands.{IsAnalysis}
-use Rattle.run_plans.specs.Outcome.{Shown, shown, shown_by, IsReplyOf}
-use Rattle.run_plans.specs.Replies.{reply_seen, HaltsWith, Answered, IsUngot, IsGiven, IsGotTied, AnswersPlan, Keeps, RepliesTo}
+use Rattle.run_plans.specs.Outcome.{IsReplyOf}
+use Rattle.command_inputs.specs.Got.{IsUngot, IsGiven, IsGotTied, Keeps}
+use Rattle.command_inputs.specs.Halts.{reply_seen, HaltsWith, Answered}
+use Rattle.run_plans.specs.Replies.{AnswersPlan, RepliesTo}
 use Rattle.run_plans.specs.Reached.{NamesTask}
-use Rattle.run_plans.specs.declared.halt.Reply.{Reply}
-use Rattle.run_plans.specs.declared.halt.Halt.{Halt}
-use Rattle.run_plans.specs.declared.halt.Halt.TheVariants as halt
+use Rattle.command_inputs.specs.declared.halt.Reply.{Reply}
+use Rattle.command_inputs.specs.declared.halt.Halt.{Halt}
+use Rattle.command_inputs.specs.declared.halt.Halt.TheVariants as halt
 use Rattle.run_plans.proofs.PlanLaws.{then_reply}
 
 -- What is said of a halt may be said in other words.

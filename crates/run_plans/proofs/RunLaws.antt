@@ -11,24 +11,26 @@ use Rattle.sporadic_model.specs.Accepted.{IsAccepted}
 use Rattle.protocol_names.specs.declared.ProtocolName.{ProtocolName}
 use Rattle.response_fixpoint.specs.Rounds.{Ending, Schedulable, NotShown, Wide, Allowance, EndsIn}
 use Rattle.response_fixpoint.specs.Runs.{rounds_of, RequestsNothing}
-use Rattle.named_protocols.specs.Named.{source_of}
+use Rattle.named_laws.specs.Named.{source_of}
 use Rattle.response_fixpoint.proofs.EndLaws.{schedulable_best, not_shown_none}
-use Rattle.named_protocols.proofs.EachName.{named_above, named_no_columns}
+use Rattle.named_laws.proofs.EachName.{named_above, named_no_columns}
 use Rattle.response_fixpoint.proofs.RunLaws.{rounds_never_wide}
 use Rattle.program_sources.specs.Fitting.{AreFitting}
-use Rattle.run_plans.specs.Plans.{Answer, Working, refused, IsWorking, IsOutcomeOf}
+use Rattle.command_inputs.specs.Known.{Answer, refused, Shown, shown_by, told}
+use Rattle.run_plans.specs.Plans.{Working, IsWorking, IsOutcomeOf}
 use Rattle.command_words.specs.Words.{Form, Analyse, Refute, Check, Confirm, Audit, form_of}
 use Rattle.command_words.specs.Spelled.{analyse_words, refute_words, check_words, confirm_words}
 use Rattle.command_words.proofs.SpelledLaws.{analyse_has_form, analyse_is_form, refute_has_form, check_is_form, confirm_is_form}
 use Rattle.command_words.proofs.SpelledLaws.{audit_is_form}
-use Rattle.run_plans.specs.Inputs.{set_input}
+use Rattle.command_inputs.specs.Inputs.{set_input}
 use Rattle.run_plans.specs.Commands.{ending_answer, IsAnalysis, analysis_of, plan_of}
-use Rattle.run_plans.specs.Outcome.{Shown, shown_by, told, refused_words, IsOutcome, IsReplyOf, IsReply}
+use Rattle.run_plans.specs.Outcome.{refused_words, IsOutcome, IsReplyOf, IsReply}
 use Rattle.run_plans.specs.Headline.{Call, RanOut, WritesSchedulable, Analyses, IsHeadline, IsProvedAnalysis, IsProvedCheck}
 use Rattle.run_plans.specs.Run.{shelf_of, Gives, FailsToWrite, Replies, GivesOutcome, IsRun, RoundsEnd, IsWideEnding, IsAllowanceEnding}
 use Rattle.run_plans.proofs.PlanLaws.{told_implied, outcome_implied, rest_of, one_of_plan, plan_plain, plan_well, plan_longer, fault_status}
 use Rattle.run_plans.proofs.InputLaws.{set_reads_once}
-use Rattle.run_plans.proofs.CommandLaws.{lawful, wide_ending, only_wide, only_short}
+use Rattle.run_plans.proofs.CommandLaws.{lawful, ending_tells, only_wide, only_short}
+use Rattle.run_plans.proofs.WorkLaws.{told_wide}
 use Rattle.run_plans.proofs.SoundLaws.{sound_outcome}
 use Rattle.run_plans.proofs.ShownLaws.{best_writes, proved_analysis, bounded_analysis, proved_check}
 use Rattle.run_plans.proofs.BoundLaws.{check_bounds}
@@ -187,7 +189,7 @@ headline_of call protocol digest set n a accepted e gives = record {
 -- An analysis of a set that requests nothing is never wide.
 never_five : (protocol : ProtocolName) (digest : List ℕ) (set : SetDef) (n : ℕ) (a : Answer) → Ended protocol digest set n a → RequestsNothing set → a.status ≡ 5 → ⊥
 never_five protocol digest set n a e nothing five =
-    let wide = wide_ending protocol digest set e.ending a e.is five in
+    let wide = told_wide e.ending a (ending_tells protocol digest set e.ending a e.is) five in
     rounds_never_wide (source_of protocol set) n wide.0 (named_no_columns protocol set nothing)
     (subst (λ (x : Ending). EndsIn (rounds_of (source_of protocol set)) n x) wide.1 e.ends)
 

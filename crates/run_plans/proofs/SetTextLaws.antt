@@ -15,9 +15,8 @@ use Rattle.sporadic_model.specs.declared.ids.Protocol.TheVariants as protocol
 use Rattle.taskset_json.specs.Answers.{first_homeless}
 use Rattle.taskset_json.proofs.Lists.{position_none}
 use Rattle.outside_ports.specs.Names.{Inputs, IsNamed}
-use Rattle.run_plans.specs.Plans.{IsRead}
-use Rattle.run_plans.specs.Inputs.{ReadsSet, set_input}
-use Rattle.run_plans.specs.Outcome.{told}
+use Rattle.command_inputs.specs.Known.{IsRead, told}
+use Rattle.command_inputs.specs.Inputs.{ReadsSet, set_input}
 use Rattle.run_plans.specs.Headline.{Call, IsSetText, ReadsSome}
 
 not_missing : (o : Option ℕ) → IsSome o → is_none o ≡ false

@@ -8,25 +8,25 @@ use Rattle.sporadic_model.specs.Accepted.{IsAccepted}
 use Rattle.protocol_names.specs.declared.ProtocolName.{ProtocolName}
 use Rattle.response_fixpoint.specs.Rounds.{Ending, Schedulable, NotShown, Wide, Allowance, EndsIn}
 use Rattle.response_fixpoint.specs.Runs.{rounds_of}
-use Rattle.named_protocols.specs.Named.{source_of}
+use Rattle.named_laws.specs.Named.{source_of}
 use Rattle.response_fixpoint.specs.Answers.{IsBest}
 use Rattle.response_fixpoint.proofs.EndLaws.{schedulable_best}
-use Rattle.named_protocols.proofs.EachName.{named_above, named_sound}
+use Rattle.named_laws.proofs.EachName.{named_above, named_sound}
 use Rattle.cert_json.specs.Text.{certificate_text}
 use Rattle.protocol_names.specs.Names.{word_of}
 use Rattle.command_words.specs.Words.{Analyse, Check}
 use Rattle.sha2.specs.Sha256.{sha256}
-use Rattle.cert_json.specs.FileDef.{FileDef}
-use Rattle.run_plans.specs.Plans.{Answer, Known, IsRead, IsOutcomeOf}
-use Rattle.run_plans.specs.Inputs.{set_input, cert_input}
+use Rattle.command_inputs.specs.Known.{Answer, Known, IsRead}
+use Rattle.run_plans.specs.Plans.{IsOutcomeOf}
+use Rattle.command_inputs.specs.Inputs.{set_input, cert_input}
 use Rattle.run_plans.specs.Commands.{ending_answer, IsCheck, plan_of}
-use Rattle.run_plans.specs.Outcome.{shown_by}
+use Rattle.command_inputs.specs.Known.{shown_by}
 use Rattle.run_plans.specs.Headline.{Call, WritesSchedulable, ReadsSome, ReadsValid, IsProvedAnalysis, IsProvedCheck}
 use Rattle.run_plans.specs.Bounding.{ListsBounds}
 use Rattle.run_plans.specs.Run.{shelf_of, Gives}
-use Rattle.run_plans.proofs.PlanLaws.{stopped_status}
+use Rattle.run_plans.proofs.PlanLaws.{stopped_not_zero}
 use Rattle.run_plans.proofs.SoundLaws.{accepted_of, valid_at_zero}
-use Rattle.run_plans.proofs.TiedLaws.{tied_at_zero}
+use Rattle.run_plans.proofs.WorkLaws.{tied_at_zero}
 use Rattle.run_plans.proofs.SetTextLaws.{is_text}
 use Rattle.run_plans.proofs.BoundLaws.{analysis_bounds}
 
@@ -58,7 +58,7 @@ pub wrote_best : (known : Known) (protocol : ProtocolName) (name : List ℕ) (al
     → IsOutcomeOf known (plan_of (Analyse protocol name allowance)) a
     → a.status ≡ 0 → WroteBest known protocol name a
 wrote_best known protocol name allowance a (inl stopped) zero =
-    let three : a.status ≡ 3 = stopped_status known (set_input protocol) name a stopped in absurd (omega (arith, three, zero))
+    absurd (stopped_not_zero known (set_input protocol) name a stopped zero)
 wrote_best known protocol name allowance a (inr (bytes, set, read, last, (e, ends, is))) zero =
     let end = schedulable_ending protocol (sha256 bytes) set e a is zero in
     let schedulable : EndsIn (rounds_of (source_of protocol set)) allowance (Schedulable end.bounds end.duals) =
@@ -87,20 +87,18 @@ record FoundValid (known : Known) (protocol : ProtocolName) (name cert : List �
 found_valid : (known : Known) (protocol : ProtocolName) (name cert : List ℕ) (a : Answer)
     → IsOutcomeOf known (plan_of (Check protocol name cert)) a → a.status ≡ 0 → FoundValid known protocol name cert
 found_valid known protocol name cert a (inl stopped) zero =
-    let three : a.status ≡ 3 = stopped_status known (set_input protocol) name a stopped in absurd (omega (arith, three, zero))
+    absurd (stopped_not_zero known (set_input protocol) name a stopped zero)
 found_valid known protocol name cert a (inr (bytes, set, read, none, inl stopped)) zero =
-    let three : a.status ≡ 3 = stopped_status known (cert_input protocol) cert a stopped in absurd (omega (arith, three, zero))
+    absurd (stopped_not_zero known (cert_input protocol) cert a stopped zero)
 found_valid known protocol name cert a (inr (bytes, set, read, none, inr (text, file, also, last, tied))) zero =
-    let own = tied_at_zero (sha256 bytes) file (IsCheck protocol set) a tied zero in
-    let same : file ≡ record { certificate = file.certificate; digest = sha256 bytes } =
-    ap (λ (digest : List ℕ). record { certificate = file.certificate; digest = digest }) own.0 in
+    let own = tied_at_zero (sha256 bytes) file.digest (IsCheck protocol set file.certificate) a tied zero in
     record {
       bytes = bytes;
       set = set;
       read = read;
       text = text;
       certificate = file.certificate;
-      also = subst (λ (f : FileDef). IsRead known (cert_input protocol) cert text f) same also;
+      also = subst (λ (d : List ℕ). IsRead known (cert_input protocol) cert text (record { certificate = file.certificate; digest = d })) own.0 also;
       last = last tt;
       valid = valid_at_zero protocol set file.certificate a own.1 zero;
     }

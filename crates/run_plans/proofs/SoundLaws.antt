@@ -6,18 +6,19 @@ use Rattle.sporadic_model.specs.SetDef.{SetDef}
 use Rattle.sporadic_model.specs.Accepted.{IsAccepted}
 use Rattle.protocol_names.specs.declared.ProtocolName.{ProtocolName}
 use Rattle.soundness_laws.specs.Analyses.{AreValues}
-use Rattle.named_protocols.proofs.EachName.{named_sound}
-use Rattle.named_protocols.specs.Named.{SoundUnder, source_of}
-use Rattle.run_plans.specs.Plans.{Answer, Working, IsOutcomeOf}
+use Rattle.named_laws.proofs.EachName.{named_sound}
+use Rattle.named_laws.specs.Named.{SoundUnder, source_of}
+use Rattle.command_inputs.specs.Known.{Answer}
+use Rattle.run_plans.specs.Plans.{Working, IsOutcomeOf}
 use Rattle.command_words.specs.Words.{Check}
-use Rattle.run_plans.specs.Inputs.{ReadsSet, set_input, cert_input}
+use Rattle.command_inputs.specs.Inputs.{ReadsSet, set_input, cert_input}
 use Rattle.run_plans.specs.Commands.{IsJudgement, IfTied, IsCheck, checked_answer, check_of, with_certificate, plan_of}
-use Rattle.run_plans.specs.Outcome.{told}
+use Rattle.command_inputs.specs.Known.{told}
 use Rattle.run_plans.specs.Headline.{Call, Checks}
 use Rattle.run_plans.proofs.PlanLaws.{rest_of}
 use Rattle.run_plans.proofs.InputLaws.{set_reads_once}
 use Rattle.run_plans.proofs.CertInputLaws.{cert_reads_once}
-use Rattle.run_plans.proofs.TiedLaws.{tied_at_zero}
+use Rattle.run_plans.proofs.WorkLaws.{tied_at_zero}
 use Rattle.cert_json.specs.FileDef.{FileDef}
 use Rattle.sha2.specs.Sha256.{sha256}
 use Rattle.run_plans.proofs.SetTextLaws.{told_reads}
@@ -46,5 +47,5 @@ sound_outcome call p set c checks a out zero values are =
     let tied : IfTied digest file (IsCheck p set) a =
     rest_of checks.inputs (cert_input p) checks.cert (λ bytes d. Working (check_of p digest set d)) checks.bytes file a
     (cert_reads_once p) ((checks.named, checks.short), checks.reads) later in
-    let judged : IsJudgement p set c checked_answer a = (tied_at_zero digest file (IsCheck p set) a tied zero).1 in
+    let judged : IsJudgement p set c checked_answer a = (tied_at_zero digest checks.digest (IsCheck p set c) a tied zero).1 in
     named_sound p set c values read.text.accepted (valid_at_zero p set c a judged zero) are

@@ -1,20 +1,16 @@
 -- Laws of studies: there is one answer, with status 0.
-use Rattle.std.proofs.Common.{◌≡◌, ℕ, zero, suc, ◌<◌, ◌≤◌, List, [], ◌++◌, codes, decimal, refl, sym, ◌∙◌, ap, arith, inl}
+use Rattle.std.proofs.Common.{◌≡◌, ℕ, List, [], ◌++◌, codes, decimal, refl, sym, ◌∙◌, ap, inl}
 use Rattle.std.specs.Prelude.{slice_index, slice_index_or}
 use Rattle.bounded_sums.specs.Sums.{collect_below}
 use Rattle.study_gen.specs.Counts.{IsStudy}
 use Rattle.study_gen.specs.declared.counting.StudyCounts.{StudyCounts}
 use Rattle.study_gen.proofs.OneStudy.{step_once, stopped_is_one}
 use Rattle.reply_texts.specs.Texts.{step_line, study_text}
-use Rattle.run_plans.specs.Plans.{Answer}
+use Rattle.text_pieces.proofs.Lines.{lines_same}
+use Rattle.command_inputs.specs.Known.{Answer}
 use Rattle.run_plans.specs.Commands.{IsStudyAnswer, study_of}
-use Rattle.run_plans.proofs.PlanLaws.{IsPlain, IsLawfulWork, plain_at, plain_same}
-
--- Lines that agree are the same text.
-same_lines : (n : ℕ) (f g : ℕ → List ℕ) → ((i : ℕ) → i < n → f i ≡ g i) → collect_below n f ≡ collect_below n g
-same_lines zero f g same = refl
-same_lines (suc n) f g same =
-    ap (λ l. l ++ f n) (same_lines n f g (λ i here. same i (omega (arith, here)))) ∙ ap (λ l. collect_below n g ++ l) (same n (omega arith))
+use Rattle.run_plans.proofs.PlanLaws.{IsLawfulWork}
+use Rattle.run_plans.proofs.WorkLaws.{always_lawful}
 
 same_line : (i : ℕ) (r s : List ℕ) → slice_index r 0 ≡ slice_index s 0 → slice_index r 1 ≡ slice_index s 1
     → slice_index r 2 ≡ slice_index s 2 → step_line i r ≡ step_line i s
@@ -25,7 +21,7 @@ same_text : (seed sets : ℕ) (c d : StudyCounts) → IsStudy seed sets c → Is
 same_text seed sets c d p q =
     let f : ℕ → List ℕ = λ i. step_line i (slice_index_or c.counts.items i []) in
     let g : ℕ → List ℕ = λ i. step_line i (slice_index_or d.counts.items i []) in
-    let lines : collect_below 8 f ≡ collect_below 8 g = same_lines 8 f g (λ i here.
+    let lines : collect_below 8 f ≡ collect_below 8 g = lines_same f g 8 (λ i here.
     let same = step_once seed sets c d p q i here in
     same_line i (slice_index_or c.counts.items i []) (slice_index_or d.counts.items i []) same.0 same.1 same.2) in
     ap (λ l. codes "step mpcp fmlp+ dpcp\n" ++ (l ++ (codes "stopped " ++ (decimal c.stopped ++ codes "\n")))) lines
@@ -35,17 +31,5 @@ same_text seed sets c d p q =
 one_study : (seed sets : ℕ) (a b : Answer) → IsStudyAnswer seed sets a → IsStudyAnswer seed sets b → a ≡ b
 one_study seed sets a b (c, p, is) (d, q, is') = is ∙ ap (λ t. record { status = 0; text = t }) (same_text seed sets c d p q) ∙ sym is'
 
-study_plain : (seed sets : ℕ) (a : Answer) → IsStudyAnswer seed sets a → IsPlain a
-study_plain seed sets a (c, p, is) =
-    let text = study_text c.counts.items c.stopped in
-    plain_same a (record { status = 0; text = text }) is (plain_at 0 text (inl (inl refl)))
-
 pub study_lawful : (seed sets : ℕ) → IsLawfulWork (study_of seed sets)
-study_lawful seed sets = record {
-  one = one_study seed sets;
-  plain = study_plain seed sets;
-  well = λ well a is. inl (ap (λ x. x.status) is.2);
-}
-
-pub study_quiet : (seed sets : ℕ) (a : Answer) → IsStudyAnswer seed sets a → a.status ≤ 1
-study_quiet seed sets a (c, p, is) = omega (arith, ap (λ x. x.status) is)
+study_lawful seed sets = always_lawful (IsStudyAnswer seed sets) (one_study seed sets) (λ a is. inl (ap (λ x. x.status) is.2))

@@ -15,7 +15,7 @@ use Rattle.trace_csv.specs.declared.refusal.JobsRefusal.{JobsRefusal}
 use Rattle.trace_csv.specs.declared.refusal.JobsRefusal.TheVariants as jobs
 use Rattle.trace_csv.specs.declared.refusal.RowsRefusal.{RowsRefusal}
 use Rattle.trace_csv.specs.declared.refusal.RowsRefusal.TheVariants as rows
-use Rattle.run_plans.specs.Inputs.{ReadsJobs, jobs_input, ReadsRows, rows_input}
+use Rattle.command_inputs.specs.Inputs.{ReadsJobs, jobs_input, ReadsRows, rows_input}
 use Rattle.run_plans.proofs.PlanLaws.{ReadsOnce}
 
 -- One refusal is not none, and the first refusal is one.

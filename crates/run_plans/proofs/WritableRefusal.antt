@@ -1,6 +1,6 @@
 -- A refusal that the rounds give can be written: its tasks and values have 64 bits, and its points are small.
-use Rattle.std.proofs.Common.{◌≡◌, ℕ, ℤ, zero, suc, ◌+◌, ◌-◌, ◌*◌, ◌/◌, ◌^◌, ◌<◌, ◌≤◌, Bool, true, false}
-use Rattle.std.proofs.Common.{List, [], ◌∷◌, ◌++◌, length, sym, ◌∙◌, ap, subst, arith, inl, inr}
+use Rattle.std.proofs.Common.{◌≡◌, ℕ, zero, suc, ◌+◌, ◌-◌, ◌*◌, ◌/◌, ◌^◌, ◌<◌, ◌≤◌}
+use Rattle.std.proofs.Common.{List, [], ◌∷◌, ◌++◌, length, sym, ap, subst, arith, inl, inr}
 use Rattle.std.specs.Prelude.{slice_index, neg_ℤ, unsigned_abs}
 use Rattle.std.proofs.Math.Nat.{div-le_self, mul-le-mul_left}
 use Rattle.std.proofs.lemmas.Bool.{cases_lt}
@@ -19,9 +19,11 @@ use Rattle.exchange_runs.proofs.Once.{forms}
 use Rattle.exchange_runs.proofs.Finals.{ends_at_optimum}
 use Rattle.sporadic_model.specs.SetDef.{SetDef, task_at, is_higher_local, jobs_within, latest_bound}
 use Rattle.sporadic_model.specs.Accepted.{IsAccepted, TaskNumbers}
+use Rattle.sporadic_model.proofs.Laws.{numbers_of_accepted, sizes_of_accepted}
 use Rattle.sporadic_model.specs.declared.ids.Protocol.TheVariants as protocol
 use Rattle.program_sources.specs.Recurrence.{SourceDef, interference_of, interference_by}
 use Rattle.program_sources.specs.Valid.{dual_at}
+use Rattle.program_laws.proofs.SmallNumbers.{only_if_small}
 use Rattle.program_laws.proofs.WrittenPrograms.{interfering_most}
 use Rattle.spin_charging.proofs.SpinPrograms.{cost_most}
 use Rattle.response_fixpoint.specs.Rounds.{NotShown, Valued, Found, Reaches, Passes, EndsIn}
@@ -36,7 +38,7 @@ use Rattle.cert_json.specs.Ranges.{IsSmallDual}
 use Rattle.refusal_json.specs.Ranges.{IsWritableStep, IsWritable}
 use Rattle.protocol_names.specs.declared.ProtocolName.{ProtocolName}
 use Rattle.protocol_names.specs.declared.ProtocolName.TheVariants as name
-use Rattle.named_protocols.specs.Named.{source_of}
+use Rattle.named_laws.specs.Named.{source_of}
 
 -- ---- points
 
@@ -49,18 +51,15 @@ small_point best point w = record {
 
 -- ---- values
 
-abs_neg : (n : ℤ) → unsigned_abs (neg_ℤ n) ≡ unsigned_abs n
-abs_neg n = omega (arith, ints)
-
 -- The whole part of an optimum that a run ends at has 63 bits.
 small_optimum : (p : ProgramDef) (left k : ℕ) (value : Fraction) (best : List Fraction) (d : DualDef)
     (is : EndsWithin p left k value best d)
     → IsForm (is.table.cell (height p) (variables p)) → unsigned_abs value.num < 2 ^ 63
 small_optimum p left k value best d is form =
     let cell : Fraction = is.table.cell (height p) (variables p) in
-    let same : unsigned_abs value.num ≡ unsigned_abs cell.num =
-    ap (λ (f : Fraction). unsigned_abs f.num) is.read_off.is_value ∙ abs_neg cell.num in
-    omega (arith, same, form.small_num)
+    let same : unsigned_abs value.num ≡ unsigned_abs (neg_ℤ cell.num) =
+    ap (λ (f : Fraction). unsigned_abs f.num) is.read_off.is_value in
+    omega (arith, ints, same, form.small_num)
 
 -- How many ticks do jobs of a higher task count for? At most those of three of the greatest periods.
 one_task_small : (window bound period cost : ℕ) → 1 ≤ period → cost ≤ period → window ≤ 1000000000 → bound ≤ 1000000000
@@ -70,18 +69,6 @@ one_task_small window bound period cost some within w b p =
     let times = div_ceil_times (window + bound) period some in
     let more : jobs * cost ≤ jobs * period = mul-le-mul_left jobs within in
     omega (arith, more, times.1, w, b, p)
-
-only_small : (b : Bool) (n most : ℕ) → n ≤ most → only_if b n ≤ most
-only_small true n most within = within
-only_small false n most within = omega arith
-
-numbers_of : (set : SetDef) → IsAccepted set → (i : ℕ) → i < length set.tasks → TaskNumbers set i
-unfolding IsAccepted
-numbers_of set accepted i here = accepted.numbers i here
-
-tasks_small : (set : SetDef) → IsAccepted set → length set.tasks ≤ 64
-unfolding IsAccepted
-tasks_small set accepted = accepted.sizes.tasks_to
 
 interfering_small : (n : ProtocolName) (set : SetDef) (h : ℕ) → TaskNumbers set h → (source_of n set).interfering h ≤ (task_at set h).cost
 interfering_small (name.Base p) set h numbers = interfering_most p set h numbers
@@ -96,9 +83,9 @@ interference_small n set r i accepted here within =
     let g : ℕ → ℕ = (source_of n set).interfering in
     let each : (h : ℕ) → h < i → only_if (is_higher_local set i h) (interference_by g set r i h) ≤ 3000000000 = λ h below.
     (let there : h < length set.tasks = omega (arith, below, here) in
-    let own = numbers_of set accepted i here in
-    let other = numbers_of set accepted h there in
-    only_small (is_higher_local set i h) (interference_by g set r i h) 3000000000
+    let own = numbers_of_accepted set i accepted here in
+    let other = numbers_of_accepted set h accepted there in
+    only_if_small (is_higher_local set i h) (interference_by g set r i h) 3000000000
     (one_task_small (slice_index r i) (slice_index r h + (task_at set h).jitter - g h) (task_at set h).period (g h)
     (omega (arith, other.cost_from, other.cost_to, other.deadline_to))
     (omega (arith, interfering_small n set h other, other.cost_to, other.deadline_to))
@@ -128,8 +115,8 @@ value_small n set r i left used value point accepted here within (dual, run, giv
     let whole : num / den ≤ num = div-le_self num den in
     let form = forms p solved.exchanges solved.ends.table run.is_program solved.ends.run.reached (height p) (variables p) (omega arith) in
     let short = small_optimum p left solved.exchanges solved.optimum solved.best dual solved.ends form in
-    let numbers = numbers_of set accepted i here in
-    let few = tasks_small set accepted in
+    let numbers = numbers_of_accepted set i accepted here in
+    let few = sizes_of_accepted set accepted in
     omega (
       arith,
       solved.response.response,
@@ -141,7 +128,7 @@ value_small n set r i left used value point accepted here within (dual, run, giv
       numbers.deadline_to,
       numbers.period_to,
       here,
-      few,
+      few.tasks_to,
     )
 
 -- ---- steps
@@ -151,7 +138,7 @@ step_writable : (n : ProtocolName) (set : SetDef) (r : List ℕ) (i left used va
     → i < length set.tasks → ((h : ℕ) → h < length set.tasks → slice_index r h ≤ latest_bound (task_at set h))
     → PointRuns (source_of n set) r i left (Valued used value point) → slice_index r i < value → IsWritableStep (step_of i value point)
 step_writable n set r i left used value point accepted here within (dual, run, given) above = record {
-  task = omega (arith, here, tasks_small set accepted);
+  task = let few = sizes_of_accepted set accepted in omega (arith, here, few.tasks_to);
   value = value_small n set r i left used value point accepted here within (dual, run, given);
   point = small_point run.ends.best point (given.above above);
 }
@@ -188,7 +175,7 @@ reached_within : (n : ProtocolName) (set : SetDef) (a k used : ℕ) (r : List �
     → Reaches (refuting (source_of n set)) a k used r
     → (h : ℕ) → h < length set.tasks → slice_index r h ≤ latest_bound (task_at set h)
 reached_within n set a zero used r accepted (nothing, first) h here =
-    let numbers = numbers_of set accepted h here in
+    let numbers = numbers_of_accepted set h accepted here in
     let same : slice_index r h ≡ slice_index (costs_of set) h = ap (λ (x : List ℕ). slice_index x h) first in
     omega (arith, same, cost_at set h here, numbers.jitter_to)
 reached_within n set a (suc k) used r accepted (before, q, found, reached, passed, is, differs, sum) h here =

@@ -5,13 +5,12 @@ use Rattle.schedule_model.specs.JobDef.{JobsDef}
 use Rattle.schedule_model.specs.RowDef.{trace_in, ticks_of}
 use Rattle.schedule_model.specs.Fitting.{RowsDef}
 use Rattle.soundness_laws.specs.Sound.{IsLawfulSchedule}
-use Rattle.named_protocols.specs.Named.{rules_of}
-use Rattle.named_protocols.specs.Audited.{figures_under, AreProvedFigures}
+use Rattle.named_laws.specs.Named.{rules_of}
+use Rattle.named_laws.specs.Audited.{figures_under, AreProvedFigures}
 use Rattle.protocol_names.specs.declared.ProtocolName.{ProtocolName}
 use Rattle.reply_texts.specs.Texts.{kept_text}
-use Rattle.run_plans.specs.Plans.{Input, IsRead}
-use Rattle.run_plans.specs.Inputs.{jobs_input, rows_input}
-use Rattle.run_plans.specs.Outcome.{shown, shown_by}
+use Rattle.command_inputs.specs.Known.{Input, IsRead, shown, shown_by}
+use Rattle.command_inputs.specs.Inputs.{jobs_input, rows_input}
 use Rattle.run_plans.specs.Headline.{Call, ReadsValid}
 
 -- The call read this value of the input, under this name and of these bytes.

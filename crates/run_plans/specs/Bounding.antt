@@ -9,7 +9,7 @@ use Rattle.schedule_model.specs.RowDef.{Trace}
 use Rattle.schedule_model.specs.Phase.{phase_of}
 use Rattle.schedule_model.specs.Phase.Phase.{Finished}
 use Rattle.soundness_laws.specs.Sound.{IsLawfulSchedule, due_tick}
-use Rattle.named_protocols.specs.Named.{rules_of}
+use Rattle.named_laws.specs.Named.{rules_of}
 use Rattle.program_sources.specs.Bounds.{AreWithinDeadlines}
 use Rattle.command_words.specs.Spelled.{analyse_words, check_words}
 use Rattle.taskset_json.specs.Answers.{IsValue}

@@ -8,7 +8,7 @@ use Rattle.protocol_names.specs.declared.ProtocolName.{ProtocolName}
 use Rattle.command_words.specs.Spelled.{analyse_words, check_words}
 use Rattle.sha2.specs.Sha256.{sha256}
 use Rattle.sporadic_model.specs.SetDef.{SetDef}
-use Rattle.run_plans.specs.Plans.{Answer}
+use Rattle.command_inputs.specs.Known.{Answer}
 use Rattle.run_plans.specs.Commands.{checked_answer, other_set_answer}
 use Rattle.run_plans.specs.Headline.{Call, RanOut, ReadsSome}
 use Rattle.run_plans.specs.Run.{Gives}

@@ -6,12 +6,12 @@ use Rattle.sporadic_model.specs.SetDef.{SetDef, latest_bound, task_at}
 use Rattle.protocol_names.specs.declared.ProtocolName.{ProtocolName}
 use Rattle.response_fixpoint.specs.Rounds.{Ending, Schedulable, NotShown, Wide, Allowance, EndsIn}
 use Rattle.response_fixpoint.specs.Runs.{rounds_of}
-use Rattle.named_protocols.specs.Named.{choice_of, interference_of, rules_of, source_of}
+use Rattle.named_laws.specs.Named.{choice_of, interference_of, rules_of, source_of}
 use Rattle.cert_json.specs.FileDef.{FileDef}
 use Rattle.cert_json.specs.Text.{certificate_text}
 use Rattle.sha2.specs.Sha256.{sha256}
-use Rattle.dual_check.specs.Failures.{IsFailure}
-use Rattle.dual_check.specs.declared.answer.Invalid.{Invalid}
+use Rattle.schedule_answers.specs.Failures.{IsFailure}
+use Rattle.schedule_answers.specs.declared.checked.Invalid.{Invalid}
 use Rattle.report.specs.Table.{table_text}
 use Rattle.report.specs.FullTable.{full_text}
 use Rattle.schedule_model.specs.JobDef.{JobsDef}
@@ -24,14 +24,15 @@ use Rattle.trace_csv.specs.Written.{rows_text}
 use Rattle.sim_engine.specs.Simulated.{IsSimulated}
 use Rattle.study_gen.specs.Counts.{IsStudy}
 use Rattle.study_gen.specs.declared.counting.StudyCounts.{StudyCounts}
-use Rattle.run_plans.specs.Plans.{Answer, Work, Plan, Working, Reading}
+use Rattle.command_inputs.specs.Known.{Answer}
+use Rattle.run_plans.specs.Plans.{Work, Plan, Working, Reading}
 use Rattle.protocol_names.specs.Names.{word_of}
 use Rattle.command_words.specs.Words.{Form, Analyse, Refute, Check, Confirm, Upgrade, Report, FullReport, Conform, Simulate, Study, Audit}
 use Rattle.reply_texts.specs.Texts.{not_shown_text, wide_text, allowance_text, lawful_text, broken_text, valid_text}
 use Rattle.reply_texts.specs.Texts.{other_set_text, invalid_text, study_text, kept_text}
-use Rattle.named_protocols.specs.Audited.{figures_under}
-use Rattle.run_plans.specs.Inputs.{set_input, cert_input, old_cert_input, refusal_input, jobs_input, rows_input}
-use Rattle.run_plans.specs.RefusalDef.{RefusalDef}
+use Rattle.named_laws.specs.Audited.{figures_under}
+use Rattle.command_inputs.specs.Inputs.{set_input, cert_input, old_cert_input, refusal_input, jobs_input, rows_input}
+use Rattle.command_inputs.specs.RefusalDef.{RefusalDef}
 use Rattle.run_plans.specs.Refuting.{refutation_of, IsConfirmation}
 
 -- What goes out where the rounds of the set end so, whose bytes have this digest.
@@ -64,20 +65,25 @@ abbrev pub table_of : SetDef → Work
 table_of set = record { answers = IsTable set; ends = Unit {0} }
 
 -- The answer on a certificate: this one where it is valid, else its first failure.
+abbrev pub invalid_answer : SetDef → Invalid → Answer
+invalid_answer set e = record { status = 1; text = invalid_text set e }
+
 abbrev pub IsJudgement : ProtocolName → SetDef → CertificateDef → Answer → Answer → Type 0
 IsJudgement protocol set c valid answer =
     (IsValid (source_of protocol set) c × (answer ≡ valid))
-    ⊎ ((e : Invalid) × (IsFailure e (source_of protocol set) c) × (answer ≡ record { status = 1; text = invalid_text set e }))
+    ⊎ ((e : Invalid) × (IsFailure e (source_of protocol set) c) × (answer ≡ invalid_answer set e))
 
--- The certificate is of a set of other bytes.
+-- A file is of a set of other bytes.
 abbrev pub other_set_answer : Answer
 other_set_answer = record { status = 1; text = other_set_text }
 
--- The answer on a certificate's file beside a set whose bytes have this digest: the file names another set; or else what is said of
--- its certificate.
+-- The answer on a file beside a set whose bytes have this digest: the file names another one; or else what is said of what it holds.
+abbrev pub IfOfSet : List ℕ → List ℕ → (Answer → Type 0) → Answer → Type 0
+IfOfSet digest named says answer = ((named ≢ digest) × (answer ≡ other_set_answer)) ⊎ ((named ≡ digest) × says answer)
+
+-- The answer on a certificate's file, by what is said of its certificate.
 abbrev pub IfTied : List ℕ → FileDef → (CertificateDef → Answer → Type 0) → Answer → Type 0
-IfTied digest file says answer =
-    ((file.digest ≢ digest) × (answer ≡ other_set_answer)) ⊎ ((file.digest ≡ digest) × says file.certificate answer)
+IfTied digest file says answer = IfOfSet digest file.digest (says file.certificate) answer
 
 -- Judging a certificate, and the table of a set with what a certificate proves. There always is an answer.
 abbrev pub checked_answer : Answer
@@ -112,12 +118,22 @@ upgrade_of protocol digest set c = record { answers = IsJudgement protocol set c
 abbrev pub upgrading : ProtocolName → List ℕ → List ℕ → SetDef → Plan
 upgrading protocol cert digest set = Reading (old_cert_input protocol) cert (λ bytes c. Working (upgrade_of protocol digest set c))
 
--- The answer on n rows, where these are the rules and the ticks of interference: each row keeps the rules, and here are
--- the measures of all tasks; or here is the first row that breaks one, with the first rule that it breaks.
+-- The answer on n rows where one that keeps the rules has this answer: it; or here is the first row that breaks a rule, with the
+-- first rule that it breaks.
+abbrev pub broken_answer : ℕ → Rule → Answer
+broken_answer tick r = record { status = 1; text = broken_text tick r }
+
+abbrev pub IsKept : (Rule → Trace → ℕ → Type 0) → Trace → ℕ → Answer → Answer → Type 0
+IsKept keeps w n kept answer =
+    (KeepsBefore keeps w n × (answer ≡ kept))
+    ⊎ ((tick : ℕ) × (r : Rule) × (IsFirstUnlawful keeps w n tick r) × (answer ≡ broken_answer tick r))
+
+-- The measures of all tasks over n rows, where these are the ticks of interference.
+abbrev pub lawful_answer : (Trace → ℕ → ℕ → Bool) → Trace → ℕ → Answer
+lawful_answer interferes w n = record { status = 0; text = lawful_text w.set n (measures_of interferes w n) }
+
 abbrev pub IsConformance : (Rule → Trace → ℕ → Type 0) → (Trace → ℕ → ℕ → Bool) → Trace → ℕ → Answer → Type 0
-IsConformance keeps interferes w n answer =
-    (KeepsBefore keeps w n × (answer ≡ record { status = 0; text = lawful_text w.set n (measures_of interferes w n) }))
-    ⊎ ((tick : ℕ) × (r : Rule) × (IsFirstUnlawful keeps w n tick r) × (answer ≡ record { status = 1; text = broken_text tick r }))
+IsConformance keeps interferes w n answer = IsKept keeps w n (lawful_answer interferes w n) answer
 
 -- Judging and measuring these rows of the jobs, which there always is.
 abbrev pub conformance_of : ProtocolName → JobsDef → RowsDef → Work
@@ -156,13 +172,6 @@ IsStudyAnswer seed sets answer = (c : StudyCounts) × IsStudy seed sets c
 abbrev pub study_of : ℕ → ℕ → Work
 study_of seed sets = record { answers = IsStudyAnswer seed sets; ends = Unit {0} }
 
--- The answer on n rows where one that keeps the rules has this answer: it; or here is the first row that breaks a rule, with the
--- first rule that it breaks.
-abbrev pub IsKept : (Rule → Trace → ℕ → Type 0) → Trace → ℕ → Answer → Answer → Type 0
-IsKept keeps w n kept answer =
-    (KeepsBefore keeps w n × (answer ≡ kept))
-    ⊎ ((tick : ℕ) × (r : Rule) × (IsFirstUnlawful keeps w n tick r) × (answer ≡ record { status = 1; text = broken_text tick r }))
-
 -- The figures of all tasks over n rows.
 abbrev pub kept_answer : ProtocolName → CertificateDef → Trace → ℕ → Answer
 kept_answer protocol c w n = record { status = 0; text = kept_text w.set n (figures_under protocol c w n) }
@@ -171,7 +180,7 @@ kept_answer protocol c w n = record { status = 0; text = kept_text w.set n (figu
 abbrev pub IsAudit : ProtocolName → CertificateDef → Trace → ℕ → Answer → Type 0
 IsAudit protocol c w n answer =
     (IsValid (source_of protocol w.set) c × IsKept (rules_of protocol) w n (kept_answer protocol c w n) answer)
-    ⊎ ((e : Invalid) × (IsFailure e (source_of protocol w.set) c) × (answer ≡ record { status = 1; text = invalid_text w.set e }))
+    ⊎ ((e : Invalid) × (IsFailure e (source_of protocol w.set) c) × (answer ≡ invalid_answer w.set e))
 
 -- Judging both, and setting them beside each other, which there always is.
 abbrev pub IsAuditOf : ProtocolName → JobsDef → RowsDef → CertificateDef → Answer → Type 0
@@ -193,11 +202,9 @@ abbrev pub auditing : ProtocolName → List ℕ → List ℕ → List ℕ → Li
 auditing protocol cert jobs rows digest set =
     Reading (cert_input protocol) cert (λ bytes file. auditing_jobs protocol digest file jobs rows set)
 
--- The answer on a refusal's file beside a set whose bytes have this digest: the file names another set; or else what is said of its
--- refusal. There always is one.
+-- The answer on a refusal's file, by what is said of its refusal. There always is one.
 abbrev pub IsTiedConfirmation : ProtocolName → List ℕ → SetDef → RefusalDef → Answer → Type 0
-IsTiedConfirmation protocol digest set file answer =
-    ((file.digest ≢ digest) × (answer ≡ other_set_answer)) ⊎ ((file.digest ≡ digest) × IsConfirmation protocol set file.steps answer)
+IsTiedConfirmation protocol digest set file answer = IfOfSet digest file.digest (IsConfirmation protocol set file.steps) answer
 
 abbrev pub confirmation_of : ProtocolName → List ℕ → SetDef → RefusalDef → Work
 confirmation_of protocol digest set file = record { answers = IsTiedConfirmation protocol digest set file; ends = Unit {0} }

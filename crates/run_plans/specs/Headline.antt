@@ -9,7 +9,7 @@ use Rattle.program_form.specs.Certificate.{CertificateDef}
 use Rattle.sporadic_model.specs.SetDef.{SetDef}
 use Rattle.sporadic_model.specs.Accepted.{IsAccepted}
 use Rattle.protocol_names.specs.declared.ProtocolName.{ProtocolName}
-use Rattle.named_protocols.specs.Named.{HasHomes, SoundUnder, source_of}
+use Rattle.named_laws.specs.Named.{HasHomes, SoundUnder, source_of}
 use Rattle.program_sources.specs.Fitting.{AreFitting, AreLeastFitting}
 use Rattle.program_sources.specs.Valid.{IsValid, AreOptimalDuals}
 use Rattle.soundness_laws.specs.Analyses.{AreValues}
@@ -21,7 +21,7 @@ use Rattle.taskset_json.specs.Form.{has_set_form}
 use Rattle.taskset_json.specs.Written.{set_written}
 use Rattle.cert_json.specs.Text.{certificate_text}
 use Rattle.sha2.specs.Sha256.{sha256}
-use Rattle.run_plans.specs.Inputs.{IsFileText}
+use Rattle.command_inputs.specs.Inputs.{IsFileText}
 
 -- A call: its words; what the shelf and the sink were before it, and what they are after it; and the status.
 pub record Call : Type 0 where

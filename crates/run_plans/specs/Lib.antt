@@ -1,7 +1,4 @@
 pub mod Plans
-pub mod Statuses
-pub mod RefusalDef
-pub mod Inputs
 pub mod Refuting
 pub mod Commands
 pub mod Outcome

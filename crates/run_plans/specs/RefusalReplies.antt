@@ -1,9 +1,8 @@
--- What contracts see of a refusal that is read, and of an answer to `refute` before it goes out.
+-- What contracts see of an answer to `refute` before it goes out.
 use Rattle.std.specs.Prelude.{◌≡◌, ℕ, ◌<◌, List, length, Result, Ok, Err}
 use Rattle.sporadic_model.specs.SetDef.{SetDef, task_at}
 use Rattle.protocol_names.specs.Names.{word_of}
 use Rattle.protocol_names.specs.declared.ProtocolName.{ProtocolName}
-use Rattle.refusal_laws.specs.declared.refusal.Refusal.{Refusal}
 use Rattle.refusal_laws.specs.Seen.{steps_seen}
 use Rattle.refusal_cert.specs.declared.answer.Answer.{Answer as Refutation}
 use Rattle.refusal_cert.specs.declared.answer.Answer.TheVariants as refutation
@@ -12,12 +11,7 @@ use Rattle.refusal_cert.specs.declared.answer.RefuteStop.TheVariants as stop
 use Rattle.refusal_json.specs.Text.{refusal_text}
 use Rattle.reply_texts.specs.Texts.{wide_text, allowance_text}
 use Rattle.reply_texts.specs.Refuted.{schedulable_text}
-use Rattle.run_plans.specs.Plans.{Answer}
-use Rattle.run_plans.specs.RefusalDef.{RefusalDef}
-
--- A refusal with its set's digest.
-abbrev pub refusal_seen : Refusal → List ℕ → RefusalDef
-refusal_seen refusal digest = record { steps = steps_seen refusal; digest = digest }
+use Rattle.command_inputs.specs.Known.{Answer}
 
 -- Is the task that the stop names, if any, one of the set?
 abbrev pub NamesWide : SetDef → Result Refutation RefuteStop → Type 0

@@ -10,8 +10,8 @@ use Rattle.protocol_names.specs.declared.ProtocolName.{ProtocolName}
 use Rattle.program_sources.specs.Fitting.{AreFitting}
 use Rattle.refusal_laws.specs.Steps.{StepDef, Holds}
 use Rattle.refusal_json.specs.Text.{refusal_text}
-use Rattle.named_protocols.specs.Named.{source_of}
-use Rattle.run_plans.specs.Inputs.{IsRefusalText}
+use Rattle.named_laws.specs.Named.{source_of}
+use Rattle.command_inputs.specs.Inputs.{IsRefusalText}
 use Rattle.run_plans.specs.Headline.{Call, ReadsSome}
 
 -- Of the set that was read, of as many bytes as were given, the call writes a refusal that holds, with the digest of the set's bytes:

@@ -10,10 +10,11 @@ use Rattle.refusal_confirm.specs.declared.fault.Fault.{Fault}
 use Rattle.refusal_cert.specs.Refuting.{refuting}
 use Rattle.refusal_cert.specs.Steps.{refusal_of}
 use Rattle.refusal_json.specs.Text.{refusal_text}
-use Rattle.named_protocols.specs.Named.{source_of}
+use Rattle.named_laws.specs.Named.{source_of}
 use Rattle.reply_texts.specs.Texts.{wide_text, allowance_text}
 use Rattle.reply_texts.specs.Refuted.{schedulable_text, confirmed_text, unconfirmed_text}
-use Rattle.run_plans.specs.Plans.{Answer, Work}
+use Rattle.command_inputs.specs.Known.{Answer}
+use Rattle.run_plans.specs.Plans.{Work}
 
 -- What goes out where the rounds that refuse end so, and these are the steps of the refusal. The set's bytes have this digest.
 abbrev pub refuting_answer : ProtocolName → List ℕ → SetDef → Ending → List StepDef → Answer

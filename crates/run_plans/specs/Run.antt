@@ -12,13 +12,14 @@ use Rattle.sha2.specs.Sha256.{sha256}
 use Rattle.response_fixpoint.specs.Rounds.{Ending, Wide, Allowance, EndsIn}
 use Rattle.response_fixpoint.specs.Runs.{rounds_of, RequestsNothing}
 use Rattle.refusal_cert.specs.Refuting.{refuting}
-use Rattle.named_protocols.specs.Named.{source_of}
-use Rattle.run_plans.specs.Plans.{Answer, Known, refused, IsWorking, IsRead, EndsWell}
+use Rattle.named_laws.specs.Named.{source_of}
+use Rattle.command_inputs.specs.Known.{Answer, Known, refused, IsRead, Shown, shown, shown_by, told}
+use Rattle.run_plans.specs.Plans.{IsWorking, EndsWell}
 use Rattle.command_words.specs.Words.{Form, Analyse, Refute, form_of}
 use Rattle.command_words.specs.Spelled.{analyse_words, refute_words, check_words, confirm_words, audit_words}
-use Rattle.run_plans.specs.Inputs.{set_input}
+use Rattle.command_inputs.specs.Inputs.{set_input}
 use Rattle.run_plans.specs.Commands.{plan_of}
-use Rattle.run_plans.specs.Outcome.{Shown, shown, shown_by, told, refused_words, IsOutcome, IsReply}
+use Rattle.run_plans.specs.Outcome.{refused_words, IsOutcome, IsReply}
 use Rattle.run_plans.specs.Headline.{Call, RanOut, Analyses, IsHeadline, Checks, IsSoundCheck, IsProvedAnalysis, IsProvedCheck}
 use Rattle.run_plans.specs.Bounding.{IsBounding}
 use Rattle.run_plans.specs.Auditing.{IsProvedAudit}

@@ -5,8 +5,8 @@ use Rattle.outside_ports.specs.Names.{Inputs}
 use Rattle.run_plans.specs.Plans.{EndsWell}
 use Rattle.command_words.specs.Words.{Form, form_of}
 use Rattle.run_plans.specs.Commands.{plan_of}
-use Rattle.run_plans.specs.Outcome.{told}
-use Rattle.run_plans.specs.Replies.{Keeps}
+use Rattle.command_inputs.specs.Known.{told}
+use Rattle.command_inputs.specs.Got.{Keeps}
 use Rattle.run_plans.specs.Headline.{Call}
 
 -- Two calls over one shelf and one sink, the second over what the first left. The shelf promises that no call fails, each call

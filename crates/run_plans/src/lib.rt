@@ -1,13 +1,10 @@
 //! What a run of the program is: commands as plans of inputs and a work, their outcomes and replies, and the laws of these.
 #![tactic(auto)]
 
-mod halt;
 mod laws;
-mod status;
 
-pub use halt::{Halt, Reply, fault, refusal, settled};
+pub use command_inputs::{Halt, Reply, Status, fault, refusal, settled};
 pub use laws::{
     analysed_then_checked, checked_for_another_set, never_accepted_and_refused,
     refuted_then_confirmed, two_runs,
 };
-pub use status::Status;

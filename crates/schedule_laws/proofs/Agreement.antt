@@ -33,6 +33,13 @@ job_agree v w n j a = ap (λ jobs. job_of jobs j) a.jobs
 pub listed_agree : (v w : Trace) (n : ℕ) → AgreeBefore v w n → length v.jobs ≡ length w.jobs
 listed_agree v w n a = ap (λ (jobs : List JobDef). length jobs) a.jobs
 
+-- A job that one of them lists the other does too.
+pub listed_on : (v w : Trace) (n i : ℕ) → AgreeBefore v w n → i < length v.jobs → i < length w.jobs
+listed_on v w n i a l = omega (arith, l, listed_agree v w n a)
+
+pub listed_back : (v w : Trace) (n i : ℕ) → AgreeBefore v w n → i < length w.jobs → i < length v.jobs
+listed_back v w n i a l = omega (arith, l, listed_agree v w n a)
+
 pub task_agree : (v w : Trace) (n j : ℕ) → AgreeBefore v w n → task_of v j ≡ task_of w j
 task_agree v w n j a = ap (λ jobs. (job_of jobs j).task) a.jobs
 

@@ -18,7 +18,7 @@ use Rattle.schedule_model.specs.Ranks.{by_task}
 use Rattle.schedule_model.specs.Protocols.{dpcp_rule}
 use Rattle.schedule_model.specs.Chosen.{IsDpcpChoice}
 use Rattle.schedule_laws.specs.Agreement.{AgreeBefore, RulesReadUpTo, ChoiceReadsUpTo}
-use Rattle.schedule_laws.proofs.Agreement.{listed_agree, task_agree, processor_agree, phase_agree, active_agree}
+use Rattle.schedule_laws.proofs.Agreement.{listed_agree, listed_back, task_agree, processor_agree, phase_agree, active_agree}
 use Rattle.schedule_laws.proofs.Agreement.{requester_agree, active_local_agree, held_before_agree, running_agree}
 use Rattle.schedule_laws.proofs.Agreement.{holder_agree}
 use Rattle.schedule_laws.proofs.SharedAgreement.{keep_agree, sized_agree}
@@ -113,9 +113,6 @@ holds_at_agree v w n t k j a l =
     ∙ ap (λ b. has_request_at w t k j && b)
     (ap (λ row. holds_by (holder_in row) j (phase_of v t j)) (a.rows t l)
     ∙ ap (holds_by (holder_in (w.row t)) j) (phase_agree v w n t j a (omega arith)))
-
-listed_back : (v w : Trace) (n i : ℕ) → AgreeBefore v w n → i < length w.jobs → i < length v.jobs
-listed_back v w n i a l = omega (arith, l, listed_agree v w n a)
 
 -- Each rule, from one schedule to the other.
 pub dpcp_run_agree : (v w : Trace) (n t : ℕ) → AgreeBefore v w n → t < n → KeepsRun v t → KeepsRun w t

@@ -44,16 +44,16 @@ pub dpcp_interfering : (w : Trace) (t j : ℕ) → is_dpcp_interference w t j �
 unfolding is_dpcp_interference runs_higher_local
 dpcp_interfering w t j h = runner_of w t j (running_on (w.row t) (processor_of w j)) refl (and_parts _ _ h).1
 
-dpcp_higher : (w : Trace) (t j : ℕ) → is_dpcp_interference w t j ≡ true → HasHigherRunner w t j
+pub dpcp_higher : (w : Trace) (t j : ℕ) → is_dpcp_interference w t j ≡ true → HasHigherRunner w t j
 dpcp_higher w t j h = let r : HigherLocalRunner w t j = dpcp_interfering w t j h in
     record { runner = r.runner; runs = r.runs; higher = r.higher }
 
 -- The processor at which a job runs: its own where it is Local, the home of what it requests where it is in a request.
-abbrev column_of : Trace → ℕ → Phase → ℕ
+abbrev pub column_of : Trace → ℕ → Phase → ℕ
 column_of w j (Asking m q) = home_of w q
 column_of w j _ = processor_of w j
 
-column_is : (w : Trace) (t k j : ℕ) → KeepsRun w t → running_on (w.row t) k ≡ Some j → (p : Phase) → phase_of w t j ≡ p
+pub column_is : (w : Trace) (t k j : ℕ) → KeepsRun w t → running_on (w.row t) k ≡ Some j → (p : Phase) → phase_of w t j ≡ p
     → k ≡ column_of w j p
 column_is w t k j run e Local h = run.local k j e (rw h refl)
 column_is w t k j run e (Asking m q) h = (run.request k j q e (rw h (eq-eqb q q refl))).0

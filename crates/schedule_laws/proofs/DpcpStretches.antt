@@ -175,13 +175,15 @@ kept_again w t u q a keep h = go (held_before w t q) refl h where
   go None e g = absurd (cc)
   go (Some y) e g = kept_of_held w t u q y a (keep q y e g) g
 
--- The request that a job has at a processor.
-record RequestAt (w : Trace) (t k j : ℕ) : Type 0 where
-  resource : ℕ
-  asks : is_requester w t resource j ≡ true
-  home : home_of w resource ≡ k
+-- What a request at a processor is.
+pub record RequestAt (w : Trace) (t k j : ℕ) : Type 0 where
+  pub active : is_active w t j ≡ true
+  pub number : ℕ
+  pub resource : ℕ
+  pub phase : phase_of w t j ≡ Asking number resource
+  pub home : home_of w resource ≡ k
 
-request_at_is : (w : Trace) (t k j : ℕ) → has_request_at w t k j ≡ true → RequestAt w t k j
+pub request_at_is : (w : Trace) (t k j : ℕ) → has_request_at w t k j ≡ true → RequestAt w t k j
 unfolding has_request_at
 request_at_is w t k j h = go (phase_of w t j) refl where
   parts : (is_active w t j ≡ true) × (is_at w k (phase_of w t j) ≡ true)
@@ -191,8 +193,10 @@ request_at_is w t k j h = go (phase_of w t j) refl where
   go Local e = let x : false ≡ true = sym (ap (is_at w k) e) ∙ parts.1 in absurd (cc)
   go Finished e = let x : false ≡ true = sym (ap (is_at w k) e) ∙ parts.1 in absurd (cc)
   go (Asking m q) e = record {
+    active = parts.0;
+    number = m;
     resource = q;
-    asks = requester_from w t q j m parts.0 e;
+    phase = e;
     home = eqb-true (home_of w q) k (sym (ap (is_at w k) e) ∙ parts.1);
   }
 
@@ -245,18 +249,21 @@ bars_later w t u k lawful a keep grant one = elim (cases_Bool (is_barred w t k (
         ceiling = bar.ceiling;
       }
   | inr free ↦
-      let known : Asked w r.resource one.place = asked_of w t r.resource one.place lawful r.asks in
+      let known : Asked w r.resource one.place = asked_of w t r.resource one.place lawful asks in
       record {
         resource = r.resource;
         within = known.within;
         home = r.home;
-        kept = kept_of_held w t u r.resource one.place a (taken free) r.asks;
+        kept = kept_of_held w t u r.resource one.place a (taken free) asks;
         ceiling = known.ceiling;
       }
 ] where
   r : RequestAt w t k one.place
   r = request_at_is w t k one.place (and_parts (has_request_at w t k one.place)
       (not (holds_by (held_before w t) one.place (phase_of w t one.place))) one.passes).0
+
+  asks : is_requester w t r.resource one.place ≡ true
+  asks = requester_from w t r.resource one.place r.number r.active r.phase
 
   passes : (i : ℕ) → i < length w.jobs → (not (waits_at w t k i) || nat_le (task_of w one.place) (task_of w i)) ≡ true
   passes i l = elim (cases_Bool (waits_at w t k i)) [
@@ -278,7 +285,7 @@ bars_later w t u k lawful a keep grant one = elim (cases_Bool (is_barred w t k (
       (all_below-from (length w.jobs) (λ i. not (waits_at w t k i) || nat_le (task_of w one.place) (task_of w i)) passes))
       (not_from_false (is_barred w t k (task_of w one.place)) free) in
       let there : is_granted w t (home_of w r.resource) one.place ≡ true = ap (λ h. is_granted w t h one.place) r.home ∙ granted in
-      grant.granted r.resource one.place one.within r.asks there
+      grant.granted r.resource one.place one.within asks there
 
 -- So no request that is granted at a later tick waits there.
 never_granted : (w : Trace) (t u q j : ℕ) → AreLawfulJobs (jobs_of w) → IsAlike w t u → KeepsKeep w t → KeepsGrant w t

@@ -13,7 +13,7 @@ use Rattle.schedule_model.specs.Ranks.{boost_in, mpcp, fmlp_plus}
 use Rattle.schedule_model.specs.Protocols.{shared_rule}
 use Rattle.schedule_model.specs.Chosen.{IsSized, IsSharedChoice}
 use Rattle.schedule_laws.specs.Agreement.{AgreeBefore, RulesReadUpTo, ChoiceReadsUpTo}
-use Rattle.schedule_laws.proofs.Agreement.{listed_agree, task_agree, processor_agree, phase_agree, requester_agree}
+use Rattle.schedule_laws.proofs.Agreement.{listed_agree, listed_back, task_agree, processor_agree, phase_agree, requester_agree}
 use Rattle.schedule_laws.proofs.Agreement.{active_local_agree, issue_agree, held_before_agree, running_agree}
 use Rattle.schedule_laws.proofs.Agreement.{holder_agree, ready_holder_agree, ready_agree}
 
@@ -43,9 +43,6 @@ mpcp_agree v w n t a l = record {
   run = λ j. boost_agree v w n (processor_of v j) (phase_of v t j) a ∙ ap (λ k. boost_in w k (phase_of v t j)) (processor_agree v w n j a)
       ∙ ap (boost_in w (processor_of w j)) (phase_agree v w n t j a l);
 }
-
-listed_back : (v w : Trace) (n i : ℕ) → AgreeBefore v w n → i < length w.jobs → i < length v.jobs
-listed_back v w n i a l = omega (arith, l, listed_agree v w n a)
 
 -- Each rule, from one schedule to the other.
 pub run_agree : (v w : Trace) (n t : ℕ) → AgreeBefore v w n → t < n → KeepsRun v t → KeepsRun w t

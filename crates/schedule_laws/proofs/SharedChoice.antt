@@ -14,7 +14,7 @@ use Rattle.schedule_model.specs.Chosen.{IsSized, IsSharedChoice}
 use Rattle.schedule_laws.specs.Agreement.{AgreeBefore}
 use Rattle.schedule_laws.proofs.ActiveJobs.{one_active, Requester, requester_is, requester_listed}
 use Rattle.schedule_laws.proofs.Rows.{job_named, named_job, ready_is, ready_active, ready_listed, ready_holding}
-use Rattle.schedule_laws.proofs.Agreement.{agree_back, listed_agree, task_agree, processor_agree, phase_agree}
+use Rattle.schedule_laws.proofs.Agreement.{agree_back, listed_agree, listed_on, task_agree, processor_agree, phase_agree}
 use Rattle.schedule_laws.proofs.Agreement.{active_agree, requester_agree, active_local_agree, held_before_agree}
 use Rattle.schedule_laws.proofs.SharedAgreement.{RanksAgree, mpcp_agree, fmlp_plus_agree}
 use Rattle.schedule_laws.proofs.DpcpAgreement.{holds_agree}
@@ -48,9 +48,6 @@ rows_same v w t set a b running holders =
 -- Does an order of grants and runs give the same numbers, whichever schedule is named first?
 ranks_back : (o : Ranks) (v w : Trace) (t : ℕ) → RanksAgree o v w t → RanksAgree o w v t
 ranks_back o v w t r = record { grant = λ j. sym (r.grant j); run = λ j. sym (r.run j) }
-
-listed_on : (v w : Trace) (n i : ℕ) → AgreeBefore v w n → i < length v.jobs → i < length w.jobs
-listed_on v w n i a l = omega (arith, l, listed_agree v w n a)
 
 -- Two new holders are of one task, and so are one job.
 one_new_holder : (o : Ranks) (v w : Trace) (t q i j : ℕ) → AgreeBefore v w t → RanksAgree o v w t → IsSharedChoice o v t
@@ -122,7 +119,7 @@ ready_holder_by v w t j a h =
       phase_agree v w t t j a (omega arith),
     ) refl
 
-ready_by : (v w : Trace) (t j : ℕ) → AgreeBefore v w t → ((q : ℕ) → holder_in (v.row t) q ≡ holder_in (w.row t) q)
+pub ready_by : (v w : Trace) (t j : ℕ) → AgreeBefore v w t → ((q : ℕ) → holder_in (v.row t) q ≡ holder_in (w.row t) q)
     → is_ready v t j ≡ is_ready w t j
 unfolding is_ready
 ready_by v w t j a h = rw (active_local_agree v w t t j a (omega arith), ready_holder_by v w t j a h) refl

@@ -8,7 +8,7 @@ use Rattle.schedule_laws.proofs.Rows.{job_named, named_job, runs_from, runs_wher
 use Rattle.phase_machine.specs.MachineDef.{MachineDef, under}
 use Rattle.phase_machine.specs.Shows.{Shows}
 use Rattle.phase_machine.proofs.Facts.{same_bool, active_shown}
-use Rattle.shared_rules.specs.RowTests.{processor_now}
+use Rattle.phase_machine.specs.Now.{processor_now}
 use Rattle.shared_rules.specs.Blocked.{is_higher_beside, blocked_now}
 
 -- In a row that keeps Run a job runs exactly where it stands in its processor's column.

@@ -12,18 +12,22 @@ use Rattle.phase_machine.specs.Now.{current_now}
 use Rattle.phase_machine.specs.Shows.{Shows}
 use Rattle.phase_machine.proofs.Lawful.{task_listed}
 use Rattle.phase_machine.proofs.Facts.{phase_shown, current_shown, current_from}
-use Rattle.shared_rules.specs.Order.{GivesRanks}
-use Rattle.shared_rules.specs.RowTests.{is_local_now, holds_now, may_run_now, current_passes, each_current}
+use Rattle.phase_machine.specs.Order.{GivesRanks}
+use Rattle.phase_machine.specs.Now.{is_local_now, holds_now, may_run_now}
+use Rattle.shared_rules.specs.RowTests.{current_passes, each_current}
+
+-- An active job is of a task of the set.
+pub task_below : (m : MachineDef) (rows : ℕ → RowDef) (j : ℕ) → Shows m rows → is_active (under m rows) m.tick j ≡ true
+    → task_in m.list.jobs j < length m.list.set.tasks
+task_below m rows j shows a = task_listed m.list j shows.machine.lawful (active_listed (under m rows) m.tick j a)
 
 -- Where the active job of each task passes, each active job does.
 pub each_is : (m : MachineDef) (rows : ℕ → RowDef) (p : ℕ → Bool) (i : ℕ) → Shows m rows → each_current m p ≡ true
     → is_active (under m rows) m.tick i ≡ true → p i ≡ true
 unfolding each_current
 each_is m rows p i shows h a =
-    let l : task_in m.list.jobs i < length m.list.set.tasks =
-    task_listed m.list i shows.machine.lawful (active_listed (under m rows) m.tick i a) in
     let passes : current_passes m p (task_in m.list.jobs i) ≡ true =
-    all_below-each (length m.list.set.tasks) (current_passes m p) h (task_in m.list.jobs i) l in
+    all_below-each (length m.list.set.tasks) (current_passes m p) h (task_in m.list.jobs i) (task_below m rows i shows a) in
     sym (ap (λ o. option_map_or p o true) (current_from m rows i shows a)) ∙ passes
 
 -- And where each active job passes, the active job of each task does.

@@ -17,7 +17,7 @@ use Rattle.phase_machine.specs.MachineDef.{MachineDef, under}
 use Rattle.phase_machine.specs.Now.{phase_now, holder_now, requester_now}
 use Rattle.phase_machine.specs.Shows.{Shows}
 use Rattle.phase_machine.proofs.Facts.{phase_shown, requester_shown}
-use Rattle.shared_rules.specs.Order.{GivesRanks}
+use Rattle.phase_machine.specs.Order.{GivesRanks}
 use Rattle.shared_rules.specs.RowTests.{each_current, stays_holder, kept_passes, passes_keep, holder_passes}
 use Rattle.shared_rules.specs.RowTests.{goes_before, is_served, request_passes, passes_grant}
 use Rattle.shared_rules.proofs.Currents.{each_is, each_from}

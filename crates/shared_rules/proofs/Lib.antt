@@ -5,11 +5,3 @@ pub mod HolderTests
 pub mod ReadyTests
 pub mod Verdict
 pub mod Blocked
-pub mod Granting
-pub mod Placing
-pub mod Scenes
-pub mod Walks
-pub mod Filling
-pub mod Chosen
-pub mod Writing
-pub mod NextRow

@@ -11,8 +11,9 @@ use Rattle.schedule_laws.proofs.ActiveJobs.{active_listed, ActiveLocal, active_l
 use Rattle.schedule_laws.proofs.Rows.{ReadyHolder, ready_holder_is, ready_active, ready_listed}
 use Rattle.phase_machine.specs.MachineDef.{MachineDef, task_in, under}
 use Rattle.phase_machine.specs.Shows.{Shows}
-use Rattle.shared_rules.specs.Order.{GivesRanks}
-use Rattle.shared_rules.specs.RowTests.{processor_now, is_local_now, holds_now, may_run_now, idle_passes, passes_idle}
+use Rattle.phase_machine.specs.Order.{GivesRanks}
+use Rattle.phase_machine.specs.Now.{processor_now, is_local_now, holds_now, may_run_now}
+use Rattle.shared_rules.specs.RowTests.{idle_passes, passes_idle}
 use Rattle.shared_rules.specs.RowTests.{runs_before, priority_passes, passes_priority}
 use Rattle.shared_rules.proofs.Currents.{each_is, each_from, local_shown, holds_shown, may_run_shown, run_given}
 use Rattle.shared_rules.proofs.HolderTests.{right_of}

@@ -13,7 +13,8 @@ use Rattle.phase_machine.specs.MachineDef.{MachineDef, under}
 use Rattle.phase_machine.specs.Now.{active_now}
 use Rattle.phase_machine.specs.Shows.{Shows}
 use Rattle.phase_machine.proofs.Facts.{active_shown}
-use Rattle.shared_rules.specs.RowTests.{processor_now, may_run_now, may_stand, column_passes, each_stands, passes_run}
+use Rattle.phase_machine.specs.Now.{processor_now, may_run_now}
+use Rattle.shared_rules.specs.RowTests.{may_stand, column_passes, each_stands, passes_run}
 use Rattle.shared_rules.proofs.Currents.{may_run_shown}
 
 -- What is named is within the list.

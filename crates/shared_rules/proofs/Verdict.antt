@@ -9,7 +9,7 @@ use Rattle.schedule_model.specs.Keeping.{rule_number, KeepsRow, Breaks}
 use Rattle.phase_machine.specs.MachineDef.{MachineDef, under}
 use Rattle.phase_machine.specs.Shows.{Shows}
 use Rattle.phase_machine.specs.Taking.{IsRowFor}
-use Rattle.shared_rules.specs.Order.{GivesRanks}
+use Rattle.phase_machine.specs.Order.{GivesRanks}
 use Rattle.shared_rules.specs.RowTests.{passes_run, passes_keep, passes_grant, passes_idle, passes_priority, first_of, first_failed}
 use Rattle.shared_rules.proofs.RunTest.{some_within, run_is, run_from}
 use Rattle.shared_rules.proofs.HolderTests.{keep_is, keep_from, grant_is, grant_from}

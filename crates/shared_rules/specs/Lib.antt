@@ -1,8 +1,2 @@
-pub mod Order
 pub mod RowTests
 pub mod Blocked
-pub mod Walks
-pub mod Scene
-pub mod Choosing
-pub mod Filling
-pub mod NextRow

@@ -4,29 +4,14 @@ use Rattle.std.specs.Prelude.{ℕ, ◌+◌, ◌==◌, ◌&&◌, ◌||◌, not, B
 use Rattle.std.specs.Prelude.{None, Some, is_some, slice_index_or}
 use Rattle.std.specs.Option.{option_map_or}
 use Rattle.bounded_sums.specs.Tests.{all_below}
-use Rattle.sporadic_model.specs.SetDef.{task_at}
 use Rattle.schedule_model.specs.RowDef.{RowDef, is_job, running_on, holder_in}
-use Rattle.schedule_model.specs.Phase.{Phase, is_local}
+use Rattle.schedule_model.specs.Phase.{Phase}
 use Rattle.schedule_model.specs.Phase.Phase.{Asking}
-use Rattle.schedule_model.specs.Activity.{holds_by}
 use Rattle.schedule_model.specs.declared.rule.Rule.{Rule}
 use Rattle.schedule_model.specs.declared.rule.Rule.TheVariants as rule
 use Rattle.phase_machine.specs.MachineDef.{MachineDef, task_in}
 use Rattle.phase_machine.specs.Now.{phase_now, current_now, active_now, holder_now, requester_now}
-
--- The processor of job j's task.
-abbrev pub processor_now : MachineDef → ℕ → ℕ
-processor_now m j = (task_at m.list.set (task_in m.list.jobs j)).processor
-
--- Is job j Local, or with these holders the holder of what it requests, if it is active?
-abbrev pub is_local_now : MachineDef → ℕ → Bool
-is_local_now m j = is_local (phase_now m j)
-
-abbrev pub holds_now : MachineDef → (ℕ → Option ℕ) → ℕ → Bool
-holds_now m held j = holds_by held j (phase_now m j)
-
-abbrev pub may_run_now : MachineDef → (ℕ → Option ℕ) → ℕ → Bool
-may_run_now m held j = is_local_now m j || holds_now m held j
+use Rattle.phase_machine.specs.Now.{processor_now, is_local_now, holds_now, may_run_now}
 
 -- Does the active job of each task pass?
 abbrev pub current_passes : MachineDef → (ℕ → Bool) → ℕ → Bool

@@ -8,8 +8,8 @@ ghost use Rattle.phase_machine.specs.Shows.{Shows};
 ghost use Rattle.phase_machine.specs.Taking.{IsRowFor};
 ghost use Rattle.shared_rules.specs.Blocked.{waits_beside, blocked_now};
 
-use crate::lookup::{running_beside, task_of};
 use phase_machine::Machine;
+use phase_machine::lookup::{running_beside, task_of};
 use schedule_model::{JobId, Row};
 
 /// Is what runs beside the job neither the job nor one of a higher task of its processor?

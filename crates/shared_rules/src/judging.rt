@@ -13,14 +13,13 @@ ghost use Rattle.shared_rules.specs.RowTests.{holder_passes, goes_before, reques
 ghost use Rattle.shared_rules.specs.RowTests.{priority_passes, passes_run, passes_keep, passes_grant, passes_idle};
 ghost use Rattle.shared_rules.specs.RowTests.{passes_priority, by_rule};
 
-use crate::columns::{Columns, OwnProcessors};
-use crate::lookup::{
-    column_at, holder_at, holds, is_local, may_run, requests, resources_of, running_beside, task_of,
-};
-use crate::order::Order;
 use crate::rule_tests::{RuleTests, first_failed};
 use crate::walking::{JobTest, each_passes};
-use phase_machine::{Machine, Phase};
+use phase_machine::columns::{Columns, OwnProcessors};
+use phase_machine::lookup::{
+    column_at, holder_at, holds, is_local, may_run, requests, resources_of, running_beside, task_of,
+};
+use phase_machine::{Machine, Order, Phase};
 use schedule_model::{JobId, Row, Rule};
 use sporadic_model::ResourceId;
 

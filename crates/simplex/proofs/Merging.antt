@@ -1,10 +1,9 @@
 -- Two lists of nonzero cells while one times f is taken from the other, variable by variable.
-use Rattle.std.proofs.Common.{◌≡◌, ◌≢◌, inl, inr, ℕ, zero, suc, ◌+◌, ◌<◌, ◌≤◌, List, ◌∷◌, [], ◌++◌, length, drop, ℤ, pos, ◌*ℤ◌}
+use Rattle.std.proofs.Common.{◌≡◌, ◌≢◌, inl, inr, ℕ, zero, suc, ◌+◌, ◌-◌, ◌<◌, ◌≤◌, List, ◌∷◌, [], ◌++◌, length, take, drop, ℤ, pos, ◌*ℤ◌}
 use Rattle.std.proofs.Common.{refl, sym, ap, subst, arith, add-one}
 use Rattle.std.proofs.lemmas.Int.{ints}
 use Rattle.std.proofs.lemmas.Bool.{cases_eq, cases_lt}
 use Rattle.std.proofs.lemmas.List.{append-nil, append_assoc}
-use Rattle.std.proofs.Math.ListN.{drop_of_length-le}
 use Rattle.std.proofs.Math.Seq.{drop-cons}
 use Rattle.fraction128.specs.Fraction.{Fraction, IsForm, whole}
 use Rattle.fraction128.proofs.Unique.{same_form}
@@ -12,12 +11,12 @@ use Rattle.fraction128.proofs.Forms.{form_of_zero}
 use Rattle.exchange_runs.specs.Exchange.{IsLess}
 use Rattle.exchange_runs.specs.WideExchange.{IsWideLess}
 use Rattle.exchange_runs.proofs.Loops.{less_at_zero}
-use Rattle.simplex.specs.Entries.{listed_at, entry_at, AreSparse, AreBelow, IsSplit}
+use Rattle.simplex.specs.Entries.{listed_at, entry_at, AreSparse, AreBelow, IsSplit, IsNextPlace}
 use Rattle.simplex.specs.CellSteps.{IsPushed, AreLeft}
 use Rattle.simplex.specs.declared.entries.Entry.{Entry}
 use Rattle.simplex.proofs.Listed.{nothing, listed_past, listed_push}
 use Rattle.simplex.proofs.Listed.{listed_push_other, listed_entry, below_push, below_through, sparse_push}
-use Rattle.simplex.proofs.Listed.{split_gap, split_up}
+use Rattle.simplex.proofs.Listed.{split_gap, split_up, behind_from}
 
 -- all variables below `from` are done
 pub record AreTakenBelow (entries pivot left : List Entry) (f : Fraction) (end i j from : ℕ) : Type 0 where
@@ -117,7 +116,7 @@ taken_pushed entries pivot left after f b end i j from v i' j' row other h next 
 ]
 
 -- the entries through one are those of the variables through its own
-split_through : (es : List Entry) (k v : ℕ) → AreSparse es → k < length es → (entry_at es k).variable ≡ v → IsSplit es (k + 1) (v + 1)
+pub split_through : (es : List Entry) (k v : ℕ) → AreSparse es → k < length es → (entry_at es k).variable ≡ v → IsSplit es (k + 1) (v + 1)
 split_through es k v h l is = record {
   within = omega arith;
   before = below_through es k (v + 1) h l (omega (arith, is));
@@ -126,7 +125,7 @@ split_through es k v h l is = record {
 }
 
 -- where the next entry is that of a variable further on
-split_before : (es : List Entry) (k w v : ℕ) → AreSparse es → IsSplit es k w → w ≤ v
+pub split_before : (es : List Entry) (k w v : ℕ) → AreSparse es → IsSplit es k w → w ≤ v
     → (k < length es → v < (entry_at es k).variable)
     → (IsSplit es k (v + 1)) × (listed_at es v ≡ whole (pos 0))
 split_before es k w v h split l ahead = (
@@ -154,58 +153,63 @@ module _ (entries pivot left : List Entry) (f : Fraction) (end i j from : ℕ) (
       (rw (listed_entry entries i a.variable row.rise l refl, gap.1) (less_at_zero a.value f (whole (pos 0)) refl (row.forms i l)))
       (row.nonzero i l)
 
-  -- the pivot alone has it
-  pub pivot_alone : (v : ℕ) (y b : Fraction) (after : List Entry) → j < length pivot → entry_at pivot j ≡ record { variable = v; value = y }
-      → (i < length entries → v < (entry_at entries i).variable)
-      → IsLess (whole (pos 0)) f y b → IsPushed left v b after → AreTakenBelow entries pivot after f end i (j + 1) (v + 1)
-  pivot_alone v y b after l own ahead is pushed =
-      let at : (entry_at pivot j).variable ≡ v = ap (λ (e : Entry). e.variable) own in
-      let order : from ≤ v = omega (arith, at, h.other.behind j (omega arith) l) in
-      let gap = split_before entries i from v row h.row order ahead in
-      let next : IsNext entries pivot end i j from v = record {
-        order = order;
-        within = omega (arith, at, low_pivot j l);
-        in_row = λ li. let b : v < (entry_at entries i).variable = ahead li in omega arith;
-        in_pivot = λ _. omega (arith, at);
-      } in
-      taken_pushed entries pivot left after f b end i j from v i (j + 1) row other h next gap.0 (split_through pivot j v other l at)
-      (rw (gap.1, listed_entry pivot j v other.rise l at, own) is) pushed
+-- so have its next n entries
+pub run_stays : (n : ℕ) (entries pivot left : List Entry) (f : Fraction) (end i j from next : ℕ) → AreSparse entries → AreSparse pivot
+    → AreBelow end entries → AreBelow end pivot → AreTakenBelow entries pivot left f end i j from → next ≡ i + n → next ≤ length entries
+    → ((k : ℕ) → i ≤ k → k < next → j < length pivot → (entry_at entries k).variable < (entry_at pivot j).variable)
+    → (upto : ℕ) × AreTakenBelow entries pivot (left ++ take n (drop i entries)) f end next j upto
+run_stays zero entries pivot left f end i j from next row other low_row low_pivot h far within ahead =
+    let here : next ≡ i = omega (arith, far) in
+    (from, rw (here, append-nil left) h)
+run_stays (suc n) entries pivot left f end i j from next row other low_row low_pivot h far within ahead =
+    let more : i < length entries = omega (arith, far) in
+    let one = row_alone entries pivot left f end i j from row other low_row low_pivot h more (ahead i (omega arith) (omega (arith, far))) in
+    let rest = run_stays n entries pivot (left ++ entry_at entries i ∷ []) f end (i + 1) j ((entry_at entries i).variable + 1) next
+    row other low_row low_pivot one (omega (arith, far)) within (λ k lk. ahead k (omega arith)) in (
+      rest.0,
+      rw (drop-cons entries i nothing more, ← append_assoc left (entry_at entries i ∷ []) (take n (drop (suc i) entries)), ← add-one i)
+          rest.1,
+    )
 
-  -- both have it
-  pub both_next : (v : ℕ) (y b : Fraction) (after : List Entry) → i < length entries → (entry_at entries i).variable ≡ v
-      → j < length pivot → entry_at pivot j ≡ record { variable = v; value = y }
-      → IsLess (entry_at entries i).value f y b → IsPushed left v b after → AreTakenBelow entries pivot after f end (i + 1) (j + 1) (v + 1)
-  both_next v y b after li here l own is pushed =
-      let at : (entry_at pivot j).variable ≡ v = ap (λ (e : Entry). e.variable) own in
-      let next : IsNext entries pivot end i j from v = record {
-        order = omega (arith, at, h.other.behind j (omega arith) l);
+-- the pivot's next entry, and the row's entries of variables before it
+module _ (entries pivot left : List Entry) (f : Fraction) (end i j from v place : ℕ) (y : Fraction) (row : AreSparse entries)
+    (other : AreSparse pivot) (low_row : AreBelow end entries) (low_pivot : AreBelow end pivot)
+    (h : AreTakenBelow entries pivot left f end i j from) (l : j < length pivot)
+    (own : entry_at pivot j ≡ record { variable = v; value = y }) (next : IsNextPlace entries i v place) where
+  at : (entry_at pivot j).variable ≡ v
+  at = ap (λ (e : Entry). e.variable) own
+
+  pub split_next : IsSplit entries place v
+  split_next =
+      let order : from ≤ v = omega (arith, at, h.other.behind j (omega arith) l) in
+      record {
+        within = next.within;
+        before = λ k lk. elim (cases_lt k i) [
+          | inl earlier ↦ let b : (entry_at entries k).variable < from = h.row.before k earlier in omega arith
+          | inr later ↦ next.before k later lk
+        ];
+        behind = λ k lk inside. behind_from entries place v row (omega arith) (next.behind (omega arith)) k lk inside;
+      }
+
+  -- one exchanged cell more, behind the row's entries before it
+  pub pivot_next : (b : Fraction) (after : List Entry) (count : ℕ) → IsSplit entries count (v + 1) → IsLess (listed_at entries v) f y b
+      → IsPushed (left ++ take (place - i) (drop i entries)) v b after → AreTakenBelow entries pivot after f end count (j + 1) (v + 1)
+  pivot_next b after count split is pushed =
+      let run = run_stays (place - i) entries pivot left f end i j from place row other low_row low_pivot h
+      (omega (arith, next.order)) next.within
+      (λ k lk below _. let b : (entry_at entries k).variable < v = next.before k lk below in omega (arith, at)) in
+      let gap : IsNext entries pivot end place j run.0 v = record {
+        order = omega (arith, at, run.1.other.behind j (omega arith) l);
         within = omega (arith, at, low_pivot j l);
-        in_row = λ _. omega (arith, here);
+        in_row = next.behind;
         in_pivot = λ _. omega (arith, at);
       } in
-      taken_pushed entries pivot left after f b end i j from v (i + 1) (j + 1) row other h next
-      (split_through entries i v row li here) (split_through pivot j v other l at)
-      (rw (listed_entry entries i v row.rise li here, listed_entry pivot j v other.rise l at, own) is) pushed
+      taken_pushed entries pivot (left ++ take (place - i) (drop i entries)) after f b end place j run.0 v count (j + 1) row other run.1 gap
+      split (split_through pivot j v other l at) (rw (listed_entry pivot j v other.rise l at, own) is) pushed
 
   -- a product or a difference that has no form is one of the lists
-  pub wide_alone : (v : ℕ) (y : Fraction) → j < length pivot → entry_at pivot j ≡ record { variable = v; value = y }
-      → (i < length entries → v < (entry_at entries i).variable)
-      → IsWideLess (whole (pos 0)) f y → (u : ℕ) × (u < end) × IsWideLess (listed_at entries u) f (listed_at pivot u)
-  wide_alone v y l own ahead wide =
-      let at : (entry_at pivot j).variable ≡ v = ap (λ (e : Entry). e.variable) own in
-      let order : from ≤ v = omega (arith, at, h.other.behind j (omega arith) l) in
-      let gap = split_before entries i from v row h.row order ahead in
-      (v, omega (arith, at, low_pivot j l), rw (gap.1, listed_entry pivot j v other.rise l at, own) wide)
-
-  pub wide_both : (v : ℕ) (y : Fraction) → i < length entries → (entry_at entries i).variable ≡ v
-      → j < length pivot → entry_at pivot j ≡ record { variable = v; value = y }
-      → IsWideLess (entry_at entries i).value f y → (u : ℕ) × (u < end) × IsWideLess (listed_at entries u) f (listed_at pivot u)
-  wide_both v y li here l own wide =
-      let at : (entry_at pivot j).variable ≡ v = ap (λ (e : Entry). e.variable) own in (
-        v,
-        omega (arith, at, low_pivot j l),
-        rw (listed_entry entries i v row.rise li here, listed_entry pivot j v other.rise l at, own) wide,
-      )
+  pub pivot_wide : IsWideLess (listed_at entries v) f y → (u : ℕ) × (u < end) × IsWideLess (listed_at entries u) f (listed_at pivot u)
+  pivot_wide wide = (v, omega (arith, at, low_pivot j l), rw (listed_entry pivot j v other.rise l at, own) wide)
 
 -- where both lists are at their ends all is done
 pub taken_whole : (entries pivot left : List Entry) (f : Fraction) (end i j from : ℕ) → AreTakenBelow entries pivot left f end i j from
@@ -226,20 +230,10 @@ taken_whole entries pivot left f end i j from h row_end pivot_end = record {
 }
 
 -- and where the pivot is, the rest of the row stays
-pub rest_stays : (n : ℕ) (entries pivot left : List Entry) (f : Fraction) (end i j from : ℕ) → AreSparse entries → AreSparse pivot
+pub rest_stays : (entries pivot left : List Entry) (f : Fraction) (end i j from : ℕ) → AreSparse entries → AreSparse pivot
     → AreBelow end entries → AreBelow end pivot → AreTakenBelow entries pivot left f end i j from
-    → length entries ≤ i + n → length pivot ≤ j → AreLeft end entries f pivot (left ++ drop i entries)
-rest_stays zero entries pivot left f end i j from row other low_row low_pivot h row_end pivot_end =
-    let past : length entries ≤ i = omega arith in
-    rw (drop_of_length-le entries past, append-nil left)
-    (taken_whole entries pivot left f end i j from h past pivot_end)
-rest_stays (suc n) entries pivot left f end i j from row other low_row low_pivot h row_end pivot_end = elim (cases_lt i (length entries)) [
-  | inl more ↦
-      let next = row_alone entries pivot left f end i j from row other low_row low_pivot h more (λ lj. absurd (omega arith)) in
-      rw (drop-cons entries i nothing more, ← append_assoc left (entry_at entries i ∷ []) (drop (suc i) entries), ← add-one i)
-      (rest_stays n entries pivot (left ++ entry_at entries i ∷ []) f end (i + 1) j ((entry_at entries i).variable + 1)
-      row other low_row low_pivot next (omega arith) pivot_end)
-  | inr past ↦
-      rw (drop_of_length-le entries past, append-nil left)
-      (taken_whole entries pivot left f end i j from h past pivot_end)
-]
+    → length pivot ≤ j → AreLeft end entries f pivot (left ++ take (length entries - i) (drop i entries))
+rest_stays entries pivot left f end i j from row other low_row low_pivot h pivot_end =
+    let run = run_stays (length entries - i) entries pivot left f end i j from (length entries) row other low_row low_pivot h
+    (omega (arith, h.row.within)) (omega arith) (λ k lk below lj. absurd (omega arith)) in
+    taken_whole entries pivot (left ++ take (length entries - i) (drop i entries)) f end (length entries) j run.0 run.1 (omega arith) pivot_end

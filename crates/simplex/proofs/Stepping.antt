@@ -3,8 +3,8 @@ use Rattle.std.proofs.Common.{◌≢◌, inl, inr, ℕ, ◌<◌, ℤ, pos, ◌<�
 use Rattle.std.proofs.Common.{get_or-set_other, length-set}
 use Rattle.std.proofs.lemmas.Bool.{cases_eq}
 use Rattle.std.proofs.lemmas.Int.{ints}
-use Rattle.fraction128.specs.Fraction.{Fraction}
-use Rattle.fraction128.specs.Scaling.{fraction_at}
+use Rattle.simplex.specs.Entries.{listed_at}
+use Rattle.simplex.specs.declared.entries.Entry.{Entry}
 use Rattle.program_form.specs.Program.{ProgramDef, height}
 use Rattle.exchange_runs.specs.Exchange.{IsEntering, HasRatio, IsLeaving, IsExchange}
 use Rattle.simplex.specs.Rows.{RowDef, cell_at}
@@ -49,9 +49,9 @@ step_done p e r rows rows' basis size enters leaves h =
     )
 
 -- the cell of the leaving row in the column isn't zero
-pub pivot_apart : (rows : List RowDef) (basis : List ℕ) (column : List Fraction) (e r : ℕ) → IsColumn rows e column
+pub pivot_apart : (rows : List RowDef) (basis : List ℕ) (column : List Entry) (e r : ℕ) → IsColumn rows e column
     → r < length rows → HasRatio (table_of rows basis) e r
-    → (fraction_at column r).num ≢ pos 0
+    → (listed_at column r).num ≢ pos 0
 pivot_apart rows basis column e r is l has = rw (is.each r l) (apart (cell_at (row_of rows r) e).num has.above)
   where
     apart : (z : ℤ) → pos 0 <ℤ z → z ≢ pos 0

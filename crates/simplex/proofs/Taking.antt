@@ -1,9 +1,10 @@
 -- The rows while the pivot row is taken from them.
-use Rattle.std.proofs.Common.{◌≡◌, ◌≢◌, ℕ, ◌<◌, ◌≤◌, ◌+◌, inl, inr, List, length, pos, Err, set, refl, ◌∙◌, arith}
+use Rattle.std.proofs.Common.{◌≡◌, ◌≢◌, ℕ, zero, suc, ◌<◌, ◌≤◌, ◌+◌, inl, inr, ◌-◌, List, length, pos, Err, set, ap, refl, ◌∙◌, arith}
 use Rattle.std.proofs.Common.{get_or-set_same, get_or-set_other, length-set}
 use Rattle.std.proofs.lemmas.Bool.{cases_eq}
-use Rattle.fraction128.specs.Fraction.{Fraction}
-use Rattle.fraction128.specs.Scaling.{fraction_at}
+use Rattle.fraction128.specs.Fraction.{Fraction, whole}
+use Rattle.simplex.specs.Entries.{listed_at, entry_at, AreSparse, IsSplit}
+use Rattle.simplex.specs.declared.entries.Entry.{Entry}
 use Rattle.simplex.specs.Rows.{RowDef, cell_at, no_row, HasForms, IsSparseRow}
 use Rattle.simplex.specs.RowSteps.{IsDividedRow, IsLeftRow, TakesRow}
 use Rattle.simplex.specs.Tables.{row_of, IsColumn}
@@ -12,19 +13,19 @@ use Rattle.simplex.specs.declared.SolveStop.{SolveStop}
 use Rattle.simplex.specs.declared.SolveStop.TheVariants.{Memory, Wide, Units}
 use Rattle.exchange_runs.proofs.Loops.{less_of_zero}
 use Rattle.fraction128.proofs.Forms.{form_of_zero}
-use Rattle.simplex.proofs.Listed.{sparse_none}
+use Rattle.simplex.proofs.Listed.{sparse_none, split_gap}
 use Rattle.simplex.proofs.Sparse.{forms_of}
 
 -- the rows below k have lost theirs, and the others are as before
-pub record AreTakenTo (k : ℕ) (before now : List RowDef) (column : List Fraction) (r : ℕ) (pivot : RowDef) : Type 0 where
+pub record AreTakenTo (k : ℕ) (before now : List RowDef) (column : List Entry) (r : ℕ) (pivot : RowDef) : Type 0 where
   pub as_many : length now ≡ length before
-  pub taken : (i : ℕ) → i < k → i ≢ r → IsLeftRow (row_of before i) (fraction_at column i) pivot (row_of now i)
+  pub taken : (i : ℕ) → i < k → i ≢ r → IsLeftRow (row_of before i) (listed_at column i) pivot (row_of now i)
   pub rest : (i : ℕ) → k ≤ i → row_of now i ≡ row_of before i
 
 -- one row more, from which it is taken
-pub taken_more : (k : ℕ) (before now : List RowDef) (column : List Fraction) (r : ℕ) (pivot left : RowDef)
+pub taken_more : (k : ℕ) (before now : List RowDef) (column : List Entry) (r : ℕ) (pivot left : RowDef)
     → k < length now → AreTakenTo k before now column r pivot
-    → IsLeftRow (row_of before k) (fraction_at column k) pivot left → AreTakenTo (k + 1) before (set now k left) column r pivot
+    → IsLeftRow (row_of before k) (listed_at column k) pivot left → AreTakenTo (k + 1) before (set now k left) column r pivot
 taken_more k before now column r pivot left l h is = record {
   as_many = length-set now k left ∙ h.as_many;
   taken = λ i li ai. elim (cases_eq i k) [
@@ -35,9 +36,9 @@ taken_more k before now column r pivot left l h is = record {
 }
 
 -- one row more, which stays since its cell in the column is zero
-pub taken_same : (k : ℕ) (before now : List RowDef) (column : List Fraction) (r : ℕ) (pivot : RowDef)
+pub taken_same : (k : ℕ) (before now : List RowDef) (column : List Entry) (r : ℕ) (pivot : RowDef)
     → AreTakenTo k before now column r pivot
-    → HasForms (row_of before k) → (fraction_at column k).num ≡ pos 0 → AreTakenTo (k + 1) before now column r pivot
+    → HasForms (row_of before k) → (listed_at column k).num ≡ pos 0 → AreTakenTo (k + 1) before now column r pivot
 taken_same k before now column r pivot h forms none = record {
   as_many = h.as_many;
   taken = λ i li ai. elim (cases_eq i k) [
@@ -45,7 +46,7 @@ taken_same k before now column r pivot h forms none = record {
         (record {
           as_many = refl;
           each =
-              λ v. less_of_zero (cell_at (row_of before k) v) (fraction_at column k) (cell_at pivot v) none (forms v);
+              λ v. less_of_zero (cell_at (row_of before k) v) (listed_at column k) (cell_at pivot v) none (forms v);
         })
     | inr other ↦ h.taken i (omega arith) ai
   ];
@@ -53,7 +54,7 @@ taken_same k before now column r pivot h forms none = record {
 }
 
 -- row r is passed over
-pub taken_past : (k : ℕ) (before now : List RowDef) (column : List Fraction) (r : ℕ) (pivot : RowDef) → k ≡ r
+pub taken_past : (k : ℕ) (before now : List RowDef) (column : List Entry) (r : ℕ) (pivot : RowDef) → k ≡ r
     → AreTakenTo k before now column r pivot
     → AreTakenTo (k + 1) before now column r pivot
 taken_past k before now column r pivot here h = record {
@@ -62,16 +63,38 @@ taken_past k before now column r pivot here h = record {
   rest = λ i li. h.rest i (omega arith);
 }
 
+-- so do those up to another whose cells are zero
+taken_zeros : (n k : ℕ) (before now : List RowDef) (column : List Entry) (r v : ℕ) (pivot : RowDef)
+    → AreTakenTo k before now column r pivot → v ≡ k + n
+    → ((i : ℕ) → k ≤ i → i < v → (HasForms (row_of before i)) × (listed_at column i ≡ whole (pos 0)))
+    → AreTakenTo v before now column r pivot
+taken_zeros zero k before now column r v pivot h far none =
+    let here : v ≡ k = omega (arith, far) in
+    rw here h
+taken_zeros (suc n) k before now column r v pivot h far none =
+    let own = none k (omega arith) (omega (arith, far)) in
+    taken_zeros n (k + 1) before now column r v pivot
+    (taken_same k before now column r pivot h own.0 (ap (λ (f : Fraction). f.num) own.1)) (omega (arith, far))
+    (λ i l. none i (omega arith))
+
+-- and all before the next that the column lists
+pub taken_before : (before now : List RowDef) (column : List Entry) (r : ℕ) (pivot : RowDef) (j k v : ℕ) → AreSparse column
+    → ((i : ℕ) → i < length before → HasForms (row_of before i)) → IsSplit column j k → AreTakenTo k before now column r pivot
+    → k ≤ v → v ≤ length before → (j < length column → v ≤ (entry_at column j).variable) → AreTakenTo v before now column r pivot
+taken_before before now column r pivot j k v sparse forms split h order within next =
+    taken_zeros (v - k) k before now column r v pivot h (omega arith)
+    (λ i l li. (forms i (omega arith), split_gap column j k v i sparse split l li next))
+
 -- what is left of a row that was read
-pub left_read : (before : List RowDef) (k : ℕ) (column : List Fraction) (pivot row left : RowDef) (f : Fraction)
-    → row_of before k ≡ row → fraction_at column k ≡ f
-    → IsLeftRow row f pivot left → IsLeftRow (row_of before k) (fraction_at column k) pivot left
+pub left_read : (before : List RowDef) (k : ℕ) (column : List Entry) (pivot row left : RowDef) (f : Fraction)
+    → row_of before k ≡ row → listed_at column k ≡ f
+    → IsLeftRow row f pivot left → IsLeftRow (row_of before k) (listed_at column k) pivot left
 left_read before k column pivot row left f is at h = rw (is, at) h
 
 -- the stop of a row is that of all
-pub takes_stop : (stop : SolveStop) (before now : List RowDef) (column : List Fraction) (r k : ℕ)
+pub takes_stop : (stop : SolveStop) (before now : List RowDef) (column : List Entry) (r k : ℕ)
     (pivot row left : RowDef) (f : Fraction) → k < length before → k ≢ r
-    → row_of before k ≡ row → fraction_at column k ≡ f → TakesRow (Err stop) row f pivot left
+    → row_of before k ≡ row → listed_at column k ≡ f → TakesRow (Err stop) row f pivot left
     → TakesAll (Err stop) before now column r pivot
 takes_stop Memory before now column r k pivot row left f l apart is at h = tt
 takes_stop Wide before now column r k pivot row left f l apart is at h = (k, h.0, l, apart, rw (is, at) h.1)
@@ -94,9 +117,9 @@ forms_aside before r i forms l = elim (cases_eq i r) [
     no_row_sparse = record { sparse = sparse_none; below = λ k lk. absurd (omega arith); limit_form = form_of_zero }
 
 -- the stop of the taking is that of the exchange
-pub exchange_stop : (stop : SolveStop) (before mid after : List RowDef) (column : List Fraction) (e r : ℕ)
+pub exchange_stop : (stop : SolveStop) (before mid after : List RowDef) (column : List Entry) (e r : ℕ)
     (pivot row : RowDef) → r < length before
-    → IsColumn before e column → IsDividedRow (row_of before r) (fraction_at column r) pivot
+    → IsColumn before e column → IsDividedRow (row_of before r) (listed_at column r) pivot
     → TakesAll (Err stop) (set before r row) mid column r pivot → ExchangesIn (Err stop) before after e r
 exchange_stop Memory before mid after column e r pivot row l is divided h = tt
 exchange_stop Wide before mid after column e r pivot row l is divided h =
@@ -114,8 +137,8 @@ exchange_stop Wide before mid after column e r pivot row l is divided h =
 exchange_stop Units before mid after column e r pivot row l is divided h = h
 
 -- the rows with the pivot row in its place
-pub exchanged : (before mid : List RowDef) (column : List Fraction) (e r : ℕ) (pivot row : RowDef) → r < length before
-    → IsColumn before e column → IsDividedRow (row_of before r) (fraction_at column r) pivot
+pub exchanged : (before mid : List RowDef) (column : List Entry) (e r : ℕ) (pivot row : RowDef) → r < length before
+    → IsColumn before e column → IsDividedRow (row_of before r) (listed_at column r) pivot
     → AreTaken (set before r row) mid column r pivot → AreExchanged before (set mid r pivot) e r
 exchanged before mid column e r pivot row l is divided h =
     let here : row_of (set mid r pivot) r ≡ pivot =

@@ -1,8 +1,6 @@
 -- Lists of nonzero cells, each at its variable.
 use Rattle.std.specs.Prelude.{◌≡◌, ◌≢◌, ℕ, ◌<◌, ◌≤◌, ◌==◌, if◌then◌else◌, List, [], ◌∷◌, length, slice_index_or, Option}
 use Rattle.std.specs.Prelude.{Some, None, Bool, true, false, pos, ◌≤ℤ◌, ◌<ℤ◌}
-use Rattle.std.specs.declared.cmp.Ordering.{Ordering}
-use Rattle.std.specs.declared.cmp.Ordering.TheVariants.{Less, Equal, Greater}
 use Rattle.fraction128.specs.Fraction.{Fraction, IsForm, whole}
 use Rattle.simplex.specs.declared.entries.Entry.{Entry}
 
@@ -36,11 +34,12 @@ abbrev pub IsAt : Bool → List Entry → ℕ → ℕ → Type 0
 IsAt true entries k v = (k < length entries) × ((entry_at entries k).variable ≡ v)
 IsAt false entries k v = k < length entries → (entry_at entries k).variable ≢ v
 
--- How does the variable of the entry at a place of the list compare with v? Behind the last entry it is greater.
-abbrev pub ComparesAt : Ordering → List Entry → ℕ → ℕ → Type 0
-ComparesAt Less entries k v = (k < length entries) × ((entry_at entries k).variable < v)
-ComparesAt Equal entries k v = (k < length entries) × ((entry_at entries k).variable ≡ v)
-ComparesAt Greater entries k v = k < length entries → v < (entry_at entries k).variable
+-- Is `next` the first place from i on whose variable isn't below v, or the end of the list?
+pub record IsNextPlace (entries : List Entry) (i v next : ℕ) : Type 0 where
+  pub order : i ≤ next
+  pub within : next ≤ length entries
+  pub before : (k : ℕ) → i ≤ k → k < next → (entry_at entries k).variable < v
+  pub behind : next < length entries → v ≤ (entry_at entries next).variable
 
 -- The first variable whose listed value is above zero, or None where there is none.
 abbrev pub IsFirstListed : Option ℕ → List Entry → Type 0

@@ -8,6 +8,7 @@ ghost use Rattle.simplex.specs.Rows.{Fits};
 ghost use Rattle.simplex.specs.Tables.{row_of, table_of, IsColumn};
 ghost use Rattle.simplex.specs.Choice.{Enters, Comes, IsLeastSoFar, Leaves};
 
+use crate::entries::Entry;
 use crate::row::SparseRow;
 use crate::sparse_program::SparseProgram;
 use fraction128::{Frac, Wide};
@@ -66,22 +67,25 @@ fn chosen(best: Option<(usize, Frac)>, i: usize, ratio: Frac, basis: &[usize]) -
 pub(crate) fn leaving(
     rows: &[SparseRow],
     basis: &[usize],
-    column: &[Frac],
+    column: &[Entry],
     place: usize,
 ) -> Result<Option<(usize, Frac)>, Wide>
     requires rows { length basis.now ≤ length rows.now }
-    requires column { length column.now ≡ length rows.now }
     requires read { (e : ℕ) × IsColumn rows.now e column.now }
     ensures least { (e : ℕ) → IsColumn rows.now e column.now
         → Leaves result place (table_of rows.now basis.now) e (length basis.now) }
     ensures within { IfOk result (λ best. IfSome best (λ b. b.0 < length basis.now)) }
 {
     let mut best = None;
-    for i in 0..basis.len() {
-        let cell = column[i];
-        if cell.is_above_zero() {
-            let ratio = rows[i].cell(place).div(cell)?;
-            best = Some(chosen(best, i, ratio, basis));
+    for j in 0..column.len() {
+        let cell = column[j];
+        // the objective row, which is the last, has no basic variable
+        if cell.variable >= basis.len() {
+            return Ok(best);
+        }
+        if cell.value.is_above_zero() {
+            let ratio = rows[cell.variable].cell(place).div(cell.value)?;
+            best = Some(chosen(best, cell.variable, ratio, basis));
         }
     }
     Ok(best)

@@ -53,7 +53,7 @@ fn dual_of(alloc: Global, program: &SparseProgram, row: &SparseRow) -> Result<Du
 }
 
 // So many zeros.
-pub(crate) fn zeros(alloc: Global, count: usize) -> Result<Vec<Frac>, AllocError>
+fn zeros(alloc: Global, count: usize) -> Result<Vec<Frac>, AllocError>
     ensures len { IfOk result (λ v. length v.items ≡ count) }
     ensures zero { IfOk result (λ v. (c : ℕ) → fraction_at v.items c ≡ whole (pos 0)) }
 {

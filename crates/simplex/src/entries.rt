@@ -1,16 +1,15 @@
 //! Lists of nonzero cells in order of their variables, and what an exchange does to them.
 
-ghost use Rattle.std.specs.Prelude.{◌≡◌, ◌≢◌, ℕ, IfOk, pos};
+ghost use Rattle.std.specs.Prelude.{◌≡◌, ◌≢◌, ℕ, ◌+◌, ◌≤◌, ◌++◌, length, IfOk, pos};
 ghost use Rattle.fraction128.specs.Fraction.{Fraction, IsForm};
-ghost use Rattle.simplex.specs.Entries.{listed_at, AreSparse, AreBelow, IsSplit, IsAt, ComparesAt, IsFirstListed};
+ghost use Rattle.simplex.specs.Entries.{listed_at, AreSparse, AreBelow, IsSplit, IsAt, IsNextPlace, IsFirstListed};
 ghost use Rattle.simplex.specs.CellSteps.{TakesCell, DividesAll, IsPushed, TakesAway};
 
 use crate::SolveStop;
 use fraction128::{Frac, Wide};
 use std::alloc::AllocError;
-use std::cmp::Ordering;
 
-// A nonzero cell of a row, at its variable.
+// A nonzero cell of a row, at its variable, or of a column, at its row.
 #[derive(Clone, Copy)]
 pub(crate) struct Entry {
     pub(crate) variable: usize,
@@ -116,18 +115,51 @@ fn taken_from_zero(f: Frac, y: Frac) -> Result<Frac, Wide>
     Ok(product.neg())
 }
 
-// How the variable of the entry at a place of the list compares with v. Behind the last entry it is greater.
-fn order_at(entries: &[Entry], place: usize, v: usize) -> Ordering
-    ensures { ComparesAt result entries.now place v }
+// What is left of the cell at variable v when f times y is taken away, where so many entries stand at variables below it.
+fn taken_behind(entries: &[Entry], count: usize, v: usize, f: Frac, y: Frac) -> Result<Frac, Wide>
+    requires sparse { AreSparse entries.now }
+    requires split { IsSplit entries.now count v }
+    ensures { TakesCell result (listed_at entries.now v) f y }
 {
-    match entries.get(place) {
-        Some(entry) => entry.variable.cmp(&v),
-        None => Ordering::Greater,
+    if is_at(entries, count, v) {
+        taken(entries[count].value, f, y)
+    } else {
+        taken_from_zero(f, y)
+    }
+}
+
+// The first place from i on whose variable isn't below v, or the end of the list.
+fn next_place(entries: &[Entry], i: usize, v: usize) -> usize
+    requires { i ≤ length entries.now }
+    ensures { IsNextPlace entries.now i v result }
+{
+    for place in i..entries.len() {
+        if entries[place].variable >= v {
+            return place;
+        }
+    }
+    entries.len()
+}
+
+// Where the variables above v begin, where so many entries stand at variables below it.
+fn count_through(entries: &[Entry], count: usize, v: usize) -> usize
+    requires sparse { AreSparse entries.now }
+    requires split { IsSplit entries.now count v }
+    ensures { IsSplit entries.now result (v + 1) }
+{
+    if is_at(entries, count, v) {
+        count + 1
+    } else {
+        count
     }
 }
 
 // Adds a cell behind the others. A zero cell gets no entry.
-fn push_cell(list: &mut Vec<Entry>, variable: usize, value: Frac) -> Result<(), AllocError>
+pub(crate) fn push_cell(
+    list: &mut Vec<Entry>,
+    variable: usize,
+    value: Frac,
+) -> Result<(), AllocError>
     ensures { IfOk result (λ _. IsPushed list.old.items variable value list.new.items) }
 {
     if !value.is_zero() {
@@ -136,8 +168,25 @@ fn push_cell(list: &mut Vec<Entry>, variable: usize, value: Frac) -> Result<(), 
     Ok(())
 }
 
-// What is left of each cell when f times the pivot's is taken away, at variables below `end`, in order. A cell that becomes zero
-// gets no entry. The list is made in `spare`.
+// How many entries are copied as one block: fewer take less time one by one.
+const BLOCK: usize = 8;
+
+// Adds a run of entries behind the others.
+fn push_run(list: &mut Vec<Entry>, run: &[Entry]) -> Result<(), AllocError>
+    ensures { IfOk result (λ _. list.new.items ≡ list.old.items ++ run.now) }
+{
+    if run.len() >= BLOCK {
+        list.extend_from_slice(run)?;
+        return Ok(());
+    }
+    for entry in run {
+        list.push(*entry)?;
+    }
+    Ok(())
+}
+
+// What is left of each cell when f times the pivot's is taken away, at variables below `end`, in order. Cells between two of the
+// pivot's stay as they are, and a cell that becomes zero gets no entry. The list is made in `spare`.
 pub(crate) fn take_away(
     entries: &[Entry],
     f: Frac,
@@ -154,26 +203,13 @@ pub(crate) fn take_away(
     let mut left = spare;
     left.clear();
     let mut i = 0;
-    let mut j = 0;
-    while j < pivot.len() {
+    for j in 0..pivot.len() {
         let y = pivot[j];
-        match order_at(entries, i, y.variable) {
-            Ordering::Less => {
-                left.push(entries[i])?;
-                i += 1;
-            }
-            Ordering::Equal => {
-                let rest = taken(entries[i].value, f, y.value)?;
-                push_cell(&mut left, y.variable, rest)?;
-                i += 1;
-                j += 1;
-            }
-            Ordering::Greater => {
-                let rest = taken_from_zero(f, y.value)?;
-                push_cell(&mut left, y.variable, rest)?;
-                j += 1;
-            }
-        }
+        let place = next_place(entries, i, y.variable);
+        push_run(&mut left, &entries[i..place])?;
+        let rest = taken_behind(entries, place, y.variable, f, y.value)?;
+        push_cell(&mut left, y.variable, rest)?;
+        i = count_through(entries, place, y.variable);
     }
     left.extend_from_slice(&entries[i..])?;
     Ok(left)

@@ -1,52 +1,52 @@
 //! One exchange of a table.
 
-ghost use Rattle.std.specs.Prelude.{◌≡◌, ◌≢◌, ℕ, ◌+◌, ◌<◌, length, pos};
-ghost use Rattle.fraction128.specs.Scaling.{fraction_at};
+ghost use Rattle.std.specs.Prelude.{◌≡◌, ◌≢◌, ℕ, ◌+◌, ◌<◌, length, pos, IfOk};
 ghost use Rattle.exchange_runs.specs.Exchange.{IsEntering};
 ghost use Rattle.exchange_runs.specs.Run.{Reached};
+ghost use Rattle.simplex.specs.Entries.{listed_at, AreSparse, AreBelow};
 ghost use Rattle.simplex.specs.Rows.{places, HasForms};
 ghost use Rattle.simplex.specs.Tables.{row_of, table_of, IsColumn, HasSize};
 ghost use Rattle.simplex.specs.Exchanges.{TakesAll, ExchangesIn, Steps};
 
 use crate::SolveStop;
 use crate::choice::leaving;
-use crate::entries::Entry;
+use crate::entries::{Entry, push_cell, value_at};
 use crate::row::SparseRow;
 use crate::sparse_program::SparseProgram;
-use fraction128::{Frac, Wide};
-use std::alloc::Global;
+use fraction128::Wide;
+use std::alloc::{AllocError, Global};
 use std::mem;
 
-// Reads the cell of each row at the variable e.
-fn read_column(column: &mut [Frac], rows: &[SparseRow], e: usize)
-    requires { length column.old ≡ length rows.now }
-    ensures { IsColumn rows.now e column.new }
+// Reads the nonzero cells at the variable e, in order of their rows.
+fn read_column(column: &mut Vec<Entry>, rows: &[SparseRow], e: usize) -> Result<(), AllocError>
+    ensures { IfOk result (λ _. IsColumn rows.now e column.new.items) }
 {
-    for i in 0..column.len() {
-        column[i] = rows[i].cell(e);
+    column.clear();
+    for i in 0..rows.len() {
+        push_cell(column, i, rows[i].cell(e))?;
     }
+    Ok(())
 }
 
-// Takes from each row but r its cell in the column times the pivot row. A row whose cell there is zero isn't touched.
+// Takes from each row but r its cell in the column times the pivot row. Rows that the column doesn't list aren't touched.
 fn take_all(
     alloc: Global,
     rows: &mut [SparseRow],
-    column: &[Frac],
+    column: &[Entry],
     r: usize,
     pivot: &SparseRow,
     spare: &mut Vec<Entry>,
 ) -> Result<(), SolveStop>
-    requires column { length column.now ≡ length rows.old }
+    requires sparse { AreSparse column.now }
+    requires below { AreBelow (length rows.old) column.now }
     requires even { (i : ℕ) → i < length rows.old → i ≢ r → places (row_of rows.old i) ≡ places pivot.now }
     requires forms { (i : ℕ) → i < length rows.old → HasForms (row_of rows.old i) }
     ensures { TakesAll result rows.old rows.new column.now r pivot.now }
 {
-    for i in 0..rows.len() {
-        if i != r {
-            let f = column[i];
-            if !f.is_zero() {
-                rows[i].take_away(alloc, f, pivot, spare)?;
-            }
+    for j in 0..column.len() {
+        let cell = column[j];
+        if cell.variable != r {
+            rows[cell.variable].take_away(alloc, cell.value, pivot, spare)?;
         }
     }
     Ok(())
@@ -56,19 +56,19 @@ fn take_all(
 fn exchange(
     alloc: Global,
     rows: &mut [SparseRow],
-    column: &[Frac],
+    column: &[Entry],
     r: usize,
     spare: &mut Vec<Entry>,
 ) -> Result<(), SolveStop>
     requires row { r < length rows.old }
     requires even { (i : ℕ) → i < length rows.old → places (row_of rows.old i) ≡ places (row_of rows.old r) }
     requires forms { (i : ℕ) → i < length rows.old → HasForms (row_of rows.old i) }
-    requires pivot { (fraction_at column.now r).num ≢ pos 0 }
+    requires pivot { (listed_at column.now r).num ≢ pos 0 }
     requires column { (e : ℕ) × IsColumn rows.old e column.now }
     ensures { (e : ℕ) → IsColumn rows.old e column.now → ExchangesIn result rows.old rows.new e r }
 {
     let row = mem::replace(&mut rows[r], SparseRow::empty(alloc));
-    let pivot = row.divided(column[r])?;
+    let pivot = row.divided(value_at(column, r))?;
     take_all(alloc, rows, column, r, &pivot, spare)?;
     rows[r] = pivot;
     Ok(())
@@ -81,17 +81,16 @@ pub(crate) fn step(
     rows: &mut [SparseRow],
     basis: &mut [usize],
     e: usize,
-    column: &mut [Frac],
+    column: &mut Vec<Entry>,
     spare: &mut Vec<Entry>,
 ) -> Result<(), SolveStop>
     requires size { HasSize program.now rows.old basis.old }
-    requires column { length column.old ≡ length rows.old }
     requires enters { IsEntering program.now (table_of rows.old basis.old) e }
     requires reached { (k : ℕ) × Reached program.now k (table_of rows.old basis.old) }
     ensures { Steps result program.now e rows.old basis.old rows.new basis.new }
 {
     let variables = program.columns() as usize + program.rows() as usize;
-    read_column(column, rows, e);
+    read_column(column, rows, e)?;
     let r = match leaving(rows, basis, column, variables) {
         Ok(Some((r, _))) => r,
         Ok(None) => unreachable!(),

@@ -29,7 +29,7 @@ mod sparse_program;
 mod start;
 
 use choice::entering;
-use end::{finish, zeros};
+use end::finish;
 use exchange::step;
 pub use sparse_program::SparseProgram;
 use start::{first_basis, first_rows, with_room};
@@ -131,7 +131,7 @@ fn run(alloc: Global, program: &SparseProgram, units: u64) -> Result<Solved, Sol
 {
     let mut rows = first_rows(alloc, program)?;
     let mut basis = first_basis(alloc, program)?;
-    let mut column = zeros(alloc, rows.len())?;
+    let mut column = Vec::with_capacity(alloc, rows.len())?;
     let mut spare = with_room(alloc, program)?;
     for exchanges in 0..units {
         let e = match entering(program, &rows) {

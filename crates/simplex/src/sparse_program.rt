@@ -1,7 +1,7 @@
 //! A program kept by its nonzero coefficients.
 
-ghost use Rattle.std.specs.Prelude.{◌≡◌, ◌<◌, ◌≤◌, IfOk};
-ghost use Rattle.program_form.specs.Program.{IsProgram, columns, height, cost, limit};
+ghost use Rattle.std.specs.Prelude.{◌≡◌, ℕ, ◌<◌, ◌≤◌, IfOk};
+ghost use Rattle.program_form.specs.Program.{IsProgram, columns, height, cost, entry, limit};
 ghost use Rattle.simplex.specs.Coefficients.{entries_of};
 ghost use Rattle.simplex.specs.CoefficientRows.{AreRowsOf};
 ghost use Rattle.simplex.specs.Starts.{AreFirstEntries};
@@ -148,17 +148,61 @@ fn count_of(program: &Program, r: u32) -> usize
     count
 }
 
+// How many columns of a row are looked at together.
+const BLOCK: u32 = 16;
+
+// The bits that any coefficient of a row has, from column `first` up to column `last`.
+fn bits_between(program: &Program, r: u32, first: u32, last: u32) -> u64
+    requires row { r < height program.now }
+    requires within { last ≤ columns program.now }
+    ensures { (c : ℕ) → first ≤ c → c < last → entry program.now r c ≤ result }
+{
+    let mut bits = 0;
+    for c in first..last {
+        bits |= program.entry(r, c);
+    }
+    bits
+}
+
+// Adds the coefficients of a row that aren't zero, from column `first` up to column `last`.
+fn push_between(
+    list: &mut Vec<Coefficient>,
+    program: &Program,
+    r: u32,
+    first: u32,
+    last: u32,
+) -> Result<(), AllocError>
+    requires row { r < height program.now }
+    requires order { first ≤ last }
+    requires within { last ≤ columns program.now }
+    requires earlier { AreFirstEntries program.now r first (entries_of list.old.items) }
+    ensures { IfOk result (λ _. AreFirstEntries program.now r last (entries_of list.new.items)) }
+{
+    // most blocks are zero, and that is seen sooner without a branch for each coefficient
+    if bits_between(program, r, first, last) == 0 {
+        return Ok(());
+    }
+    for column in first..last {
+        let number = program.entry(r, column);
+        if number != 0 {
+            list.push(Coefficient { column, number })?;
+        }
+    }
+    Ok(())
+}
+
 // The coefficients of a row that aren't zero.
 fn list_of(alloc: Global, program: &Program, r: u32) -> Result<Vec<Coefficient>, AllocError>
     requires { r < height program.now }
     ensures { IfOk result (λ v. AreFirstEntries program.now r (columns program.now) (entries_of v.items)) }
 {
+    let columns = program.columns();
     let mut list = Vec::with_capacity(alloc, count_of(program, r))?;
-    for column in 0..program.columns() {
-        let number = program.entry(r, column);
-        if number != 0 {
-            list.push(Coefficient { column, number })?;
-        }
+    let mut first = 0;
+    while first < columns {
+        let last = first.saturating_add(BLOCK).min(columns);
+        push_between(&mut list, program, r, first, last)?;
+        first = last;
     }
     Ok(list)
 }

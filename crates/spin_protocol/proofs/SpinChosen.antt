@@ -6,27 +6,26 @@ use Rattle.schedule_model.specs.declared.rule.Rule.{Rule}
 use Rattle.schedule_model.specs.declared.rule.Rule.TheVariants as rule
 use Rattle.schedule_model.specs.RowDef.{RowDef, running_on, holder_in}
 use Rattle.schedule_model.specs.Phase.Phase.{Local, Asking}
-use Rattle.schedule_model.specs.Activity.{task_of, processor_of, is_active, is_active_local, is_ready_holder, is_ready}
+use Rattle.schedule_model.specs.Activity.{task_of, processor_of, is_active_local, is_ready_holder, is_ready}
 use Rattle.schedule_model.specs.SharedRules.{KeepsRun}
 use Rattle.schedule_model.specs.Ranks.{fmlp_plus}
 use Rattle.schedule_model.specs.Keeping.{KeepsBefore}
 use Rattle.schedule_model.specs.Chosen.{IsSized}
-use Rattle.schedule_laws.proofs.ActiveJobs.{active_listed, ActiveLocal, active_local_is}
+use Rattle.schedule_laws.proofs.ActiveJobs.{ActiveLocal, active_local_is}
 use Rattle.schedule_laws.proofs.Rows.{ReadyHolder, ready_holder_is, ready_is, ready_local, ready_holding}
-use Rattle.phase_machine.specs.MachineDef.{MachineDef, task_in, under}
+use Rattle.phase_machine.specs.MachineDef.{MachineDef, under}
 use Rattle.phase_machine.specs.Shows.{Shows}
-use Rattle.phase_machine.proofs.Lawful.{task_listed}
 use Rattle.phase_machine.proofs.Facts.{active_shown}
 use Rattle.fmlp_rules.specs.IssueOrder.{issue_now}
 use Rattle.fmlp_rules.specs.IssueOrderLaw.{issue_gives}
-use Rattle.shared_rules.specs.RowTests.{processor_now, is_local_now, holds_now}
-use Rattle.shared_rules.specs.Scene.{Scene, scene_now, place_in, running_in}
-use Rattle.shared_rules.specs.Choosing.{Granted}
-use Rattle.shared_rules.specs.Filling.{Takes, FilledTwice, holder_claim}
-use Rattle.shared_rules.proofs.Chosen.{IsSceneOf, granted_keep, granted_grant, grants_tie}
-use Rattle.shared_rules.proofs.Currents.{local_shown, holds_shown}
-use Rattle.shared_rules.proofs.Filling.{running_read}
-use Rattle.shared_rules.proofs.Scenes.{scene_shown, running_same}
+use Rattle.phase_machine.specs.Now.{processor_now, is_local_now, holds_now}
+use Rattle.shared_choosing.specs.Scene.{Scene, scene_now, place_in, running_in}
+use Rattle.shared_choosing.specs.Choosing.{Granted}
+use Rattle.shared_choosing.specs.Filling.{Takes, FilledTwice, holder_claim}
+use Rattle.shared_choosing.proofs.Chosen.{IsSceneOf, granted_keep, granted_grant, grants_tie}
+use Rattle.shared_rules.proofs.Currents.{task_below, local_shown, holds_shown}
+use Rattle.shared_choosing.proofs.Filling.{running_read}
+use Rattle.shared_choosing.proofs.Scenes.{scene_shown, running_same}
 use Rattle.spin_rules.specs.SpinRules.{is_in_request, has_spinner, KeepsIdle, KeepsPriority, spin_rule, IsSpinChoice}
 use Rattle.spin_rules.proofs.InRequests.{InRequest, in_request_is, in_request_from, in_request_listed, spinner_from}
 use Rattle.spin_rules.proofs.InRequests.{waiting_spins}
@@ -47,11 +46,6 @@ record Made (m : MachineDef) (rows : ℕ → RowDef) : Type 0 where
   granted : Granted (scene_now (issue_now m) (issue_now m) m) (length m.list.set.tasks) (holder_in (rows m.tick))
   placed : FilledTwice m (holder_claim m (processor_now m) (holder_in (rows m.tick))) (calm_claim m (holder_in (rows m.tick)))
       (running_on (rows m.tick))
-
--- A job of the list is of a task of the set.
-within : (m : MachineDef) (rows : ℕ → RowDef) (j : ℕ) → Shows m rows → is_active (under m rows) m.tick j ≡ true
-    → task_in m.list.jobs j < length m.list.set.tasks
-within m rows j shows a = task_listed m.list j shows.machine.lawful (active_listed (under m rows) m.tick j a)
 
 -- A ready holder claims its processor, and a Local job does where no job spins there.
 holder_claims : (m : MachineDef) (rows : ℕ → RowDef) (j : ℕ) → Shows m rows → is_ready_holder (under m rows) m.tick j ≡ true
@@ -105,7 +99,7 @@ some_before m rows k i made h place e =
     let a : ReadyHolder (under m rows) m.tick i = ready_holder_is (under m rows) m.tick i h in
     let p = made.placed.holders in
     p.free k e i (active_shown m rows i made.shows ∙ a.active)
-    (holder_claims m rows i made.shows h ∙ ap (λ l. Some l) place) (within m rows i made.shows a.active)
+    (holder_claims m rows i made.shows h ∙ ap (λ l. Some l) place) (task_below m rows i made.shows a.active)
 
 holder_before : (m : MachineDef) (rows : ℕ → RowDef) (k h : ℕ) (made : Made m rows) → made.placed.before k ≡ Some h → RunsHolder m rows k h
 holder_before m rows k h made e = go (let p = made.placed.holders in p.from k h e) where
@@ -139,7 +133,7 @@ local_taken m rows k r made none t = record {
       let a : ActiveLocal (under m rows) m.tick i = active_local_is (under m rows) m.tick i li in
       t.first i (active_shown m rows i made.shows ∙ a.active)
       (local_claims m rows i made.shows li (ap (has_spinner (under m rows) m.tick) place ∙ calm) ∙ ap (λ l. Some l) place)
-      (within m rows i made.shows a.active)
+      (task_below m rows i made.shows a.active)
 
 runs_as : (m : MachineDef) (rows : ℕ → RowDef) (k r : ℕ) (made : Made m rows) → running_on (rows m.tick) k ≡ Some r
     → RunsHolder m rows k r ⊎ RunsLocal m rows k r
@@ -184,7 +178,7 @@ made_idle m rows made k e none i l place = false_from_ne_true (is_ready (under m
           let p = made.placed.locals in
           p.free k e i (active_shown m rows i made.shows ∙ a.active)
           (local_claims m rows i made.shows li (ap (has_spinner (under m rows) m.tick) place ∙ none) ∙ ap (λ x. Some x) place)
-          (within m rows i made.shows a.active)
+          (task_below m rows i made.shows a.active)
 
 made_priority : (m : MachineDef) (rows : ℕ → RowDef) → Made m rows → KeepsPriority (under m rows) m.tick
 made_priority m rows made = record {

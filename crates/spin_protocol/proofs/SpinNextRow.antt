@@ -22,16 +22,16 @@ use Rattle.phase_machine.proofs.Facts.{reads_before, active_shown}
 use Rattle.phase_machine.proofs.Lawful.{task_listed}
 use Rattle.fmlp_rules.specs.IssueOrder.{issue_now}
 use Rattle.fmlp_rules.specs.IssueOrderLaw.{issue_gives}
-use Rattle.shared_rules.specs.RowTests.{processor_now, is_local_now, holds_now}
-use Rattle.shared_rules.specs.Scene.{scene_now, place_in, running_in}
-use Rattle.shared_rules.specs.Choosing.{Granted}
-use Rattle.shared_rules.specs.Filling.{Takes, FilledTwice, holder_claim}
-use Rattle.shared_rules.specs.NextRow.{with_row}
-use Rattle.shared_rules.proofs.Chosen.{requests_shown}
-use Rattle.shared_rules.proofs.Scenes.{scene_shown, active_job_now}
-use Rattle.shared_rules.proofs.Walks.{held_at, granted_at, granted_same}
-use Rattle.shared_rules.proofs.Filling.{filled_at, all_filled, running_read}
-use Rattle.shared_rules.proofs.NextRow.{places_of, place_of_list, places_length, same_before, row_there}
+use Rattle.phase_machine.specs.Now.{processor_now, is_local_now, holds_now}
+use Rattle.shared_choosing.specs.Scene.{scene_now, place_in, running_in}
+use Rattle.shared_choosing.specs.Choosing.{Granted}
+use Rattle.shared_choosing.specs.Filling.{Takes, FilledTwice, holder_claim}
+use Rattle.shared_choosing.specs.NextRow.{with_row}
+use Rattle.shared_choosing.proofs.Chosen.{requests_shown}
+use Rattle.shared_choosing.proofs.Scenes.{scene_shown, active_job_now}
+use Rattle.shared_choosing.proofs.Walks.{held_at, granted_at, granted_same}
+use Rattle.shared_choosing.proofs.Filling.{filled_at, all_filled, running_read}
+use Rattle.shared_choosing.proofs.NextRow.{places_of, place_of_list, places_length, same_before, row_there}
 use Rattle.spin_rules.specs.SpinRules.{spin_rule}
 use Rattle.spin_rules.proofs.SpinLaws.{spin_sound_row}
 use Rattle.spin_rules.proofs.SpinAgreement.{spin_rules_read}

@@ -18,7 +18,8 @@ use Rattle.phase_machine.specs.Taking.{IsRowFor}
 use Rattle.phase_machine.proofs.Facts.{phase_shown}
 use Rattle.fmlp_rules.specs.IssueOrder.{issue_now}
 use Rattle.fmlp_rules.specs.IssueOrderLaw.{issue_gives}
-use Rattle.shared_rules.specs.RowTests.{processor_now, is_local_now, may_run_now, each_current}
+use Rattle.phase_machine.specs.Now.{processor_now, is_local_now, may_run_now}
+use Rattle.shared_rules.specs.RowTests.{each_current}
 use Rattle.shared_rules.specs.RowTests.{passes_run, passes_keep, passes_grant}
 use Rattle.shared_rules.proofs.Currents.{each_is, each_from, local_shown, may_run_shown}
 use Rattle.shared_rules.proofs.HolderTests.{right_of, keep_is, keep_from, grant_is, grant_from}

@@ -1,3 +1,4 @@
+pub mod SpinRows
 pub mod SpinTests
 pub mod SpinClaims
 pub mod SpinChargeNow

@@ -7,8 +7,7 @@ use Rattle.schedule_model.specs.RowDef.{RowDef, running_on, holder_in}
 use Rattle.schedule_model.specs.Phase.{Phase}
 use Rattle.schedule_model.specs.Phase.Phase.{Asking}
 use Rattle.phase_machine.specs.MachineDef.{MachineDef}
-use Rattle.phase_machine.specs.Now.{phase_now, current_now}
-use Rattle.shared_rules.specs.RowTests.{processor_now}
+use Rattle.phase_machine.specs.Now.{phase_now, current_now, processor_now}
 use Rattle.fragments.specs.declared.columns.Class.{Class}
 use Rattle.fragments.specs.declared.columns.Class.TheVariants.{Direct, Indirect, Preemption}
 use Rattle.charge_model.specs.Charges.{Charge, charge_to}

@@ -1,7 +1,7 @@
 -- Which processor a Local job claims under spin locks.
 use Rattle.std.specs.Prelude.{ℕ, ◌&&◌, not, if◌then◌else◌, Option, None, Some}
 use Rattle.phase_machine.specs.MachineDef.{MachineDef}
-use Rattle.shared_rules.specs.RowTests.{processor_now, is_local_now}
+use Rattle.phase_machine.specs.Now.{processor_now, is_local_now}
 use Rattle.spin_protocol.specs.SpinTests.{has_spinner_now}
 
 -- With these holders: its own, where no job spins there.

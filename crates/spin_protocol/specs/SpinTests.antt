@@ -3,7 +3,8 @@ use Rattle.std.specs.Prelude.{ℕ, ◌==◌, ◌&&◌, ◌||◌, not, Bool, true
 use Rattle.schedule_model.specs.RowDef.{RowDef, running_on, holder_in}
 use Rattle.schedule_model.specs.declared.rule.Rule.{Rule}
 use Rattle.phase_machine.specs.MachineDef.{MachineDef, task_in}
-use Rattle.shared_rules.specs.RowTests.{processor_now, is_local_now, holds_now, may_run_now, each_current}
+use Rattle.phase_machine.specs.Now.{processor_now, is_local_now, holds_now, may_run_now}
+use Rattle.shared_rules.specs.RowTests.{each_current}
 use Rattle.shared_rules.specs.RowTests.{passes_run, passes_keep, passes_grant, first_of}
 
 -- Is job j in a request, and with these holders, does it spin, if it is active?

@@ -7,19 +7,19 @@ ghost use Rattle.schedule_model.specs.Seen.{row_seen, place_seen};
 ghost use Rattle.phase_machine.specs.MachineDef.{under};
 ghost use Rattle.phase_machine.specs.Shows.{Shows};
 ghost use Rattle.phase_machine.specs.Taking.{IsRowFor};
-ghost use Rattle.charge.specs.Seen.{charge_seen};
+ghost use Rattle.charged_protocols.specs.Seen.{charge_seen};
 ghost use Rattle.spin_charging.specs.SpinCharges.{spin_charge};
 ghost use Rattle.spin_protocol.specs.SpinTests.{spins_now};
 ghost use Rattle.spin_protocol.specs.SpinChargeNow.{current_spins, is_spinning_task_now, spinner_now};
 ghost use Rattle.spin_protocol.specs.SpinChargeNow.{class_of_spinner, spinner_charge_now, spinning_charge_now, beside_charge_now};
 
 use crate::judging::spins;
-use charge::shared::charge_to;
+use charged_protocols::shared::charge_to;
 use fragments::Class;
+use phase_machine::lookup::{holder_at, processor_of, running_beside, tasks_of};
 use phase_machine::{Machine, Phase};
 use schedule_model::{JobId, Row};
 use shared_rules::blocked_shared;
-use shared_rules::lookup::{holder_at, processor_of, running_beside, tasks_of};
 use sporadic_model::TaskId;
 
 /// Does the job spin in this row, if it is active?

@@ -8,22 +8,22 @@ ghost use Rattle.schedule_model.specs.Seen.{row_seen, place_seen};
 ghost use Rattle.phase_machine.specs.MachineDef.{under};
 ghost use Rattle.phase_machine.specs.Shows.{Shows};
 ghost use Rattle.fmlp_rules.specs.IssueOrder.{issue_now};
-ghost use Rattle.shared_rules.specs.RowTests.{processor_now};
-ghost use Rattle.shared_rules.specs.Scene.{scene_now, place_in};
-ghost use Rattle.shared_rules.specs.Choosing.{Granted};
-ghost use Rattle.shared_rules.specs.Filling.{FilledTwice, holder_claim};
+ghost use Rattle.phase_machine.specs.Now.{processor_now};
+ghost use Rattle.shared_choosing.specs.Scene.{scene_now, place_in};
+ghost use Rattle.shared_choosing.specs.Choosing.{Granted};
+ghost use Rattle.shared_choosing.specs.Filling.{FilledTwice, holder_claim};
 ghost use Rattle.spin_rules.specs.SpinRules.{spin_rule, IsSpinChoice};
 ghost use Rattle.spin_protocol.specs.SpinClaims.{calm_claim};
 
 use crate::judging::has_spinner;
 use fmlp_rules::FmlpPlus;
 use phase_machine::Machine;
+use phase_machine::columns::OwnProcessors;
+use phase_machine::lookup::{is_local, processor_of};
 use schedule_model::{JobId, Row};
-use shared_rules::choosing::grant_all;
-use shared_rules::claims::{Claim, HolderClaim, fill_twice};
-use shared_rules::columns::OwnProcessors;
-use shared_rules::lookup::{is_local, processor_of};
-use shared_rules::row_choice::{RowChoice, choose_row};
+use shared_choosing::choosing::grant_all;
+use shared_choosing::claims::{Claim, HolderClaim, fill_twice};
+use shared_choosing::row_choice::{RowChoice, choose_row};
 
 /// Local jobs claim their task's processor, where no job spins there.
 #[derive(Drop)]

@@ -21,7 +21,7 @@ use crate::charging::charged_spin;
 use crate::choosing::choose_spin;
 use crate::judging::judge_spin;
 use crate::{Spin, programs};
-use charge::ChargedProtocol;
+use charged_protocols::ChargedProtocol;
 use fragments::Class;
 use phase_machine::{Judge, Machine};
 use program_form::Program;

@@ -8,7 +8,7 @@ ghost use Rattle.phase_machine.specs.Shows.{Shows};
 ghost use Rattle.phase_machine.specs.Taking.{IsRowFor};
 ghost use Rattle.phase_machine.specs.Judged.{Judged};
 ghost use Rattle.fmlp_rules.specs.IssueOrder.{issue_now};
-ghost use Rattle.shared_rules.specs.Scene.{place_in};
+ghost use Rattle.shared_choosing.specs.Scene.{place_in};
 ghost use Rattle.spin_rules.specs.SpinRules.{spin_rule};
 ghost use Rattle.spin_protocol.specs.SpinTests.{is_request_now, spins_now, is_quiet, has_spinner_now, idle_passes};
 ghost use Rattle.spin_protocol.specs.SpinTests.{passes_idle, may_run_beside, priority_passes, passes_priority};
@@ -16,10 +16,10 @@ ghost use Rattle.shared_rules.specs.RowTests.{passes_run, passes_keep, passes_gr
 
 use fmlp_rules::FmlpPlus;
 use phase_machine::Machine;
+use phase_machine::columns::OwnProcessors;
+use phase_machine::lookup::{holds, is_local, may_run, processor_of, running_beside, task_of};
 use schedule_model::{JobId, Row, Rule};
-use shared_rules::columns::OwnProcessors;
 use shared_rules::judging::{each_stands, passes_grant, passes_keep};
-use shared_rules::lookup::{holds, is_local, may_run, processor_of, running_beside, task_of};
 use shared_rules::rule_tests::{RuleTests, first_failed};
 use shared_rules::walking::{JobTest, each_passes};
 

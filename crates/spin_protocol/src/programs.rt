@@ -8,10 +8,11 @@ ghost use Rattle.fragments.specs.Stretches.{AreInOrder};
 ghost use Rattle.fragments.specs.Columns.{have_one_processor};
 ghost use Rattle.fragments.specs.Constraints.{block_of, per_pair};
 ghost use Rattle.sporadic_model.specs.Users.{is_user};
-ghost use Rattle.spin_charging.specs.SpinPrograms.{is_used_beside, blocks_by_spinning, is_spin_column, spinning_row, own_spinning_row};
+ghost use Rattle.spin_charging.specs.SpinPrograms.{is_used_beside, blocks_by_spinning, is_spin_column};
 ghost use Rattle.spin_charging.specs.SpinPrograms.{spinning_rows, spin_rows, spin_program};
+ghost use Rattle.spin_protocol.specs.SpinRows.{row_of_kind};
 
-use crate::rows::{LowerRequestRow, OwnSpinning, Spinning};
+use crate::rows::{LowerRequestRow, Spinning, SpinningRows};
 use direct_constraints::add_common;
 use fragments::{
     Class, ColumnTest, Fragment, RowLimits, RowTaker, add_per_number, add_row, fragments_where,
@@ -67,7 +68,12 @@ fn blocks_by_spinning(set: &TaskSet, i: TaskId, column: Fragment) -> bool
 struct SpinColumns;
 
 impl ColumnTest for SpinColumns {
+    ghost use Rattle.fragments.specs.Requested.{columns_are_requests};
+    ghost use Rattle.spin_charging.specs.SpinPrograms.{blocks_by_spinning};
+
     ghost passes = { λ k set i. is_spin_column set i };
+
+    ghost requests = { λ k set i. columns_are_requests (blocks_by_spinning set i) set i };
 
     ghost fits = { λ k set i x. Unit {0} };
 
@@ -77,11 +83,12 @@ impl ColumnTest for SpinColumns {
     }
 }
 
-/// Adds the rows of spinning of each processor behind those that the taker has.
+/// Adds the rows of this kind of each processor behind those that the taker has.
 fn add_spinning_rows<T: RowTaker>(
     alloc: Global,
     taker: &mut T,
     set: &TaskSet,
+    spinning: Spinning,
     i: TaskId,
     bounds: &[u64],
     columns: &[Fragment],
@@ -90,38 +97,12 @@ fn add_spinning_rows<T: RowTaker>(
     requires within { AreWithinDeadlines set.now bounds.now }
     requires known { AreKnown (length set.now.tasks) (length set.now.resources) columns.now }
     ensures { OnOk result (T.takes taker.old (map column_seen columns.now)
-        (per_pair set.now.processors (length set.now.resources) (λ k q. spinning_row set.now i.0 (k + 1) q)) bounds.now taker.new) }
+        (per_pair set.now.processors (length set.now.resources) (λ k q. row_of_kind spinning set.now i.0 (k + 1) q)) bounds.now
+        taker.new) }
 {
     let processors = set.processors();
-    add_per_number(alloc, taker, &Spinning, set, processors, i, bounds, columns)
-}
-
-/// Adds the rows of own spinning of each processor behind those that the taker has.
-fn add_own_spinning_rows<T: RowTaker>(
-    alloc: Global,
-    taker: &mut T,
-    set: &TaskSet,
-    i: TaskId,
-    bounds: &[u64],
-    columns: &[Fragment],
-) -> Result<(), AllocError>
-    requires task { i.0 < length set.now.tasks }
-    requires within { AreWithinDeadlines set.now bounds.now }
-    requires known { AreKnown (length set.now.tasks) (length set.now.resources) columns.now }
-    ensures { OnOk result (T.takes taker.old (map column_seen columns.now)
-        (per_pair set.now.processors (length set.now.resources) (λ k q. own_spinning_row set.now i.0 (k + 1) q)) bounds.now taker.new) }
-{
-    let processors = set.processors();
-    add_per_number(
-        alloc,
-        taker,
-        &OwnSpinning,
-        set,
-        processors,
-        i,
-        bounds,
-        columns,
-    )
+    let rows = SpinningRows(spinning);
+    add_per_number(alloc, taker, &rows, set, processors, i, bounds, columns)
 }
 
 /// Adds the rows of spinning and of own spinning behind those that the taker has.
@@ -138,8 +119,8 @@ fn add_all_spinning_rows<T: RowTaker>(
     requires known { AreKnown (length set.now.tasks) (length set.now.resources) columns.now }
     ensures { OnOk result (T.takes taker.old (map column_seen columns.now) (spinning_rows set.now i.0) bounds.now taker.new) }
 {
-    add_spinning_rows(alloc, taker, set, i, bounds, columns)?;
-    add_own_spinning_rows(alloc, taker, set, i, bounds, columns)?;
+    add_spinning_rows(alloc, taker, set, Spinning::All, i, bounds, columns)?;
+    add_spinning_rows(alloc, taker, set, Spinning::Own, i, bounds, columns)?;
     Ok(())
 }
 

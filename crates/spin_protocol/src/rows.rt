@@ -2,13 +2,13 @@
 
 ghost use Rattle.std.specs.Prelude.{◌≡◌, ℕ, ◌<◌, ◌≤◌, ◌*◌, ◌&&◌, ◌+◌, [], ◌∷◌, length, slice_index};
 ghost use Rattle.bounded_sums.specs.Sums.{flag};
-ghost use Rattle.sporadic_model.specs.Users.{is_user};
+ghost use Rattle.sporadic_model.specs.Users.{count_of, is_user};
 ghost use Rattle.program_sources.specs.Bounds.{AreWithinDeadlines};
 ghost use Rattle.fragments.specs.ColumnDef.{column_seen};
 ghost use Rattle.fragments.specs.Columns.{is_lower_local};
 ghost use Rattle.fragments.specs.Constraints.{per};
 ghost use Rattle.spin_charging.specs.SpinPrograms.{lower_request_row, is_from, is_used_below, higher_requests};
-ghost use Rattle.spin_charging.specs.SpinPrograms.{spinning_row, own_spinning_row};
+ghost use Rattle.spin_protocol.specs.SpinRows.{row_of_kind};
 
 use fragments::{
     Constraint, Fragment, PerNumber, RowKind, RowTaker, add_per_number, add_row, cnt, lower_local,
@@ -98,44 +98,70 @@ fn higher_requests(set: &TaskSet, i: TaskId, q: ResourceId, bounds: &[u64]) -> u
     total
 }
 
-/// Of a processor and a resource: each request of it from `i`'s processor spins for at most one from there.
+/// How many requests of the resource from `i`'s processor can spin while a job of `i` runs? Its own, those of higher tasks, and one of
+/// a lower task.
+fn spinning_requests(set: &TaskSet, i: TaskId, q: ResourceId, bounds: &[u64]) -> u64
+    requires task { i.0 < length set.now.tasks }
+    requires resource { q.0 < length set.now.resources }
+    requires within { AreWithinDeadlines set.now bounds.now }
+    ensures { result ≡ count_of set.now i.0 q.0
+        + (higher_requests set.now (slice_index bounds.now) i.0 q.0 + flag (is_used_below set.now i.0 q.0)) }
+{
+    // a set has at most 64 tasks, so the sum fits
+    let _tasks = set.tasks();
+    let lower = one_if(is_used_below(set, i, q));
+    set.count(i, q) + (higher_requests(set, i, q, bounds) + lower)
+}
+
+/// Which requests from the analysed task's processor spin in a row.
+#[derive(Clone, Copy, Debug, PartialEq, Eq)]
+pub(crate) enum Spinning {
+    /// Those of all its tasks.
+    All,
+    /// Those of the analysed task itself.
+    Own,
+}
+
+/// Of a processor, counted from 1, and a resource: each of these requests of it spins for at most one from there.
 #[derive(Drop)]
 struct SpinningRow {
+    spinning: Spinning,
     processor: u32,
     resource: ResourceId,
 }
 
 impl RowKind for SpinningRow {
-    ghost row_of = { λ k set i. spinning_row set i k.processor k.resource.0 };
+    ghost row_of = { λ k set i. row_of_kind k.spinning set i k.processor k.resource.0 };
 
     ghost fits = { λ k set. k.resource.0 < length set.resources };
 
     fn coefficient(&self, set: &TaskSet, _i: TaskId, column: Fragment) -> u64 {
-        if is_from(set, self.processor, self.resource, column) && !column.class.is_preemption() {
-            1
-        } else {
-            0
+        let from_there = is_from(set, self.processor, self.resource, column);
+        match self.spinning {
+            Spinning::All => one_if(from_there && !column.class.is_preemption()),
+            Spinning::Own => one_if(from_there && column.class.is_direct()),
         }
     }
 }
 
 impl Constraint for SpinningRow {
     fn limit(&self, set: &TaskSet, i: TaskId, bounds: &[u64]) -> u64 {
-        // a set has at most 64 tasks, so the sum fits
-        let _tasks = set.tasks();
-        let lower = one_if(is_used_below(set, i, self.resource));
-        set.count(i, self.resource) + (higher_requests(set, i, self.resource, bounds) + lower)
+        match self.spinning {
+            Spinning::All => spinning_requests(set, i, self.resource, bounds),
+            Spinning::Own => set.count(i, self.resource),
+        }
     }
 }
 
-/// The rows of spinning of a processor, counted from 1, for each resource.
+/// The rows of a processor, counted from 1, for each resource.
 #[derive(Drop)]
 struct SpinningFrom {
+    spinning: Spinning,
     processor: u32,
 }
 
 impl PerNumber for SpinningFrom {
-    ghost rows_of = { λ k set i q. spinning_row set i k.processor q ∷ [] };
+    ghost rows_of = { λ k set i q. row_of_kind k.spinning set i k.processor q ∷ [] };
 
     ghost fits = { λ k set i columns q. q < length set.resources };
 
@@ -150,6 +176,7 @@ impl PerNumber for SpinningFrom {
         columns: &[Fragment],
     ) -> Result<(), AllocError> {
         let row = SpinningRow {
+            spinning: self.spinning,
             processor: self.processor,
             resource: ResourceId(number),
         };
@@ -157,12 +184,12 @@ impl PerNumber for SpinningFrom {
     }
 }
 
-/// The rows of spinning of each processor.
+/// The rows of each processor.
 #[derive(Drop)]
-pub(crate) struct Spinning;
+pub(crate) struct SpinningRows(pub(crate) Spinning);
 
-impl PerNumber for Spinning {
-    ghost rows_of = { λ k set i n. per (length set.resources) (spinning_row set i (n + 1)) };
+impl PerNumber for SpinningRows {
+    ghost rows_of = { λ k set i n. per (length set.resources) (row_of_kind k.0 set i (n + 1)) };
 
     ghost fits = { λ k set i columns n. n < set.processors };
 
@@ -179,91 +206,7 @@ impl PerNumber for Spinning {
         // a set has few processors
         let _processors = set.processors();
         let rows = SpinningFrom {
-            processor: number + 1,
-        };
-        let resources = set.resources();
-        add_per_number(alloc, taker, &rows, set, resources, i, bounds, columns)
-    }
-}
-
-/// The same of the requests of `i` itself.
-#[derive(Drop)]
-struct OwnSpinningRow {
-    processor: u32,
-    resource: ResourceId,
-}
-
-impl RowKind for OwnSpinningRow {
-    ghost row_of = { λ k set i. own_spinning_row set i k.processor k.resource.0 };
-
-    ghost fits = { λ k set. k.resource.0 < length set.resources };
-
-    fn coefficient(&self, set: &TaskSet, _i: TaskId, column: Fragment) -> u64 {
-        if is_from(set, self.processor, self.resource, column) && column.class.is_direct() {
-            1
-        } else {
-            0
-        }
-    }
-}
-
-impl Constraint for OwnSpinningRow {
-    fn limit(&self, set: &TaskSet, i: TaskId, _bounds: &[u64]) -> u64 {
-        set.count(i, self.resource)
-    }
-}
-
-/// The rows of own spinning of a processor, counted from 1, for each resource.
-#[derive(Drop)]
-struct OwnSpinningFrom {
-    processor: u32,
-}
-
-impl PerNumber for OwnSpinningFrom {
-    ghost rows_of = { λ k set i q. own_spinning_row set i k.processor q ∷ [] };
-
-    ghost fits = { λ k set i columns q. q < length set.resources };
-
-    fn add<T: RowTaker>(
-        &self,
-        alloc: Global,
-        taker: &mut T,
-        set: &TaskSet,
-        i: TaskId,
-        number: u32,
-        bounds: &[u64],
-        columns: &[Fragment],
-    ) -> Result<(), AllocError> {
-        let row = OwnSpinningRow {
-            processor: self.processor,
-            resource: ResourceId(number),
-        };
-        add_row(alloc, taker, &row, set, i, bounds, columns)
-    }
-}
-
-/// The rows of own spinning of each processor.
-#[derive(Drop)]
-pub(crate) struct OwnSpinning;
-
-impl PerNumber for OwnSpinning {
-    ghost rows_of = { λ k set i n. per (length set.resources) (own_spinning_row set i (n + 1)) };
-
-    ghost fits = { λ k set i columns n. n < set.processors };
-
-    fn add<T: RowTaker>(
-        &self,
-        alloc: Global,
-        taker: &mut T,
-        set: &TaskSet,
-        i: TaskId,
-        number: u32,
-        bounds: &[u64],
-        columns: &[Fragment],
-    ) -> Result<(), AllocError> {
-        // a set has few processors
-        let _processors = set.processors();
-        let rows = OwnSpinningFrom {
+            spinning: self.0,
             processor: number + 1,
         };
         let resources = set.resources();

@@ -8,7 +8,8 @@ use Rattle.schedule_model.specs.Phase.{phase_of}
 use Rattle.schedule_model.specs.Activity.{task_of, processor_of, is_requester, issue_tick_of, holds_by, is_active_local}
 use Rattle.schedule_model.specs.Ranks.{fmlp_plus}
 use Rattle.schedule_laws.specs.Agreement.{AgreeBefore, RulesReadUpTo, ChoiceReadsUpTo}
-use Rattle.schedule_laws.proofs.Agreement.{listed_agree, task_agree, processor_agree, phase_agree, active_agree, requester_agree}
+use Rattle.schedule_laws.proofs.Agreement.{listed_agree, listed_back, task_agree, processor_agree, phase_agree, active_agree}
+use Rattle.schedule_laws.proofs.Agreement.{requester_agree}
 use Rattle.schedule_laws.proofs.Agreement.{active_local_agree, issue_agree, held_before_agree, running_agree, holder_agree, ready_agree}
 use Rattle.schedule_laws.proofs.SharedAgreement.{fmlp_plus_agree, run_agree, keep_agree, grant_agree, sized_agree}
 use Rattle.spin_rules.specs.SpinRules.{is_in_request, spins, has_spinner, KeepsIdle, KeepsPriority, spin_rule, IsSpinChoice}
@@ -25,9 +26,6 @@ spins_agree v w n t j a l =
     ap (λ b. b && not (holds_by (holder_in (v.row t)) j (phase_of v t j))) (in_request_agree v w n t j a early)
     ∙ ap (λ p. is_in_request w t j && not (holds_by (holder_in (v.row t)) j p)) (phase_agree v w n t j a early)
     ∙ ap (λ row. is_in_request w t j && not (holds_by (holder_in row) j (phase_of w t j))) (a.rows t l)
-
-listed_back : (v w : Trace) (n i : ℕ) → AgreeBefore v w n → i < length w.jobs → i < length v.jobs
-listed_back v w n i a l = omega (arith, l, listed_agree v w n a)
 
 pub has_spinner_agree : (v w : Trace) (n t k : ℕ) → AgreeBefore v w n → t < n → has_spinner v t k ≡ has_spinner w t k
 unfolding has_spinner

@@ -9,15 +9,13 @@ use Rattle.schedule_model.specs.Ranks.{fmlp_plus}
 use Rattle.schedule_laws.specs.Agreement.{AgreeBefore}
 use Rattle.schedule_laws.proofs.ActiveJobs.{one_active, Requester, requester_is, requester_listed}
 use Rattle.schedule_laws.proofs.Rows.{job_named, named_job, ready_is, ready_active, ready_listed, ReadyHolder, ready_holder_is}
-use Rattle.schedule_laws.proofs.Agreement.{agree_back, listed_agree, task_agree, processor_agree, active_agree, requester_agree}
+use Rattle.schedule_laws.proofs.Agreement.{agree_back, listed_agree, listed_on, task_agree, processor_agree, active_agree}
+use Rattle.schedule_laws.proofs.Agreement.{requester_agree}
 use Rattle.schedule_laws.proofs.Agreement.{active_local_agree, issue_agree, held_before_agree}
-use Rattle.schedule_laws.proofs.SharedChoice.{same_named, rows_same, ready_holder_by}
+use Rattle.schedule_laws.proofs.SharedChoice.{same_named, rows_same, ready_by}
 use Rattle.spin_rules.specs.SpinRules.{is_in_request, spins, has_spinner, KeepsIdle, KeepsPriority, IsSpinChoice}
 use Rattle.spin_rules.proofs.InRequests.{in_request_from, in_request_listed, spins_in_request, spinner_waits, spinner_is}
 use Rattle.spin_rules.proofs.SpinAgreement.{in_request_agree}
-
-listed_on : (v w : Trace) (n i : ℕ) → AgreeBefore v w n → i < length v.jobs → i < length w.jobs
-listed_on v w n i a l = omega (arith, l, listed_agree v w n a)
 
 -- A new holder goes no later than a requester, and where both were issued at one tick it is of no lower task.
 record Leads (w : Trace) (t j i : ℕ) : Type 0 where
@@ -94,11 +92,6 @@ holder_same v w t q j a c d e = go (holder_in (w.row t) q) refl where
   ]
 
 -- Where holders agree, so do ready jobs.
-ready_by : (v w : Trace) (t j : ℕ) → AgreeBefore v w t → ((q : ℕ) → holder_in (v.row t) q ≡ holder_in (w.row t) q)
-    → is_ready v t j ≡ is_ready w t j
-unfolding is_ready
-ready_by v w t j a h = rw (active_local_agree v w t t j a (omega arith), ready_holder_by v w t j a h) refl
-
 -- A ready job that is in no request is Local.
 local_if_free : (w : Trace) (t j : ℕ) → is_ready w t j ≡ true → is_in_request w t j ≡ false → is_active_local w t j ≡ true
 local_if_free w t j ready free = elim (ready_is w t j ready) [

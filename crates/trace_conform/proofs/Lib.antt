@@ -1,4 +1,3 @@
-pub mod RunLaws
-pub mod Counting
-pub mod Reaching
-pub mod Measuring
+mod CountedTicks
+mod FirstCounts
+mod Measuring

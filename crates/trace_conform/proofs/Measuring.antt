@@ -1,6 +1,6 @@
 -- The measures by the counts are those of the schedule.
 use Rattle.std.proofs.Common.{◌≡◌, ℕ, zero, suc, ◌+◌, ◌-◌, ◌<◌, ◌==◌, ◌&&◌, Bool, true, false, List, length, refl, ap}
-use Rattle.std.proofs.Common.{◌∙◌, subst, arith, get_or, None, Some, max}
+use Rattle.std.proofs.Common.{◌∙◌, sym, subst, arith, get_or, None, Some, max}
 use Rattle.std.specs.Prelude.{if◌then◌else◌}
 use Rattle.std.proofs.lemmas.Bool.{and_parts}
 use Rattle.bounded_sums.specs.Sums.{only_if}
@@ -8,9 +8,7 @@ use Rattle.bounded_sums.specs.Tests.{count_below}
 use Rattle.bounded_sums.proofs.CountLaws.{count_below-agree}
 use Rattle.schedule_model.specs.JobDef.{job_of}
 use Rattle.schedule_model.specs.JobDef.{JobsDef}
-use Rattle.schedule_model.specs.RowDef.{Trace, RowDef, RunDef, row_in, ticks_of, trace_in}
-use Rattle.schedule_model.specs.Keeping.{KeepsBefore}
-use Rattle.schedule_model.specs.declared.rule.Rule.{Rule}
+use Rattle.schedule_model.specs.RowDef.{Trace, RowDef, jobs_of}
 use Rattle.schedule_model.specs.Phase.{is_finished}
 use Rattle.schedule_model.specs.Measures.{MeasuresDef, greatest_below, has_finished, response_of, blocking_of}
 use Rattle.schedule_model.specs.Measures.{counts_for, finished_jobs, measures_of}
@@ -19,11 +17,11 @@ use Rattle.phase_machine.specs.Shows.{Shows}
 use Rattle.phase_machine.proofs.Facts.{phase_shown}
 use Rattle.trace_conform.specs.declared.counts.JobCount.{JobCount}
 use Rattle.trace_conform.specs.Counts.{count_at, AreCounts}
-use Rattle.trace_conform.specs.declared.measures.Measured.{Measured}
-use Rattle.trace_conform.specs.Reached.{IsReached}
-use Rattle.trace_conform.specs.Conforming.{AreMeasures}
-use Rattle.trace_conform.proofs.Reaching.{over}
-use Rattle.trace_conform.specs.Measured.{no_measure, measure_seen, counts_now, response_now, blocking_now, measures_now}
+use Rattle.schedule_answers.specs.declared.judged.Measured.{Measured}
+use Rattle.schedule_answers.specs.Conforming.{AreMeasures}
+use Rattle.trace_walk.proofs.Reaching.{over}
+use Rattle.schedule_answers.specs.TaskAnswers.{no_measure, measure_seen}
+use Rattle.trace_conform.specs.Measured.{counts_now, response_now, blocking_now, measures_now}
 
 -- One value more.
 pub greatest_next : (n : ℕ) (f : ℕ → ℕ) → greatest_below (n + 1) f ≡ max (greatest_below n f) (f n)
@@ -90,21 +88,16 @@ measured interferes m rows counts x shows are =
     ∙ ap (measures_from (count_below (length m.list.jobs) (counts_for (under m rows) m.tick x))
     (greatest_below (length m.list.jobs) (λ j. only_if (counts_for (under m rows) m.tick x j) (response_of (under m rows) m.tick j)))) c
 
--- What a schedule that was judged to its end conforms to.
-pub conforming : (keeps : Rule → Trace → ℕ → Type 0) (interferes : Trace → ℕ → ℕ → Bool) (jobs : JobsDef)
-    (runs : List RunDef) (m : MachineDef) (counts seen : List JobCount) (answer : Measured)
-    → m.list ≡ jobs → m.tick ≡ ticks_of runs → IsReached keeps interferes (row_in runs) m counts → seen ≡ counts
-    → length answer.tasks.items ≡ length m.list.set.tasks
-    → ((x : ℕ) → x < length m.list.set.tasks → measure_seen (get_or answer.tasks.items x no_measure) ≡ measures_now m seen x)
-    → KeepsBefore keeps (trace_in jobs runs) (ticks_of runs) × AreMeasures interferes (trace_in jobs runs) (ticks_of runs) answer
-conforming keeps interferes jobs runs m counts seen answer list tick reached same size each =
-    let rows : ℕ → RowDef = row_in runs in
-    let measures : AreMeasures interferes (over m.list rows) m.tick answer = record {
+-- So are those of all tasks, of the schedule whose rows the machine has taken.
+pub measures_are : (m : MachineDef) (counts : List JobCount) (answer : Measured) → length answer.tasks.items ≡ length m.list.set.tasks
+    → ((x : ℕ) → x < length m.list.set.tasks → measure_seen (get_or answer.tasks.items x no_measure) ≡ measures_now m counts x)
+    → (interferes : Trace → ℕ → ℕ → Bool) (w : Trace) → m.list ≡ jobs_of w → Shows m w.row → AreCounts interferes w m.tick counts
+    → AreMeasures interferes w m.tick answer
+measures_are m counts answer size each interferes w list shows counted =
+    let of_machine : AreCounts interferes (over m.list w.row) m.tick counts =
+    subst (λ (l : JobsDef). AreCounts interferes (over l w.row) m.tick counts) (sym list) counted in
+    let measures : AreMeasures interferes (over m.list w.row) m.tick answer = record {
       size = size;
-      each = λ x l. each x l ∙ ap (λ c. measures_now m c x) same ∙ measured interferes m rows counts x reached.shows reached.counted;
-    } in (
-      subst (λ (t : ℕ). KeepsBefore keeps (over jobs rows) t) tick
-          (subst (λ (l : JobsDef). KeepsBefore keeps (over l rows) m.tick) list reached.keeps_before),
-      subst (λ (t : ℕ). AreMeasures interferes (over jobs rows) t answer) tick
-          (subst (λ (l : JobsDef). AreMeasures interferes (over l rows) m.tick answer) list measures),
-    )
+      each = λ x l. each x l ∙ measured interferes m w.row counts x shows of_machine;
+    } in
+    subst (λ (l : JobsDef). AreMeasures interferes (over l w.row) m.tick answer) list measures

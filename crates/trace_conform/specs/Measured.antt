@@ -8,16 +8,7 @@ use Rattle.schedule_model.specs.Measures.{MeasuresDef, greatest_below}
 use Rattle.phase_machine.specs.MachineDef.{MachineDef, task_in}
 use Rattle.phase_machine.specs.Now.{phase_now}
 use Rattle.trace_conform.specs.declared.counts.JobCount.{JobCount}
-use Rattle.trace_conform.specs.declared.measures.TaskMeasure.{TaskMeasure}
 use Rattle.trace_conform.specs.Counts.{count_at}
-
--- What a contract sees of the measures of a task.
-abbrev pub measure_seen : TaskMeasure → MeasuresDef
-measure_seen m = record { finished = m.finished; response = m.response; blocking = m.blocking }
-
--- What a look-up past the end gives.
-abbrev pub no_measure : TaskMeasure
-no_measure = record { finished = 0; response = None; blocking = 0 }
 
 -- Is job j of task x, and finished?
 unfoldable pub counts_now : MachineDef → ℕ → ℕ → Bool

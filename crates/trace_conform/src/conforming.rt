@@ -2,41 +2,21 @@ ghost use Rattle.std.specs.Prelude.{◌≡◌, true};
 ghost use Rattle.sporadic_model.specs.Homes.{HasHomesFor};
 ghost use Rattle.schedule_model.specs.RowDef.{trace_in, ticks_of};
 ghost use Rattle.schedule_model.specs.Fitting.{is_fitting};
-ghost use Rattle.trace_conform.specs.Conforming.{Conforms};
+ghost use Rattle.schedule_answers.specs.Conforming.{Conforms};
 ghost use Rattle.schedule_model.specs.ByProtocol.{rules_of, interference_of};
 
+use crate::counting::JobCounter;
 use crate::counts::no_counts;
-use crate::judging::{Breach, judge_all};
-use crate::measures::{Measured, measure_all};
+use crate::measures::measures_of;
 use dpcp_rules::Dpcp;
 use fmlp_rules::FmlpPlus;
 use mpcp_rules::Mpcp;
-use phase_machine::{Judge, Machine};
+use phase_machine::Judge;
+use schedule_answers::{Measured, Unlawful};
 use schedule_model::{JobList, RowList};
 use sporadic_model::Protocol;
-use std::alloc::{AllocError, Global};
-use thiserror::Error;
-
-/// Why a schedule is not measured.
-#[derive(Clone, Copy, Debug, PartialEq, Eq, Error)]
-pub enum Unlawful {
-    /// A row breaks a rule.
-    #[error("a row breaks a rule")]
-    Broken(Breach),
-    /// Memory was refused.
-    #[error("out of memory")]
-    Memory,
-}
-
-impl From<AllocError> for Unlawful {
-    ghost use Rattle.trace_conform.specs.declared.conforming.Unlawful.TheVariants.{Memory};
-
-    ghost from_gives = { λ _ stop. stop ≡ Memory };
-
-    fn from(_error: AllocError) -> Unlawful {
-        Unlawful::Memory
-    }
-}
+use std::alloc::Global;
+use trace_walk::walk;
 
 /// Judges each row by the protocol's rules and measures each task: Ok exactly where every row keeps all five rules; else
 /// the first row that breaks one.
@@ -51,14 +31,9 @@ pub fn conform_with<P: Judge>(
     ensures { Conforms (P.keeps protocol.now) (P.interferes protocol.now) (trace_in jobs.now rows.now.runs)
         (ticks_of rows.now.runs) result }
 {
-    let mut machine = Machine::new(alloc, jobs)?;
     let mut counts = no_counts(alloc, jobs.len())?;
-    match judge_all(protocol, rows, &mut machine, &mut counts) {
-        Ok(()) => {}
-        Err(breach) => return Err(Unlawful::Broken(breach)),
-    }
-    let tasks = measure_all(alloc, &machine, &counts)?;
-    Ok(Measured { tasks })
+    let machine = walk(alloc, protocol, jobs, rows, &JobCounter, &mut counts)?;
+    Ok(measures_of(alloc, &machine, &counts)?)
 }
 
 /// The same by the protocol's name. Under DPCP each resource of the set has a home.

@@ -1,18 +1,18 @@
-ghost use Rattle.std.specs.Prelude.{◌≡◌, ℕ, ◌+◌, ◌<◌, ◌≤◌, length, IfOk};
+ghost use Rattle.std.specs.Prelude.{◌≡◌, ℕ, ◌+◌, ◌<◌, ◌≤◌, Bool, length, IfOk};
 ghost use Rattle.sporadic_model.specs.declared.limits.TheConstants.{MOST_TICKS};
-ghost use Rattle.schedule_model.specs.RowDef.{row_in};
+ghost use Rattle.schedule_model.specs.RowDef.{Trace, row_in};
 ghost use Rattle.schedule_model.specs.BlockedTicks.{is_blocked};
 ghost use Rattle.schedule_model.specs.Keeping.{KeepsRow};
 ghost use Rattle.phase_machine.specs.MachineDef.{under};
 ghost use Rattle.phase_machine.specs.Shows.{Shows};
-ghost use Rattle.trace_conform.specs.Runs.{IsAtRun};
-ghost use Rattle.trace_conform.specs.Counts.{count_at, no_count, counted_on, AddsTicks};
+ghost use Rattle.trace_walk.specs.Runs.{IsAtRun};
+ghost use Rattle.trace_conform.specs.Counts.{count_at, counted_on, AddsTicks, AreCounts};
 
-use crate::runs::run_at;
 use phase_machine::{Judge, Machine};
 use schedule_model::{JobId, RowList};
 use sporadic_model::TaskId;
 use std::alloc::{AllocError, Global};
+use trace_walk::runs::run_at;
 
 /// What is counted of a job while its schedule is judged.
 #[derive(Clone, Copy, Debug, PartialEq, Eq)]
@@ -23,10 +23,9 @@ pub struct JobCount {
     pub end: u64,
 }
 
-/// Nothing counted yet of so many jobs.
-pub(crate) fn no_counts(alloc: Global, jobs: u32) -> Result<Vec<JobCount>, AllocError>
-    ensures size { IfOk result (λ v. length v.items ≡ jobs) }
-    ensures each { IfOk result (λ v. (j : ℕ) → count_at v.items j ≡ no_count) }
+/// The counts of so many jobs before the first row: nothing is counted yet.
+pub fn no_counts(alloc: Global, jobs: u32) -> Result<Vec<JobCount>, AllocError>
+    ensures { IfOk result (λ v. (interferes : Trace → ℕ → ℕ → Bool) (w : Trace) → length w.jobs ≡ jobs → AreCounts interferes w 0 v.items) }
 {
     let mut counts = Vec::with_capacity(alloc, jobs as usize)?;
     for _ in 0..jobs {

@@ -2,11 +2,12 @@
 #![tactic(auto)]
 
 mod conforming;
+mod counting;
 mod counts;
-mod judging;
 mod measures;
-pub mod runs;
 
-pub use conforming::{Unlawful, conform, conform_with};
-pub use judging::Breach;
-pub use measures::{Measured, TaskMeasure};
+pub use conforming::{conform, conform_with};
+pub use counting::JobCounter;
+pub use counts::{JobCount, no_counts};
+pub use measures::measures_of;
+pub use schedule_answers::{Breach, Measured, TaskMeasure, Unlawful};

@@ -1,29 +1,17 @@
-ghost use Rattle.std.specs.Prelude.{◌≡◌, ℕ, ◌<◌, length, IfOk, slice_index_or};
-ghost use Rattle.trace_conform.specs.Measured.{no_measure, measure_seen, counts_now, response_now, blocking_now, measures_now};
+ghost use Rattle.std.specs.Prelude.{◌≡◌, ℕ, ◌<◌, Bool, length, IfOk, slice_index_or};
+ghost use Rattle.schedule_model.specs.RowDef.{Trace, jobs_of};
+ghost use Rattle.phase_machine.specs.Shows.{Shows};
+ghost use Rattle.schedule_answers.specs.Conforming.{AreMeasures};
+ghost use Rattle.schedule_answers.specs.TaskAnswers.{no_measure, measure_seen};
+ghost use Rattle.trace_conform.specs.Counts.{AreCounts};
+ghost use Rattle.trace_conform.specs.Measured.{counts_now, response_now, blocking_now, measures_now};
 
 use crate::counts::JobCount;
 use phase_machine::{Machine, Phase};
+use schedule_answers::{Measured, TaskMeasure};
 use schedule_model::JobId;
 use sporadic_model::TaskId;
 use std::alloc::{AllocError, Global};
-
-/// What a schedule does to each task, in the order of the set.
-#[derive(Debug, Drop, PartialEq, Eq)]
-pub struct Measured {
-    /// One measure per task.
-    pub tasks: Vec<TaskMeasure>,
-}
-
-/// What a schedule does to the jobs of one task.
-#[derive(Clone, Copy, Debug, PartialEq, Eq)]
-pub struct TaskMeasure {
-    /// How many of its jobs finished.
-    pub finished: u64,
-    /// The greatest number of ticks that a finished job took from its release; none where none finished.
-    pub response: Option<u64>,
-    /// The greatest number of ticks at which a job was blocked, finished or not; 0 without a job.
-    pub blocking: u64,
-}
 
 /// Is the job one of the task, and finished?
 #[tactic(auto, unfolding(crate::specs::Measured::counts_now))]
@@ -86,7 +74,7 @@ fn measure_task(machine: &Machine, counts: &[JobCount], x: TaskId) -> TaskMeasur
 }
 
 /// The measures of all tasks, after all rows were taken and counted.
-pub(crate) fn measure_all(
+fn measure_all(
     alloc: Global,
     machine: &Machine,
     counts: &[JobCount],
@@ -102,4 +90,19 @@ pub(crate) fn measure_all(
         measures.push(measure_task(machine, counts, TaskId(x)))?;
     }
     Ok(measures)
+}
+
+/// What a schedule did to each task, by the machine that has taken its rows and the counts of its jobs.
+pub fn measures_of(
+    alloc: Global,
+    machine: &Machine,
+    counts: &[JobCount],
+) -> Result<Measured, AllocError>
+    requires size { length counts.now ≡ length machine.now.list.jobs }
+    ensures { IfOk result (λ measures. (interferes : Trace → ℕ → ℕ → Bool) (w : Trace) → machine.now.list ≡ jobs_of w
+        → Shows machine.now w.row → AreCounts interferes w machine.now.tick counts.now
+        → AreMeasures interferes w machine.now.tick measures) }
+{
+    let tasks = measure_all(alloc, machine, counts)?;
+    Ok(Measured { tasks })
 }

@@ -9,8 +9,8 @@ use Rattle.csv.specs.declared.parser.State.{State}
 use Rattle.csv.specs.declared.parser.State.TheVariants as st
 use Rattle.csv.specs.declared.parser.Action.{Action}
 use Rattle.csv.specs.declared.parser.Action.TheVariants as act
-use Rattle.trace_csv.specs.declared.bytes.Place.{Place}
-use Rattle.trace_csv.specs.declared.bytes.Place.TheVariants as place
+use Rattle.trace_csv.specs.declared.bytes.ReaderPlace.{ReaderPlace}
+use Rattle.trace_csv.specs.declared.bytes.ReaderPlace.TheVariants as place
 use Rattle.trace_csv.specs.Places.{place_seen}
 use Rattle.trace_csv.specs.Records.{Fields}
 use Rattle.trace_csv.specs.RecordAnswers.{record_next}
@@ -64,7 +64,7 @@ is_inside st.AfterQuote = true
 is_inside st.InEscape = false
 is_inside st.InComment = false
 
-inside_of : (p : Place) → ends_at_end (place_seen p) ≡ true → is_inside (place_seen p) ≡ true
+inside_of : (p : ReaderPlace) → ends_at_end (place_seen p) ≡ true → is_inside (place_seen p) ≡ true
 inside_of place.Between e = e
 inside_of place.AfterReturn e = e
 inside_of place.FieldStart e = refl
@@ -154,7 +154,7 @@ longer s fields field (c ∷ rest) inside = elim (cases_Bool (is_end (step defau
 ]
 
 -- A record that is begun and has more fields than the most.
-pub long_record : (from : State) (text : List ℕ) (p : Place) (fields : Fields) (field rest : List ℕ) (most : ℕ)
+pub long_record : (from : State) (text : List ℕ) (p : ReaderPlace) (fields : Fields) (field rest : List ℕ) (most : ℕ)
     → record_next from text ≡ next_record default_config (place_seen p) fields field rest
     → ends_at_end (place_seen p) ≡ true → most < length fields
     → (read : Read) × (record_next from text ≡ Some read) × (most < length read.0)

@@ -3,12 +3,12 @@ use Rattle.csv.specs.declared.parser.State.{State}
 use Rattle.csv.specs.declared.parser.State.TheVariants as st
 use Rattle.csv.specs.declared.parser.Action.{Action}
 use Rattle.csv.specs.declared.parser.Action.TheVariants as act
-use Rattle.trace_csv.specs.declared.bytes.Place.{Place}
-use Rattle.trace_csv.specs.declared.bytes.Place.TheVariants as place
+use Rattle.trace_csv.specs.declared.bytes.ReaderPlace.{ReaderPlace}
+use Rattle.trace_csv.specs.declared.bytes.ReaderPlace.TheVariants as place
 use Rattle.trace_csv.specs.declared.bytes.Effect.{Effect}
 use Rattle.trace_csv.specs.declared.bytes.Effect.TheVariants as effect
 
-abbrev pub place_seen : Place → State
+abbrev pub place_seen : ReaderPlace → State
 place_seen place.Between = st.StartRecord
 place_seen place.AfterReturn = st.AfterCr
 place_seen place.FieldStart = st.StartField

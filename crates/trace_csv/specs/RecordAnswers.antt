@@ -4,7 +4,7 @@ use Rattle.std.specs.declared.alloc.AllocError.{AllocError}
 use Rattle.csv.specs.Machine.{Read, next_record}
 use Rattle.csv.specs.Reading.{default_config, records_from}
 use Rattle.csv.specs.declared.parser.State.{State}
-use Rattle.trace_csv.specs.declared.bytes.Place.{Place}
+use Rattle.trace_csv.specs.declared.bytes.ReaderPlace.{ReaderPlace}
 use Rattle.trace_csv.specs.declared.records.Piece.{Piece}
 use Rattle.trace_csv.specs.declared.records.Piece.TheVariants as piece
 use Rattle.trace_csv.specs.declared.records.Next.{Next}
@@ -21,7 +21,7 @@ abbrev pub records_left : State → List ℕ → List Fields
 records_left s text = records_from default_config (length text + 1) s text
 
 -- The next record, with the place and the bytes behind it; or it has more fields than the most; or there is none.
-abbrev pub PieceRead : Result Piece AllocError → Place → List ℕ → ℕ → Type 0
+abbrev pub PieceRead : Result Piece AllocError → ReaderPlace → List ℕ → ℕ → Type 0
 PieceRead (Ok (piece.Record fields place taken)) from text most =
     (taken ≤ length text) × (record_next (place_seen from) text ≡ Some (fields_seen fields.items, place_seen place, drop taken text))
 PieceRead (Ok piece.Long) from text most =

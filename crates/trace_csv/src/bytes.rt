@@ -5,7 +5,7 @@ ghost use Rattle.trace_csv.specs.Places.{place_seen, effect_seen};
 
 /// Where in a text a reader stands.
 #[derive(Clone, Copy, Debug, PartialEq, Eq)]
-pub(crate) enum Place {
+pub(crate) enum ReaderPlace {
     /// Between records.
     Between,
     /// Between records, behind a carriage return.
@@ -30,77 +30,77 @@ pub(crate) enum Effect {
 }
 
 /// What a byte does in a field, outside quotes.
-fn in_field(byte: u8) -> (Place, Effect)
+fn in_field(byte: u8) -> (ReaderPlace, Effect)
     ensures place { place_seen result.0 ≡ (machine.in_field default_config byte).0 }
     ensures effect { effect_seen result.1 ≡ (machine.in_field default_config byte).1 }
 {
     if byte == b',' {
-        (Place::FieldStart, Effect::EndField)
+        (ReaderPlace::FieldStart, Effect::EndField)
     } else if byte == b'\r' {
-        (Place::AfterReturn, Effect::EndRecord)
+        (ReaderPlace::AfterReturn, Effect::EndRecord)
     } else if byte == b'\n' {
-        (Place::Between, Effect::EndRecord)
+        (ReaderPlace::Between, Effect::EndRecord)
     } else {
-        (Place::Plain, Effect::Copy)
+        (ReaderPlace::Plain, Effect::Copy)
     }
 }
 
 /// What a byte does before a field.
-fn before_field(byte: u8) -> (Place, Effect)
+fn before_field(byte: u8) -> (ReaderPlace, Effect)
     ensures place { place_seen result.0 ≡ (machine.start_field default_config byte).0 }
     ensures effect { effect_seen result.1 ≡ (machine.start_field default_config byte).1 }
 {
     if byte == b'"' {
-        (Place::Quoted, Effect::Skip)
+        (ReaderPlace::Quoted, Effect::Skip)
     } else {
         in_field(byte)
     }
 }
 
 /// What a byte does between records.
-fn between_records(byte: u8) -> (Place, Effect)
+fn between_records(byte: u8) -> (ReaderPlace, Effect)
     ensures place { place_seen result.0 ≡ (machine.start_record default_config byte).0 }
     ensures effect { effect_seen result.1 ≡ (machine.start_record default_config byte).1 }
 {
     if byte == b'\r' || byte == b'\n' {
-        (Place::Between, Effect::Skip)
+        (ReaderPlace::Between, Effect::Skip)
     } else {
         before_field(byte)
     }
 }
 
 /// What a byte does between quotes.
-fn in_quotes(byte: u8) -> (Place, Effect)
-    ensures place { place_seen result.0 ≡ (machine.step default_config (place_seen Place.Quoted) byte).0 }
-    ensures effect { effect_seen result.1 ≡ (machine.step default_config (place_seen Place.Quoted) byte).1 }
+fn in_quotes(byte: u8) -> (ReaderPlace, Effect)
+    ensures place { place_seen result.0 ≡ (machine.step default_config (place_seen ReaderPlace.Quoted) byte).0 }
+    ensures effect { effect_seen result.1 ≡ (machine.step default_config (place_seen ReaderPlace.Quoted) byte).1 }
 {
     if byte == b'"' {
-        (Place::AfterQuote, Effect::Skip)
+        (ReaderPlace::AfterQuote, Effect::Skip)
     } else {
-        (Place::Quoted, Effect::Copy)
+        (ReaderPlace::Quoted, Effect::Copy)
     }
 }
 
 /// Where a byte leads from a place, and what it does, as `csv` reads with its defaults.
-pub(crate) fn step(place: Place, byte: u8) -> (Place, Effect)
+pub(crate) fn step(place: ReaderPlace, byte: u8) -> (ReaderPlace, Effect)
     ensures place { place_seen result.0 ≡ (machine.step default_config (place_seen place) byte).0 }
     ensures effect { effect_seen result.1 ≡ (machine.step default_config (place_seen place) byte).1 }
 {
     match place {
-        Place::Between => between_records(byte),
-        Place::AfterReturn => {
+        ReaderPlace::Between => between_records(byte),
+        ReaderPlace::AfterReturn => {
             if byte == b'\n' {
-                (Place::Between, Effect::Skip)
+                (ReaderPlace::Between, Effect::Skip)
             } else {
                 between_records(byte)
             }
         }
-        Place::FieldStart => before_field(byte),
-        Place::Plain => in_field(byte),
-        Place::Quoted => in_quotes(byte),
-        Place::AfterQuote => {
+        ReaderPlace::FieldStart => before_field(byte),
+        ReaderPlace::Plain => in_field(byte),
+        ReaderPlace::Quoted => in_quotes(byte),
+        ReaderPlace::AfterQuote => {
             if byte == b'"' {
-                (Place::Quoted, Effect::Copy)
+                (ReaderPlace::Quoted, Effect::Copy)
             } else {
                 in_field(byte)
             }
@@ -109,12 +109,15 @@ pub(crate) fn step(place: Place, byte: u8) -> (Place, Effect)
 }
 
 /// Is a record begun, so that the end of the text ends it?
-pub(crate) fn is_inside(place: Place) -> bool
+pub(crate) fn is_inside(place: ReaderPlace) -> bool
     ensures { result ≡ machine.ends_at_end (place_seen place) }
 {
     match place {
-        Place::Between | Place::AfterReturn => false,
-        Place::FieldStart | Place::Plain | Place::Quoted | Place::AfterQuote => true,
+        ReaderPlace::Between | ReaderPlace::AfterReturn => false,
+        ReaderPlace::FieldStart
+        | ReaderPlace::Plain
+        | ReaderPlace::Quoted
+        | ReaderPlace::AfterQuote => true,
     }
 }
 

@@ -5,7 +5,7 @@ ghost use Rattle.trace_csv.specs.Places.{effect_seen};
 ghost use Rattle.trace_csv.specs.Records.{records_in, fields_seen};
 ghost use Rattle.trace_csv.specs.RecordAnswers.{PieceRead, IsNext};
 
-use crate::bytes::{Effect, Place, is_end, is_inside, step};
+use crate::bytes::{Effect, ReaderPlace, is_end, is_inside, step};
 use std::alloc::{AllocError, Global};
 use std::marker::Model;
 use std::mem;
@@ -14,7 +14,7 @@ use std::mem;
 #[derive(Debug, Drop)]
 enum Piece {
     /// A record with these fields, which leads to this place, so many bytes further.
-    Record(Vec<Vec<u8>>, Place, usize),
+    Record(Vec<Vec<u8>>, ReaderPlace, usize),
     /// A record of more fields than were asked for.
     Long,
     /// No further record.
@@ -55,7 +55,12 @@ fn take_byte(
 }
 
 /// Reads a record from this place on, no further than to the field that is one more than the most.
-fn read_record(alloc: Global, text: &[u8], from: Place, most: usize) -> Result<Piece, AllocError>
+fn read_record(
+    alloc: Global,
+    text: &[u8],
+    from: ReaderPlace,
+    most: usize,
+) -> Result<Piece, AllocError>
     ensures { PieceRead result from text.now most }
 {
     let mut fields = Vec::new(alloc);
@@ -76,7 +81,7 @@ fn read_record(alloc: Global, text: &[u8], from: Place, most: usize) -> Result<P
         return Ok(Piece::End);
     }
     fields.push(field)?;
-    Ok(Piece::Record(fields, Place::Between, text.len()))
+    Ok(Piece::Record(fields, ReaderPlace::Between, text.len()))
 }
 
 /// Are the bytes a byte order mark?
@@ -104,7 +109,7 @@ fn without_mark(text: &[u8]) -> &[u8]
 #[derive(Drop)]
 pub(crate) struct Records<'t> {
     rest: &'t [u8],
-    place: Place,
+    place: ReaderPlace,
 }
 
 impl<'t> Model for Records<'t> {
@@ -128,7 +133,7 @@ impl<'t> Records<'t> {
     {
         Records {
             rest: without_mark(text),
-            place: Place::Between,
+            place: ReaderPlace::Between,
         }
     }
 

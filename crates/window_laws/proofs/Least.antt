@@ -44,7 +44,3 @@ greatest_below-term (suc n) f k l = elim (cases_lt k n) [
   | inl below ↦ omega (arith, greatest_below-term n f k below)
   | inr here ↦ let e : k ≡ n = omega arith in rw e (omega arith)
 ]
-
-pub greatest_below-at_most : (n c : ℕ) (f : ℕ → ℕ) → ((k : ℕ) → k < n → f k ≤ c) → greatest_below n f ≤ c
-greatest_below-at_most zero c f h = omega arith
-greatest_below-at_most (suc n) c f h = omega (arith, h n (omega arith), greatest_below-at_most n c f (λ k l. h k (omega arith)))

@@ -45,16 +45,12 @@ loop-exchanges-preserved c =
     omega (arith, done.0.row_each, inv.size.row_each, c.loop-exchanges.rows.ok.0) in
     let basis : length c.step.new.basis ≡ c.loop-exchanges.basis.len =
     omega (arith, done.0.basic_each, inv.size.basic_each, c.loop-exchanges.basis.ok.0) in
-    let column : length c.step.new.column ≡ c.loop-exchanges.column.len =
-    omega (arith, c.step.auto.column, c.deref_mut-in-loop-exchanges-2.ensures.len, c.loop-exchanges.column.ok.0) in
     rw (
-      take_at c.step.new.column (drop (length c.step.new.column) c.loop-exchanges.column.items) c.loop-exchanges.column.len column,
       take_at c.step.new.rows (drop (length c.step.new.rows) old_rows) c.loop-exchanges.rows.len rows,
       take_at c.step.new.basis (drop (length c.step.new.basis) old_basis) c.loop-exchanges.basis.len basis,
     )
     (record {
       size = done.0;
-      column = omega (arith, inv.column, done.0.row_each, inv.size.row_each, column, c.loop-exchanges.column.ok.0);
       left = λ some. omega (arith, c.loop-exchanges-test.true, c.if-exchanges-units.false);
       reached = reached_next c.args.program.now c.loop-exchanges.exchanges (table_of old_rows old_basis)
           (table_of c.step.new.rows c.step.new.basis) c.in-Some.e

@@ -1,8 +1,8 @@
 use Rattle.std.proofs.Common.{ℕ, ◌≡◌, ◌<◌, length, get_or}
 use Rattle.std.specs.Prelude.{slice_index, IfOk}
-use Rattle.trace_conform.specs.Measured.{no_measure}
+use Rattle.schedule_answers.specs.TaskAnswers.{no_measure}
 use Rattle.audit_figures.specs.Sums.{sums_at}
-use Rattle.audit_figures.specs.Figures.{no_figures}
+use Rattle.schedule_answers.specs.TaskAnswers.{no_figures}
 use Rattle.audit_figures.specs.Beside.{figures_from}
 use Rattle.audit_figures.proofs.Together.{answer_is}
 use Rattle.audit_figures.proofs.beside.figures.Goals as goal

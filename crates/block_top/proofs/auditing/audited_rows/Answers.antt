@@ -2,10 +2,10 @@ use Rattle.std.proofs.Common.{◌≡◌}
 use Rattle.program_form.specs.Certificate.{certificate_seen}
 use Rattle.schedule_model.specs.RowDef.{trace_in, ticks_of}
 use Rattle.schedule_model.proofs.RowListLaws.{made_fits}
-use Rattle.audit_figures.specs.Figures.{no_figures}
+use Rattle.schedule_answers.specs.TaskAnswers.{no_figures}
 use Rattle.std.specs.Prelude.{slice_index_or}
 use Rattle.reply_texts.specs.Texts.{kept_text}
-use Rattle.run_plans.specs.Replies.{reply_seen}
+use Rattle.command_inputs.specs.Halts.{reply_seen}
 use Rattle.run_plans.proofs.AuditLaws.{kept_audit}
 use Rattle.block_top.proofs.auditing.audited_rows.Goals as goal
 

@@ -1,7 +1,7 @@
 use Rattle.cert_json.specs.File.{file_seen}
 use Rattle.run_plans.specs.Commands.{auditing_rows}
-use Rattle.run_plans.specs.Inputs.{jobs_input}
-use Rattle.named_protocols.specs.Named.{HasHomes}
+use Rattle.command_inputs.specs.Inputs.{jobs_input}
+use Rattle.named_laws.specs.Named.{HasHomes}
 use Rattle.sporadic_model.specs.SetDef.{SetDef}
 use Rattle.std.proofs.Common.{sym, subst}
 use Rattle.run_plans.proofs.ReplyLaws.{replied_got}

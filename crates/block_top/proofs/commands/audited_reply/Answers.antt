@@ -1,6 +1,6 @@
 use Rattle.cert_json.specs.File.{file_seen}
 use Rattle.run_plans.specs.Commands.{auditing_jobs}
-use Rattle.run_plans.specs.Inputs.{cert_input}
+use Rattle.command_inputs.specs.Inputs.{cert_input}
 use Rattle.run_plans.proofs.ReplyLaws.{replied_got}
 use Rattle.block_top.proofs.commands.audited_reply.Goals as goal
 

@@ -1,6 +1,7 @@
 use Rattle.cert_json.specs.File.{file_seen}
-use Rattle.run_plans.specs.Plans.{Answer, Working}
-use Rattle.run_plans.specs.Inputs.{rows_input}
+use Rattle.command_inputs.specs.Known.{Answer}
+use Rattle.run_plans.specs.Plans.{Working}
+use Rattle.command_inputs.specs.Inputs.{rows_input}
 use Rattle.run_plans.specs.Commands.{IfTied, IsAuditOf, audit_of}
 use Rattle.run_plans.proofs.ReplyLaws.{replied_work}
 use Rattle.block_top.proofs.commands.audited_rows_reply.Goals as goal

@@ -2,8 +2,9 @@ use Rattle.std.proofs.Common.{sym, ap, subst, inr}
 use Rattle.command_words.specs.Words.{Form, Study}
 use Rattle.run_plans.specs.Commands.{IsStudyAnswer, plan_of}
 use Rattle.command_words.specs.FormSeen.{form_seen}
-use Rattle.run_plans.specs.Outcome.{Shown, shown, IsReplyOf}
-use Rattle.run_plans.specs.Replies.{Answered}
+use Rattle.command_inputs.specs.Known.{Shown, shown}
+use Rattle.run_plans.specs.Outcome.{IsReplyOf}
+use Rattle.command_inputs.specs.Halts.{Answered}
 use Rattle.run_plans.proofs.ReplyLaws.{answered_also}
 use Rattle.block_top.proofs.commands.command_reply.Goals as goal
 

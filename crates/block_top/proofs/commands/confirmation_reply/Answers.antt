@@ -1,7 +1,8 @@
-use Rattle.run_plans.specs.Plans.{Answer, Working}
-use Rattle.run_plans.specs.RefusalDef.{RefusalDef}
-use Rattle.run_plans.specs.RefusalReplies.{refusal_seen}
-use Rattle.run_plans.specs.Inputs.{refusal_input}
+use Rattle.command_inputs.specs.Known.{Answer}
+use Rattle.run_plans.specs.Plans.{Working}
+use Rattle.command_inputs.specs.RefusalDef.{RefusalDef}
+use Rattle.command_inputs.specs.RefusalSeen.{refusal_seen}
+use Rattle.command_inputs.specs.Inputs.{refusal_input}
 use Rattle.run_plans.specs.Commands.{IsTiedConfirmation, confirmation_of}
 use Rattle.run_plans.proofs.ReplyLaws.{replied_work}
 use Rattle.block_top.proofs.commands.confirmation_reply.Goals as goal

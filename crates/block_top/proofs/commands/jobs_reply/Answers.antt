@@ -1,6 +1,6 @@
 use Rattle.run_plans.specs.Commands.{judging_rows}
-use Rattle.run_plans.specs.Inputs.{jobs_input}
-use Rattle.named_protocols.specs.Named.{HasHomes}
+use Rattle.command_inputs.specs.Inputs.{jobs_input}
+use Rattle.named_laws.specs.Named.{HasHomes}
 use Rattle.sporadic_model.specs.SetDef.{SetDef}
 use Rattle.std.proofs.Common.{sym, subst}
 use Rattle.run_plans.proofs.ReplyLaws.{replied_got}

@@ -1,6 +1,7 @@
 use Rattle.cert_json.specs.File.{file_seen}
-use Rattle.run_plans.specs.Plans.{Answer, Working}
-use Rattle.run_plans.specs.Inputs.{cert_input}
+use Rattle.command_inputs.specs.Known.{Answer}
+use Rattle.run_plans.specs.Plans.{Working}
+use Rattle.command_inputs.specs.Inputs.{cert_input}
 use Rattle.run_plans.specs.Commands.{IfTied, IsCheck, check_of}
 use Rattle.run_plans.proofs.ReplyLaws.{replied_work}
 use Rattle.block_top.proofs.commands.judgement_reply.Goals as goal

@@ -1,7 +1,8 @@
 use Rattle.schedule_model.specs.RowDef.{trace_in, ticks_of}
-use Rattle.named_protocols.specs.Named.{rules_of, interference_of}
-use Rattle.run_plans.specs.Plans.{Answer, Working}
-use Rattle.run_plans.specs.Inputs.{rows_input}
+use Rattle.named_laws.specs.Named.{rules_of, interference_of}
+use Rattle.command_inputs.specs.Known.{Answer}
+use Rattle.run_plans.specs.Plans.{Working}
+use Rattle.command_inputs.specs.Inputs.{rows_input}
 use Rattle.run_plans.specs.Commands.{IsConformance, conformance_of}
 use Rattle.run_plans.proofs.ReplyLaws.{replied_work}
 use Rattle.block_top.proofs.commands.rows_reply.Goals as goal

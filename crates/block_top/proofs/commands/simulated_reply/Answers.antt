@@ -1,6 +1,6 @@
 use Rattle.std.proofs.Common.{sym, subst}
 use Rattle.sporadic_model.specs.SetDef.{SetDef}
-use Rattle.named_protocols.specs.Named.{HasHomes}
+use Rattle.named_laws.specs.Named.{HasHomes}
 use Rattle.block_top.proofs.commands.simulated_reply.Goals as goal
 
 pub simulation-requires-clause-suits : goal.simulation-requires-clause-suits

@@ -1,6 +1,7 @@
 use Rattle.program_form.specs.Certificate.{certificate_seen}
-use Rattle.run_plans.specs.Plans.{Answer, Working}
-use Rattle.run_plans.specs.Inputs.{old_cert_input}
+use Rattle.command_inputs.specs.Known.{Answer}
+use Rattle.run_plans.specs.Plans.{Working}
+use Rattle.command_inputs.specs.Inputs.{old_cert_input}
 use Rattle.run_plans.specs.Commands.{IsJudgement, upgraded_answer, upgrade_of}
 use Rattle.run_plans.proofs.ReplyLaws.{replied_work}
 use Rattle.block_top.proofs.commands.upgraded_reply.Goals as goal

@@ -5,14 +5,14 @@ use Rattle.report.specs.FullTable.{full_text}
 use Rattle.run_plans.proofs.JudgementLaws.{listed_table}
 use Rattle.block_top.proofs.judging.tabled.Goals as goal
 
-pub returns-in_ok-full_table-in-Ok : goal.returns-in_ok-full_table-in-Ok
-returns-in_ok-full_table-in-Ok c =
+pub returns : goal.returns
+returns c =
     let cert : CertificateDef = certificate_seen c.args.certificate.now in
-    let values : List ℕ = c.in-Ok.valid.values.items in
-    let text : c.in_ok-full_table-in-Ok.field-0.items ≡ full_text c.args.set.now cert.bounds (slice_index values) =
-    rw (c.deref.ensures.value) at c.in_ok-full_table-in-Ok.ensures in
+    let values : List ℕ = c.in_ok-valid.valid.values.items in
+    let text : c.in_ok-full_table.field-0.items ≡ full_text c.args.set.now cert.bounds (slice_index values) =
+    rw (c.deref.ensures.value) at c.in_ok-full_table.ensures in
     inl (
-      c.in-Ok.ensures.judges.0,
-      listed_table c.args.protocol c.args.set.now cert values (record { status = 0; text = c.in_ok-full_table-in-Ok.field-0.items })
-          c.in-Ok.ensures.judges.1 (ap (λ (t : List ℕ). record { status = 0; text = t }) text),
+      c.in_ok-valid.ensures.valid.0,
+      listed_table c.args.protocol c.args.set.now cert values (record { status = 0; text = c.in_ok-full_table.field-0.items })
+          c.in_ok-valid.ensures.valid.1 (ap (λ (t : List ℕ). record { status = 0; text = t }) text),
     )

@@ -2,8 +2,8 @@ use Rattle.std.proofs.Common.{refl, ◌≡◌, ◌+◌, ◌≤◌, length}
 use Rattle.std.specs.Io.KnownBytes.{Appends}
 use Rattle.outside_ports.specs.Prefix.{AppendsPart}
 use Rattle.command_words.specs.Words.{words_seen}
-use Rattle.run_plans.specs.Replies.{reply_seen}
-use Rattle.run_plans.specs.Statuses.{number_of}
+use Rattle.command_inputs.specs.Halts.{reply_seen}
+use Rattle.command_inputs.specs.Statuses.{number_of}
 use Rattle.run_plans.specs.Headline.{Call}
 use Rattle.run_plans.proofs.RunLaws.{run_written, run_cut}
 use Rattle.block_top.proofs.top.run.Goals as goal

@@ -1,7 +1,7 @@
 use Rattle.schedule_model.specs.RowDef.{trace_in, ticks_of}
 use Rattle.schedule_model.proofs.RowListLaws.{made_fits}
-use Rattle.named_protocols.specs.Named.{rules_of, interference_of}
-use Rattle.run_plans.specs.Replies.{reply_seen}
+use Rattle.named_laws.specs.Named.{rules_of, interference_of}
+use Rattle.command_inputs.specs.Halts.{reply_seen}
 use Rattle.run_plans.proofs.ConformLaws.{measured_conformance}
 use Rattle.block_top.proofs.work.conformance.Goals as goal
 

@@ -7,8 +7,8 @@ use Rattle.phase_machine.specs.MachineDef.{MachineDef, under}
 use Rattle.phase_machine.proofs.Facts.{phase_shown}
 use Rattle.charge_model.specs.Charges.{Charge}
 use Rattle.charge_model.specs.Windows.{bound_end}
-use Rattle.trace_conform.proofs.RunLaws.{row_fits}
-use Rattle.charge.specs.Seen.{charge_seen}
+use Rattle.trace_walk.proofs.RunLaws.{row_fits}
+use Rattle.charged_protocols.specs.Seen.{charge_seen}
 use Rattle.charge.proofs.TallyLaws.{placed}
 use Rattle.charge.proofs.counting.place_at.Goals as goal
 

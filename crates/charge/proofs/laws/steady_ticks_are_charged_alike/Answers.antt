@@ -1,5 +1,5 @@
 use Rattle.charge.proofs.CountedAlike.{request_stays}
-use Rattle.trace_conform.proofs.Counting.{phase_on}
+use Rattle.trace_walk.proofs.Stretches.{phase_on}
 use Rattle.charge.proofs.laws.steady_ticks_are_charged_alike.Goals as goal
 
 pub returns-clause-blocked : goal.returns-clause-blocked

@@ -1,10 +1,10 @@
 use Rattle.std.proofs.Common.{map, ◌∙◌, ap, length}
 use Rattle.schedule_model.specs.Seen.{place_seen}
 use Rattle.phase_machine.specs.Now.{current_now, holder_now, requester_now}
-use Rattle.shared_rules.specs.Scene.{place_in, stays}
-use Rattle.shared_rules.specs.Filling.{filled}
-use Rattle.shared_rules.specs.Walks.{walked}
-use Rattle.shared_rules.proofs.Filling.{walk_filled}
+use Rattle.shared_choosing.specs.Scene.{place_in, stays}
+use Rattle.shared_choosing.specs.Filling.{filled}
+use Rattle.shared_choosing.specs.Walks.{walked}
+use Rattle.shared_choosing.proofs.Filling.{walk_filled}
 use Rattle.dpcp_rules.specs.Choosing.{grant_claim}
 use Rattle.dpcp_rules.proofs.choosing.grant_all.Goals as goal
 

@@ -1,4 +1,4 @@
-use Rattle.dual_check.specs.Failures.{AllPass}
+use Rattle.schedule_answers.specs.Failures.{AllPass}
 use Rattle.dual_check.specs.Answers.{worth_at, IsCovering}
 use Rattle.dual_check.proofs.duals.first_uncovered_of.Given as goal
 

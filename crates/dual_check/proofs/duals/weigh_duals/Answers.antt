@@ -5,7 +5,7 @@ use Rattle.program_form.specs.Program.{ProgramDef}
 use Rattle.program_sources.specs.Recurrence.{SourceDef, source_at}
 use Rattle.program_sources.specs.Valid.{dual_at}
 use Rattle.dual_check.specs.declared.duals.DualWorth.{DualWorth}
-use Rattle.dual_check.specs.Tests.{HasNumerators, HasDualSize}
+use Rattle.schedule_answers.specs.Tests.{HasNumerators, HasDualSize}
 use Rattle.dual_check.specs.Answers.{IsWorth, IsWorthOf, AreWorths}
 use Rattle.dual_check.proofs.WorthLaws.{dual_seen_at, one_more_worth}
 use Rattle.dual_check.proofs.duals.weigh_duals.Goals as goal

@@ -1,4 +1,4 @@
-use Rattle.dual_check.proofs.FailureLaws.{no_failure, one_failure}
+use Rattle.schedule_answers.proofs.FailureLaws.{no_failure, one_failure}
 use Rattle.dual_check.proofs.laws.failures_are_exact.Goals as goal
 
 pub returns-clause-invalid : goal.returns-clause-invalid

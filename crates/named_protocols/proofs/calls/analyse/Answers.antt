@@ -6,8 +6,8 @@ use Rattle.response_fixpoint.specs.Runs.{rounds_of}
 use Rattle.response_fixpoint.specs.Answers.{IsAnswerOf, IsSchedulable}
 use Rattle.protocol_names.specs.declared.ProtocolName.{ProtocolName}
 use Rattle.protocol_names.specs.declared.ProtocolName.TheVariants as name
-use Rattle.named_protocols.specs.Named.{source_of}
-use Rattle.named_protocols.proofs.EachName.{named_no_columns}
+use Rattle.named_laws.specs.Named.{source_of}
+use Rattle.named_laws.proofs.EachName.{named_no_columns}
 use Rattle.named_protocols.proofs.calls.analyse.Goals as goal
 
 pub returns-in-Base-clause-only : goal.returns-in-Base-clause-only

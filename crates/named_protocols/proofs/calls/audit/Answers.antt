@@ -1,9 +1,9 @@
 use Rattle.std.proofs.Common.{sym, subst}
 use Rattle.program_form.specs.Certificate.{certificate_seen}
 use Rattle.schedule_model.specs.RowDef.{trace_in, ticks_of}
-use Rattle.audit_figures.specs.Audited.{Audits}
+use Rattle.figure_laws.specs.Audited.{Audits}
 use Rattle.protocol_names.specs.declared.ProtocolName.{ProtocolName}
-use Rattle.named_protocols.specs.Named.{rules_of, interference_of, charges_of, source_of}
+use Rattle.named_laws.specs.Named.{rules_of, interference_of, charges_of, source_of}
 use Rattle.named_protocols.proofs.calls.audit.Goals as goal
 
 pub returns-in-Base-clause-audits : goal.returns-in-Base-clause-audits

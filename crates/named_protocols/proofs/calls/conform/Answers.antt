@@ -1,8 +1,8 @@
 use Rattle.std.proofs.Common.{sym, subst}
 use Rattle.schedule_model.specs.RowDef.{trace_in, ticks_of}
-use Rattle.trace_conform.specs.Conforming.{Conforms}
+use Rattle.schedule_answers.specs.Conforming.{Conforms}
 use Rattle.protocol_names.specs.declared.ProtocolName.{ProtocolName}
-use Rattle.named_protocols.specs.Named.{rules_of, interference_of}
+use Rattle.named_laws.specs.Named.{rules_of, interference_of}
 use Rattle.named_protocols.proofs.calls.conform.Goals as goal
 
 pub returns-in-Base : goal.returns-in-Base

@@ -3,7 +3,7 @@ use Rattle.std.specs.Result.{IfOk}
 use Rattle.schedule_model.specs.RowDef.{trace_in}
 use Rattle.schedule_model.specs.Keeping.{KeepsBefore}
 use Rattle.protocol_names.specs.declared.ProtocolName.{ProtocolName}
-use Rattle.named_protocols.specs.Named.{rules_of}
+use Rattle.named_laws.specs.Named.{rules_of}
 use Rattle.named_protocols.proofs.calls.simulate.Goals as goal
 
 pub returns-in-Base-clause-keeps : goal.returns-in-Base-clause-keeps

@@ -5,7 +5,7 @@ use Rattle.refusal_laws.specs.Seen.{steps_seen}
 use Rattle.refusal_confirm.specs.Faults.{IsFault, Names}
 use Rattle.refusal_confirm.specs.declared.fault.Fault.{Fault}
 use Rattle.protocol_names.specs.declared.ProtocolName.{ProtocolName}
-use Rattle.named_protocols.specs.Named.{source_of}
+use Rattle.named_laws.specs.Named.{source_of}
 use Rattle.named_protocols.proofs.refusing.confirm.Goals as goal
 
 pub returns-in-Base-clause-only : goal.returns-in-Base-clause-only

@@ -4,7 +4,7 @@ use Rattle.refusal_cert.specs.Refuting.{refuting}
 use Rattle.refusal_cert.specs.Steps.{refusal_of}
 use Rattle.refusal_cert.specs.Answers.{IsAnswerOf}
 use Rattle.protocol_names.specs.declared.ProtocolName.{ProtocolName}
-use Rattle.named_protocols.specs.Named.{source_of}
+use Rattle.named_laws.specs.Named.{source_of}
 use Rattle.named_protocols.proofs.refusing.refute.Goals as goal
 
 pub returns-in-Base-clause-only : goal.returns-in-Base-clause-only

@@ -3,7 +3,7 @@ use Rattle.schedule_model.specs.Seen.{place_seen}
 use Rattle.phase_machine.specs.MachineDef.{task_in, no_place}
 use Rattle.phase_machine.proofs.Lawful.{task_listed}
 use Rattle.phase_machine.proofs.Named.{seen_at, in_columns}
-use Rattle.phase_machine.proofs.Columns.{column_moves, moved_past, still_there}
+use Rattle.phase_machine.proofs.TakenColumns.{column_moves, moved_past, still_there}
 use Rattle.phase_machine.proofs.stepping.step_all.Goals.{in-Some, in_default}
 use Rattle.phase_machine.proofs.stepping.step_all.Goals as goal
 

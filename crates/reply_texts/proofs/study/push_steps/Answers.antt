@@ -1,7 +1,7 @@
 use Rattle.std.proofs.Common.{[]}
 use Rattle.std.specs.Prelude.{slice_index_or}
 use Rattle.reply_texts.specs.Texts.{step_line}
-use Rattle.reply_texts.proofs.Lines.{lines_more}
+use Rattle.text_pieces.proofs.Lines.{lines_more}
 use Rattle.reply_texts.proofs.study.push_steps.Goals as goal
 
 pub loop-i-preserved : goal.loop-i-preserved

@@ -1,8 +1,8 @@
 use Rattle.std.specs.Prelude.{slice_index_or}
 use Rattle.sporadic_model.specs.SetDef.{task_at}
-use Rattle.audit_figures.specs.Figures.{no_figures}
+use Rattle.schedule_answers.specs.TaskAnswers.{no_figures}
 use Rattle.reply_texts.specs.Texts.{figures_line}
-use Rattle.reply_texts.proofs.Lines.{lines_more}
+use Rattle.text_pieces.proofs.Lines.{lines_more}
 use Rattle.reply_texts.proofs.texts.push_all_figures.Goals as goal
 
 pub loop-x-preserved : goal.loop-x-preserved

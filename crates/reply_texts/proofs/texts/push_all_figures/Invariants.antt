@@ -2,7 +2,7 @@ use Rattle.std.proofs.Common.{◌≡◌, ◌++◌}
 use Rattle.std.specs.Prelude.{slice_index_or}
 use Rattle.bounded_sums.specs.Sums.{collect_below}
 use Rattle.sporadic_model.specs.SetDef.{task_at}
-use Rattle.audit_figures.specs.Figures.{no_figures}
+use Rattle.schedule_answers.specs.TaskAnswers.{no_figures}
 use Rattle.reply_texts.specs.Texts.{figures_line}
 use Rattle.reply_texts.proofs.texts.push_all_figures.Given as goal
 

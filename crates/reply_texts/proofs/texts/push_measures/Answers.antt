@@ -1,8 +1,8 @@
 use Rattle.std.specs.Prelude.{slice_index_or}
 use Rattle.sporadic_model.specs.SetDef.{task_at}
-use Rattle.trace_conform.specs.Measured.{measure_seen, no_measure}
+use Rattle.schedule_answers.specs.TaskAnswers.{measure_seen, no_measure}
 use Rattle.reply_texts.specs.Texts.{measures_line}
-use Rattle.reply_texts.proofs.Lines.{lines_more}
+use Rattle.text_pieces.proofs.Lines.{lines_more}
 use Rattle.reply_texts.proofs.texts.push_measures.Goals as goal
 
 pub loop-x-preserved : goal.loop-x-preserved

@@ -1,7 +1,7 @@
 use Rattle.std.proofs.Common.{slice_index}
 use Rattle.sporadic_model.specs.SetDef.{task_at}
 use Rattle.report.specs.FullTable.{full_line}
-use Rattle.report.proofs.Lines.{lines_more}
+use Rattle.text_pieces.proofs.Lines.{lines_more}
 use Rattle.report.proofs.proved.push_full_tasks.Goals as goal
 
 pub loop-x-preserved : goal.loop-x-preserved

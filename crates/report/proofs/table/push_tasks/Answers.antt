@@ -1,6 +1,6 @@
 use Rattle.sporadic_model.specs.SetDef.{task_at}
 use Rattle.report.specs.Table.{task_line}
-use Rattle.report.proofs.Lines.{lines_more}
+use Rattle.text_pieces.proofs.Lines.{lines_more}
 use Rattle.report.proofs.table.push_tasks.Goals as goal
 
 pub loop-x-preserved : goal.loop-x-preserved

@@ -1,9 +1,8 @@
-use Rattle.std.proofs.Common.{◌<◌, length, arith}
 use Rattle.std.proofs.lemmas.Result.{err_from_is_err_and}
-use Rattle.fraction128.specs.Scaling.{fraction_at}
+use Rattle.simplex.specs.Entries.{listed_at}
 use Rattle.simplex.specs.RowSteps.{IsDividedRow}
 use Rattle.simplex.specs.Tables.{row_of}
-use Rattle.simplex.proofs.Cells.{row_same, fraction_read}
+use Rattle.simplex.proofs.Cells.{row_same}
 use Rattle.simplex.proofs.Taking.{exchange_stop, exchanged, forms_aside}
 use Rattle.simplex.proofs.exchange.exchange.Goals as goal
 
@@ -14,11 +13,10 @@ take_all-requires-clause-forms c =
 pub returns-in_err-take_all : goal.returns-in_err-take_all
 returns-in_err-take_all c e column =
     let stop = err_from_is_err_and c.from_residual-in_err-take_all.result c.from_residual-in_err-take_all.ensures.1 in
-    let in_column : c.args.r < length c.args.column.now = omega (arith, column.as_many, c.requires.row) in
-    let divided : IsDividedRow (row_of c.args.rows.now c.args.r) (fraction_at c.args.column.now c.args.r) c.in_ok-pivot.pivot
+    let divided : IsDividedRow (row_of c.args.rows.now c.args.r) (listed_at c.args.column.now c.args.r) c.in_ok-pivot.pivot
     = rw (
       row_same c.args.rows.now c.args.r c.index-rows-r.result c.requires.row,
-      fraction_read c.args.column.now c.args.r c.index-column-r.result in_column c.index-column-r.is,
+      ← c.value_at.ensures.value,
       ← c.replace-row.ensures.value,
     )
     c.in_ok-pivot.ensures in
@@ -29,11 +27,10 @@ returns-in_err-take_all c e column =
 
 pub returns : goal.returns
 returns c e column =
-    let in_column : c.args.r < length c.args.column.now = omega (arith, column.as_many, c.requires.row) in
-    let divided : IsDividedRow (row_of c.args.rows.now c.args.r) (fraction_at c.args.column.now c.args.r) c.in_ok-pivot.pivot
+    let divided : IsDividedRow (row_of c.args.rows.now c.args.r) (listed_at c.args.column.now c.args.r) c.in_ok-pivot.pivot
     = rw (
       row_same c.args.rows.now c.args.r c.index-rows-r.result c.requires.row,
-      fraction_read c.args.column.now c.args.r c.index-column-r.result in_column c.index-column-r.is,
+      ← c.value_at.ensures.value,
       ← c.replace-row.ensures.value,
     )
     c.in_ok-pivot.ensures in

@@ -8,28 +8,28 @@ use Rattle.simplex.proofs.exchange.step.Goals as goal
 
 pub unreachable-requires : goal.unreachable-requires
 unreachable-requires c =
-    let none = rw c.in-Ok-None.field-0-is at (c.in-Ok-None.ensures.least c.args.e c.read_column.ensures) in
+    let none = rw c.in-Ok-None.field-0-is at (c.in-Ok-None.ensures.least c.args.e (rw c.deref.ensures.value c.in_ok-read_column.ensures)) in
     let some = has_ratio c.args.program.now c.requires.reached.0 (table_of c.args.rows.now c.args.basis.now) c.args.e
     c.rows.ensures.program c.requires.reached.1 c.requires.enters.within in
     none some.0 (omega (arith, some.1, c.requires.size.basic_each)) some.2
 
 pub returns-in_err-exchange : goal.returns-in_err-exchange
 returns-in_err-exchange c =
-    let stop = err_from_is_err_and c.from_residual.result c.from_residual.ensures.1 in
-    let chosen = rw c.in-Ok-Some.field-0-is at (c.in-Ok-Some.ensures.least c.args.e c.read_column.ensures) in
+    let stop = err_from_is_err_and c.from_residual-in_err-exchange.result c.from_residual-in_err-exchange.ensures.1 in
+    let chosen = rw c.in-Ok-Some.field-0-is at (c.in-Ok-Some.ensures.least c.args.e (rw c.deref.ensures.value c.in_ok-read_column.ensures)) in
     let least = rw (c.columns.ensures.value, c.rows.ensures.value, c.requires.size.basic_each) at chosen in
     rw (stop.1, stop.2)
     (step_stop c.in_err-exchange.field-0.0 c.args.program.now c.args.e c.in-Ok-Some.r c.args.rows.now c.args.basis.now
     c.exchange.new.rows c.args.basis.now
-    c.requires.size (record { ratio = c.in-Ok-Some.field-0-0-1; least = least }) (c.in_err-exchange.ensures c.args.e c.read_column.ensures))
+    c.requires.size (record { ratio = c.in-Ok-Some.field-0-0-1; least = least }) (c.in_err-exchange.ensures c.args.e (rw c.deref-2.ensures.value c.in_ok-read_column.ensures)))
 
 pub returns : goal.returns
 returns c =
-    let chosen = rw c.in-Ok-Some.field-0-is at (c.in-Ok-Some.ensures.least c.args.e c.read_column.ensures) in
+    let chosen = rw c.in-Ok-Some.field-0-is at (c.in-Ok-Some.ensures.least c.args.e (rw c.deref.ensures.value c.in_ok-read_column.ensures)) in
     let least = rw (c.columns.ensures.value, c.rows.ensures.value, c.requires.size.basic_each) at chosen in
     step_done c.args.program.now c.args.e c.in-Ok-Some.r c.args.rows.now c.exchange.new.rows c.args.basis.now
     c.requires.size c.requires.enters
-    (record { ratio = c.in-Ok-Some.field-0-0-1; least = least }) (c.in_ok-exchange.ensures c.args.e c.read_column.ensures)
+    (record { ratio = c.in-Ok-Some.field-0-0-1; least = least }) (c.in_ok-exchange.ensures c.args.e (rw c.deref-2.ensures.value c.in_ok-read_column.ensures))
 
 pub exchange-requires-clause-row : goal.exchange-requires-clause-row
 exchange-requires-clause-row c =
@@ -50,7 +50,8 @@ exchange-requires-clause-forms c i l v =
 
 pub exchange-requires-clause-pivot : goal.exchange-requires-clause-pivot
 exchange-requires-clause-pivot c =
-    let chosen = rw c.in-Ok-Some.field-0-is at (c.in-Ok-Some.ensures.least c.args.e c.read_column.ensures) in
+    let chosen = rw c.in-Ok-Some.field-0-is at (c.in-Ok-Some.ensures.least c.args.e (rw c.deref.ensures.value c.in_ok-read_column.ensures)) in
     let within = rw c.in-Ok-Some.field-0-is at c.in-Ok-Some.ensures.within in
-    pivot_apart c.args.rows.now c.args.basis.now c.read_column.new.column c.args.e c.in-Ok-Some.r c.read_column.ensures
+    pivot_apart c.args.rows.now c.args.basis.now c.deref-2.result.now c.args.e c.in-Ok-Some.r
+    (rw c.deref-2.ensures.value c.in_ok-read_column.ensures)
     (omega (arith, within, c.requires.size.basic_each, c.requires.size.row_each)) chosen.has

@@ -1,13 +1,10 @@
-use Rattle.std.proofs.Common.{◌≡◌, ℕ, ◌<◌, length, Bool, true, false, not, refl, ap, ◌∙◌, sym, arith, Option, None, Some}
+use Rattle.std.proofs.Common.{◌≡◌, ℕ, ◌<◌, length, true, false, not, ap, ◌∙◌, sym, arith, Option, None, Some}
 use Rattle.std.specs.Option.{is_none}
+use Rattle.std.proofs.lemmas.Bool.{not-false}
 use Rattle.std.specs.Prelude.{IsSome}
 use Rattle.sporadic_model.specs.SetDef.{resource_at, no_resource}
 use Rattle.taskset_json.proofs.Lists.{position_here, position_none}
 use Rattle.taskset_json.proofs.homes.first_homeless.Goals as goal
-
-is_there : (b : Bool) → not b ≡ false → b ≡ true
-is_there true e = refl
-is_there false e = sym e
 
 is_missing : (o : Option ℕ) → is_none o ≡ true → IsSome o → ⊥
 is_missing None e h = cc
@@ -31,6 +28,6 @@ returns c =
     λ q below. c.loop-q.invariant q (omega (arith, below, c.loop-q-test.false, c.resources-q-end.ensures.value)) in
     record {
       first = sym (position_none (λ r. is_none r.home) c.args.set.now.resources no_resource kept);
-      none = λ q below. is_there _ (kept q below);
+      none = λ q below. not-false _ (kept q below);
       some = tt;
     }

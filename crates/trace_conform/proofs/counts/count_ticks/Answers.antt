@@ -6,7 +6,7 @@ use Rattle.phase_machine.specs.MachineDef.{under, task_in}
 use Rattle.phase_machine.specs.Now.{current_now}
 use Rattle.phase_machine.proofs.Facts.{current_shown}
 use Rattle.trace_conform.specs.Counts.{count_at}
-use Rattle.trace_conform.proofs.Counting.{none_more, one_more, all_counted}
+use Rattle.trace_conform.proofs.CountedTicks.{none_more, one_more, all_counted}
 use Rattle.trace_conform.proofs.counts.count_ticks.Goals.{in-Some, in_default}
 use Rattle.trace_conform.proofs.counts.count_ticks.Goals as goal
 

@@ -1,6 +1,6 @@
 use Rattle.std.proofs.Common.{◌≡◌, length}
 use Rattle.schedule_model.specs.RowDef.{row_in}
-use Rattle.trace_conform.proofs.Counting.{CountedBelow}
+use Rattle.trace_conform.proofs.CountedTicks.{CountedBelow}
 use Rattle.trace_conform.proofs.counts.count_ticks.Given as goal
 
 abbrev pub invariant-loop-x : goal.invariant-loop-x

@@ -1,5 +1,6 @@
 use Rattle.std.proofs.Common.{◌≡◌, ℕ, ◌<◌, length, get_or}
-use Rattle.trace_conform.specs.Measured.{no_measure, measure_seen, measures_now}
+use Rattle.schedule_answers.specs.TaskAnswers.{no_measure, measure_seen}
+use Rattle.trace_conform.specs.Measured.{measures_now}
 use Rattle.trace_conform.proofs.measures.measure_all.Given as goal
 
 abbrev pub invariant-loop-x : goal.invariant-loop-x

@@ -2,7 +2,7 @@ use Rattle.schedule_model.specs.RowDef.{Trace}
 use Rattle.schedule_model.specs.declared.rule.Rule.TheVariants as rule
 use Rattle.phase_machine.specs.MachineDef.{under}
 use Rattle.charge_laws.proofs.DpcpCharging.{DpcpCharged, home_charged, dpcp_charge_blocked}
-use Rattle.charge.proofs.Uncharged.{none_where_free}
+use Rattle.charged_protocols.proofs.Uncharged.{none_where_free}
 use Rattle.dflp_laws.proofs.Laws.{dflp_at_homes}
 use Rattle.dflp_protocol.proofs.charges.DflpChargedProtocol.charged.Goals as goal
 

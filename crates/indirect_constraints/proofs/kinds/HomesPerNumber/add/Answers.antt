@@ -9,4 +9,4 @@ returns-then-asked-eq0 g c =
     let set = c.args.set.now in
     let k = c.args.number + 1 in
     g.met.T.RowTaker.missing c.args.taker.now (map column_seen c.args.columns.now) (home_row set c.args.i.0 k) c.args.bounds.now
-    (no_home set c.args.i.0 k (sym c.home_count-asked.ensures ∙ c.if-asked-eq0.true) c.args.columns.now c.requires.fits.1)
+    (no_home set c.args.i.0 k (sym c.requests_at-asked.ensures ∙ c.if-asked-eq0.true) c.args.columns.now c.requires.fits.1)

@@ -1,7 +1,7 @@
 use Rattle.schedule_model.specs.RowDef.{Trace}
 use Rattle.schedule_model.specs.declared.rule.Rule.TheVariants as rule
 use Rattle.phase_machine.specs.MachineDef.{under}
-use Rattle.charge.proofs.Uncharged.{none_where_free}
+use Rattle.charged_protocols.proofs.Uncharged.{none_where_free}
 use Rattle.spin_charging.proofs.SpinCharging.{SpinCharged, spin_charged, spin_charge_blocked}
 use Rattle.spin_protocol.proofs.instances.SpinChargedProtocol.charged.Goals as goal
 

@@ -1,0 +1,58 @@
+ghost use Rattle.std.specs.Prelude.{ℕ};
+
+use crate::counting::charge_ticks;
+use crate::due::{first_of_due, until_due};
+use crate::tally::Ledger;
+use charged_protocols::ChargedProtocol;
+use phase_machine::Machine;
+use schedule_model::RowList;
+use std::alloc::AllocError;
+use trace_walk::Keeper;
+
+/// Keeps, of a schedule that is walked, to which requests its blocked ticks are charged, and the first job that has passed its bound.
+#[derive(Clone, Copy, Debug)]
+pub struct Charger<'a> {
+    /// The bounds, in ticks: one for each task of the set, and at most its latest bound.
+    pub bounds: &'a [u64],
+}
+
+impl<'a, P: ChargedProtocol> Keeper<P> for Charger<'a> {
+    type Notes = Ledger;
+
+    ghost use Rattle.std.specs.Prelude.{◌≡◌, length, slice_index};
+    ghost use Rattle.charge_model.specs.Windows.{AreBounds};
+    ghost use Rattle.charge.specs.Due.{IsClearBelow};
+    ghost use Rattle.charge.specs.Ledgers.{IsLedger};
+
+    ghost fits = { λ k set. (length k.bounds.now ≡ length set.tasks) × AreBounds set (slice_index k.bounds.now) };
+
+    ghost kept = { λ k p w n ledger. IsLedger (P.charges p) w (slice_index k.bounds.now) n ledger };
+
+    ghost spans = { λ k m n. IsClearBelow m k.bounds.now n (length m.list.set.tasks) };
+
+    fn span(&self, machine: &Machine, ticks: u64) -> u64 {
+        until_due(machine, self.bounds, ticks)
+    }
+
+    fn take(
+        &self,
+        protocol: &P,
+        rows: &RowList,
+        i: usize,
+        machine: &Machine,
+        ticks: u64,
+        notes: &mut Ledger,
+    ) -> Result<(), AllocError> {
+        notes.passed = first_of_due(machine, self.bounds, notes.passed);
+        charge_ticks(
+            protocol,
+            rows,
+            i,
+            machine,
+            self.bounds,
+            ticks,
+            &mut notes.ticks,
+        )?;
+        Ok(())
+    }
+}

@@ -1,0 +1,3 @@
+mod SharedNow
+mod DistributedNow
+pub mod Uncharged

@@ -1,0 +1,17 @@
+//! What it is to charge each blocked tick of a schedule to the request that executes at it: the trait of charged protocols, MPCP, FMLP+
+//! and DPCP as such, and what follows of every one.
+//!
+//! A protocol that implements [`ChargedProtocol`] gives its programs and its charges, and the laws that tie them together:
+//! from these alone it follows that the bounds of a valid certificate are sound.
+#![tactic(auto)]
+
+mod bounds;
+pub mod distributed;
+mod instances;
+mod laws;
+mod protocol;
+pub mod shared;
+
+pub use bounds::are_bounds;
+pub use laws::{charged_protocols_are_analysed, valid_certificates_bound_each_task};
+pub use protocol::ChargedProtocol;

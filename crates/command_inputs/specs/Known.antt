@@ -1,0 +1,78 @@
+-- What an input is, what is known of inputs, and what is answered to one that gives no value.
+use Rattle.std.specs.Prelude.{◌≡◌, ℕ, ◌<◌, ◌≤◌, ◌⊎◌, List, length, codes, Option, None, Some, IsSomeAnd, Result, Ok, Err}
+use Rattle.outside_ports.specs.Names.{Inputs, bytes_of, IsNamed, IsLonger, IsAbsent}
+use Rattle.outside_ports.specs.Ports.{ShelfDef}
+use Rattle.outside_ports.specs.declared.whole.TheConstants.{GREATEST_INPUT_BYTES}
+use Rattle.reply_texts.specs.Texts.{refused_text, fault_text}
+
+-- What goes out: a status and a text.
+pub record Answer : Type 0 where
+  pub status : ℕ
+  pub text : List ℕ
+
+-- An input that a command reads: its word in answers, how its bytes are read to a value or a refusal, and the reason
+-- that a refusal prints.
+pub record Input : Type 1 where
+  pub Value : Type 0
+  pub Refusal : Type 0
+  pub word : List ℕ
+  pub reads : List ℕ → Result Value Refusal → Type 0
+  pub reason : Refusal → List ℕ
+
+-- An input is refused, for this reason.
+abbrev pub refused : List ℕ → List ℕ → Answer
+refused word reason = record { status = 3; text = refused_text word reason }
+
+-- An input could not be read.
+abbrev pub read_fault : List ℕ → Answer
+read_fault word = record { status = 4; text = fault_text word }
+
+-- What is known of inputs: may the one of this name be absent; may it be too long; may it have these bytes; and may the
+-- one that is read last have these?
+pub record Known : Type 1 where
+  pub absent : List ℕ → Type 0
+  pub longer : List ℕ → Type 0
+  pub has : List ℕ → List ℕ → Type 0
+  pub last : List ℕ → Type 0
+
+-- What is known where these are the named inputs.
+abbrev pub told : Inputs → Known
+told inputs = record {
+  absent = λ name. bytes_of inputs name ≡ None;
+  longer = λ name. IsSomeAnd (bytes_of inputs name) (λ bytes. GREATEST_INPUT_BYTES < length bytes);
+  has = λ name bytes. (bytes_of inputs name ≡ Some bytes) × (length bytes ≤ GREATEST_INPUT_BYTES);
+  last = λ bytes. Unit {0};
+}
+
+-- What a shelf shows of a call: its inputs, where it tells them; its count of faults before and after; and the number of
+-- bytes that it has given since the last start.
+pub record Shown : Type 0 where
+  pub names : Option Inputs
+  pub before : ℕ
+  pub now : ℕ
+  pub given : ℕ
+
+-- What this shelf shows that became that one.
+abbrev pub shown : ShelfDef → ShelfDef → Shown
+shown old new = record { names = old.names; before = old.faults; now = new.faults; given = new.given }
+
+-- What is known from that: an input is absent where the told names lack it, or, where they aren't told, the count rose;
+-- it is too long where too many bytes were given; and the one that is read last has as many bytes as were given.
+abbrev pub shown_by : Shown → Known
+shown_by shelf = record {
+  absent = λ name. IsAbsent shelf.names name shelf.before shelf.now × (shelf.given ≤ GREATEST_INPUT_BYTES);
+  longer = λ name. IsLonger shelf.names name GREATEST_INPUT_BYTES × (GREATEST_INPUT_BYTES < shelf.given);
+  has = λ name bytes. IsNamed shelf.names name bytes × (length bytes ≤ GREATEST_INPUT_BYTES);
+  last = λ bytes. length bytes ≡ shelf.given;
+}
+
+-- Is this the answer to an input that gives no value: it is absent, too long or refused?
+abbrev pub IsStopped : Known → Input → List ℕ → Answer → Type 0
+IsStopped known input name answer = (known.absent name × (answer ≡ refused input.word (codes "absent")))
+    ⊎ ((known.longer name × (answer ≡ refused input.word (codes "toolong")))
+    ⊎ ((bytes : List ℕ) × (refusal : input.Refusal) × (known.has name bytes) × (known.last bytes)
+    × (input.reads bytes (Err refusal)) × (answer ≡ refused input.word (input.reason refusal))))
+
+-- Is the input of this name there and accepted, with these bytes and this value?
+abbrev pub IsRead : Known → (input : Input) → List ℕ → List ℕ → input.Value → Type 0
+IsRead known input name bytes value = known.has name bytes × input.reads bytes (Ok value)

@@ -1,0 +1,12 @@
+//! The inputs of commands: what each is, how it is loaded and read, and the replies where one gives no value.
+#![tactic(auto)]
+
+mod halt;
+mod input;
+mod status;
+
+pub use halt::{Halt, Reply, fault, refusal, settled};
+pub use input::{
+    CertFor, JobsOf, OldCertFor, Reader, RefusalFor, RowsOf, SetFor, get, get_tied_set,
+};
+pub use status::Status;

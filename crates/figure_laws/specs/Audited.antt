@@ -1,0 +1,36 @@
+-- What the answer on a schedule and a certificate says.
+use Rattle.std.specs.Prelude.{ℕ, ◌+◌, ◌≤◌, Bool, slice_index, Option, Result, Ok, Err, IfSome}
+use Rattle.std.specs.Global.{Global}
+use Rattle.std.specs.declared.vec.Vec.{Vec}
+use Rattle.program_form.specs.Certificate.{CertificateDef}
+use Rattle.schedule_model.specs.RowDef.{Trace}
+use Rattle.schedule_model.specs.Keeping.{KeepsBefore, IsFirstUnlawful}
+use Rattle.schedule_model.specs.declared.rule.Rule.{Rule}
+use Rattle.program_sources.specs.Recurrence.{SourceDef}
+use Rattle.program_sources.specs.Valid.{IsValid, value_at}
+use Rattle.charge_model.specs.Charges.{Charge}
+use Rattle.schedule_answers.specs.Failures.{IsFailure}
+use Rattle.schedule_answers.specs.declared.audited.TaskFigures.{TaskFigures}
+use Rattle.schedule_answers.specs.declared.audited.AuditStop.{AuditStop}
+use Rattle.schedule_answers.specs.declared.audited.AuditStop.TheVariants as stop
+use Rattle.figure_laws.specs.Figures.{AreFigures}
+
+-- The certificate is valid, each of the n rows keeps the rules, and these are the figures of each task; or here is why the
+-- certificate is not valid; or it is valid, and here is the first row that breaks a rule, and its first broken rule. Only want of
+-- memory says nothing.
+abbrev pub Audits : (Rule → Trace → ℕ → Type 0) → (Trace → ℕ → ℕ → Bool) → (Trace → ℕ → ℕ → Option Charge) → SourceDef → CertificateDef
+    → Trace → ℕ → Result (Vec TaskFigures Global) AuditStop → Type 0
+Audits keeps interferes charges f c w n (Ok figures) =
+    IsValid f c × KeepsBefore keeps w n × AreFigures charges interferes w (slice_index c.bounds) (value_at f c) n figures.items
+Audits keeps interferes charges f c w n (Err (stop.Invalid e)) = IsFailure e f c
+Audits keeps interferes charges f c w n (Err (stop.Broken b)) = IsValid f c × IsFirstUnlawful keeps w n b.tick b.rule
+Audits keeps interferes charges f c w n (Err stop.Memory) = Unit {0}
+
+-- Is the response, where there is one, at most the bound, and the blocking at most the value?
+pub record LieWithin (f : TaskFigures) : Type 0 where
+  pub response : IfSome f.response (λ r. r ≤ f.bound)
+  pub blocking : f.blocking ≤ f.value
+
+-- The ticks of all three classes.
+abbrev pub charged_ticks : TaskFigures → ℕ
+charged_ticks f = f.direct + (f.indirect + f.preemption)

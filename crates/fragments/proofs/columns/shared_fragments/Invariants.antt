@@ -1,0 +1,10 @@
+use Rattle.std.proofs.Common.{◌≡◌, map, length}
+use Rattle.std.specs.List.{filter}
+use Rattle.bounded_sums.specs.Sums.{collect_below}
+use Rattle.fragments.specs.ColumnDef.{column_seen, classes_of}
+use Rattle.fragments.specs.Columns.{is_column}
+use Rattle.fragments.proofs.columns.shared_fragments.Given as goal
+
+abbrev pub invariant-loop-x : goal.invariant-loop-x
+invariant-loop-x l = map column_seen l.columns.items ≡ filter (is_column l.protocol l.set l.i.0)
+    (collect_below l.x (λ x. collect_below (length l.set.resources) (λ q. classes_of x q)))

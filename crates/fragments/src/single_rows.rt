@@ -1,0 +1,201 @@
+//! Rows of which each task, or each task and resource, has one, over its own columns alone.
+
+ghost use Rattle.std.specs.Prelude.{◌≡◌, ℕ, ◌<◌, ◌==◌, ◌&&◌, false, [], ◌∷◌, map, length, OnOk, slice_index};
+ghost use Rattle.sporadic_model.specs.SetDef.{SetDef};
+ghost use Rattle.program_sources.specs.Bounds.{AreWithinDeadlines};
+ghost use Rattle.fragments.specs.ColumnDef.{ColumnDef, column_seen, AreKnown};
+ghost use Rattle.fragments.specs.Constraints.{ConstraintDef};
+ghost use Rattle.fragments.specs.Stretches.{IsTaskStretch};
+
+use crate::columns::Fragment;
+use crate::constraints::{Constraint, RowKind, add_row_within};
+use crate::taking::RowTaker;
+use crate::walks::{PerRequest, PerTask};
+use sporadic_model::{ResourceId, TaskId, TaskSet};
+use std::alloc::{AllocError, Global};
+
+/// A kind of rows of which each task has one.
+pub trait TaskRow {
+    /// The row of a task, for a set and the analysed task.
+    ghost row_of: { Self → SetDef → ℕ → ℕ → ConstraintDef };
+
+    /// The column's coefficient in the row of task `x`.
+    fn coefficient(&self, set: &TaskSet, i: TaskId, x: TaskId, column: Fragment) -> u64
+        requires task { i.0 < length set.now.tasks }
+        requires other { x.0 < length set.now.tasks }
+        requires column { column.task.0 < length set.now.tasks }
+        requires resource { column.resource.0 < length set.now.resources }
+        ensures { result ≡ (row_of self.now set.now i.0 x.0).coefficient (column_seen column) };
+
+    /// What the sum of that row may be at most, where these are the bounds.
+    fn limit(&self, set: &TaskSet, i: TaskId, x: TaskId, bounds: &[u64]) -> u64
+        requires task { i.0 < length set.now.tasks }
+        requires other { x.0 < length set.now.tasks }
+        requires within { AreWithinDeadlines set.now bounds.now }
+        ensures { result ≡ (row_of self.now set.now i.0 x.0).limit (slice_index bounds.now) };
+
+    /// A column of another task has no coefficient in it.
+    ghost alone: { (k : Self) (set : SetDef) (i x : ℕ) (c : ColumnDef) → (c.task == x) ≡ false → (row_of k set i x).coefficient c ≡ 0 };
+}
+
+/// The row of one task.
+#[derive(Drop)]
+struct RowOfTask<'a, K> {
+    kind: &'a K,
+    task: TaskId,
+}
+
+impl<'a, K: TaskRow> RowKind for RowOfTask<'a, K> {
+    ghost row_of = { λ r set i. K.row_of r.kind.now set i r.task.0 };
+
+    ghost fits = { λ r set. r.task.0 < length set.tasks };
+
+    fn coefficient(&self, set: &TaskSet, i: TaskId, column: Fragment) -> u64 {
+        self.kind.coefficient(set, i, self.task, column)
+    }
+}
+
+impl<'a, K: TaskRow> Constraint for RowOfTask<'a, K> {
+    fn limit(&self, set: &TaskSet, i: TaskId, bounds: &[u64]) -> u64 {
+        self.kind.limit(set, i, self.task, bounds)
+    }
+}
+
+/// Adds the row of task `x`, whose columns are those of the stretch, to what the taker has, if some column has a coefficient above
+/// zero in it.
+pub fn add_row_of_task<T: RowTaker, K: TaskRow>(
+    alloc: Global,
+    taker: &mut T,
+    kind: &K,
+    set: &TaskSet,
+    i: TaskId,
+    x: TaskId,
+    bounds: &[u64],
+    columns: &[Fragment],
+    stretch: (usize, usize),
+) -> Result<(), AllocError>
+    requires task { i.0 < length set.now.tasks }
+    requires other { x.0 < length set.now.tasks }
+    requires within { AreWithinDeadlines set.now bounds.now }
+    requires known { AreKnown (length set.now.tasks) (length set.now.resources) columns.now }
+    requires stretch { IsTaskStretch x.0 columns.now stretch.0 stretch.1 }
+    ensures { OnOk result (T.takes taker.old (map column_seen columns.now) (K.row_of kind.now set.now i.0 x.0 ∷ []) bounds.now taker.new) }
+{
+    // a set has at most 32 resources, so the slots of a task end before those of the next one
+    let _resources = set.resources();
+    let row = RowOfTask { kind, task: x };
+    add_row_within(alloc, taker, &row, set, i, bounds, columns, stretch)
+}
+
+/// The row of each task.
+#[derive(Drop)]
+pub struct EachTask<K>(pub K);
+
+impl<K: TaskRow> PerTask for EachTask<K> {
+    ghost rows_of = { λ r set i x. K.row_of r.0 set i x ∷ [] };
+
+    fn add<T: RowTaker>(
+        &self,
+        alloc: Global,
+        taker: &mut T,
+        set: &TaskSet,
+        i: TaskId,
+        x: TaskId,
+        bounds: &[u64],
+        columns: &[Fragment],
+        stretch: (usize, usize),
+    ) -> Result<(), AllocError> {
+        add_row_of_task(alloc, taker, &self.0, set, i, x, bounds, columns, stretch)
+    }
+}
+
+/// A kind of rows of which each task and resource has one.
+pub trait RequestRow {
+    /// The row of a task and a resource, for a set and the analysed task.
+    ghost row_of: { Self → SetDef → ℕ → ℕ → ℕ → ConstraintDef };
+
+    /// The column's coefficient in the row of task `x` and resource `q`.
+    fn coefficient(
+        &self,
+        set: &TaskSet,
+        i: TaskId,
+        x: TaskId,
+        q: ResourceId,
+        column: Fragment,
+    ) -> u64
+        requires task { i.0 < length set.now.tasks }
+        requires other { x.0 < length set.now.tasks }
+        requires asked { q.0 < length set.now.resources }
+        requires column { column.task.0 < length set.now.tasks }
+        requires resource { column.resource.0 < length set.now.resources }
+        ensures { result ≡ (row_of self.now set.now i.0 x.0 q.0).coefficient (column_seen column) };
+
+    /// What the sum of that row may be at most, where these are the bounds.
+    fn limit(&self, set: &TaskSet, i: TaskId, x: TaskId, q: ResourceId, bounds: &[u64]) -> u64
+        requires task { i.0 < length set.now.tasks }
+        requires other { x.0 < length set.now.tasks }
+        requires asked { q.0 < length set.now.resources }
+        requires within { AreWithinDeadlines set.now bounds.now }
+        ensures { result ≡ (row_of self.now set.now i.0 x.0 q.0).limit (slice_index bounds.now) };
+
+    /// A column of another task or resource has no coefficient in it.
+    ghost alone: { (k : Self) (set : SetDef) (i x q : ℕ) (c : ColumnDef) → ((c.task == x) && (c.resource == q)) ≡ false
+        → (row_of k set i x q).coefficient c ≡ 0 };
+}
+
+/// The row of one task and resource.
+#[derive(Drop)]
+struct RowOfRequests<'a, K> {
+    kind: &'a K,
+    task: TaskId,
+    resource: ResourceId,
+}
+
+impl<'a, K: RequestRow> RowKind for RowOfRequests<'a, K> {
+    ghost row_of = { λ r set i. K.row_of r.kind.now set i r.task.0 r.resource.0 };
+
+    ghost fits = { λ r set. (r.task.0 < length set.tasks) × (r.resource.0 < length set.resources) };
+
+    fn coefficient(&self, set: &TaskSet, i: TaskId, column: Fragment) -> u64 {
+        self.kind
+            .coefficient(set, i, self.task, self.resource, column)
+    }
+}
+
+impl<'a, K: RequestRow> Constraint for RowOfRequests<'a, K> {
+    fn limit(&self, set: &TaskSet, i: TaskId, bounds: &[u64]) -> u64 {
+        self.kind.limit(set, i, self.task, self.resource, bounds)
+    }
+}
+
+/// The row of each task and resource.
+#[derive(Drop)]
+pub struct EachRequest<K>(pub K);
+
+impl<K: RequestRow> PerRequest for EachRequest<K> {
+    ghost row_of = { λ r. K.row_of r.0 };
+
+    ghost apart = { λ r set i x q c other. K.alone r.0 set i x q c other };
+
+    ghost fits = { λ r set i bounds. Unit {0} };
+
+    fn add<T: RowTaker>(
+        &self,
+        alloc: Global,
+        taker: &mut T,
+        set: &TaskSet,
+        i: TaskId,
+        x: TaskId,
+        q: ResourceId,
+        bounds: &[u64],
+        columns: &[Fragment],
+        stretch: (usize, usize),
+    ) -> Result<(), AllocError> {
+        let row = RowOfRequests {
+            kind: &self.0,
+            task: x,
+            resource: q,
+        };
+        add_row_within(alloc, taker, &row, set, i, bounds, columns, stretch)
+    }
+}

@@ -1,0 +1,67 @@
+-- What each protocol has, by its name: homes, rules, a choice of rows, ticks of interference, charges and programs.
+use Rattle.std.specs.Prelude.{ℕ, Bool, List, Option}
+use Rattle.sporadic_model.specs.SetDef.{SetDef}
+use Rattle.sporadic_model.specs.Homes.{HasHomesFor}
+use Rattle.schedule_model.specs.RowDef.{Trace}
+use Rattle.schedule_model.specs.ByProtocol.{rules_of as rules_at, choice_of as choice_at, interference_of as interference_at}
+use Rattle.schedule_model.specs.declared.rule.Rule.{Rule}
+use Rattle.program_sources.specs.Recurrence.{SourceDef, source_at}
+use Rattle.program_laws.specs.Programs.{source_of as source_written}
+use Rattle.charge_model.specs.Charges.{Charge}
+use Rattle.charged_protocols.specs.ByProtocol.{charges_of as charges_at}
+use Rattle.soundness_laws.specs.Sound.{Sound}
+use Rattle.schedule_model.specs.BlockedTicks.{is_shared_interference, is_dpcp_interference}
+use Rattle.charge_model.specs.Charges.{dpcp_charge}
+use Rattle.dflp_laws.specs.Rules.{dflp_rule, IsDflpChoice}
+use Rattle.dflp_laws.specs.Programs.{dflp_source}
+use Rattle.spin_rules.specs.SpinRules.{spin_rule, IsSpinChoice}
+use Rattle.spin_charging.specs.SpinCharges.{spin_charge}
+use Rattle.spin_charging.specs.SpinPrograms.{spin_source}
+use Rattle.schedule_model.specs.Protocols.{dpcp_rule}
+use Rattle.schedule_model.specs.Chosen.{IsDpcpChoice}
+use Rattle.window_laws.specs.WindowRows.{windowed_source}
+use Rattle.protocol_names.specs.Names.{homes_as}
+use Rattle.protocol_names.specs.declared.ProtocolName.{ProtocolName}
+use Rattle.protocol_names.specs.declared.ProtocolName.TheVariants as name
+
+-- Has the set the homes that the protocol asks for?
+abbrev pub HasHomes : ProtocolName → SetDef → Type 0
+HasHomes n set = HasHomesFor (homes_as n) set
+
+abbrev pub rules_of : ProtocolName → Rule → Trace → ℕ → Type 0
+rules_of (name.Base p) = rules_at p
+rules_of name.Dflp = dflp_rule
+rules_of name.Spin = spin_rule
+rules_of name.DpcpWindows = dpcp_rule
+
+abbrev pub choice_of : ProtocolName → Trace → ℕ → Type 0
+choice_of (name.Base p) = choice_at p
+choice_of name.Dflp = IsDflpChoice
+choice_of name.Spin = IsSpinChoice
+choice_of name.DpcpWindows = IsDpcpChoice
+
+abbrev pub interference_of : ProtocolName → Trace → ℕ → ℕ → Bool
+interference_of (name.Base p) = interference_at p
+interference_of name.Dflp = is_dpcp_interference
+interference_of name.Spin = is_shared_interference
+interference_of name.DpcpWindows = is_dpcp_interference
+
+abbrev pub charges_of : ProtocolName → Trace → ℕ → ℕ → Option Charge
+charges_of (name.Base p) = charges_at p
+charges_of name.Dflp = dpcp_charge
+charges_of name.Spin = spin_charge
+charges_of name.DpcpWindows = dpcp_charge
+
+-- What gives the programs of a set under the protocol, with its interfering costs; and the programs of just this set.
+abbrev pub sources : ProtocolName → SetDef → SourceDef
+sources (name.Base p) = source_written p
+sources name.Dflp = dflp_source
+sources name.Spin = spin_source
+sources name.DpcpWindows = windowed_source
+
+abbrev pub source_of : ProtocolName → SetDef → SourceDef
+source_of n set = source_at (sources n) set
+
+-- Does every schedule that keeps the protocol's rules, of whatever lawful jobs of the set, keep these bounds and values?
+abbrev pub SoundUnder : ProtocolName → SetDef → List ℕ → List ℕ → Type 0
+SoundUnder n = Sound (rules_of n) (interference_of n)

@@ -1,0 +1,9 @@
+//! What each protocol has by its name, as definitions, and what is so of every one: laws by cases over the names.
+#![tactic(auto)]
+
+mod laws;
+
+pub use laws::{
+    figures_are_proved, programs_are_sound, programs_rise, refusals_are_right,
+    rounds_give_refusals_that_hold, schedules_are_unique, words_are_texts,
+};

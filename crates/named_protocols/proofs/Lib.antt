@@ -1,7 +1,0 @@
-pub mod NoColumns
-pub mod FifoHolders
-pub mod DflpChoice
-pub mod OneSchedule
-pub mod EachName
-pub mod FigureLaws
-pub mod Refusals

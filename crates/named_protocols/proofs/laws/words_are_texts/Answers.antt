@@ -1,5 +1,0 @@
-use Rattle.named_protocols.proofs.EachName.{named_word_is_text}
-use Rattle.named_protocols.proofs.laws.words_are_texts.Goals as goal
-
-pub returns : goal.returns
-returns c = named_word_is_text

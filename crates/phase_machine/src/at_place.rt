@@ -1,0 +1,46 @@
+ghost use Rattle.std.specs.Prelude.{◌≡◌, ℕ, ◌<◌, ◌≤◌, length, IfSome, slice_index_or};
+ghost use Rattle.sporadic_model.specs.SetDef.{SetDef};
+ghost use Rattle.schedule_model.specs.Seen.{place_seen};
+ghost use Rattle.phase_machine.specs.MachineDef.{IsPlace, task_in, no_place};
+ghost use Rattle.phase_machine.specs.Now.{phase_at_place, current_in};
+ghost use Rattle.phase_machine.specs.Seen.{phase_seen, NamesResource};
+
+use crate::phase::Phase;
+use crate::place::ScriptPlace;
+use crate::script::{segment_at, task_of};
+use schedule_model::{JobId, JobList};
+
+/// The phase of the job whose task is at this place.
+pub(crate) fn phase_at(jobs: &JobList, place: &ScriptPlace, j: JobId) -> Phase
+    requires listed { j.0 < length jobs.now.jobs }
+    requires place { IsPlace jobs.now.jobs (task_in jobs.now.jobs j.0) place.now }
+    ensures value { phase_seen result ≡ phase_at_place jobs.now.jobs j.0 place.now }
+    ensures within { NamesResource (length jobs.now.set.resources) result }
+{
+    if j.0 < place.job {
+        return Phase::Finished;
+    }
+    if j.0 > place.job {
+        return Phase::Local;
+    }
+    let segment = segment_at(jobs, place.job, place.segment);
+    if place.ticks < segment.local {
+        return Phase::Local;
+    }
+    match segment.request {
+        Some((q, _)) => Phase::Asking(place.segment, q),
+        None => Phase::Finished,
+    }
+}
+
+/// The job of the place, where it is released at the tick.
+pub(crate) fn current_at(jobs: &JobList, tick: u64, place: &ScriptPlace) -> Option<JobId>
+    requires { place.now.job ≤ length jobs.now.jobs }
+    ensures value { place_seen result ≡ current_in jobs.now.jobs tick place.now }
+    ensures within { IfSome result (λ j. j.0 < length jobs.now.jobs) }
+{
+    if place.job < jobs.len() && jobs.job(JobId(place.job)).release <= tick {
+        return Some(JobId(place.job));
+    }
+    None
+}

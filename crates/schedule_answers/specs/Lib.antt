@@ -1,0 +1,4 @@
+pub mod TaskAnswers
+pub mod Conforming
+pub mod Tests
+pub mod Failures

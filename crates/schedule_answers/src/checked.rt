@@ -1,0 +1,48 @@
+ghost use Rattle.std.specs.Prelude.{◌≡◌};
+
+use sporadic_model::TaskId;
+use std::alloc::{AllocError, AllocFailed};
+
+/// What is known of a certificate that is valid.
+#[derive(Debug, Drop)]
+pub struct Valid {
+    /// The value of each task's dual: the most ticks for which a job of it is blocked.
+    pub values: Vec<u64>,
+}
+
+/// Why a certificate is not valid: the first test that fails, each being tried over all tasks before the next.
+#[derive(Clone, Copy, Debug, PartialEq, Eq)]
+pub enum Invalid {
+    /// It has not one bound and one dual for each task.
+    Size,
+    /// This task's bound and its jitter together pass its deadline.
+    Bound(TaskId),
+    /// This task's dual has not one numerator for each row of its program.
+    DualSize(TaskId),
+    /// This task's dual does not hold this column of its program.
+    Cover(TaskId, u32),
+    /// This task's bound is too small: its cost, its dual's value and the interference of higher tasks pass it.
+    Small(TaskId),
+    /// No memory is left.
+    Memory,
+}
+
+impl From<AllocError> for Invalid {
+    ghost use Rattle.schedule_answers.specs.declared.checked.Invalid.TheVariants.{Memory};
+
+    ghost from_gives = { λ _ failure. failure ≡ Memory };
+
+    fn from(_error: AllocError) -> Invalid {
+        Invalid::Memory
+    }
+}
+
+impl<T: Drop> From<AllocFailed<T>> for Invalid {
+    ghost use Rattle.schedule_answers.specs.declared.checked.Invalid.TheVariants.{Memory};
+
+    ghost from_gives = { λ _ failure. failure ≡ Memory };
+
+    fn from(_error: AllocFailed<T>) -> Invalid {
+        Invalid::Memory
+    }
+}

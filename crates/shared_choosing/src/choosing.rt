@@ -1,0 +1,407 @@
+ghost use Rattle.std.specs.Prelude.{◌≡◌, ℕ, ◌<◌, ◌≤◌, ◌&&◌, if◌then◌else◌, length, map, Option, Some, None, IfSome};
+ghost use Rattle.std.specs.Prelude.{option_map};
+ghost use Rattle.schedule_model.specs.RowDef.{RowDef};
+ghost use Rattle.schedule_model.specs.Chosen.{IsSized, IsSharedChoice};
+ghost use Rattle.schedule_model.specs.Seen.{row_seen, place_seen};
+ghost use Rattle.phase_machine.specs.MachineDef.{under};
+ghost use Rattle.phase_machine.specs.Now.{phase_now, holder_now, requester_now};
+ghost use Rattle.phase_machine.specs.Shows.{Shows};
+ghost use Rattle.shared_choosing.specs.Scene.{scene_in, scene_now, gives_way, asked, stays, may_run, is_outrun, entered};
+ghost use Rattle.shared_choosing.specs.Scene.{place_in, running_in, NamesBelow, resource_in};
+ghost use Rattle.shared_choosing.specs.Choosing.{Granted, Placed};
+
+use crate::row_choice::{RowChoice, choose_row};
+use crate::visiting::{Visitor, visit_each};
+use phase_machine::columns::{Columns, OwnProcessors};
+use phase_machine::lookup::{holds, may_run, requests, resources_of};
+use phase_machine::{Machine, Order, Phase};
+use schedule_model::{JobId, Row};
+use sporadic_model::ResourceId;
+
+/// Names a job, or none, at a place of a row.
+pub fn put(places: &mut [Option<JobId>], i: usize, job: Option<JobId>)
+    requires { i < length places.old }
+    ensures len { length places.new ≡ length places.old }
+    ensures here { place_in (map place_seen places.new) i ≡ place_seen job }
+    ensures others { (k : ℕ) → (k ≡ i → ⊥) → place_in (map place_seen places.new) k ≡ place_in (map place_seen places.old) k }
+    ensures named { (n : ℕ) → NamesBelow n (map place_seen places.old) → IfSome job (λ j. j.0 < n) → NamesBelow n (map place_seen places.new) }
+{
+    places[i] = job;
+}
+
+/// The job that is named at a place, where the places name listed jobs.
+pub fn job_at(machine: &Machine, places: &[Option<JobId>], i: usize) -> Option<JobId>
+    requires within { i < length places.now }
+    requires named { NamesBelow (length machine.now.list.jobs) (map place_seen places.now) }
+    ensures value { place_seen result ≡ place_in (map place_seen places.now) i }
+    ensures listed { IfSome result (λ j. j.0 < length machine.now.list.jobs) }
+{
+    places[i]
+}
+
+/// The last row's holder, where it still requests the resource.
+pub fn kept(machine: &Machine, q: ResourceId) -> Option<JobId>
+    requires { q.0 < length machine.now.list.set.resources }
+    ensures { place_seen result ≡ stays (requester_now machine.now q.0) (holder_now machine.now q.0) }
+{
+    match machine.holder(q) {
+        Some(j) => {
+            if requests(machine, q, j) {
+                return Some(j);
+            }
+            None
+        }
+        None => None,
+    }
+}
+
+/// Names the kept holders, and no others.
+pub fn keep_all(machine: &Machine, holders: &mut [Option<JobId>])
+    requires { length holders.old ≡ length machine.now.list.set.resources }
+    ensures len { length holders.new ≡ length holders.old }
+    ensures each { (q : ℕ) → q < length holders.old → place_in (map place_seen holders.new) q
+        ≡ stays (requester_now machine.now q) (holder_now machine.now q) }
+    ensures kept { (q : ℕ) → place_in (map place_seen holders.new) q ≡ stays (requester_now machine.now q) (holder_now machine.now q) }
+    ensures named { NamesBelow (length machine.now.list.jobs) (map place_seen holders.new) }
+{
+    for q in 0..resources_of(machine) {
+        put(holders, q as usize, kept(machine, ResourceId(q)));
+    }
+}
+
+/// The resource that the job requests, where it does.
+pub fn requested(machine: &Machine, j: JobId) -> Option<ResourceId>
+    requires { j.0 < length machine.now.list.jobs }
+    ensures value { option_map (λ q. q.0) result ≡ resource_in (phase_now machine.now j.0) }
+    ensures within { IfSome result (λ q. q.0 < length machine.now.list.set.resources) }
+{
+    match machine.phase(j) {
+        Phase::Asking(_, q) => Some(q),
+        Phase::Local => None,
+        Phase::Finished => None,
+    }
+}
+
+/// Does what holds the resource give way to the job: no one, or a new holder that goes later?
+fn gives_way<O: Order>(
+    order: &O,
+    machine: &Machine,
+    q: ResourceId,
+    j: JobId,
+    holder: Option<JobId>,
+) -> bool
+    requires resource { q.0 < length machine.now.list.set.resources }
+    requires listed { j.0 < length machine.now.list.jobs }
+    requires holder { IfSome holder (λ h. h.0 < length machine.now.list.jobs) }
+    ensures { result ≡ gives_way (scene_now (O.grant order.now machine.now) (O.run order.now machine.now) machine.now) q.0
+        j.0 (place_seen holder) }
+{
+    match holder {
+        Some(h) => {
+            machine.holder(q) != Some(h) && order.grant_of(machine, j) < order.grant_of(machine, h)
+        }
+        None => true,
+    }
+}
+
+/// Who holds the resource once the job has asked: the job, where what holds it gives way, else that.
+fn offered<O: Order>(
+    order: &O,
+    machine: &Machine,
+    q: ResourceId,
+    j: JobId,
+    holder: Option<JobId>,
+) -> Option<JobId>
+    requires resource { q.0 < length machine.now.list.set.resources }
+    requires listed { j.0 < length machine.now.list.jobs }
+    requires holder { IfSome holder (λ h. h.0 < length machine.now.list.jobs) }
+    ensures value { place_seen result
+        ≡ (if gives_way (scene_now (O.grant order.now machine.now) (O.run order.now machine.now) machine.now) q.0 j.0 (place_seen holder)
+        then Some j.0 else place_seen holder) }
+    ensures listed { IfSome result (λ h. h.0 < length machine.now.list.jobs) }
+{
+    if gives_way(order, machine, q, j, holder) {
+        return Some(j);
+    }
+    holder
+}
+
+/// Grants the resource to the job, where its holder gives way.
+fn offer<O: Order>(
+    order: &O,
+    machine: &Machine,
+    q: ResourceId,
+    j: JobId,
+    holders: &mut [Option<JobId>],
+)
+    requires resource { q.0 < length machine.now.list.set.resources }
+    requires listed { j.0 < length machine.now.list.jobs }
+    requires len { length holders.old ≡ length machine.now.list.set.resources }
+    requires named { NamesBelow (length machine.now.list.jobs) (map place_seen holders.old) }
+    ensures len { length holders.new ≡ length holders.old }
+    ensures here { place_in (map place_seen holders.new) q.0
+        ≡ (if gives_way (scene_now (O.grant order.now machine.now) (O.run order.now machine.now) machine.now) q.0 j.0
+        (place_in (map place_seen holders.old) q.0)
+        then Some j.0 else place_in (map place_seen holders.old) q.0) }
+    ensures others { (r : ℕ) → (r ≡ q.0 → ⊥) → place_in (map place_seen holders.new) r ≡ place_in (map place_seen holders.old) r }
+    ensures named { NamesBelow (length machine.now.list.jobs) (map place_seen holders.new) }
+{
+    let holder = job_at(machine, holders, q.0 as usize);
+    put(holders, q.0 as usize, offered(order, machine, q, j, holder));
+}
+
+/// Offers what it requests to the job.
+fn ask<O: Order>(order: &O, machine: &Machine, j: JobId, holders: &mut [Option<JobId>])
+    requires listed { j.0 < length machine.now.list.jobs }
+    requires len { length holders.old ≡ length machine.now.list.set.resources }
+    requires named { NamesBelow (length machine.now.list.jobs) (map place_seen holders.old) }
+    ensures len { length holders.new ≡ length holders.old }
+    ensures named { NamesBelow (length machine.now.list.jobs) (map place_seen holders.new) }
+    ensures asked { (q : ℕ) → place_in (map place_seen holders.new) q
+        ≡ asked (scene_now (O.grant order.now machine.now) (O.run order.now machine.now) machine.now) j.0 q
+        (place_in (map place_seen holders.old) q) }
+{
+    match requested(machine, j) {
+        Some(q) => offer(order, machine, q, j, holders),
+        None => {}
+    }
+}
+
+/// Active jobs ask, one after the other.
+#[derive(Drop)]
+struct Asking<'a, O> {
+    order: &'a O,
+}
+
+impl<'a, O: Order> Visitor for Asking<'a, O> {
+    ghost view = { place_in };
+
+    ghost needs = { λ v m holders. (length holders ≡ length m.list.set.resources) × NamesBelow (length m.list.jobs) holders };
+
+    ghost step = { λ v m. asked (scene_now (O.grant v.order.now m) (O.run v.order.now m) m) };
+
+    fn visit(&self, machine: &Machine, j: JobId, places: &mut [Option<JobId>]) {
+        ask(self.order, machine, j, places);
+    }
+}
+
+/// Names the holders of the row: the kept ones, and for each other resource the requester that goes first, of those that
+/// go equally first the one of the highest task.
+pub fn grant_all<O: Order>(order: &O, machine: &Machine, holders: &mut [Option<JobId>])
+    requires { length holders.old ≡ length machine.now.list.set.resources }
+    ensures len { length holders.new ≡ length holders.old }
+    ensures granted { Granted (scene_now (O.grant order.now machine.now) (O.run order.now machine.now) machine.now)
+        (length machine.now.list.set.tasks) (place_in (map place_seen holders.new)) }
+{
+    keep_all(machine, holders);
+    visit_each(&Asking { order }, machine, holders);
+}
+
+/// Names a job, or none, in the column of processor `k`, counted from 1.
+pub fn put_on(running: &mut [Option<JobId>], k: u32, job: Option<JobId>)
+    requires least { 1 ≤ k }
+    requires most { k ≤ length running.old }
+    ensures len { length running.new ≡ length running.old }
+    ensures here { running_in (map place_seen running.new) k ≡ place_seen job }
+    ensures others { (r : ℕ) → (r ≡ k → ⊥) → running_in (map place_seen running.new) r ≡ running_in (map place_seen running.old) r }
+    ensures named { (n : ℕ) → NamesBelow n (map place_seen running.old) → IfSome job (λ j. j.0 < n) → NamesBelow n (map place_seen running.new) }
+{
+    put(running, k as usize - 1, job);
+}
+
+/// The job that runs on processor `k`, where the columns name listed jobs.
+pub fn job_on(machine: &Machine, running: &[Option<JobId>], k: u32) -> Option<JobId>
+    requires least { 1 ≤ k }
+    requires most { k ≤ length running.now }
+    requires named { NamesBelow (length machine.now.list.jobs) (map place_seen running.now) }
+    ensures value { place_seen result ≡ running_in (map place_seen running.now) k }
+    ensures listed { IfSome result (λ j. j.0 < length machine.now.list.jobs) }
+{
+    job_at(machine, running, k as usize - 1)
+}
+
+/// Does what runs give way to the job: nothing, or a job that goes later?
+fn is_outrun<O: Order>(
+    order: &O,
+    machine: &Machine,
+    holders: &[Option<JobId>],
+    j: JobId,
+    runner: Option<JobId>,
+) -> bool
+    requires len { length holders.now ≡ length machine.now.list.set.resources }
+    requires listed { j.0 < length machine.now.list.jobs }
+    requires runner { IfSome runner (λ r. r.0 < length machine.now.list.jobs) }
+    ensures { (column : ℕ → ℕ) → result ≡ is_outrun (scene_in column (O.grant order.now machine.now) (O.run order.now machine.now) machine.now)
+        (place_in (map place_seen holders.now)) j.0 (place_seen runner) }
+{
+    match runner {
+        Some(r) => {
+            holds(machine, holders, j)
+                && (!holds(machine, holders, r)
+                    || order.run_of(machine, j) < order.run_of(machine, r))
+        }
+        None => true,
+    }
+}
+
+/// Which of the two runs: the job, where it is ready and the runner gives way, else the runner.
+fn faster<O: Order>(
+    order: &O,
+    machine: &Machine,
+    holders: &[Option<JobId>],
+    j: JobId,
+    runner: Option<JobId>,
+) -> Option<JobId>
+    requires len { length holders.now ≡ length machine.now.list.set.resources }
+    requires listed { j.0 < length machine.now.list.jobs }
+    requires runner { IfSome runner (λ r. r.0 < length machine.now.list.jobs) }
+    ensures value { (column : ℕ → ℕ) → place_seen result
+        ≡ (if may_run (scene_in column (O.grant order.now machine.now) (O.run order.now machine.now) machine.now)
+        (place_in (map place_seen holders.now)) j.0
+        && is_outrun (scene_in column (O.grant order.now machine.now) (O.run order.now machine.now) machine.now)
+        (place_in (map place_seen holders.now)) j.0 (place_seen runner)
+        then Some j.0 else place_seen runner) }
+    ensures listed { IfSome result (λ i. i.0 < length machine.now.list.jobs) }
+{
+    if may_run(machine, holders, j) && is_outrun(order, machine, holders, j, runner) {
+        return Some(j);
+    }
+    runner
+}
+
+/// Lets the job run on its processor, where it is ready and what runs there gives way.
+fn enter<O: Order, C: Columns>(
+    order: &O,
+    columns: &C,
+    machine: &Machine,
+    holders: &[Option<JobId>],
+    j: JobId,
+    running: &mut [Option<JobId>],
+)
+    requires suits { C.suits columns.now machine.now.list.set }
+    requires listed { j.0 < length machine.now.list.jobs }
+    requires holders { length holders.now ≡ length machine.now.list.set.resources }
+    requires len { length running.old ≡ machine.now.list.set.processors }
+    requires named { NamesBelow (length machine.now.list.jobs) (map place_seen running.old) }
+    ensures len { length running.new ≡ length running.old }
+    ensures named { NamesBelow (length machine.now.list.jobs) (map place_seen running.new) }
+    ensures entered { (k : ℕ) → running_in (map place_seen running.new) k
+        ≡ entered (scene_in (C.column columns.now machine.now) (O.grant order.now machine.now) (O.run order.now machine.now) machine.now)
+        (place_in (map place_seen holders.now)) j.0 k (running_in (map place_seen running.old) k) }
+{
+    let k = columns.column_of(machine, j);
+    let runner = job_on(machine, running, k);
+    put_on(running, k, faster(order, machine, holders, j, runner));
+}
+
+/// Active jobs come to their processors, one after the other.
+#[derive(Drop)]
+struct Entering<'a, O, C> {
+    order: &'a O,
+    columns: &'a C,
+    holders: &'a [Option<JobId>],
+}
+
+impl<'a, O: Order, C: Columns> Visitor for Entering<'a, O, C> {
+    ghost view = { running_in };
+
+    ghost needs = { λ v m running. C.suits v.columns.now m.list.set × (length v.holders.now ≡ length m.list.set.resources)
+        × (length running ≡ m.list.set.processors) × NamesBelow (length m.list.jobs) running };
+
+    ghost step = { λ v m. entered (scene_in (C.column v.columns.now m) (O.grant v.order.now m) (O.run v.order.now m) m)
+        (place_in (map place_seen v.holders.now)) };
+
+    fn visit(&self, machine: &Machine, j: JobId, places: &mut [Option<JobId>]) {
+        enter(self.order, self.columns, machine, self.holders, j, places);
+    }
+}
+
+/// Names no job at any place.
+pub fn clear(places: &mut [Option<JobId>])
+    ensures len { length places.new ≡ length places.old }
+    ensures empty { (i : ℕ) → i < length places.old → place_in (map place_seen places.new) i ≡ None }
+{
+    for i in 0..places.len() {
+        put(places, i, None);
+    }
+}
+
+/// Names what runs, where these are the holders: on each processor the ready holder that goes first, of those that go
+/// equally first the one of the highest task; where no holder is ready there, the Local job of the highest task.
+pub fn run_all<O: Order, C: Columns>(
+    order: &O,
+    columns: &C,
+    machine: &Machine,
+    holders: &[Option<JobId>],
+    running: &mut [Option<JobId>],
+)
+    requires suits { C.suits columns.now machine.now.list.set }
+    requires holders { length holders.now ≡ length machine.now.list.set.resources }
+    requires len { length running.old ≡ machine.now.list.set.processors }
+    ensures len { length running.new ≡ length running.old }
+    ensures placed { Placed (scene_in (C.column columns.now machine.now) (O.grant order.now machine.now) (O.run order.now machine.now) machine.now)
+        (place_in (map place_seen holders.now)) (length machine.now.list.set.tasks) (running_in (map place_seen running.new)) }
+{
+    clear(running);
+    visit_each(
+        &Entering {
+            order,
+            columns,
+            holders,
+        },
+        machine,
+        running,
+    );
+}
+
+/// The choice under an order, where jobs run in these columns.
+#[derive(Drop)]
+struct OrderedChoice<'a, O, C> {
+    order: &'a O,
+    columns: &'a C,
+}
+
+impl<'a, O: Order, C: Columns> RowChoice for OrderedChoice<'a, O, C> {
+    ghost needs = { λ c m. C.suits c.columns.now m.list.set };
+
+    ghost granted = { λ c m. Granted (scene_now (O.grant c.order.now m) (O.run c.order.now m) m) (length m.list.set.tasks) };
+
+    ghost placed = { λ c m held. Placed (scene_in (C.column c.columns.now m) (O.grant c.order.now m) (O.run c.order.now m) m) held
+        (length m.list.set.tasks) };
+
+    fn grant(&self, machine: &Machine, holders: &mut [Option<JobId>]) {
+        grant_all(self.order, machine, holders);
+    }
+
+    fn run(&self, machine: &Machine, holders: &[Option<JobId>], running: &mut [Option<JobId>]) {
+        run_all(self.order, self.columns, machine, holders, running);
+    }
+}
+
+/// Makes the lent row one that grants and runs in this order, where jobs run in these columns.
+pub fn choose_ordered<O: Order, C: Columns>(
+    order: &O,
+    columns: &C,
+    machine: &Machine,
+    row: &mut Row,
+)
+    requires suits { C.suits columns.now machine.now.list.set }
+    requires sized { IsSized machine.now.list.set (row_seen row.old) }
+    ensures sized { IsSized machine.now.list.set (row_seen row.new) }
+    ensures granted { Granted (scene_now (O.grant order.now machine.now) (O.run order.now machine.now) machine.now)
+        (length machine.now.list.set.tasks) (place_in (row_seen row.new).holders) }
+    ensures placed { Placed (scene_in (C.column columns.now machine.now) (O.grant order.now machine.now) (O.run order.now machine.now) machine.now)
+        (place_in (row_seen row.new).holders) (length machine.now.list.set.tasks) (running_in (row_seen row.new).running) }
+{
+    choose_row(&OrderedChoice { order, columns }, machine, row);
+}
+
+/// Makes the lent row the chosen one under the order: the holders first, then what runs.
+pub fn choose_shared<O: Order>(order: &O, machine: &Machine, row: &mut Row)
+    requires sized { IsSized machine.now.list.set (row_seen row.old) }
+    ensures sized { IsSized machine.now.list.set (row_seen row.new) }
+    ensures chosen { (rows : ℕ → RowDef) → Shows machine.now rows → rows machine.now.tick ≡ row_seen row.new
+        → IsSharedChoice (O.ranks order.now) (under machine.now rows) machine.now.tick }
+{
+    choose_ordered(order, &OwnProcessors, machine, row);
+}

@@ -1,0 +1,40 @@
+ghost use Rattle.std.specs.Prelude.{ℕ};
+
+use crate::counts::{JobCount, count_ticks};
+use phase_machine::{Judge, Machine};
+use schedule_model::RowList;
+use std::alloc::AllocError;
+use trace_walk::Keeper;
+
+/// Keeps, of a schedule that is walked, how long each job was blocked, and when it was active last.
+#[derive(Clone, Copy, Debug)]
+pub struct JobCounter;
+
+impl<P: Judge> Keeper<P> for JobCounter {
+    type Notes = Vec<JobCount>;
+
+    ghost use Rattle.trace_conform.specs.Counts.{AreCounts};
+
+    ghost fits = { λ k set. Unit {0} };
+
+    ghost kept = { λ k p w n counts. AreCounts (P.interferes p) w n counts.items };
+
+    ghost spans = { λ k m n. Unit {0} };
+
+    fn span(&self, _machine: &Machine, ticks: u64) -> u64 {
+        ticks
+    }
+
+    fn take(
+        &self,
+        protocol: &P,
+        rows: &RowList,
+        i: usize,
+        machine: &Machine,
+        ticks: u64,
+        notes: &mut Vec<JobCount>,
+    ) -> Result<(), AllocError> {
+        count_ticks(protocol, rows, i, machine, ticks, notes);
+        Ok(())
+    }
+}

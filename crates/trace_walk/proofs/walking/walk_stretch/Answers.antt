@@ -1,0 +1,86 @@
+use Rattle.std.proofs.Common.{◌≡◌, ◌∙◌, ◌+◌, ◌<◌, ◌≤◌, ℕ, sym, ap, arith}
+use Rattle.schedule_model.specs.RowDef.{RowDef, row_in}
+use Rattle.schedule_model.specs.Seen.{row_seen}
+use Rattle.schedule_laws.specs.Steady.{IsSteady}
+use Rattle.phase_machine.specs.MachineDef.{MachineDef, under}
+use Rattle.phase_machine.specs.Taking.{IsRowFor}
+use Rattle.phase_machine.proofs.Stretches.{quiet_sooner}
+use Rattle.trace_walk.proofs.RunLaws.{row_fits}
+use Rattle.trace_walk.proofs.Stretches.{row_stands, row_can}
+use Rattle.trace_walk.proofs.Reaching.{reached_on}
+use Rattle.trace_walk.proofs.walking.walk_stretch.Goals as goal
+
+pub steady-requires : goal.steady-requires
+steady-requires g c =
+    let rows : ℕ → RowDef = row_in c.args.rows.now.runs in
+    let m : MachineDef = c.args.machine.now in
+    let here : rows m.tick ≡ row_seen c.run_at.result.now.row = c.requires.at.here ∙ sym (ap (λ r. r.row) c.run_at.ensures.value) in
+    record {
+      row = row_can (g.P.BlockingProtocol.interferes c.args.protocol.now) rows m (row_seen c.run_at.result.now.row) here
+          c.requires.reached.shows
+          (rw (ap (λ r. r.row) c.run_at.ensures.value) (row_fits c.args.rows.now m.list c.args.i c.requires.at.fits c.requires.at.within))
+          (g.P.BlockingProtocol.sound_row c.args.protocol.now (under m rows) m.tick c.requires.suits
+          (c.in-Ok.ensures rows c.requires.reached.shows here));
+    }
+
+pub take-requires-clause-stretch : goal.take-requires-clause-stretch
+take-requires-clause-stretch g c =
+    let rows : ℕ → RowDef = row_in c.args.rows.now.runs in
+    let row : RowDef = row_seen c.run_at.result.now.row in
+    let m : MachineDef = c.args.machine.now in
+    let n : ℕ = c.span-ticks.result in
+    let here : rows m.tick ≡ row = c.requires.at.here ∙ sym (ap (λ r. r.row) c.run_at.ensures.value) in
+    let fits : IsRowFor m.list row = rw (ap (λ r. r.row) c.run_at.ensures.value)
+    (row_fits c.args.rows.now m.list c.args.i c.requires.at.fits c.requires.at.within) in
+    record {
+      at = c.requires.at;
+      shows = c.requires.reached.shows;
+      can = row_stands (g.P.BlockingProtocol.interferes c.args.protocol.now) rows m row here fits
+          (g.P.BlockingProtocol.sound_row c.args.protocol.now (under m rows) m.tick c.requires.suits
+          (c.in-Ok.ensures rows c.requires.reached.shows here));
+      lawful = c.in-Ok.ensures rows c.requires.reached.shows here;
+      steady = c.steady.ensures.steady rows n c.requires.reached.shows (omega (arith, c.span-ticks.ensures.most, c.min.ensures))
+          (λ i l. c.requires.stands i (omega (arith, l, c.span-ticks.ensures.most, c.min.ensures))
+          ∙ sym (ap (λ r. r.row) c.run_at.ensures.value));
+      some = c.span-ticks.ensures.some (omega (arith, c.min.ensures, c.steady.ensures.value.some, c.requires.some));
+      early = omega (arith, c.span-ticks.ensures.most, c.min.ensures, c.requires.early);
+    }
+
+pub advance_by-requires-clause-row : goal.advance_by-requires-clause-row
+advance_by-requires-clause-row g c =
+    let rows : ℕ → RowDef = row_in c.args.rows.now.runs in
+    let m : MachineDef = c.args.machine.now in
+    let here : rows m.tick ≡ row_seen c.run_at.result.now.row = c.requires.at.here ∙ sym (ap (λ r. r.row) c.run_at.ensures.value) in
+    row_can (g.P.BlockingProtocol.interferes c.args.protocol.now) rows m (row_seen c.run_at.result.now.row) here c.requires.reached.shows
+    (rw (ap (λ r. r.row) c.run_at.ensures.value) (row_fits c.args.rows.now m.list c.args.i c.requires.at.fits c.requires.at.within))
+    (g.P.BlockingProtocol.sound_row c.args.protocol.now (under m rows) m.tick c.requires.suits
+    (c.in-Ok.ensures rows c.requires.reached.shows here))
+
+pub advance_by-requires-clause-quiet : goal.advance_by-requires-clause-quiet
+advance_by-requires-clause-quiet g c =
+    quiet_sooner c.args.machine.now (row_seen c.run_at.result.now.row) c.steady.result c.span-ticks.result
+    c.steady.ensures.value.quiet (omega (arith, c.span-ticks.ensures.most, c.min.ensures))
+
+pub returns-clause-walked : goal.returns-clause-walked
+returns-clause-walked g c =
+    let rows : ℕ → RowDef = row_in c.args.rows.now.runs in
+    let row : RowDef = row_seen c.run_at.result.now.row in
+    let m : MachineDef = c.args.machine.now in
+    let n : ℕ = c.span-ticks.result in
+    let here : rows m.tick ≡ row = c.requires.at.here ∙ sym (ap (λ r. r.row) c.run_at.ensures.value) in
+    let some : 1 ≤ n = c.span-ticks.ensures.some (omega (arith, c.min.ensures, c.steady.ensures.value.some, c.requires.some)) in
+    let most : n ≤ c.args.left = omega (arith, c.span-ticks.ensures.most, c.min.ensures) in
+    let same : (i : ℕ) → i < n → rows (m.tick + i) ≡ row =
+    λ i l. c.requires.stands i (omega (arith, l, most)) ∙ sym (ap (λ r. r.row) c.run_at.ensures.value) in
+    let steady : IsSteady (under m rows) m.tick n = c.steady.ensures.steady rows n c.requires.reached.shows
+    (omega (arith, c.span-ticks.ensures.most, c.min.ensures)) same in (
+      some,
+      most,
+      c.advance_by.ensures.tick,
+      reached_on (g.P.BlockingProtocol.keeps c.args.protocol.now) (g.K.Keeper.kept c.args.keeper.now c.args.protocol.now) rows m
+          c.advance_by.new.self n c.args.notes.now c.take.new.notes c.requires.reached
+          c.advance_by.ensures.list c.advance_by.ensures.tick (c.advance_by.ensures.shows rows c.requires.reached.shows same)
+          (λ i l. (g.met.P.Judge.stays_lawful c.args.protocol.now (under m rows) m.tick n c.requires.suits
+          c.requires.reached.shows.machine.lawful steady (c.in-Ok.ensures rows c.requires.reached.shows here) i l).lawful)
+          c.in_ok-take.ensures,
+    )

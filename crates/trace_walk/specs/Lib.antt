@@ -1,0 +1,4 @@
+pub mod Runs
+pub mod NextStretch
+pub mod Reached
+pub mod Walked

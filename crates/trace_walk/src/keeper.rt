@@ -1,0 +1,49 @@
+ghost use Rattle.std.specs.Prelude.{◌≡◌, ℕ, ◌+◌, ◌≤◌, OnOk};
+ghost use Rattle.sporadic_model.specs.SetDef.{SetDef};
+ghost use Rattle.schedule_model.specs.RowDef.{Trace, row_in};
+ghost use Rattle.phase_machine.specs.MachineDef.{MachineDef, under};
+ghost use Rattle.trace_walk.specs.NextStretch.{IsNextStretch};
+
+use phase_machine::{Judge, Machine};
+use schedule_model::RowList;
+use std::alloc::AllocError;
+
+/// What keeps notes of a schedule while it is walked, for a protocol that judges it.
+pub trait Keeper<P: Judge> {
+    /// What it keeps of the ticks so far.
+    type Notes;
+
+    /// Can it keep notes of schedules for this set?
+    ghost fits: { Self → SetDef → Type 0 };
+
+    /// Are these the notes of the first ticks of a schedule, so many?
+    ghost kept: { Self → P → Trace → ℕ → Self.Notes → Type 0 };
+
+    /// Can it take so many ticks at once, from the machine's on, where they are a steady stretch?
+    ghost spans: { Self → MachineDef → ℕ → Type 0 };
+
+    /// How many of the next ticks it takes at once, where so many are a steady stretch: at least one, and fewer do too.
+    fn span(&self, machine: &Machine, ticks: u64) -> u64
+        requires fits { fits self.now machine.now.list.set }
+        ensures some { 1 ≤ ticks → 1 ≤ result }
+        ensures most { result ≤ ticks }
+        ensures spans { (n : ℕ) → n ≤ result → spans self.now machine.now n };
+
+    /// Takes so many ticks more into the notes: a steady stretch of run number `i`, whose rows keep the rules and which the machine
+    /// stands before. It refuses for want of memory alone.
+    fn take(
+        &self,
+        protocol: &P,
+        rows: &RowList,
+        i: usize,
+        machine: &Machine,
+        ticks: u64,
+        notes: &mut Self::Notes,
+    ) -> Result<(), AllocError>
+        requires suits { P.suits protocol.now machine.now.list.set }
+        requires fits { fits self.now machine.now.list.set }
+        requires stretch { IsNextStretch (P.keeps protocol.now) rows.now i machine.now ticks }
+        requires spans { spans self.now machine.now ticks }
+        requires kept { kept self.now protocol.now (under machine.now (row_in rows.now.runs)) machine.now.tick notes.old }
+        ensures { OnOk result (kept self.now protocol.now (under machine.now (row_in rows.now.runs)) (machine.now.tick + ticks) notes.new) };
+}
