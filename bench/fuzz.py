@@ -5,8 +5,8 @@
 
 A find is a run that a signal ends, that takes longer than the limit, that ends with a status which no run over plain files has, that
 writes something to standard error, or whose text isn't of a form of its status; and a certificate that `analyse` writes and `check`
-doesn't call valid, or a schedule that `simulate` writes and `conform` doesn't call lawful. Its inputs are kept in FOLDER (finds/ where none is given),
-and the script ends with status 1. PROGRAM is what `rt ci` or `./block` built, where none is given. A command that the program doesn't
+doesn't call valid, or a schedule that `simulate` writes and `conform` doesn't call lawful. Its inputs are kept in FOLDER (finds/ where
+none is given), and the script ends with status 1. PROGRAM is what `rt ci` or `./block` built, where none is given. A command that the program doesn't
 have is left out with a word. Run number N of a seed always bends the same inputs in the same way.
 
 It needs Python's standard library alone. It is no test: no gate runs it.

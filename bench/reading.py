@@ -62,10 +62,21 @@ def source_of(crate, parts):
     return None
 
 
-class Code:
-    """A file of code: the lines of the declaration of each constant, enum and struct."""
+class Read:
+    """A file that is read once."""
 
-    pages = {}
+    def __init_subclass__(cls):
+        cls.pages = {}
+
+    @classmethod
+    def at(cls, page):
+        if page not in cls.pages:
+            cls.pages[page] = cls(page)
+        return cls.pages[page]
+
+
+class Code(Read):
+    """A file of code: the lines of the declaration of each constant, enum and struct."""
 
     def __init__(self, page):
         with open(os.path.join(ROOT, page), encoding="utf-8") as file:
@@ -79,17 +90,9 @@ class Code:
                     end += 1
                 self.lines_of[found.group(1)] = [line for line in lines[number:end + 1] if not line.lstrip().startswith("//")]
 
-    @classmethod
-    def at(cls, page):
-        if page not in cls.pages:
-            cls.pages[page] = cls(page)
-        return cls.pages[page]
 
-
-class Page:
+class Page(Read):
     """A file of definitions: its blocks, the block of each name, and where each imported name stands."""
-
-    pages = {}
 
     def __init__(self, page):
         with open(file_of(page), encoding="utf-8") as file:
@@ -125,12 +128,6 @@ class Page:
             found = DEFINED.match(line) or (CONSTRUCTOR.match(line) if any("data " in other for other in block) else None)
             if found and not line.startswith("--"):
                 self.block_of.setdefault(found.group(1), number)
-
-    @classmethod
-    def at(cls, page):
-        if page not in cls.pages:
-            cls.pages[page] = cls(page)
-        return cls.pages[page]
 
     def code(self, number):
         """The lines of a block without its comments."""

@@ -1,7 +1,8 @@
 """Each command over the pair of tasks: its words, the inputs that it reads, in that order, and the whole of what it writes."""
 from dataclasses import dataclass
 
-from sets import OLD_PAIR_CERTIFICATE, PAIR, PAIR_AUDITED, PAIR_CERTIFICATE, PAIR_FULL_TABLE, PAIR_JOBS, PAIR_MEASURED, PAIR_ROWS, PAIR_SIMULATED, PAIR_TABLE, SHORT, SHORT_REFUSAL, STUDIED
+from sets import OLD_PAIR_CERTIFICATE, PAIR, PAIR_AUDITED, PAIR_CERTIFICATE, PAIR_FULL_TABLE, PAIR_JOBS, PAIR_MEASURED, PAIR_ROWS
+from sets import PAIR_SIMULATED, PAIR_TABLE, SHORT, SHORT_REFUSAL, STUDIED
 
 INPUTS = {"set": PAIR, "cert": PAIR_CERTIFICATE, "jobs": PAIR_JOBS, "rows": PAIR_ROWS}
 FILES = {**INPUTS, "old": OLD_PAIR_CERTIFICATE, "short": SHORT, "refusal": SHORT_REFUSAL}

@@ -4,8 +4,9 @@
     python3 tests/cli/run.py [PROGRAM] [--only WORD]
 
 The table stands in cases/, a file for each subject, and in the guide and the README: each command that these show is run as it stands
-there. A new file in cases/ is read by itself. The JSON Schemas of docs/schema are compared with the examples and the table. PROGRAM is what `rt ci` or `./block` built, where none is given; WORD picks the cases whose
-file or text has it. It needs Python's standard library alone.
+there. A new file in cases/ is read by itself. The JSON Schemas of docs/schema are compared with the examples and the table, where
+python3-jsonschema is there; all else needs Python's standard library alone. PROGRAM is what `rt ci` or `./block` built, where none is
+given. WORD picks the cases whose file or text has it.
 """
 import argparse
 import importlib

@@ -56,6 +56,7 @@ def pair(resources=None, first=None, second=None):
 
 
 PAIR = pair()
+HOMELESS = pair([resource("q")])
 PAIR_CERTIFICATE = certificate("fmlp+", [5, 5], [[2, 0, 0, 0], [1, 0, 0, 0]])
 OLD_PAIR_CERTIFICATE = old(PAIR_CERTIFICATE)
 PAIR_JOBS = "task,release,script\nt1,0,1 q:1 1\nt2,0,1 q:2 1\n"

@@ -21,8 +21,9 @@ NOBODY = 65534
 class Case:
     """One run of the program: what it shows, its words, the whole of what it writes to standard output, and its status.
 
-    What it writes may be given as a pattern, which then has to match the whole of it. Standard error has to stay empty. The words are one text that is split at spaces, or a list of texts or bytes. The program runs
-    in a folder that holds the files: a name, and a text, bytes or one of the kinds below. Where `at` is given it runs there instead.
+    What it writes may be given as a pattern, which then has to match the whole of it. Standard error has to stay empty. The words are one
+    text that is split at spaces, or a list of texts or bytes. The program runs in a folder that holds the files: a name, and a text, bytes
+    or one of the kinds below. Where `at` is given it runs there instead.
     """
 
     shows: str
@@ -54,6 +55,14 @@ class Case:
 FULL = "a full device"
 CLOSED = "a closed standard output"
 BROKEN = "a pipe that nobody reads"
+
+
+def runs_on(own):
+    """How a table writes a command on its own set, or on another, and on further files, each of which the command names."""
+    def run(shows, command, says, status=0, set=own, **files):
+        return Case(shows, f"{command} set {' '.join(files)}", says, status, {"set": set, **files})
+
+    return run
 
 
 @dataclass(frozen=True)

@@ -2,8 +2,8 @@
 use Rattle.std.proofs.Common.{◌≡◌, ℕ, ◌+◌, ◌<◌, ◌==◌, ◌&&◌, Bool, true, false, List, [], length, get_or, set, take}
 use Rattle.std.proofs.Common.{refl, sym, ap, ◌∙◌, arith, inl, inr, sum_by}
 use Rattle.std.proofs.lemmas.Bool.{cases_eq, eq-eqb, ne_eqb}
-use Rattle.std.proofs.lemmas.List.{take_more, get_or-set_same, get_or-set_other}
-use Rattle.std.proofs.lemmas.List.Sums.{sum_by_push}
+use Rattle.std.proofs.lemmas.List.{get_or-set_same, get_or-set_other}
+use Rattle.std.proofs.lemmas.List.Sums.{sum_by_more}
 use Rattle.bounded_sums.specs.Sums.{only_if}
 use Rattle.schedule_model.specs.JobDef.{JobDef, job_of}
 use Rattle.fragments.specs.declared.columns.Class.{Class}
@@ -18,11 +18,6 @@ pub sums_begin : (jobs : List JobDef) (x : ℕ) → no_sums ≡ item_sums jobs x
 unfolding item_sums
 sums_begin jobs x = refl
 
--- One item more.
-item_more : (f : ChargeItem → ℕ) (items : List ChargeItem) (i : ℕ) (d : ChargeItem) → i < length items
-    → sum_by f (take (i + 1) items) ≡ sum_by f (take i items) + f (get_or items i d)
-item_more f items i d l = ap (sum_by f) (take_more items i d l) ∙ sum_by_push f (take i items) (get_or items i d)
-
 -- What has stopped stays where it is.
 counted_more : (s t : ℕ) → counted (counted s + t) ≡ counted (s + t)
 counted_more s t = omega arith
@@ -33,7 +28,7 @@ sum_more : (jobs : List JobDef) (x : ℕ) (c : Class) (items : List ChargeItem) 
     → sum_by (item_ticks jobs x c) (take (i + 1) items)
     ≡ sum_by (item_ticks jobs x c) (take i items) + only_if (b && is_same_class c (get_or items i d).class) (get_or items i d).ticks
 sum_more jobs x c items i d b l own =
-    item_more (item_ticks jobs x c) items i d l
+    sum_by_more (item_ticks jobs x c) items i d l
     ∙ ap
     (λ o. sum_by (item_ticks jobs x c) (take i items)
     + only_if (o && is_same_class c (get_or items i d).class) (get_or items i d).ticks) own

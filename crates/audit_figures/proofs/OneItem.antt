@@ -15,10 +15,11 @@ use Rattle.bounded_sums.proofs.SumLaws.{sum_below-one}
 use Rattle.bounded_sums.proofs.CountLaws.{count_below-none, flag-of_false}
 use Rattle.fragments.specs.ClassOrder.{class_rank}
 use Rattle.fragments.specs.declared.columns.Class.{Class}
-use Rattle.fragments.specs.declared.columns.Class.TheVariants.{Direct, Indirect, Preemption}
+use Rattle.fragments.specs.declared.columns.Class.TheVariants.{Direct}
 use Rattle.charge_model.specs.Fractions.{is_same_class}
 use Rattle.charge.specs.Requests.{ChargedRequest}
 use Rattle.charge.specs.Table.{ItemDef, is_of, item_cmp}
+use Rattle.charge.proofs.Places.{rank_one}
 
 -- What a look-up past the end gives.
 abbrev pub no_item : ItemDef
@@ -30,17 +31,6 @@ item_at items k = get_or items k no_item
 -- Is it an item of job j and of this class, and of this request?
 abbrev pub counts_for : ℕ → Class → Option ChargedRequest → ItemDef → Bool
 counts_for j c named item = ((item.blocked == j) && is_same_class c item.class) && is_of item named
-
-rank_one : (c d : Class) → class_rank c ≡ class_rank d → c ≡ d
-rank_one Direct Direct e = refl
-rank_one Direct Indirect e = absurd (cc)
-rank_one Direct Preemption e = absurd (cc)
-rank_one Indirect Direct e = absurd (cc)
-rank_one Indirect Indirect e = refl
-rank_one Indirect Preemption e = absurd (cc)
-rank_one Preemption Direct e = absurd (cc)
-rank_one Preemption Indirect e = absurd (cc)
-rank_one Preemption Preemption e = refl
 
 -- The parts of an item's request.
 record SameRequest (r : ChargedRequest) (item : ItemDef) : Type 0 where

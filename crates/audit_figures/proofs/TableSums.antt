@@ -6,8 +6,8 @@ use Rattle.std.proofs.lemmas.Bool.{cases_Bool, and_parts, eq-eqb, eqb-true, ne_e
 use Rattle.std.proofs.lemmas.List.{get_or-map, length-map}
 use Rattle.bounded_sums.specs.Sums.{sum_below, flag, only_if}
 use Rattle.bounded_sums.specs.Tests.{count_below}
-use Rattle.bounded_sums.proofs.SumLaws.{sum_below-agree, sum_below-swap, sum_below-zero, sum_below-one}
-use Rattle.bounded_sums.proofs.SumLaws.{sum_below-list_by, only_if-true, only_if-false}
+use Rattle.bounded_sums.proofs.SumLaws.{sum_below-agree, sum_below-swap, sum_below-one}
+use Rattle.bounded_sums.proofs.SumLaws.{sum_below-list_by, only_if-true, only_if-false, sum_below-only_if}
 use Rattle.bounded_sums.proofs.CountLaws.{count_below-none}
 use Rattle.schedule_model.specs.RowDef.{Trace}
 use Rattle.schedule_model.specs.Phase.{Phase, phase_of}
@@ -91,11 +91,6 @@ job_sum charges interferes w bound n items c j only table listed =
     (λ t. flag (is_of_class c (charges w t j)))
     (λ t l. tick_counts charges interferes w bound n items c t j only table listed l)
 
--- What counts only if a test passes may be added up first.
-only_if-sum : (b : Bool) (n : ℕ) (f : ℕ → ℕ) → sum_below n (λ k. only_if b (f k)) ≡ only_if b (sum_below n f)
-only_if-sum true n f = refl
-only_if-sum false n f = sum_below-zero n (λ k. 0) (λ k l. refl)
-
 only_if-both : (b c : Bool) (m : ℕ) → only_if b (only_if c m) ≡ only_if (b && c) m
 only_if-both true c m = refl
 only_if-both false c m = refl
@@ -139,7 +134,7 @@ task_sum charges interferes w bound n items c x only table =
     ∙ sum_below-swap (length items) (length w.jobs) (λ k j. only_if (task_of w j == x) (of_job j k))
     ∙ sum_below-agree (length w.jobs) (λ j. sum_below (length items) (λ k. only_if (task_of w j == x) (of_job j k)))
     (λ j. only_if (task_of w j == x) (class_ticks charges w bound n c j))
-    (λ j l. only_if-sum (task_of w j == x) (length items) (of_job j)
+    (λ j l. sum_below-only_if (length items) (task_of w j == x) (of_job j)
     ∙ ap (only_if (task_of w j == x)) (job_sum charges interferes w bound n items c j only table l)) where
       of_job : ℕ → ℕ → ℕ
       of_job j k = only_if (((item_at items k).blocked == j) && is_same_class c (item_at items k).class) (item_at items k).ticks

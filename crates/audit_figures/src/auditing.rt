@@ -23,6 +23,7 @@ use dual_check::check_with;
 use fmlp_rules::FmlpPlus;
 use mpcp_rules::Mpcp;
 use program_form::Certificate;
+use row_readers::{ListedRows, RowReader};
 use schedule_answers::{AuditStop, Invalid, TaskFigures, Unlawful};
 use schedule_model::{JobList, RowList};
 use sporadic_model::Protocol;
@@ -32,21 +33,22 @@ use trace_walk::{Both, walk};
 
 /// The figures of a schedule beside bounds and values, by one walk over it that measures and charges; or the first row that breaks a
 /// rule.
-fn walked_figures<P: ChargedProtocol>(
+fn walked_figures<P: ChargedProtocol, R: RowReader>(
     alloc: Global,
     protocol: &P,
     jobs: &JobList,
-    rows: &RowList,
+    rows: &mut R,
     bounds: &[u64],
     values: &[u64],
 ) -> Result<Vec<TaskFigures>, Unlawful>
     requires suits { P.suits protocol.now jobs.now.set }
-    requires fits { is_fitting rows.now jobs.now ≡ true }
+    requires fits { is_fitting (R.rows rows.old) jobs.now ≡ true }
+    requires start { R.at rows.old ≡ 0 }
     requires one_each { length bounds.now ≡ length jobs.now.set.tasks }
     requires values { length values.now ≡ length jobs.now.set.tasks }
     requires bounds { AreBounds jobs.now.set (slice_index bounds.now) }
-    ensures { HasFigures (P.keeps protocol.now) (P.interferes protocol.now) (P.charges protocol.now) (trace_in jobs.now rows.now.runs)
-        (slice_index bounds.now) (slice_index values.now) (ticks_of rows.now.runs) result }
+    ensures { HasFigures (P.keeps protocol.now) (P.interferes protocol.now) (P.charges protocol.now) (trace_in jobs.now (R.rows rows.old).runs)
+        (slice_index bounds.now) (slice_index values.now) (ticks_of (R.rows rows.old).runs) result }
 {
     jobs.keeps_its_rules();
     rows.keeps_its_rules();
@@ -63,8 +65,54 @@ fn walked_figures<P: ChargedProtocol>(
     Ok(figures)
 }
 
-/// Judges the certificate, then the rows, and sets what the rows did to each task beside what the certificate proves of it. Each
-/// dual's denominator is at least 1.
+/// Judges the certificate, then the rows that are read, and sets what the rows did to each task beside what the certificate proves of
+/// it. Each dual's denominator is at least 1. At first the reader stands at the first run.
+pub fn audit_rows_with<P: ChargedProtocol, R: RowReader>(
+    alloc: Global,
+    protocol: &P,
+    certificate: &Certificate,
+    jobs: &JobList,
+    rows: &mut R,
+) -> Result<Vec<TaskFigures>, AuditStop>
+    requires suits { P.suits protocol.now jobs.now.set }
+    requires denominators { HasDenominators (certificate_seen certificate.now) }
+    requires fits { is_fitting (R.rows rows.old) jobs.now ≡ true }
+    requires start { R.at rows.old ≡ 0 }
+
+    // The figures; or why the certificate is not valid; or else the first row that breaks a rule.
+    ensures audits { Audits (P.keeps protocol.now) (P.interferes protocol.now) (P.charges protocol.now)
+        (source_at (P.source protocol.now) jobs.now.set) (certificate_seen certificate.now)
+        (trace_in jobs.now (R.rows rows.old).runs) (ticks_of (R.rows rows.old).runs) result }
+
+    // The response of each task is at most its bound, and its blocking at most its value.
+    ensures within { IfOk result (λ v. All LieWithin v.items) }
+
+    // The ticks of the three classes are all those at which the task's jobs are blocked in their windows.
+    ensures adds_up { IfOk result (λ v. (x : ℕ) → x < length jobs.now.set.tasks → charged_ticks (slice_index_or v.items x no_figures)
+        ≡ blocked_sum (P.interferes protocol.now) (trace_in jobs.now (R.rows rows.old).runs) (slice_index certificate.now.bounds.items)
+        (ticks_of (R.rows rows.old).runs) x) }
+
+    // And all those at which they are blocked at all.
+    ensures adds_up_to_all { IfOk result (λ v. (x : ℕ) → x < length jobs.now.set.tasks → charged_ticks (slice_index_or v.items x no_figures)
+        ≡ blocked_ticks (P.interferes protocol.now) (trace_in jobs.now (R.rows rows.old).runs) (ticks_of (R.rows rows.old).runs) x) }
+{
+    jobs.set().keeps_the_model();
+    jobs.keeps_its_rules();
+    let valid = match check_with(alloc, protocol, jobs.set(), certificate) {
+        Ok(valid) => valid,
+        Err(Invalid::Memory) => return Err(AuditStop::Memory),
+        Err(failure) => return Err(AuditStop::Invalid(failure)),
+    };
+    let bounds = &certificate.bounds;
+    let figures = match walked_figures(alloc, protocol, jobs, rows, bounds, &valid.values) {
+        Ok(figures) => figures,
+        Err(Unlawful::Broken(breach)) => return Err(AuditStop::Broken(breach)),
+        Err(Unlawful::Memory) => return Err(AuditStop::Memory),
+    };
+    Ok(figures)
+}
+
+/// The same of a list of rows.
 pub fn audit_with<P: ChargedProtocol>(
     alloc: Global,
     protocol: &P,
@@ -93,23 +141,44 @@ pub fn audit_with<P: ChargedProtocol>(
     ensures adds_up_to_all { IfOk result (λ v. (x : ℕ) → x < length jobs.now.set.tasks → charged_ticks (slice_index_or v.items x no_figures)
         ≡ blocked_ticks (P.interferes protocol.now) (trace_in jobs.now rows.now.runs) (ticks_of rows.now.runs) x) }
 {
-    jobs.set().keeps_the_model();
-    jobs.keeps_its_rules();
-    let valid = match check_with(alloc, protocol, jobs.set(), certificate) {
-        Ok(valid) => valid,
-        Err(Invalid::Memory) => return Err(AuditStop::Memory),
-        Err(failure) => return Err(AuditStop::Invalid(failure)),
-    };
-    let bounds = &certificate.bounds;
-    let figures = match walked_figures(alloc, protocol, jobs, rows, bounds, &valid.values) {
-        Ok(figures) => figures,
-        Err(Unlawful::Broken(breach)) => return Err(AuditStop::Broken(breach)),
-        Err(Unlawful::Memory) => return Err(AuditStop::Memory),
-    };
-    Ok(figures)
+    audit_rows_with(
+        alloc,
+        protocol,
+        certificate,
+        jobs,
+        &mut ListedRows::new(rows),
+    )
 }
 
-/// The same by the protocol's name. Under DPCP each resource has a home.
+/// `audit_rows_with` by the protocol's name. Under DPCP each resource has a home.
+pub fn audit_rows<R: RowReader>(
+    alloc: Global,
+    protocol: Protocol,
+    certificate: &Certificate,
+    jobs: &JobList,
+    rows: &mut R,
+) -> Result<Vec<TaskFigures>, AuditStop>
+    requires homes { HasHomesFor protocol jobs.now.set }
+    requires denominators { HasDenominators (certificate_seen certificate.now) }
+    requires fits { is_fitting (R.rows rows.old) jobs.now ≡ true }
+    requires start { R.at rows.old ≡ 0 }
+    ensures audits { Audits (rules_of protocol) (interference_of protocol) (charges_of protocol) (source_of protocol jobs.now.set)
+        (certificate_seen certificate.now) (trace_in jobs.now (R.rows rows.old).runs) (ticks_of (R.rows rows.old).runs) result }
+    ensures within { IfOk result (λ v. All LieWithin v.items) }
+    ensures adds_up { IfOk result (λ v. (x : ℕ) → x < length jobs.now.set.tasks → charged_ticks (slice_index_or v.items x no_figures)
+        ≡ blocked_sum (interference_of protocol) (trace_in jobs.now (R.rows rows.old).runs) (slice_index certificate.now.bounds.items)
+        (ticks_of (R.rows rows.old).runs) x) }
+    ensures adds_up_to_all { IfOk result (λ v. (x : ℕ) → x < length jobs.now.set.tasks → charged_ticks (slice_index_or v.items x no_figures)
+        ≡ blocked_ticks (interference_of protocol) (trace_in jobs.now (R.rows rows.old).runs) (ticks_of (R.rows rows.old).runs) x) }
+{
+    match protocol {
+        Protocol::Mpcp => audit_rows_with(alloc, &Mpcp, certificate, jobs, rows),
+        Protocol::FmlpPlus => audit_rows_with(alloc, &FmlpPlus, certificate, jobs, rows),
+        Protocol::Dpcp => audit_rows_with(alloc, &Dpcp, certificate, jobs, rows),
+    }
+}
+
+/// The same of a list of rows.
 pub fn audit(
     alloc: Global,
     protocol: Protocol,
@@ -129,9 +198,11 @@ pub fn audit(
     ensures adds_up_to_all { IfOk result (λ v. (x : ℕ) → x < length jobs.now.set.tasks → charged_ticks (slice_index_or v.items x no_figures)
         ≡ blocked_ticks (interference_of protocol) (trace_in jobs.now rows.now.runs) (ticks_of rows.now.runs) x) }
 {
-    match protocol {
-        Protocol::Mpcp => audit_with(alloc, &Mpcp, certificate, jobs, rows),
-        Protocol::FmlpPlus => audit_with(alloc, &FmlpPlus, certificate, jobs, rows),
-        Protocol::Dpcp => audit_with(alloc, &Dpcp, certificate, jobs, rows),
-    }
+    audit_rows(
+        alloc,
+        protocol,
+        certificate,
+        jobs,
+        &mut ListedRows::new(rows),
+    )
 }

@@ -6,5 +6,5 @@ mod auditing;
 mod beside;
 mod sums;
 
-pub use auditing::{audit, audit_with};
+pub use auditing::{audit, audit_rows, audit_rows_with, audit_with};
 pub use schedule_answers::{AuditStop, TaskFigures};

@@ -2,9 +2,9 @@
 //! standard output.
 #![tactic(auto)]
 
-use block_top::Status;
+use block_top::{Status, status_of};
 use outside_ports::{FileShelf, OutSink};
-use program_edge::{ended, status_of, words_of};
+use program_edge::{ended, words_of};
 use std::alloc::AllocError;
 use std::env;
 use std::process::ExitCode;

@@ -1,9 +1,11 @@
 //! The work on a certificate and a schedule.
 
-ghost use Rattle.std.specs.Prelude.{◌≡◌, length, IfOk, slice_index_or};
+ghost use Rattle.std.specs.Prelude.{◌≡◌, true, length, IfOk, slice_index_or};
 ghost use Rattle.program_form.specs.Certificate.{certificate_seen};
-ghost use Rattle.named_laws.specs.Named.{HasHomes};
-ghost use Rattle.schedule_model.specs.Fitting.{IsMadeFor};
+ghost use Rattle.named_laws.specs.Named.{HasHomes, rules_of, interference_of, charges_of, source_of};
+ghost use Rattle.schedule_model.specs.RowDef.{trace_in, ticks_of};
+ghost use Rattle.schedule_model.specs.Fitting.{is_fitting, IsMadeFor};
+ghost use Rattle.figure_laws.specs.Audited.{Audits};
 ghost use Rattle.dual_check.specs.Answers.{HasDenominators};
 ghost use Rattle.schedule_answers.specs.TaskAnswers.{no_figures};
 ghost use Rattle.reply_texts.specs.Texts.{kept_text};
@@ -17,13 +19,14 @@ use crate::work::broken_reply;
 use audit_figures::{AuditStop, TaskFigures};
 use cert_json::CertFile;
 use command_inputs::{Halt, Reply, Status};
-use named_protocols::audit;
+use named_protocols::audit_rows;
 use program_form::Certificate;
 use protocol_names::ProtocolName;
 use reply_texts::kept_lines;
-use schedule_model::{JobList, RowList};
+use schedule_model::JobList;
 use sporadic_model::TaskSet;
 use std::alloc::{AllocError, Global};
+use trace_csv::RowText;
 
 /// The reply where each row keeps the rules, and so the bounds.
 fn kept_reply(
@@ -44,13 +47,31 @@ fn kept_reply(
     })
 }
 
+/// The figures of the rows of a text.
+fn figured(
+    alloc: Global,
+    protocol: ProtocolName,
+    certificate: &Certificate,
+    jobs: &JobList<'_>,
+    rows: &RowText<'_>,
+) -> Result<Vec<TaskFigures>, AuditStop>
+    requires suits { HasHomes protocol jobs.now.set }
+    requires denominators { HasDenominators (certificate_seen certificate.now) }
+    requires fits { is_fitting rows.now jobs.now ≡ true }
+    ensures { Audits (rules_of protocol) (interference_of protocol) (charges_of protocol) (source_of protocol jobs.now.set)
+        (certificate_seen certificate.now) (trace_in jobs.now rows.now.runs) (ticks_of rows.now.runs) result }
+{
+    let mut reader = rows.rows(alloc)?;
+    audit_rows(alloc, protocol, certificate, jobs, &mut reader)
+}
+
 /// Audits the rows against the certificate.
 fn audited_rows(
     alloc: Global,
     protocol: ProtocolName,
     certificate: &Certificate,
     jobs: &JobList<'_>,
-    rows: &RowList,
+    rows: &RowText<'_>,
 ) -> Result<Reply, Halt>
     requires suits { HasHomes protocol jobs.now.set }
     requires denominators { HasDenominators (certificate_seen certificate.now) }
@@ -58,7 +79,7 @@ fn audited_rows(
     ensures { Answered result (IsAuditOf protocol jobs.now rows.now (certificate_seen certificate.now)) }
 {
     let ticks = rows.ticks();
-    match audit(alloc, protocol, certificate, jobs, rows) {
+    match figured(alloc, protocol, certificate, jobs, rows) {
         Ok(figures) => Ok(kept_reply(alloc, jobs.set(), ticks, &figures)?),
         Err(AuditStop::Invalid(failure)) => Ok(invalid_reply(alloc, jobs.set(), failure)?),
         Err(AuditStop::Broken(breach)) => Ok(broken_reply(alloc, breach)?),
@@ -73,7 +94,7 @@ pub fn audited(
     digest: &[u8; 32],
     file: &CertFile,
     jobs: &JobList<'_>,
-    rows: &RowList,
+    rows: &RowText<'_>,
 ) -> Result<Reply, Halt>
     requires suits { HasHomes protocol jobs.now.set }
     requires denominators { HasDenominators (certificate_seen file.now.certificate) }

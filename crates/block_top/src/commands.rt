@@ -22,7 +22,7 @@ use crate::upgrading::upgraded;
 use crate::work::{analysis, conformance, no_form, simulation, table};
 use cert_json::CertFile;
 use command_inputs::{
-    CertFor, Halt, JobsOf, OldCertFor, RefusalFor, Reply, RowsOf, get, get_tied_set, settled,
+    CertFor, Halt, JobsOf, OldCertFor, RefusalFor, Reply, get, get_rows, get_tied_set, settled,
 };
 use command_words::{Command, Work, command_of};
 use outside_ports::Shelf;
@@ -115,7 +115,7 @@ fn rows_reply<S: Shelf>(
     ensures reply { AnswersPlan result (S.seen shelf.old) (S.seen shelf.new) (judging_rows protocol rows.now jobs.now) }
     ensures keeps { Keeps (S.seen shelf.old) (S.seen shelf.new) }
 {
-    let rows = get(alloc, shelf, &RowsOf { jobs }, rows)?;
+    let rows = get_rows(alloc, shelf, jobs, rows)?;
     conformance(alloc, protocol, jobs, &rows)
 }
 
@@ -171,7 +171,7 @@ fn audited_rows_reply<S: Shelf>(
         (auditing_rows protocol digest.now (file_seen file.now) rows.now jobs.now) }
     ensures keeps { Keeps (S.seen shelf.old) (S.seen shelf.new) }
 {
-    let rows = get(alloc, shelf, &RowsOf { jobs }, rows)?;
+    let rows = get_rows(alloc, shelf, jobs, rows)?;
     audited(alloc, protocol, digest, file, jobs, &rows)
 }
 

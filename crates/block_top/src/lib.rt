@@ -13,4 +13,4 @@ mod work;
 
 pub use command_inputs::Status;
 pub use command_words::DEFAULT_ALLOWANCE;
-pub use top::run;
+pub use top::{run, status_of};

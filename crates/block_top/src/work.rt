@@ -7,6 +7,7 @@ ghost use Rattle.schedule_model.specs.Fitting.{is_fitting, IsMadeFor};
 ghost use Rattle.protocol_names.specs.Names.{word_of};
 ghost use Rattle.cert_json.specs.Text.{certificate_text};
 ghost use Rattle.trace_csv.specs.Written.{rows_text};
+ghost use Rattle.schedule_answers.specs.Conforming.{Conforms};
 ghost use Rattle.schedule_answers.specs.TaskAnswers.{measure_seen, no_measure};
 ghost use Rattle.named_laws.specs.Named.{rules_of, interference_of};
 ghost use Rattle.sporadic_model.specs.SetDef.{task_at, latest_bound};
@@ -18,7 +19,7 @@ ghost use Rattle.run_plans.specs.Replies.{RepliesTo};
 ghost use Rattle.run_plans.specs.Reached.{NamesTask};
 
 use command_inputs::{Halt, Reply, Status};
-use named_protocols::{analyse, conform, simulate};
+use named_protocols::{analyse, conform_rows, simulate};
 use program_form::Certificate;
 use protocol_names::ProtocolName;
 use reply_texts::{
@@ -30,8 +31,8 @@ use schedule_model::{JobList, RowList};
 use sporadic_model::{TaskId, TaskSet};
 use std::alloc::{AllocError, Global};
 use std::thread::Threads;
-use trace_conform::{Breach, TaskMeasure, Unlawful};
-use trace_csv::write_rows;
+use trace_conform::{Breach, Measured, TaskMeasure, Unlawful};
+use trace_csv::{RowText, write_rows};
 
 /// The reply with a certificate for the set of this digest.
 pub(crate) fn certificate_reply(
@@ -168,12 +169,27 @@ pub(crate) fn broken_reply(alloc: Global, breach: Breach) -> Result<Reply, Alloc
     })
 }
 
+/// Judges the rows of a text.
+fn conformed(
+    alloc: Global,
+    protocol: ProtocolName,
+    jobs: &JobList<'_>,
+    rows: &RowText<'_>,
+) -> Result<Measured, Unlawful>
+    requires suits { HasHomes protocol jobs.now.set }
+    requires fits { is_fitting rows.now jobs.now ≡ true }
+    ensures { Conforms (rules_of protocol) (interference_of protocol) (trace_in jobs.now rows.now.runs) (ticks_of rows.now.runs) result }
+{
+    let mut reader = rows.rows(alloc)?;
+    conform_rows(alloc, protocol, jobs, &mut reader)
+}
+
 /// The work of `conform`.
 pub fn conformance(
     alloc: Global,
     protocol: ProtocolName,
     jobs: &JobList<'_>,
-    rows: &RowList,
+    rows: &RowText<'_>,
 ) -> Result<Reply, Halt>
     requires suits { HasHomes protocol jobs.now.set }
     requires made { IsMadeFor rows.now jobs.now }
@@ -181,7 +197,7 @@ pub fn conformance(
         (trace_in jobs.now rows.now.runs) (ticks_of rows.now.runs)) }
 {
     let ticks = rows.ticks();
-    match conform(alloc, protocol, jobs, rows) {
+    match conformed(alloc, protocol, jobs, rows) {
         Ok(measured) => Ok(lawful_reply(alloc, jobs.set(), ticks, &measured.tasks)?),
         Err(Unlawful::Broken(breach)) => Ok(broken_reply(alloc, breach)?),
         Err(Unlawful::Memory) => Err(Halt::Memory),

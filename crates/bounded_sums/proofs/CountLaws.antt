@@ -12,7 +12,7 @@ pub flag-at_most : (b : Bool) → flag b ≤ 1
 flag-at_most true = omega arith
 flag-at_most false = omega arith
 
-flag-passes : (b : Bool) → 0 < flag b → b ≡ true
+pub flag-passes : (b : Bool) → 0 < flag b → b ≡ true
 flag-passes true h = refl
 flag-passes false h = absurd (omega arith)
 

@@ -4,7 +4,7 @@ use Rattle.std.proofs.Common.{sym, ap, ◌∙◌, arith, inl, inr, Bool, true, f
 use Rattle.std.proofs.Math.Nat.{mul_comm}
 use Rattle.std.proofs.lemmas.Bool.{cases_lt}
 use Rattle.std.proofs.lemmas.List.Sums.{sum_by-cons, sum_by_from}
-use Rattle.bounded_sums.specs.Sums.{sum_below, flag, only_if}
+use Rattle.bounded_sums.specs.Sums.{sum_below, flag, only_if, collect_below}
 
 -- Functions that agree below n have one sum.
 pub sum_below-agree : (n : ℕ) (f g : ℕ → ℕ) → ((k : ℕ) → k < n → f k ≡ g k) → sum_below n f ≡ sum_below n g
@@ -150,3 +150,13 @@ sum_below-none_or_some n c f h = elim (cases_lt 0 (sum_below n f)) [
   | inl some ↦ let a : (u : ℕ) × (u < n) × (0 < f u) = sum_below-some n f some in h a.0 a.1 a.2
   | inr none ↦ omega arith
 ]
+
+-- What counts only if a test passes may be added up first.
+pub sum_below-only_if : (n : ℕ) (b : Bool) (f : ℕ → ℕ) → sum_below n (λ k. only_if b (f k)) ≡ only_if b (sum_below n f)
+sum_below-only_if n true f = refl
+sum_below-only_if n false f = sum_below-zero n (λ k. 0) (λ k l. refl)
+
+-- The same lists of each number below n are collected to the same list.
+pub collect_below-agree : {X : Type 0} (n : ℕ) (f g : ℕ → List X) → ((k : ℕ) → k < n → f k ≡ g k) → collect_below n f ≡ collect_below n g
+collect_below-agree zero f g h = refl
+collect_below-agree (suc n) f g h = rw (collect_below-agree n f g (λ k l. h k (omega arith)), h n (omega arith)) refl

@@ -1,18 +1,7 @@
 -- The laws of tests of the numbers below a bound: all of them, some of them, the first of them.
 use Rattle.std.proofs.Common.{◌≡◌, ℕ, zero, suc, ◌<◌, ◌≤◌, refl, ap, ◌∙◌, arith, inl, inr, Bool, true, false, ◌||◌, ltb, cond, Some, None}
-use Rattle.std.proofs.lemmas.Bool.{and_parts, and_from, and_cases, or_cases, cases_Bool, both_ways, ltb-true, ltb-false, lt-ltb, cases_lt}
+use Rattle.std.proofs.lemmas.Bool.{and_parts, and_from, and_cases, or_cases, cases_Bool, both_ways, ltb-true, ltb-false, lt-ltb, cases_lt, or_parts, or_left, or_right, le-ltb}
 use Rattle.bounded_sums.specs.Tests.{all_below, any_below, first_below, found_below}
-
-or_none : (x y : Bool) → (x || y) ≡ false → (x ≡ false) × (y ≡ false)
-or_none true y h = cc
-or_none false y h = (refl, h)
-
-or_from_left : (x y : Bool) → x ≡ true → (x || y) ≡ true
-or_from_left x y h = rw h refl
-
-or_from_right : (x y : Bool) → y ≡ true → (x || y) ≡ true
-or_from_right true y h = refl
-or_from_right false y h = h
 
 -- Where all below n pass, each below n passes.
 pub all_below-each : (n : ℕ) (p : ℕ → Bool) → all_below n p ≡ true → (k : ℕ) → k < n → p k ≡ true
@@ -52,8 +41,8 @@ all_below-agree (suc n) p q h = rw (all_below-agree n p q (λ k l. h k (omega ar
 pub any_below-from : (n : ℕ) (p : ℕ → Bool) (k : ℕ) → k < n → p k ≡ true → any_below n p ≡ true
 any_below-from zero p k l h = absurd (omega arith)
 any_below-from (suc n) p k l h = elim (cases_lt k n) [
-  | inl below ↦ or_from_left (any_below n p) (p n) (any_below-from n p k below h)
-  | inr above ↦ let e : n ≡ k = omega arith in or_from_right (any_below n p) (p n) (rw e h)
+  | inl below ↦ or_left (any_below n p) (p n) (any_below-from n p k below h)
+  | inr above ↦ let e : n ≡ k = omega arith in or_right (any_below n p) (p n) (rw e h)
 ]
 
 -- Where some below n pass, there is one.
@@ -68,7 +57,7 @@ any_below-some (suc n) p h = elim (or_cases (any_below n p) (p n) h) [
 pub any_below-none : (n : ℕ) (p : ℕ → Bool) → any_below n p ≡ false → (k : ℕ) → k < n → p k ≡ false
 any_below-none zero p h k l = absurd (omega arith)
 any_below-none (suc n) p h k l =
-    let parts : (any_below n p ≡ false) × (p n ≡ false) = or_none (any_below n p) (p n) h in
+    let parts : (any_below n p ≡ false) × (p n ≡ false) = or_parts (any_below n p) (p n) h in
     elim (cases_lt k n) [
       | inl below ↦ any_below-none n p parts.0 k below
       | inr above ↦ let e : k ≡ n = omega arith in rw e parts.1
@@ -103,7 +92,7 @@ first_below-before zero p k l = absurd (omega arith)
 first_below-before (suc n) p k l = elim (cases_Bool (ltb (first_below n p) n || p n)) [
   | inl kept ↦ first_below-before n p k (omega (arith, first_kept n p kept))
   | inr moved ↦
-      let none : (ltb (first_below n p) n ≡ false) × (p n ≡ false) = or_none (ltb (first_below n p) n) (p n) moved in
+      let none : (ltb (first_below n p) n ≡ false) × (p n ≡ false) = or_parts (ltb (first_below n p) n) (p n) moved in
       let far : n ≤ first_below n p = ltb-false (first_below n p) n none.0 in
       elim (cases_lt k n) [
         | inl below ↦ first_below-before n p k (omega arith)
@@ -170,6 +159,18 @@ found_below-none n p h k l = elim (cases_Bool (ltb (first_below n p) n)) [
   | inl below ↦ let x : Some (first_below n p) ≡ None = rw below at h in absurd (cc)
   | inr none ↦ first_below-before n p k (omega (arith, ltb-false _ _ none))
 ]
+
+-- What passes and has no earlier one that does is found.
+pub found_below-first : (n : ℕ) (p : ℕ → Bool) (k : ℕ) → k < n → p k ≡ true → ((i : ℕ) → i < k → p i ≡ false) → found_below n p ≡ Some k
+found_below-first n p k l here before =
+    let e : first_below n p ≡ k = first_below-is n p k (omega arith) before (λ b. here) in
+    rw (e, lt-ltb k n l) refl
+
+-- Where each fails, nothing is found.
+pub found_below-none_from : (n : ℕ) (p : ℕ → Bool) → ((i : ℕ) → i < n → p i ≡ false) → found_below n p ≡ None
+found_below-none_from n p none =
+    let e : first_below n p ≡ n = first_below-is n p n (omega arith) none (λ b. absurd (omega (arith, b))) in
+    rw (e, le-ltb n n (omega arith)) refl
 
 -- Where one alone passes, it is what is found.
 pub found_below-one : (n : ℕ) (p : ℕ → Bool) (k : ℕ) → k < n → p k ≡ true → ((i : ℕ) → i < n → p i ≡ true → i ≡ k)

@@ -62,17 +62,11 @@ fn is_whole(value: &Value) -> bool
     value.is_u64()
 }
 
-fn each_is_whole(values: &[Value]) -> bool
-    ensures { result ≡ list_all (λ v. is_whole (view v)) values.now }
-{
-    values.iter().all(|value| is_whole(value))
-}
-
 /// Is each of the values a whole number?
 pub(crate) fn are_whole(values: &[Value]) -> bool
     ensures { result ≡ list_all is_whole (map view values.now) }
 {
-    each_is_whole(values)
+    values.iter().all(|value| is_whole(value))
 }
 
 /// Is the value a whole number from `least` to the greatest that a program may hold?
@@ -90,17 +84,11 @@ fn has_denominator(value: &Value) -> bool
     value.get("den").is_some_and(|den| is_from(1, den))
 }
 
-fn each_is_numerator(values: &[Value]) -> bool
-    ensures { result ≡ list_all (λ v. is_from 0 (view v)) values.now }
-{
-    values.iter().all(|value| is_from(0, value))
-}
-
 /// Is each of the values a number that a program may hold?
 fn are_numerators(values: &[Value]) -> bool
     ensures { result ≡ list_all (is_from 0) (map view values.now) }
 {
-    each_is_numerator(values)
+    values.iter().all(|value| is_from(0, value))
 }
 
 fn has_dual_members(value: &Value) -> bool

@@ -8,14 +8,13 @@ use Rattle.schedule_model.specs.Phase.{phase_of}
 use Rattle.schedule_model.specs.Activity.{is_active}
 use Rattle.schedule_laws.proofs.ActiveJobs.{active_listed}
 use Rattle.schedule_laws.specs.Steady.{IsSteady}
-use Rattle.schedule_laws.proofs.Alike.{IsAlike, alike_through, active_alike}
+use Rattle.schedule_laws.proofs.Alike.{IsAlike, alike_through, active_alike, phase_through}
 use Rattle.phase_machine.specs.MachineDef.{MachineDef, task_in, under}
 use Rattle.phase_machine.specs.Shows.{Shows}
 use Rattle.phase_machine.proofs.Facts.{current_from}
 use Rattle.phase_machine.proofs.Lawful.{task_listed}
 use Rattle.charge_model.specs.Charges.{Charge}
 use Rattle.charge_model.specs.Windows.{bound_end}
-use Rattle.trace_walk.proofs.Stretches.{phase_on}
 use Rattle.charge.specs.Requests.{ChargedRequest, request_in, charged_request}
 use Rattle.charge.specs.Tally.{AreCountedAlike, place_of}
 use Rattle.charge.specs.Due.{IsClearBelow}
@@ -50,7 +49,7 @@ counted_alike charges m rows bounds n shows only steady same clear i j l = elim 
   | inl active ↦
       ap (λ b. if b then option_map (place_of j) (charged_request charges w (m.tick + i) j) else None) (within active)
       ∙ ap (λ o. if nat_lt m.tick (bound_end w bound j) then option_map (place_of j) o else None)
-      (request_stays charges w m.tick (m.tick + i) j (same i j l) (λ k. phase_on w m.tick n i k steady l))
+      (request_stays charges w m.tick (m.tick + i) j (same i j l) (λ k. phase_through w m.tick n i k steady l))
   | inr idle ↦
       let none : charges w m.tick j ≡ None = inactive_uncharged charges w m.tick j only (λ h. both_ways _ idle h) in
       uncharged_nowhere charges w bound (m.tick + i) j (same i j l ∙ none) ∙ sym (uncharged_nowhere charges w bound m.tick j none)

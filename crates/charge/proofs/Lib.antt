@@ -2,7 +2,7 @@ mod Passing
 mod PassedNext
 mod TallyLaws
 mod CountedAlike
-mod Places
+pub mod Places
 mod Pushing
 mod TableLaws
 mod RowsMet

@@ -6,7 +6,7 @@ use Rattle.std.specs.Prelude.{not, nat_le, nat_lt, slice_index}
 use Rattle.std.proofs.lemmas.Bool.{cases_lt, cases_Bool, or_cases, or_left, or_right, and_parts, and_from, and_cases}
 use Rattle.std.proofs.lemmas.Bool.{not-true, not-false, not_from_false, ltb-true, lt-ltb, le-ltb, lt-leb, le-leb, eqb-true, eq-eqb, both_ways}
 use Rattle.bounded_sums.specs.Tests.{found_below}
-use Rattle.bounded_sums.proofs.TestLaws.{found_below-agree}
+use Rattle.bounded_sums.proofs.TestLaws.{found_below-agree, found_below-none_from}
 use Rattle.sporadic_model.specs.Accepted.{TaskNumbers}
 use Rattle.schedule_model.specs.JobDef.{JobsDef, job_of}
 use Rattle.schedule_model.specs.declared.job.JobId.{JobId}
@@ -26,7 +26,7 @@ use Rattle.trace_walk.proofs.Reaching.{over}
 use Rattle.charge.specs.Passed.{has_passed, first_passed}
 use Rattle.charge.specs.Ledgers.{has_passed_before, first_passed_before}
 use Rattle.charge.specs.Due.{is_due}
-use Rattle.charge.proofs.Passing.{found_same, nothing_from}
+use Rattle.charge.proofs.Passing.{found_same}
 
 abbrev HaveNumbers : Trace → Type 0
 HaveNumbers w = (x : ℕ) → x < length w.set.tasks → TaskNumbers w.set x
@@ -57,7 +57,7 @@ finished_before w bound n j h within = elim (and_cases _ _ h) [
 
 -- Before the first row none has.
 pub none_before : (w : Trace) (bound : ℕ → ℕ) → first_passed_before w bound 0 ≡ None
-none_before w bound = nothing_from (length w.jobs) (has_passed_before w bound 0) (λ j l. elim (cases_Bool (has_passed_before w bound 0 j)) [
+none_before w bound = found_below-none_from (length w.jobs) (has_passed_before w bound 0) (λ j l. elim (cases_Bool (has_passed_before w bound 0 j)) [
   | inr off ↦ off
   | inl on ↦ let p : Passed w bound 0 j = passed_is w bound 0 j on in absurd (omega (arith, p.within))
 ])
@@ -81,7 +81,7 @@ passed_not w bound n j h within = finished_before w bound (n + 1) j (within_befo
 pub none_passed_by : (w : Trace) (bound : ℕ → ℕ) (n : ℕ)
     → ((j : ℕ) → j < length w.jobs → bound_end w bound j ≤ n → phase_of w (bound_end w bound j) j ≡ Finished)
     → first_passed w bound n ≡ None
-none_passed_by w bound n finished = nothing_from (length w.jobs) (has_passed w bound n) (λ j l. elim (cases_Bool (has_passed w bound n j)) [
+none_passed_by w bound n finished = found_below-none_from (length w.jobs) (has_passed w bound n) (λ j l. elim (cases_Bool (has_passed w bound n j)) [
   | inr off ↦ off
   | inl on ↦
       let p : Passed w bound (n + 1) j = passed_is w bound (n + 1) j (within_before w bound n j ∙ on) in

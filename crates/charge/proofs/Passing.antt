@@ -6,7 +6,7 @@ use Rattle.std.proofs.Math.Bool.{or-false}
 use Rattle.std.proofs.lemmas.Bool.{cases_lt, cases_order, cases_Bool, cases_eq, both_ways, lt-ltb, le-ltb, le-leb}
 use Rattle.std.proofs.lemmas.Bool.{lt-leb, eq-eqb, ne_eqb, or_from, or_left, or_right, and_right, false_from_ne_true}
 use Rattle.bounded_sums.specs.Tests.{first_below, found_below}
-use Rattle.bounded_sums.proofs.TestLaws.{first_below-before, first_below-is, found_below-is, found_below-none, found_below-agree}
+use Rattle.bounded_sums.proofs.TestLaws.{first_below-before, found_below-is, found_below-none, found_below-agree, found_below-first, found_below-none_from}
 use Rattle.schedule_model.specs.RowDef.{is_job}
 use Rattle.phase_machine.specs.MachineDef.{MachineDef, IsMachine, place_of, task_in}
 use Rattle.phase_machine.specs.Now.{current_now, active_now}
@@ -14,19 +14,6 @@ use Rattle.phase_machine.proofs.Facts.{current_some, current_own}
 use Rattle.phase_machine.proofs.Lawful.{task_listed}
 use Rattle.schedule_model.specs.JobDef.{job_of}
 use Rattle.charge.specs.Due.{end_now, is_due, is_due_below, due_of, least_of}
-
--- What is found is the one that passes and before which none does.
-pub found_from : (n : ℕ) (p : ℕ → Bool) (k : ℕ) → k < n → p k ≡ true → ((i : ℕ) → i < k → p i ≡ false) → found_below n p ≡ Some k
-found_from n p k l here before =
-    let e : first_below n p ≡ k = first_below-is n p k (omega arith) before (λ b. here) in
-    let t : ltb k n ≡ true = lt-ltb k n l in
-    rw (e, t) refl
-
-pub nothing_from : (n : ℕ) (p : ℕ → Bool) → ((i : ℕ) → i < n → p i ≡ false) → found_below n p ≡ None
-nothing_from n p none =
-    let e : first_below n p ≡ n = first_below-is n p n (omega arith) none (λ b. absurd (omega (arith, b))) in
-    let t : ltb n n ≡ false = le-ltb n n (omega arith) in
-    rw (e, t) refl
 
 pub found_before : (n : ℕ) (p : ℕ → Bool) (k i : ℕ) → found_below n p ≡ Some k → i < k → p i ≡ false
 found_before n p k i found l = elim (cases_Bool (ltb (first_below n p) n)) [
@@ -41,17 +28,17 @@ found_before n p k i found l = elim (cases_Bool (ltb (first_below n p) n)) [
 pub found_with : (n : ℕ) (p : ℕ → Bool) (j : ℕ) (o : Option ℕ) → j < n → o ≡ found_below n p
     → least_of o (Some j) ≡ found_below n (λ k. p k || (k == j))
 found_with n p j None l found =
-    sym (found_from n (λ k. p k || (k == j)) j l (or_right (p j) (j == j) (eq-eqb j j refl))
+    sym (found_below-first n (λ k. p k || (k == j)) j l (or_right (p j) (j == j) (eq-eqb j j refl))
     (λ i b. or_from (p i) (i == j) (found_below-none n p (sym found) i (omega arith)) (ne_eqb i j (λ e. absurd (omega (arith, e, b))))))
 found_with n p j (Some f) l found = elim (cases_lt j f) [
   | inl less ↦
       let t : nat_le f j ≡ false = lt-leb f j less in
-      rw t (sym (found_from n (λ k. p k || (k == j)) j l (or_right (p j) (j == j) (eq-eqb j j refl))
+      rw t (sym (found_below-first n (λ k. p k || (k == j)) j l (or_right (p j) (j == j) (eq-eqb j j refl))
       (λ i b. or_from (p i) (i == j) (found_before n p f i (sym found) (omega arith)) (ne_eqb i j (λ e. absurd (omega (arith, e, b)))))))
   | inr more ↦
       let t : nat_le f j ≡ true = le-leb f j more in
       let is : (f < n) × (p f ≡ true) = found_below-is n p f (sym found) in
-      rw t (sym (found_from n (λ k. p k || (k == j)) f is.0 (or_left (p f) (f == j) is.1)
+      rw t (sym (found_below-first n (λ k. p k || (k == j)) f is.0 (or_left (p f) (f == j) is.1)
       (λ i b. or_from (p i) (i == j) (found_before n p f i (sym found) b) (ne_eqb i j (λ e. absurd (omega (arith, e, b, more)))))))
 ]
 
@@ -61,10 +48,10 @@ pub found_same : (n : ℕ) (p q : ℕ → Bool) → ((k : ℕ) → k < n → p k
 found_same n p q more first = go (found_below n q) refl where
   go : (o : Option ℕ) → found_below n q ≡ o → found_below n p ≡ found_below n q
   go None e =
-      nothing_from n p (λ i l. false_from_ne_true (p i) (λ h. both_ways (q i) (found_below-none n q e i l) (more i l h))) ∙ sym e
+      found_below-none_from n p (λ i l. false_from_ne_true (p i) (λ h. both_ways (q i) (found_below-none n q e i l) (more i l h))) ∙ sym e
   go (Some k) e =
       let is : (k < n) × (q k ≡ true) = found_below-is n q k e in
-      found_from n p k is.0 (first k is.0 is.1 (λ i l. found_before n q k i e l))
+      found_below-first n p k is.0 (first k is.0 is.1 (λ i l. found_before n q k i e l))
       (λ i l. false_from_ne_true (p i) (λ h. both_ways (q i) (found_before n q k i e l) (more i (omega (arith, l, is.0)) h))) ∙ sym e
 
 -- The jobs of one task more.

@@ -15,7 +15,7 @@ use Rattle.schedule_laws.proofs.ActiveJobs.{active_listed}
 use Rattle.phase_machine.specs.MachineDef.{MachineDef, task_in, under}
 use Rattle.phase_machine.specs.Now.{current_now}
 use Rattle.phase_machine.specs.Shows.{Shows}
-use Rattle.phase_machine.proofs.Facts.{current_from, current_own}
+use Rattle.phase_machine.proofs.Facts.{current_own, not_current}
 use Rattle.phase_machine.proofs.Lawful.{task_listed}
 use Rattle.charge_model.specs.Charges.{Charge}
 use Rattle.charge_model.specs.Windows.{bound_end}
@@ -97,12 +97,6 @@ one_task_more a x n b = elim (cases_order a x) [
         rw (one, two, three) refl
   ]
 ]
-
--- A job of task x that isn't its active one isn't active.
-not_current : (m : MachineDef) (rows : ℕ → RowDef) (x k : ℕ) (o : Option ℕ) → Shows m rows → current_now m x ≡ o
-    → (o ≡ Some k → ⊥) → task_in m.list.jobs k ≡ x → is_active (under m rows) m.tick k ≡ true → ⊥
-not_current m rows x k o shows e other own h =
-    other (sym e ∙ ap (current_now m) (sym own) ∙ current_from m rows k shows h)
 
 -- A job of task x is counted where the task's active job is.
 counted_here : (charges : Charges) (m : MachineDef) (rows : ℕ → RowDef) (bound : ℕ → ℕ) (x : ℕ) (p : ChargePlace) (o : Option ℕ) → Shows m rows

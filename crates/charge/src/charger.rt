@@ -5,7 +5,7 @@ use crate::due::{first_of_due, until_due};
 use crate::tally::Ledger;
 use charged_protocols::ChargedProtocol;
 use phase_machine::Machine;
-use schedule_model::RowList;
+use row_readers::RowReader;
 use std::alloc::AllocError;
 use trace_walk::Keeper;
 
@@ -34,11 +34,10 @@ impl<'a, P: ChargedProtocol> Keeper<P> for Charger<'a> {
         until_due(machine, self.bounds, ticks)
     }
 
-    fn take(
+    fn take<R: RowReader>(
         &self,
         protocol: &P,
-        rows: &RowList,
-        i: usize,
+        rows: &R,
         machine: &Machine,
         ticks: u64,
         notes: &mut Ledger,
@@ -47,7 +46,6 @@ impl<'a, P: ChargedProtocol> Keeper<P> for Charger<'a> {
         charge_ticks(
             protocol,
             rows,
-            i,
             machine,
             self.bounds,
             ticks,

@@ -18,6 +18,7 @@ use charged_protocols::ChargedProtocol;
 use dpcp_rules::Dpcp;
 use fmlp_rules::FmlpPlus;
 use mpcp_rules::Mpcp;
+use row_readers::{ListedRows, RowReader};
 use schedule_answers::Unlawful;
 use schedule_model::{JobList, RowList};
 use sporadic_model::Protocol;
@@ -25,22 +26,24 @@ use std::alloc::Global;
 use trace_walk::walk;
 
 /// The charges of each job at each blocked tick within its bound, where these are the bounds, in ticks, one for each task and at most
-/// its latest bound. The schedule is judged first: see [`ChargeStop`] for what stops it.
-pub fn charge_with<P: ChargedProtocol>(
+/// its latest bound. The rows are read from the first on, at which the reader stands, and judged first: see [`ChargeStop`] for what
+/// stops them.
+pub fn charge_rows_with<P: ChargedProtocol, R: RowReader>(
     alloc: Global,
     protocol: &P,
     jobs: &JobList,
-    rows: &RowList,
+    rows: &mut R,
     bounds: &[u64],
 ) -> Result<ChargeTable, ChargeStop>
     requires suits { P.suits protocol.now jobs.now.set }
-    requires fits { is_fitting rows.now jobs.now ≡ true }
+    requires fits { is_fitting (R.rows rows.old) jobs.now ≡ true }
+    requires start { R.at rows.old ≡ 0 }
     requires one_each { length bounds.now ≡ length jobs.now.set.tasks }
     requires bounds { AreBounds jobs.now.set (slice_index bounds.now) }
     ensures charged { Charged (P.keeps protocol.now) (P.interferes protocol.now) (P.charges protocol.now)
-        (trace_in jobs.now rows.now.runs) (slice_index bounds.now) (ticks_of rows.now.runs) result }
+        (trace_in jobs.now (R.rows rows.old).runs) (slice_index bounds.now) (ticks_of (R.rows rows.old).runs) result }
     ensures rows { OnOk result (MeetRows (P.source protocol.now jobs.now.set).program (P.columns_of protocol.now jobs.now.set)
-        (P.charges protocol.now) (trace_in jobs.now rows.now.runs) bounds.now (ticks_of rows.now.runs)) }
+        (P.charges protocol.now) (trace_in jobs.now (R.rows rows.old).runs) bounds.now (ticks_of (R.rows rows.old).runs)) }
 {
     jobs.set().keeps_the_model();
     let mut ledger = Ledger::new(alloc);
@@ -62,7 +65,27 @@ pub fn charge_with<P: ChargedProtocol>(
     Ok(table_of::<P>(alloc, &ledger)?)
 }
 
-/// The same by the protocol's name. Under DPCP each resource has a home.
+/// The same of a list of rows.
+pub fn charge_with<P: ChargedProtocol>(
+    alloc: Global,
+    protocol: &P,
+    jobs: &JobList,
+    rows: &RowList,
+    bounds: &[u64],
+) -> Result<ChargeTable, ChargeStop>
+    requires suits { P.suits protocol.now jobs.now.set }
+    requires fits { is_fitting rows.now jobs.now ≡ true }
+    requires one_each { length bounds.now ≡ length jobs.now.set.tasks }
+    requires bounds { AreBounds jobs.now.set (slice_index bounds.now) }
+    ensures charged { Charged (P.keeps protocol.now) (P.interferes protocol.now) (P.charges protocol.now)
+        (trace_in jobs.now rows.now.runs) (slice_index bounds.now) (ticks_of rows.now.runs) result }
+    ensures rows { OnOk result (MeetRows (P.source protocol.now jobs.now.set).program (P.columns_of protocol.now jobs.now.set)
+        (P.charges protocol.now) (trace_in jobs.now rows.now.runs) bounds.now (ticks_of rows.now.runs)) }
+{
+    charge_rows_with(alloc, protocol, jobs, &mut ListedRows::new(rows), bounds)
+}
+
+/// `charge_with` by the protocol's name. Under DPCP each resource has a home.
 pub fn charge(
     alloc: Global,
     protocol: Protocol,

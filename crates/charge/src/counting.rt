@@ -19,11 +19,11 @@ use charged_protocols::ChargedProtocol;
 use fragments::Class;
 use phase_machine::lookup::tasks_of;
 use phase_machine::{Machine, Phase};
-use schedule_model::{JobId, RowList};
+use row_readers::RowReader;
+use schedule_model::JobId;
 use sporadic_model::TaskId;
 use std::alloc::AllocError;
 use std::collections::BTreeMap;
-use trace_walk::runs::run_at;
 
 /// The place of the request that the blocker is in.
 fn place_of(machine: &Machine, j: JobId, y: JobId, class: Class) -> Option<ChargePlace>
@@ -45,89 +45,86 @@ fn place_of(machine: &Machine, j: JobId, y: JobId, class: Class) -> Option<Charg
 
 /// The place to which the tick that the machine stands at is counted for the job, in a row that keeps the rules: none where it is not
 /// blocked, or its window has ended.
-fn place_at<P: ChargedProtocol>(
+fn place_at<P: ChargedProtocol, R: RowReader>(
     protocol: &P,
-    rows: &RowList,
-    i: usize,
+    rows: &R,
     machine: &Machine,
     bounds: &[u64],
     j: JobId,
 ) -> Option<ChargePlace>
     requires suits { P.suits protocol.now machine.now.list.set }
-    requires at { IsAtRun rows.now i machine.now }
-    requires shows { Shows machine.now (row_in rows.now.runs) }
-    requires keeps { KeepsRow (P.keeps protocol.now) (under machine.now (row_in rows.now.runs)) machine.now.tick }
+    requires at { IsAtRun (R.rows rows.now) (R.at rows.now) machine.now }
+    requires shows { Shows machine.now (row_in (R.rows rows.now).runs) }
+    requires keeps { KeepsRow (P.keeps protocol.now) (under machine.now (row_in (R.rows rows.now).runs)) machine.now.tick }
     requires listed { j.0 < length machine.now.list.jobs }
     requires one_each { length bounds.now ≡ length machine.now.list.set.tasks }
     requires bounds { AreBounds machine.now.list.set (slice_index bounds.now) }
-    ensures { result ≡ place_at (P.charges protocol.now) (under machine.now (row_in rows.now.runs)) (slice_index bounds.now)
+    ensures { result ≡ place_at (P.charges protocol.now) (under machine.now (row_in (R.rows rows.now).runs)) (slice_index bounds.now)
         machine.now.tick j.0 }
 {
     if machine.tick() >= end_of(machine, bounds, j) {
         return None;
     }
-    match protocol.charged(machine, &run_at(rows, i).row, j) {
+    match protocol.charged(machine, &rows.run().row, j) {
         Some((y, class)) => place_of(machine, j, y, class),
         None => None,
     }
 }
 
 /// The same for the task's active job, where it has one.
-fn place_in<P: ChargedProtocol>(
+fn place_in<P: ChargedProtocol, R: RowReader>(
     protocol: &P,
-    rows: &RowList,
-    i: usize,
+    rows: &R,
     machine: &Machine,
     bounds: &[u64],
     x: TaskId,
 ) -> Option<ChargePlace>
     requires suits { P.suits protocol.now machine.now.list.set }
-    requires at { IsAtRun rows.now i machine.now }
-    requires shows { Shows machine.now (row_in rows.now.runs) }
-    requires keeps { KeepsRow (P.keeps protocol.now) (under machine.now (row_in rows.now.runs)) machine.now.tick }
+    requires at { IsAtRun (R.rows rows.now) (R.at rows.now) machine.now }
+    requires shows { Shows machine.now (row_in (R.rows rows.now).runs) }
+    requires keeps { KeepsRow (P.keeps protocol.now) (under machine.now (row_in (R.rows rows.now).runs)) machine.now.tick }
     requires task { x.0 < length machine.now.list.set.tasks }
     requires one_each { length bounds.now ≡ length machine.now.list.set.tasks }
     requires bounds { AreBounds machine.now.list.set (slice_index bounds.now) }
     ensures { result ≡ option_and_then
-        (place_at (P.charges protocol.now) (under machine.now (row_in rows.now.runs)) (slice_index bounds.now) machine.now.tick)
+        (place_at (P.charges protocol.now) (under machine.now (row_in (R.rows rows.now).runs)) (slice_index bounds.now) machine.now.tick)
         (current_now machine.now x.0) }
 {
     match machine.current(x) {
-        Some(j) => place_at(protocol, rows, i, machine, bounds, j),
+        Some(j) => place_at(protocol, rows, machine, bounds, j),
         None => None,
     }
 }
 
 /// Counts so many ticks as the one that the machine stands at, in a row that keeps the rules: one job of each task is active, or
 /// none, and no other is blocked.
-pub(crate) fn charge_ticks<P: ChargedProtocol>(
+pub(crate) fn charge_ticks<P: ChargedProtocol, R: RowReader>(
     protocol: &P,
-    rows: &RowList,
-    i: usize,
+    rows: &R,
     machine: &Machine,
     bounds: &[u64],
     more: u64,
     ticks: &mut BTreeMap<ChargePlace, u64>,
 ) -> Result<(), AllocError>
     requires suits { P.suits protocol.now machine.now.list.set }
-    requires at { IsAtRun rows.now i machine.now }
+    requires at { IsAtRun (R.rows rows.now) (R.at rows.now) machine.now }
     requires some { 1 ≤ more }
     requires early { machine.now.tick + more ≤ MOST_TICKS }
-    requires shows { Shows machine.now (row_in rows.now.runs) }
-    requires keeps { KeepsRow (P.keeps protocol.now) (under machine.now (row_in rows.now.runs)) machine.now.tick }
+    requires shows { Shows machine.now (row_in (R.rows rows.now).runs) }
+    requires keeps { KeepsRow (P.keeps protocol.now) (under machine.now (row_in (R.rows rows.now).runs)) machine.now.tick }
     requires one_each { length bounds.now ≡ length machine.now.list.set.tasks }
     requires bounds { AreBounds machine.now.list.set (slice_index bounds.now) }
-    requires alike { AreCountedAlike (P.charges protocol.now) (under machine.now (row_in rows.now.runs)) (slice_index bounds.now)
+    requires alike { AreCountedAlike (P.charges protocol.now) (under machine.now (row_in (R.rows rows.now).runs)) (slice_index bounds.now)
         machine.now.tick more }
     requires counted { IsTally ticks.old
-        (ticks_before (P.charges protocol.now) (under machine.now (row_in rows.now.runs)) (slice_index bounds.now) machine.now.tick) }
-    ensures { OnOk result (IsTally ticks.new (ticks_before (P.charges protocol.now) (under machine.now (row_in rows.now.runs))
+        (ticks_before (P.charges protocol.now) (under machine.now (row_in (R.rows rows.now).runs)) (slice_index bounds.now) machine.now.tick) }
+    ensures { OnOk result (IsTally ticks.new (ticks_before (P.charges protocol.now) (under machine.now (row_in (R.rows rows.now).runs))
         (slice_index bounds.now) (machine.now.tick + more))) }
 {
     for x in 0..tasks_of(machine) {
         add_named(
             ticks,
-            place_in(protocol, rows, i, machine, bounds, TaskId(x)),
+            place_in(protocol, rows, machine, bounds, TaskId(x)),
             more,
         )?;
     }

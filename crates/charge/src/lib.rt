@@ -16,7 +16,7 @@ pub use charged_protocols::{
     valid_certificates_bound_each_task,
 };
 pub use charger::Charger;
-pub use charging::{charge, charge_with};
+pub use charging::{charge, charge_rows_with, charge_with};
 pub use item::{ChargeItem, ChargeStop, ChargeTable};
 pub use laws::{charges_add_up, sound_bounds_are_never_passed, steady_ticks_are_charged_alike};
 pub use table::table_of;

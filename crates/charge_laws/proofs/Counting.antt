@@ -10,7 +10,7 @@ use Rattle.std.proofs.lemmas.Grind.{div_ceil_times}
 use Rattle.std.proofs.lemmas.Bool.{cases_lt, cases_Bool, and_parts, eqb-true}
 use Rattle.bounded_sums.specs.Sums.{sum_below, flag, only_if}
 use Rattle.bounded_sums.specs.Tests.{count_below}
-use Rattle.bounded_sums.proofs.SumLaws.{sum_below-agree, sum_below-monotone, sum_below-swap, sum_below-term, sum_below-zero}
+use Rattle.bounded_sums.proofs.SumLaws.{sum_below-agree, sum_below-monotone, sum_below-swap, sum_below-term, sum_below-only_if}
 use Rattle.bounded_sums.proofs.CountLaws.{flag-of_true, flag-of_false}
 use Rattle.sporadic_model.specs.SetDef.{task_at, jobs_within}
 use Rattle.schedule_model.specs.JobDef.{JobsDef, job_of}
@@ -150,10 +150,6 @@ counted jobs h r bi bh g f lawful some short less part =
           (task_at jobs.set h).period g bi bh less short
           (omega (arith, times.0)) all.1.total (omega (arith, all.1.late, all.1.apart))
     ]
-
-sum_below-only_if : (n : ℕ) (b : Bool) (f : ℕ → ℕ) → sum_below n (λ t. only_if b (f t)) ≡ only_if b (sum_below n f)
-sum_below-only_if n true f = refl
-sum_below-only_if n false f = sum_below-zero n (λ t. 0) (λ k l. refl)
 
 -- The ticks below e at which job y of task h interferes with job j.
 abbrev pub ticks_by : (Trace → ℕ → ℕ → Bool) → Trace → ℕ → ℕ → ℕ → ℕ → ℕ

@@ -20,12 +20,12 @@ use protocol_names::ProtocolName;
 use refusal_json::{ReadFault, read_refusal};
 use refusal_laws::Refusal;
 use reply_texts::{cert_reason, jobs_reason, reason, refusal_reason, rows_reason};
-use schedule_model::{JobList, RowList};
+use schedule_model::JobList;
 use set_digests::set_digest;
 use sporadic_model::TaskSet;
 use std::alloc::Global;
 use taskset_json::{SetRefusal, home_check, read};
-use trace_csv::{JobsRefusal, RowsRefusal, read_jobs, read_rows};
+use trace_csv::{JobsRefusal, RowText, RowsRefusal, read_jobs};
 
 /// An input that commands read.
 pub trait Reader {
@@ -106,6 +106,31 @@ pub fn get_tied_set<S: Shelf>(
     let set = reader.take(alloc, &bytes)?;
     let digest = set_digest(&bytes);
     Ok((set, digest))
+}
+
+/// The rows that the bytes are, or the reply that refuses them.
+fn rows_in<'a>(alloc: Global, jobs: &'a JobList<'a>, bytes: Vec<u8>) -> Result<RowText<'a>, Halt>
+    ensures { IsTaken (rows_input jobs.now) bytes.items result }
+{
+    match RowText::new(alloc, jobs, bytes) {
+        Ok(rows) => Ok(rows),
+        Err(RowsRefusal::Memory) => Err(Halt::Memory),
+        Err(cause) => Err(refusal(alloc, "rows", rows_reason(alloc, cause)?.as_str())),
+    }
+}
+
+/// The rows of these jobs of this name, as the text that they stand in.
+pub fn get_rows<'a, S: Shelf>(
+    alloc: Global,
+    shelf: &mut S,
+    jobs: &'a JobList<'a>,
+    name: &str,
+) -> Result<RowText<'a>, Halt>
+    ensures got { IsGot (shown (S.seen shelf.old) (S.seen shelf.new)) (rows_input jobs.now) name.now result }
+    ensures keeps { Keeps (S.seen shelf.old) (S.seen shelf.new) }
+{
+    let bytes = load_input(alloc, shelf, "rows", name)?;
+    rows_in(alloc, jobs, bytes)
 }
 
 /// The set that the bytes are, with the homes that the protocol asks for.
@@ -255,34 +280,6 @@ impl<'a> Reader for JobsOf<'a> {
             Ok(jobs) => Ok(jobs),
             Err(JobsRefusal::Memory) => Err(Halt::Memory),
             Err(cause) => Err(refusal(alloc, "jobs", jobs_reason(alloc, cause)?.as_str())),
-        }
-    }
-}
-
-/// Rows of the jobs.
-#[derive(Drop)]
-pub struct RowsOf<'a, 'b> {
-    pub jobs: &'a JobList<'b>,
-}
-
-impl<'a, 'b> Reader for RowsOf<'a, 'b> {
-    type Value = RowList;
-
-    ghost input = { λ r. rows_input r.jobs.now };
-
-    ghost value = { λ r rows. rows };
-
-    ghost holds = { λ r rows. Unit {0} };
-
-    fn word(&self) -> &'static str {
-        "rows"
-    }
-
-    fn take(&self, alloc: Global, bytes: &[u8]) -> Result<RowList, Halt> {
-        match read_rows(alloc, self.jobs, bytes) {
-            Ok(rows) => Ok(rows),
-            Err(RowsRefusal::Memory) => Err(Halt::Memory),
-            Err(cause) => Err(refusal(alloc, "rows", rows_reason(alloc, cause)?.as_str())),
         }
     }
 }

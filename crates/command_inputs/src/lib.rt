@@ -7,6 +7,6 @@ mod status;
 
 pub use halt::{Halt, Reply, fault, refusal, settled};
 pub use input::{
-    CertFor, JobsOf, OldCertFor, Reader, RefusalFor, RowsOf, SetFor, get, get_tied_set,
+    CertFor, JobsOf, OldCertFor, Reader, RefusalFor, SetFor, get, get_rows, get_tied_set,
 };
 pub use status::Status;

@@ -1,5 +1,5 @@
--- The lists of columns and rows are a program, each column is covered, and no limit falls where bounds rise.
-use Rattle.std.proofs.Common.{ℕ, ◌+◌, ◌*◌, ◌<◌, ◌≤◌, ◌++◌, ◌==◌, ◌&&◌, not, List, length, arith}
+-- The lists of columns and rows are a program, each column is covered, and no limit falls where bounds rise or as many jobs can run.
+use Rattle.std.proofs.Common.{◌≡◌, ℕ, ◌+◌, ◌*◌, ◌<◌, ◌≤◌, ◌++◌, ◌==◌, ◌&&◌, not, List, length, arith}
 use Rattle.std.specs.List.{All}
 use Rattle.std.proofs.Math.Nat.{mul-le-mul_right}
 use Rattle.std.proofs.lemmas.List.{length-append}
@@ -17,13 +17,13 @@ use Rattle.fragments.specs.Constraints.{ConstraintDef, per_pair}
 use Rattle.fragments.proofs.KnownColumns.{passing_known}
 use Rattle.direct_constraints.specs.Rows.{common_rows, turn_row}
 use Rattle.preempt_constraints.specs.Rows.{preemption_rows, interval_row}
-use Rattle.program_laws.specs.Written.{IsSmallRow, Rises}
+use Rattle.program_laws.specs.Written.{IsSmallRow, Rises, HasJobsAtMost, KeepsJobs}
 use Rattle.program_laws.proofs.RowKinds.{all_per_pair}
-use Rattle.program_laws.proofs.RisingLimits.{common_rises, preemption_rises}
+use Rattle.program_laws.proofs.RisingLimits.{jobs_rise, jobs_stay, common_rises, preemption_rises}
 use Rattle.program_laws.proofs.SmallNumbers.{common_small, preemption_small, turn_row_small, home_small, small_flags}
 use Rattle.program_laws.proofs.CoveredColumns.{covered_by, request_row_among}
 use Rattle.program_laws.proofs.ListLengths.{Few, few, common_few, where_at_most, pair_at_most}
-use Rattle.program_laws.proofs.GivenPrograms.{limits_at_most, is_program, written_where}
+use Rattle.program_laws.proofs.GivenPrograms.{limits_at_most, limits_stay, is_program, written_where}
 use Rattle.dflp_laws.specs.Programs.{is_dflp_column, home_queue_row, dflp_columns, dflp_rows, dflp_program}
 
 abbrev turns : SetDef → ℕ → List ConstraintDef
@@ -44,11 +44,20 @@ each_row P set i common preemption turn queue =
     (all_per_pair P (length set.tasks) (length set.resources) (turn_row set i) turn)
     (all_per_pair P (length set.tasks) set.processors (λ x k. home_queue_row set i x (k + 1)) queue)))
 
+rows_rise : (set : SetDef) (i : ℕ) (r s : List ℕ) → HasJobsAtMost set i r s → All (Rises r s) (dflp_rows set i)
+rows_rise set i r s h = each_row (Rises r s) set i (common_rises set i r s h) (preemption_rises set i r s)
+    (λ x q a b. omega arith) (λ x k a b. omega arith)
+
 pub dflp_rises : (set : SetDef) (i : ℕ) (r s : List ℕ) → i < length set.tasks → AtMost (length set.tasks) r s
     → HasLimitsAtMost (dflp_program set i r) (dflp_program set i s)
-dflp_rises set i r s here h = limits_at_most set (dflp_columns set i) (dflp_rows set i) r s
-    (each_row (Rises r s) set i (common_rises set i r s here h) (preemption_rises set i r s)
-    (λ x q a b. omega arith) (λ x k a b. omega arith))
+dflp_rises set i r s here h =
+    limits_at_most set (dflp_columns set i) (dflp_rows set i) r s (rows_rise set i r s (jobs_rise set r s i here h))
+
+pub dflp_follows : (set : SetDef) (i : ℕ) (r s : List ℕ) → KeepsJobs set i r s
+    → (dflp_program set i r).limits ≡ (dflp_program set i s).limits
+dflp_follows set i r s same =
+    let both = jobs_stay set r s i same in
+    limits_stay set (dflp_columns set i) (dflp_rows set i) r s (rows_rise set i r s both.0) (rows_rise set i s r both.1)
 
 queue_small : (set : SetDef) (i x k : ℕ) (r : List ℕ) → IsAccepted set → i < length set.tasks → IsSmallRow r (home_queue_row set i x k)
 queue_small set i x k r accepted here =

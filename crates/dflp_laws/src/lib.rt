@@ -21,6 +21,7 @@ ghost use Rattle.schedule_model.specs.BlockedTicks.{is_dpcp_interference, is_blo
 ghost use Rattle.schedule_laws.specs.Steady.{StaysLawful};
 ghost use Rattle.program_sources.specs.Bounds.{AtMost, AreWithinDeadlines};
 ghost use Rattle.program_sources.specs.Valid.{IsValid};
+ghost use Rattle.program_laws.specs.Written.{KeepsJobs};
 ghost use Rattle.charge_model.specs.Charges.{dpcp_charge};
 ghost use Rattle.charge_model.specs.ChargedTicks.{IsCharged};
 ghost use Rattle.charge_model.specs.Windows.{bound_end, EndedWithin};
@@ -72,6 +73,12 @@ pub fn programs_are_accepted()
 pub fn limits_rise_with_bounds()
     ensures { (set : SetDef) (i : ℕ) (r s : List ℕ) → i < length set.tasks → AtMost (length set.tasks) r s
         → HasLimitsAtMost (dflp_program set i r) (dflp_program set i s) }
+{}
+
+/// And they depend on the bounds only by how many jobs of each task can run within the bound of a job of the analysed one.
+pub fn limits_follow_jobs()
+    ensures { (set : SetDef) (i : ℕ) (r s : List ℕ) → KeepsJobs set i r s
+        → (dflp_program set i r).limits ≡ (dflp_program set i s).limits }
 {}
 
 /// The programs of two tasks that share a resource, whose home is the second's processor. The first can wait for one request of the

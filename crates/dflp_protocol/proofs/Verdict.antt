@@ -8,8 +8,8 @@ use Rattle.schedule_model.specs.Keeping.{KeepsRow, Breaks}
 use Rattle.phase_machine.specs.MachineDef.{MachineDef, under}
 use Rattle.phase_machine.specs.Shows.{Shows}
 use Rattle.phase_machine.specs.Taking.{IsRowFor}
+use Rattle.phase_machine.proofs.Stretches.{place_within}
 use Rattle.shared_rules.specs.RowTests.{passes_keep, passes_grant}
-use Rattle.shared_rules.proofs.RunTest.{some_within}
 use Rattle.shared_rules.proofs.HolderTests.{keep_is, keep_from, grant_is, grant_from}
 use Rattle.shared_rules.proofs.Verdict.{Tests, all_kept, first_broken}
 use Rattle.fmlp_rules.specs.IssueOrder.{issue_now}
@@ -37,7 +37,7 @@ tests_say m rows shows fits = record {
   priority_from = priority_from issue_tick_of issue_now m rows issues_give shows;
 } where
   within : (q j : ℕ) → holder_in (rows m.tick) q ≡ Some j → q < length m.list.set.resources
-  within q j e = omega (arith, some_within (rows m.tick).holders q j e, fits.sized.resources)
+  within q j e = omega (arith, place_within (rows m.tick).holders q j e, fits.sized.resources)
 
 pub judged_none : (m : MachineDef) (rows : ℕ → RowDef) (row : RowDef) → Shows m rows → IsRowFor m.list row → rows m.tick ≡ row
     → first_failed m row ≡ None → KeepsRow dflp_rule (under m rows) m.tick

@@ -1,12 +1,11 @@
 //! The protocol's programs: so its sets are analysed, and its certificates are checked.
 
-ghost use Rattle.std.specs.Prelude.{◌≡◌, ◌<◌, ◌==◌, ◌&&◌, not, map, length, IfOk, OnOk};
+ghost use Rattle.std.specs.Prelude.{◌≡◌, ◌<◌, map, length, IfOk, OnOk};
 ghost use Rattle.program_form.specs.RowBlock.{block_seen};
-ghost use Rattle.sporadic_model.specs.Users.{is_user};
-ghost use Rattle.sporadic_model.specs.Homes.{EachHasHome, home_in};
+ghost use Rattle.sporadic_model.specs.Homes.{EachHasHome};
 ghost use Rattle.program_sources.specs.Bounds.{AreWithinDeadlines};
 ghost use Rattle.fragments.specs.ColumnDef.{column_seen, AreKnown};
-ghost use Rattle.fragments.specs.Columns.{requests_beside, blocks_at_home};
+ghost use Rattle.fragments.specs.Asked.{AreAskedBeside};
 ghost use Rattle.fragments.specs.Constraints.{block_of};
 ghost use Rattle.fragments.specs.Stretches.{AreInOrder};
 ghost use Rattle.dflp_laws.specs.Programs.{is_dflp_column, dflp_rows, dflp_program, dflp_source};
@@ -16,54 +15,23 @@ use crate::Dflp;
 use crate::queues::add_queues;
 use direct_constraints::{add_common, add_turn_rows};
 use fragments::{
-    Class, ColumnTest, Fragment, RowLimits, RowTaker, fragments_where, home,
+    ColumnTest, Fragment, RowLimits, RowTaker, asked_beside, blocks_at_home, fragments_where,
     passing_stand_in_order, uses,
 };
 use preempt_constraints::add_interval_rows;
 use program_form::{Program, RowBlock};
 use program_sources::ProgramSource;
-use protocol_programs::{interference, program_over};
-use sporadic_model::{Protocol, ResourceId, TaskId, TaskSet};
+use protocol_programs::{interference, keeps_jobs, program_over};
+use sporadic_model::{Protocol, TaskId, TaskSet};
 use std::alloc::{AllocError, Global};
 
-/// Is the resource `r` another one than `q`, of the same home, that `i` requests?
-fn is_beside(set: &TaskSet, i: TaskId, q: ResourceId, r: ResourceId) -> bool
-    requires task { i.0 < length set.now.tasks }
-    requires resource { q.0 < length set.now.resources }
-    requires other { r.0 < length set.now.resources }
-    ensures { result ≡ (not (r.0 == q.0) && (is_user set.now r.0 i.0 && (home_in set.now r.0 == home_in set.now q.0))) }
-{
-    r != q && uses(set, i, r) && home(set, r) == home(set, q)
+/// The test of a task's columns, which has by resource whether the task requests another one of its home.
+#[derive(Drop)]
+struct DflpColumns {
+    beside: Vec<bool>,
 }
 
-/// Does `i` request another resource of the resource's home?
-fn asks_beside(set: &TaskSet, i: TaskId, q: ResourceId) -> bool
-    requires task { i.0 < length set.now.tasks }
-    requires resource { q.0 < length set.now.resources }
-    ensures { result ≡ requests_beside set.now i.0 q.0 }
-{
-    for r in 0..set.resources() {
-        if is_beside(set, i, q, ResourceId(r)) {
-            return true;
-        }
-    }
-    false
-}
-
-/// May requests of the column's resource block `i` in its way?
-fn may_block(set: &TaskSet, i: TaskId, column: Fragment) -> bool
-    requires task { i.0 < length set.now.tasks }
-    requires resource { column.resource.0 < length set.now.resources }
-    ensures { result ≡ blocks_at_home set.now i.0 column.resource.0 column.class }
-{
-    match column.class {
-        Class::Direct => uses(set, i, column.resource),
-        Class::Indirect => asks_beside(set, i, column.resource),
-        Class::Preemption => home(set, column.resource) == set.processor(i),
-    }
-}
-
-impl ColumnTest for Dflp {
+impl ColumnTest for DflpColumns {
     ghost use Rattle.fragments.specs.Requested.{columns_are_requests};
     ghost use Rattle.fragments.specs.Columns.{blocks_at_home};
 
@@ -71,10 +39,12 @@ impl ColumnTest for Dflp {
 
     ghost requests = { λ k set i. columns_are_requests (λ x. blocks_at_home set i) set i };
 
-    ghost fits = { λ k set i x. Unit {0} };
+    ghost fits = { λ k set i x. AreAskedBeside set i k.beside.items };
 
     fn test(&self, set: &TaskSet, i: TaskId, column: Fragment) -> bool {
-        column.task != i && uses(set, column.task, column.resource) && may_block(set, i, column)
+        column.task != i
+            && uses(set, column.task, column.resource)
+            && blocks_at_home(set, i, column, &self.beside)
     }
 }
 
@@ -130,8 +100,11 @@ fn program(alloc: Global, set: &TaskSet, i: TaskId, bounds: &[u64]) -> Result<Pr
 {
     // every set is lawful, so its columns and rows make a program
     let _tasks = set.tasks();
-    let columns = fragments_where(alloc, &Dflp, set, i)?;
-    passing_stand_in_order(set, &Dflp, i, &columns);
+    let test = DflpColumns {
+        beside: asked_beside(alloc, set, i)?,
+    };
+    let columns = fragments_where(alloc, &test, set, i)?;
+    passing_stand_in_order(set, &test, i, &columns);
     let block = rows(alloc, set, i, bounds, &columns)?;
     program_over(alloc, set, &columns, block)
 }
@@ -142,8 +115,11 @@ fn limits(alloc: Global, set: &TaskSet, i: TaskId, bounds: &[u64]) -> Result<Vec
     requires within { AreWithinDeadlines set.now bounds.now }
     ensures { IfOk result (λ v. v.items ≡ (dflp_program set.now i.0 bounds.now).limits) }
 {
-    let columns = fragments_where(alloc, &Dflp, set, i)?;
-    passing_stand_in_order(set, &Dflp, i, &columns);
+    let test = DflpColumns {
+        beside: asked_beside(alloc, set, i)?,
+    };
+    let columns = fragments_where(alloc, &test, set, i)?;
+    passing_stand_in_order(set, &test, i, &columns);
     let mut taken = RowLimits {
         limits: Vec::new(alloc),
     };
@@ -184,6 +160,10 @@ impl ProgramSource for Dflp {
         bounds: &[u64],
     ) -> Result<Vec<u64>, AllocError> {
         limits(alloc, set, i, bounds)
+    }
+
+    fn keeps_limits(&self, set: &TaskSet, i: TaskId, earlier: &[u64], bounds: &[u64]) -> bool {
+        keeps_jobs(set, i, earlier, bounds)
     }
 
     /// A job interferes as under DPCP, for its local limit.

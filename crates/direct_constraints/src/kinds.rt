@@ -53,6 +53,8 @@ pub(crate) struct Times;
 impl TaskRow for Times {
     ghost row_of = { λ k. time_row };
 
+    ghost fits = { λ k set i bounds. Unit {0} };
+
     ghost alone = { λ k set i x c other. ap (λ b. only_if b (length_of set x c.resource)) other };
 
     fn coefficient(&self, set: &TaskSet, _i: TaskId, x: TaskId, column: Fragment) -> u64 {
@@ -109,7 +111,7 @@ impl RowKind for LowerHolderRow {
     ghost fits = { λ k set. k.resource.0 < length set.resources };
 
     fn coefficient(&self, _set: &TaskSet, i: TaskId, column: Fragment) -> u64 {
-        if column.resource.0 == self.resource.0 && column.class.is_direct() && i.0 < column.task.0 {
+        if column.resource == self.resource && column.class.is_direct() && i < column.task {
             1
         } else {
             0

@@ -5,6 +5,7 @@ use Rattle.std.specs.Option.{option_map_or}
 use Rattle.std.proofs.Math.Bool.{and_assoc}
 use Rattle.std.proofs.lemmas.Bool.{cases_Bool, and_parts, and_from, and_left, both_ways, false_from_ne_true, not-true}
 use Rattle.std.proofs.lemmas.Bool.{eq-eqb, eqb-true, le-leb, leb-true}
+use Rattle.std.proofs.lemmas.Option.{same_Some}
 use Rattle.bounded_sums.specs.Tests.{all_below, any_below}
 use Rattle.bounded_sums.proofs.TestLaws.{all_below-each, any_below-from, any_below-some, any_below-none, any_below-none_from}
 use Rattle.sporadic_model.specs.Users.{is_user}
@@ -22,6 +23,7 @@ use Rattle.schedule_model.specs.DpcpRules.{RunsFirstHolder, KeepsPriority}
 use Rattle.schedule_model.specs.Ranks.{by_task}
 use Rattle.schedule_model.specs.Protocols.{dpcp_rule}
 use Rattle.schedule_model.specs.Chosen.{IsSized, IsDpcpChoice}
+use Rattle.schedule_model.proofs.RuleTests.{or_other}
 use Rattle.schedule_laws.proofs.ActiveJobs.{active_listed, one_active, Requester, requester_is, requester_from}
 use Rattle.schedule_laws.proofs.ActiveJobs.{ActiveLocal, active_local_is}
 use Rattle.schedule_laws.proofs.Rows.{job_named, named_job}
@@ -37,7 +39,6 @@ use Rattle.phase_machine.specs.Now.{is_local_now, holds_now}
 use Rattle.shared_choosing.specs.Scene.{stays, resource_in}
 use Rattle.shared_choosing.specs.Filling.{Takes}
 use Rattle.shared_rules.proofs.Currents.{task_below}
-use Rattle.shared_rules.proofs.HolderTests.{right_of}
 use Rattle.dpcp_rules.specs.Homes.{column_now, entry_at}
 use Rattle.dpcp_rules.specs.RowTests.{is_due}
 use Rattle.dpcp_rules.specs.Choosing.{grant_claim, holder_claim, local_claim, AreHolders, IsRunning}
@@ -179,7 +180,7 @@ granted_leads m rows k j i h a waits =
     (λ i. not (waits_at (under m rows) m.tick k i) || leb (task_of (under m rows) j) (task_of (under m rows) i))
     ≡ true = (and_parts _ _ (and_parts _ _ h).0).1 in
     leb-true (task_of (under m rows) j) (task_of (under m rows) i)
-    (right_of (not (waits_at (under m rows) m.tick k i)) (leb (task_of (under m rows) j) (task_of (under m rows) i))
+    (or_other (not (waits_at (under m rows) m.tick k i)) (leb (task_of (under m rows) j) (task_of (under m rows) i))
     (all_below-each (length m.list.jobs)
     (λ i. not (waits_at (under m rows) m.tick k i) || leb (task_of (under m rows) j) (task_of (under m rows) i)) each i
     (active_listed (under m rows) m.tick i a)) (ap not waits))
@@ -253,9 +254,6 @@ claim_of_holds m rows k h shows holds =
     (requester_from (under m rows) m.tick at.request.resource h at.request.number at.request.active at.request.phase)
     at.holds at.request.home
 
-pub some_same : (a b : ℕ) → Some a ≡ Some b → a ≡ b
-some_same a b h = cc
-
 pub holds_of_claim : (m : MachineDef) (rows : ℕ → RowDef) (k h : ℕ) → Shows m rows
     → is_active (under m rows) m.tick h ≡ true → holder_claim m (holder_in (rows m.tick)) h ≡ Some k
     → holds_at (under m rows) m.tick k h ≡ true
@@ -270,7 +268,7 @@ holds_of_claim m rows k h shows a claim = go (phase_of (under m rows) m.tick h) 
   go Finished e = absurd (unfinished (under m rows) m.tick h a e)
   go (Asking n q) e =
       holds_at_from (under m rows) m.tick k h n q a e
-      (sym (column_is m rows h (Asking n q) shows a e) ∙ some_same (column_now m h) k parts.1)
+      (sym (column_is m rows h (Asking n q) shows a e) ∙ same_Some (column_now m h) k parts.1)
       (job_named h (holder_in (rows m.tick) q)
       (sym (ap (holds_by (holder_in (rows m.tick)) h) (phase_is m rows h (Asking n q) shows a e)) ∙ parts.0))
 
@@ -489,7 +487,7 @@ made_run m rows first bars made = record {
       let at : HolderAt (under m rows) m.tick k j = holds k j holder in
       let x : Local ≡ Asking at.request.number at.request.resource = sym e ∙ at.request.phase in absurd (cc)
   local k j Local (inr taken) l e =
-      sym (some_same (column_now m j) k (local_parts k j taken).1)
+      sym (same_Some (column_now m j) k (local_parts k j taken).1)
       ∙ column_is m rows j Local shows (active_true m rows j shows taken.active) e
 
   request : (k j q : ℕ) (p : Phase) → Takes m (holder_claim m (holder_in (rows m.tick))) (length m.list.set.tasks) k j

@@ -18,6 +18,7 @@ use Rattle.schedule_model.specs.Phase.Phase.{Local, Asking, Finished}
 use Rattle.schedule_model.specs.Activity.{task_of, is_active, is_requester, holds_by}
 use Rattle.schedule_model.specs.DpcpRules.{home_of, ceiling_rank, is_at, has_request_at, is_kept, waits_at}
 use Rattle.schedule_model.specs.DpcpRules.{is_first_waiting, is_barred, is_granted}
+use Rattle.schedule_model.proofs.RuleTests.{or_other}
 use Rattle.schedule_laws.proofs.ActiveJobs.{active_listed}
 use Rattle.schedule_laws.proofs.DpcpStretches.{RequestAt, request_at_is}
 use Rattle.phase_machine.specs.MachineDef.{MachineDef, task_in, under}
@@ -26,7 +27,6 @@ use Rattle.phase_machine.specs.Shows.{Shows}
 use Rattle.phase_machine.proofs.Lawful.{task_listed}
 use Rattle.phase_machine.proofs.Facts.{phase_shown, current_shown, current_from, requester_shown, waiting_shown}
 use Rattle.shared_choosing.specs.Scene.{stays}
-use Rattle.shared_rules.proofs.HolderTests.{right_of}
 use Rattle.phase_machine.proofs.Facts.{same_bool}
 use Rattle.dpcp_rules.specs.Homes.{home_now, ceiling_now, column_in, column_now, waiting_place, kept_place, entry_at, IsLeast}
 use Rattle.dpcp_rules.specs.RowTests.{is_due}
@@ -245,7 +245,7 @@ first_shown m rows first k j shows least l h waits =
             (active_listed (under m rows) m.tick w.job w.active) in
             let le : task_in m.list.jobs j ≤ task_in m.list.jobs w.job =
             leb-true (task_in m.list.jobs j) (task_in m.list.jobs w.job)
-            (right_of (not (waits_at (under m rows) m.tick k w.job))
+            (or_other (not (waits_at (under m rows) m.tick k w.job))
             (leb (task_in m.list.jobs j) (task_in m.list.jobs w.job)) o (ap not w.waits)) in
             omega (arith, le, w.own, some.1, high)
 

@@ -10,6 +10,7 @@ use Rattle.schedule_model.specs.RowDef.{RowDef, is_job, holder_in, held_before}
 use Rattle.schedule_model.specs.Phase.Phase.{Asking}
 use Rattle.schedule_model.specs.Activity.{is_active, is_requester, holds_by}
 use Rattle.schedule_model.specs.DpcpRules.{home_of, waits_at, is_first_waiting, is_granted, KeepsGrant}
+use Rattle.schedule_model.proofs.RuleTests.{or_other}
 use Rattle.schedule_laws.proofs.ActiveJobs.{Requester, requester_is, requester_listed}
 use Rattle.schedule_laws.proofs.Rows.{job_named, named_job}
 use Rattle.phase_machine.specs.MachineDef.{MachineDef, under}
@@ -19,7 +20,6 @@ use Rattle.phase_machine.proofs.Facts.{requester_shown}
 use Rattle.phase_machine.specs.Now.{holds_now}
 use Rattle.shared_rules.specs.RowTests.{each_current, holder_passes}
 use Rattle.shared_rules.proofs.Currents.{each_is, each_from}
-use Rattle.shared_rules.proofs.HolderTests.{right_of}
 use Rattle.dpcp_rules.specs.Homes.{ceiling_now, waiting_place, kept_place, IsLeast}
 use Rattle.dpcp_rules.specs.RowTests.{is_due, request_passes, passes_grant}
 use Rattle.dpcp_rules.proofs.Shown.{phase_is, column_is}
@@ -94,7 +94,7 @@ grant_is m rows first bars noted within h = record {
       → cond (is_due m first bars j) (holds_now m (holder_in (rows m.tick)) j) (not (holds_now m (holder_in (rows m.tick)) j)) ≡ true
   test q j asks w =
       let r : Requester (under m rows) m.tick q j = requester_is (under m rows) m.tick q j asks in
-      right_of (not (waiting_now m j)) (cond (is_due m first bars j) (holds_now m (holder_in (rows m.tick)) j)
+      or_other (not (waiting_now m j)) (cond (is_due m first bars j) (holds_now m (holder_in (rows m.tick)) j)
       (not (holds_now m (holder_in (rows m.tick)) j)))
       (each_is m rows (request_passes m first bars (rows m.tick)) j noted.shows parts.1 r.active) (ap not w)
 

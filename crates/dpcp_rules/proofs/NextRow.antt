@@ -4,6 +4,7 @@ use Rattle.std.proofs.Common.{Option, Some, None, subst, add-one, min, replicate
 use Rattle.std.proofs.Math.ListN.{set}
 use Rattle.std.proofs.lemmas.Bool.{cases_lt}
 use Rattle.std.proofs.lemmas.List.{get_or-set_same, get_or-set_other, length-set, length-replicate}
+use Rattle.std.proofs.lemmas.Option.{same_Some}
 use Rattle.sporadic_model.specs.Homes.{EachHasHome}
 use Rattle.sporadic_model.specs.Accepted.{IsAccepted}
 use Rattle.schedule_model.specs.LawfulJobs.{AreLawfulJobs}
@@ -36,7 +37,7 @@ use Rattle.dpcp_rules.specs.NextRow.{HasChoice}
 use Rattle.dpcp_rules.proofs.Shown.{column_within}
 use Rattle.dpcp_rules.proofs.Least.{least_first, least_next, least_skip}
 use Rattle.shared_choosing.proofs.Filling.{filled_at, all_filled, filled_same, running_read}
-use Rattle.dpcp_rules.proofs.Chosen.{stays_is, cond_some, some_same, Due, due_of}
+use Rattle.dpcp_rules.proofs.Chosen.{stays_is, cond_some, Due, due_of}
 use Rattle.dpcp_rules.proofs.Written.{choice_made}
 
 -- Each table can be made.
@@ -93,7 +94,7 @@ processor_within m rows held running k j shows accepted homes p e = elim (p.loca
   there a f =
       let w : (1 ≤ column_now m j) × (column_now m j ≤ m.list.set.processors) =
       column_within m rows j shows accepted homes (active_true m rows j shows a) in
-      let same : column_now m j ≡ k = some_same (column_now m j) k f in
+      let same : column_now m j ≡ k = same_Some (column_now m j) k f in
       (omega (arith, w.0, same), omega (arith, w.1, same))
 
 -- The row that a machine's value leads to.

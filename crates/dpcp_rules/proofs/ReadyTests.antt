@@ -11,6 +11,7 @@ use Rattle.schedule_model.specs.Phase.Phase.{Local, Asking, Finished}
 use Rattle.schedule_model.specs.Activity.{task_of, processor_of, is_active, is_requester, is_active_local, holds_by}
 use Rattle.schedule_model.specs.DpcpRules.{home_of, has_request_at, has_requests, holds_at, KeepsRun, KeepsIdle}
 use Rattle.schedule_model.specs.DpcpRules.{RunsFirstHolder, KeepsPriority}
+use Rattle.schedule_model.proofs.RuleTests.{or_other}
 use Rattle.schedule_laws.proofs.ActiveJobs.{active_listed, requester_from, ActiveLocal, active_local_is, active_local_from}
 use Rattle.schedule_laws.proofs.Rows.{job_named, named_job}
 use Rattle.schedule_laws.proofs.RuleUses.{request_among}
@@ -19,7 +20,6 @@ use Rattle.phase_machine.specs.MachineDef.{MachineDef, task_in, under}
 use Rattle.phase_machine.specs.Shows.{Shows}
 use Rattle.phase_machine.specs.Now.{is_local_now, holds_now}
 use Rattle.shared_rules.proofs.Currents.{each_is, each_from}
-use Rattle.shared_rules.proofs.HolderTests.{right_of}
 use Rattle.dpcp_rules.specs.Homes.{column_now}
 use Rattle.dpcp_rules.specs.RowTests.{idle_passes, passes_idle, is_no_later, goes_first, priority_passes, passes_priority}
 use Rattle.dpcp_rules.proofs.Shown.{request_at_from, HolderAt, holds_at_is, holds_at_from}
@@ -175,7 +175,7 @@ priority_is rank number m rows gives shows run h = record {
       (not (holds_now m (holder_in (rows m.tick)) i) || is_no_later (number m) r i) (against k i r holder.request e) in
       let le : number m r ≤ number m i =
       leb-true (number m r) (number m i)
-      (right_of (not (holds_now m (holder_in (rows m.tick)) i)) (is_no_later (number m) r i) p.1
+      (or_other (not (holds_now m (holder_in (rows m.tick)) i)) (is_no_later (number m) r i) p.1
       (ap not (holds_of m rows k i shows holder))) in
       let runner : HolderAt (under m rows) m.tick k r = holds k i r holder.request e in
       omega (
@@ -222,7 +222,7 @@ priority_is rank number m rows gives shows run h = record {
       (holds_now m (holder_in (rows m.tick)) r && (not (holds_now m (holder_in (rows m.tick)) i) || is_no_later (number m) r i))
       (at k i (Some r) l.active (column_of_local m rows k i shows l own) e) (local_now m rows i Local shows l.active l.phase) in
       leb-true (task_in m.list.jobs r) (task_in m.list.jobs i)
-      (right_of (not (is_local_now m r)) (is_no_later (task_in m.list.jobs) r i) p
+      (or_other (not (is_local_now m r)) (is_no_later (task_in m.list.jobs) r i) p
       (ap not (local_runner k r (phase_of (under m rows) m.tick r) e none refl)))
 
 pub priority_from : (rank : Trace → ℕ → ℕ → ℕ) (number : MachineDef → ℕ → ℕ) (m : MachineDef) (rows : ℕ → RowDef) → Gives rank number

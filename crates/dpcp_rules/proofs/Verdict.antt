@@ -7,8 +7,8 @@ use Rattle.schedule_model.specs.Protocols.{dpcp_rule}
 use Rattle.schedule_model.specs.Keeping.{KeepsRow, Breaks}
 use Rattle.phase_machine.specs.MachineDef.{MachineDef, under}
 use Rattle.phase_machine.specs.Taking.{IsRowFor}
+use Rattle.phase_machine.proofs.Stretches.{place_within}
 use Rattle.shared_rules.specs.RowTests.{passes_keep}
-use Rattle.shared_rules.proofs.RunTest.{some_within}
 use Rattle.shared_rules.proofs.HolderTests.{keep_is, keep_from}
 use Rattle.shared_rules.proofs.Verdict.{Tests, all_kept, first_broken}
 use Rattle.dpcp_rules.specs.TaskOrder.{task_now, tasks_give}
@@ -33,7 +33,7 @@ tests_say m rows first bars noted fits = record {
   priority_from = priority_from by_task task_now m rows tasks_give.run noted.shows;
 } where
   within : (q j : ℕ) → holder_in (rows m.tick) q ≡ Some j → q < length m.list.set.resources
-  within q j e = omega (arith, some_within (rows m.tick).holders q j e, fits.sized.resources)
+  within q j e = omega (arith, place_within (rows m.tick).holders q j e, fits.sized.resources)
 
 pub judged_none : (m : MachineDef) (rows : ℕ → RowDef) (row : RowDef) (first bars : List ℕ) → Noted m rows first bars
     → IsRowFor m.list row → rows m.tick ≡ row

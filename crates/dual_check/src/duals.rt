@@ -17,7 +17,7 @@ use sporadic_model::{TaskId, TaskSet};
 use std::alloc::Global;
 
 /// What a dual is worth for its program.
-#[derive(Clone, Copy, Debug)]
+#[derive(Clone, Copy)]
 pub(crate) enum DualWorth {
     /// This is the first column that it does not hold.
     Uncovered(u32),

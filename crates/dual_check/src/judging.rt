@@ -48,10 +48,11 @@ fn first_late(set: &TaskSet, bounds: &[u64]) -> Option<TaskId>
 
 /// The value of a dual that holds all columns.
 fn value_of(worth: DualWorth) -> u64
+    requires { IsCovering worth }
     ensures { result ≡ counted worth }
 {
     match worth {
-        DualWorth::Uncovered(_) => 0,
+        DualWorth::Uncovered(_) => unreachable!(),
         DualWorth::Covering(value) => value,
     }
 }

@@ -9,7 +9,8 @@ use Rattle.program_form.specs.Program.{ProgramDef, height}
 use Rattle.exchange_runs.specs.Table.{variables}
 use Rattle.exchange_runs.proofs.Signs.{weaker, turned}
 use Rattle.exchange_runs.proofs.Invariants.{exchanged-here, exchanged-away}
-use Rattle.exchange_ends.proofs.States.{State, IsGood, Enters, Leaves, IsStep, IsBasic, objective_read, basic_zero, not_zero, apart}
+use Rattle.fraction128.proofs.Unique.{apart_of_positive}
+use Rattle.exchange_ends.proofs.States.{State, IsGood, Enters, Leaves, IsStep, IsBasic, objective_read, basic_zero, apart, above_same}
 
 -- Is row i firm: is its basic variable past t, or its limit above zero?
 abbrev pub IsFirm : ProgramDef → ℕ → State → ℕ → Type 0
@@ -54,7 +55,7 @@ no_return p s g e r t hs hg enters leaves is_t returns e_to firm =
 
     e_below : e < t
     e_below = elim (cases_eq e t) [
-      | inl same ↦ absurd (not_zero _ enters.above
+      | inl same ↦ absurd (apart_of_positive _ enters.above
           (basic_zero p s e hs (record { of_row = r; within = leaves.within; is = is_t ∙ sym same })))
       | inr away ↦ omega arith
     ]
@@ -103,9 +104,6 @@ limit_after q x b y h = rw h (less_none q x b)
         drop : (a c b : ℤ) → a ≡ c → a -ℤ (b *ℤ pos 0) ≡ c
         drop a c b e = omega (arith, ints)
 
-above_by : (x y : ℤ) → x ≡ y → pos 0 <ℤ y → pos 0 <ℤ x
-above_by x y e h = omega (arith, ints)
-
 zero_scaled : (d x : ℤ) → x ≡ pos 0 → d *ℤ x ≡ pos 0
 zero_scaled d x h = rw h (none d)
   where
@@ -125,13 +123,13 @@ pub firm_on : (p : ProgramDef) (t : ℕ) (s u : State) (e r i : ℕ) → IsStep 
 firm_on p t s u e r i step left flat l firm = elim (cases_eq i r) [
   | inl here ↦ absurd (elim firm [
     | inl past ↦ not_past (s.basic i) (s.basic r) (ap s.basic here) past left
-    | inr above ↦ not_zero _ above (ap (λ (k : ℕ). s.z k (variables p)) here ∙ flat)
+    | inr above ↦ apart_of_positive _ above (ap (λ (k : ℕ). s.z k (variables p)) here ∙ flat)
   ])
   | inr away ↦
       let same : u.basic i ≡ s.basic i = step.stayed i l away in (
         elim firm [
           | inl past ↦ inl (omega arith)
-          | inr above ↦ inr (above_by _ _ (limit_cell p s u e r i step flat away) (times_positive _ _ above step.leaves.pivot))
+          | inr above ↦ inr (above_same _ _ (limit_cell p s u e r i step flat away) (times_positive _ _ above step.leaves.pivot))
         ],
         same,
       )
@@ -146,7 +144,7 @@ pub firm_back : (p : ProgramDef) (t : ℕ) (s u : State) (e r i : ℕ) → IsSte
 firm_back p t s u e r i step entered flat l firm = elim (cases_eq i r) [
   | inl here ↦ absurd (elim firm [
     | inl past ↦ not_past (u.basic i) (ap u.basic here ∙ step.entered) past
-    | inr above ↦ not_zero _ above (ap (λ (k : ℕ). u.z k (variables p)) here
+    | inr above ↦ apart_of_positive _ above (ap (λ (k : ℕ). u.z k (variables p)) here
         ∙ (step.cells r (variables p) ∙ (exchanged-here r e s.d s.z (variables p) ∙ zero_scaled s.d _ flat)))
   ])
   | inr away ↦

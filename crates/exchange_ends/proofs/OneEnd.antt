@@ -8,7 +8,7 @@ use Rattle.exchange_runs.specs.Exchange.{IsLast}
 use Rattle.exchange_runs.proofs.Invariants.{exchanged, exchanged-here, exchanged-away}
 use Rattle.exchange_runs.proofs.Shown.{shows_at_most_zero}
 use Rattle.exchange_ends.specs.Unbounded.{FreelyReached}
-use Rattle.exchange_ends.proofs.States.{State, IsGood, Enters, Leaves, IsStep, apart}
+use Rattle.exchange_ends.proofs.States.{State, IsGood, Enters, Leaves, IsStep, apart, above_same}
 use Rattle.exchange_ends.proofs.FreeRuns.{FreeTrace, trace_of}
 
 -- Are the denominators, numbers and bases the same?
@@ -31,9 +31,6 @@ same_entering p s u e f same h k = elim (cases_lt e f) [
 
 at_most_same : (a b c k x y u v : ℤ) → a ≡ x → b ≡ y → c ≡ u → k ≡ v → (x *ℤ y) ≤ℤ (u *ℤ v) → (a *ℤ b) ≤ℤ (c *ℤ k)
 at_most_same a b c k x y u v e f g h l = rw (e, f, g, h) l
-
-above_same : (x y : ℤ) → x ≡ y → pos 0 <ℤ y → pos 0 <ℤ x
-above_same x y e h = omega (arith, ints)
 
 -- Of two rows that leave, each ratio is no greater than the other; so both have the least basic variable.
 same_leaving : (p : ProgramDef) (s u : State) (e r q : ℕ) → IsGood p s → IsSame p s u → Leaves p s e r → Leaves p u e q → r ≡ q

@@ -4,6 +4,7 @@ use Rattle.std.proofs.Common.{◌∙◌, sym, arith, if◌then◌else◌, nat_eq
 use Rattle.std.proofs.lemmas.Bool.{cases_eq, cases_lt, eq-eqb, ne_eqb}
 use Rattle.std.proofs.Math.Nat.{pow-succ'}
 use Rattle.bounded_sums.specs.Sums.{flag}
+use Rattle.bounded_sums.proofs.CountLaws.{flag-at_most}
 
 -- Are two of the numbers f 0 to f most the same?
 abbrev pub HasTwice : (ℕ → ℕ) → ℕ → Type 0
@@ -83,14 +84,10 @@ abbrev pub code : ℕ → (ℕ → Bool) → ℕ
 code zero f = 0
 code (suc n) f = flag (f 0) + 2 * code n (λ k. f (suc k))
 
-flag_at_most : (b : Bool) → flag b ≤ 1
-flag_at_most true = omega arith
-flag_at_most false = omega arith
-
 pub code_below : (n : ℕ) (f : ℕ → Bool) → code n f < 2 ^ n
 code_below zero f = omega arith
 code_below (suc n) f = rw (pow-succ' 2 n)
-    (more (flag (f 0)) (code n (λ k. f (suc k))) (2 ^ n) (flag_at_most (f 0)) (code_below n (λ k. f (suc k))))
+    (more (flag (f 0)) (code n (λ k. f (suc k))) (2 ^ n) (flag-at_most (f 0)) (code_below n (λ k. f (suc k))))
   where
     more : (a x y : ℕ) → a ≤ 1 → x < y → a + 2 * x < 2 * y
     more a x y h k = omega arith

@@ -12,6 +12,7 @@ use Rattle.exchange_runs.specs.Table.{variables}
 use Rattle.exchange_runs.proofs.Invariants.{IsMix, IsRead, exchanged}
 use Rattle.exchange_runs.proofs.Ends.{only_times}
 use Rattle.exchange_runs.proofs.FirstTable.{first_z}
+use Rattle.fraction128.proofs.Unique.{apart_of_positive}
 
 -- A denominator, the number of each row and place over it, and the basic variable of each row.
 pub record State : Type 0 where
@@ -140,17 +141,17 @@ objective_basic p s j h l =
 pub basic_zero : (p : ProgramDef) (s : State) (v : ℕ) → IsGood p s → IsBasic p v s → s.z (height p) v ≡ pos 0
 basic_zero p s v h b = subst (λ (u : ℕ). s.z (height p) u ≡ pos 0) b.is (objective_basic p s b.of_row h b.within)
 
-pub not_zero : (x : ℤ) → pos 0 <ℤ x → x ≡ pos 0 → ⊥
-not_zero x h e = omega (arith, ints)
+pub above_same : (x y : ℤ) → x ≡ y → pos 0 <ℤ y → pos 0 <ℤ x
+above_same x y e h = omega (arith, ints)
 
 -- What enters is not basic.
 pub entering_not_basic : (p : ProgramDef) (s : State) (e : ℕ) → IsGood p s → Enters p s e → IsBasic p e s → ⊥
-entering_not_basic p s e h enters b = not_zero _ enters.above (basic_zero p s e h b)
+entering_not_basic p s e h enters b = apart_of_positive _ enters.above (basic_zero p s e h b)
 
 -- No variable is basic in two rows.
 pub apart : (p : ProgramDef) (s : State) (i j : ℕ) → IsGood p s → i < height p → j < height p → s.basic i ≡ s.basic j → i ≡ j
 apart p s i j h li lj same = elim (cases_eq i j) [
   | inl one ↦ one
-  | inr two ↦ absurd (not_zero _ h.positive
+  | inr two ↦ absurd (apart_of_positive _ h.positive
       (sym (h.unit i i li li ∙ only_at-here i s.d) ∙ (ap (s.z i) same ∙ (h.unit i j li lj ∙ only_at-away j s.d i two))))
 ]

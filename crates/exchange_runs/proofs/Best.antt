@@ -11,6 +11,7 @@ use Rattle.bounded_sums.proofs.SumLaws.{sum_below-agree, sum_below-times_right}
 use Rattle.bounded_sums.proofs.TotalLaws.{total_below-agree, total_below-of_sum, only_at-here, only_at-away}
 use Rattle.fraction128.specs.Fraction.{Fraction}
 use Rattle.fraction128.specs.Scaling.{IsScaled, fraction_at}
+use Rattle.fraction128.proofs.Unique.{size_positive}
 use Rattle.program_form.specs.Program.{ProgramDef, columns, height, cost, entry, limit}
 use Rattle.program_form.specs.Certificate.{DualDef}
 use Rattle.program_form.specs.Points.{IsScaledPoint, worth}
@@ -21,7 +22,7 @@ use Rattle.exchange_runs.specs.Table.{Table, variables, slack, objective}
 use Rattle.exchange_runs.specs.Exchange.{IsLast}
 use Rattle.exchange_runs.specs.Readings.{value_of, dual_at, IsValueOf, IsPrimal, IsWrittenDual}
 use Rattle.exchange_runs.specs.Feasible.{IsOptimumValue, IsPointWorth}
-use Rattle.exchange_runs.proofs.Signs.{weaker, turned}
+use Rattle.exchange_runs.proofs.Signs.{weaker, turned, same_natural}
 use Rattle.exchange_runs.proofs.Shown.{Shows, shows_minus, shows_at_most_zero, at_least_zero_shown}
 use Rattle.exchange_runs.proofs.Ends.{end_covers, end_value, end_row, end_objective, at_variable, at_variable-nonneg}
 use Rattle.exchange_runs.proofs.Ends.{at_variable-basic, at_variable-none}
@@ -31,14 +32,8 @@ use Rattle.exchange_runs.proofs.Shadows.{IsShadow}
 pub size_is : (x : ℤ) → pos 0 ≤ℤ x → pos (unsigned_abs x) ≡ x
 size_is x h = omega (arith, ints)
 
-same_natural : (a b : ℕ) → pos a ≡ pos b → a ≡ b
-same_natural a b h = omega (arith, ints)
-
 at_most_natural : (a b : ℕ) → pos a ≤ℤ pos b → a ≤ b
 at_most_natural a b h = omega (arith, ints)
-
-above_natural : (x : ℤ) → pos 0 <ℤ x → 0 < unsigned_abs x
-above_natural x h = omega (arith, ints)
 
 -- A total of products of naturals.
 total_of_products : (n : ℕ) (x y : ℕ → ℤ) (a b : ℕ → ℕ) → ((k : ℕ) → k < n → x k ≡ pos (a k)) → ((k : ℕ) → k < n → y k ≡ pos (b k))
@@ -75,7 +70,7 @@ dual_size p t d z r h last l = sym (size_is _ (turned (none_above p t d z (slack
 -- The values of the columns are a point that meets every row. (This holds of every table of the run.)
 pub is_point : (p : ProgramDef) (t : Table) (d : ℤ) (z : ℕ → ℕ → ℤ) → IsShadow p t d z → IsScaledPoint p (scale_of d) (point_of p t z)
 is_point p t d z h = record {
-  positive = above_natural d h.positive;
+  positive = size_positive d h.positive;
   kept = λ r l.
       let rows = end_row (height p) (columns p) (variables p) d (first_z p r) z t.basic (h.reads r l) h.basics
       (λ v. not_negative _) h.limits in
@@ -104,7 +99,7 @@ worth_of p t d z h =
 -- The duals cover every column.
 pub covers_of : (p : ProgramDef) (t : Table) (d : ℤ) (z : ℕ → ℕ → ℤ) → IsShadow p t d z → IsLast p t → Covers p (scale_of d) (dual_num p z)
 covers_of p t d z h last = record {
-  positive = above_natural d h.positive;
+  positive = size_positive d h.positive;
   covered = λ c l.
       let cover = end_covers (height p) (columns p) (first_z p) d (z (height p)) c h.mixes_objective
       (none_above p t d z c h last (omega arith)) in
@@ -200,7 +195,7 @@ optimum_value p t d z h last =
       not_below = above;
       positive = shown.positive;
       optimum = optimum_at p total (scale_of d) (unsigned_abs f.num) (unsigned_abs f.den)
-          (above_natural f.den shown.positive) (sym sizes) (optimum_of p t d z h last);
+          (size_positive f.den shown.positive) (sym sizes) (optimum_of p t d z h last);
     }
 
 -- No variable is basic in two rows.

@@ -1,16 +1,16 @@
 -- Every run goes on until it ends, is wide or needs more units.
 use Rattle.std.proofs.Common.{◌≡◌, ◌⊎◌, inl, inr, ℕ, zero, suc, ◌+◌, ◌*◌, ◌/◌, ◌^◌, ◌<◌, ◌≤◌, add-one, nat_eq}
-use Rattle.std.proofs.Common.{if◌then◌else◌, List, length, All, ℤ, pos, ◌≤ℤ◌, ◌<ℤ◌, unsigned_abs, refl, ap, ◌∙◌, sym}
+use Rattle.std.proofs.Common.{if◌then◌else◌, List, length, All, pos, ◌≤ℤ◌, ◌<ℤ◌, unsigned_abs, refl, ap, ◌∙◌, sym}
 use Rattle.std.proofs.Common.{subst, arith}
 use Rattle.std.specs.Int.{◌∣◌}
-use Rattle.std.proofs.lemmas.Int.{ints, by_lt_z}
+use Rattle.std.proofs.lemmas.Int.{by_lt_z}
 use Rattle.std.proofs.lemmas.Bool.{cases_lt, cases_eq, eq-eqb, ne_eqb}
 use Rattle.std.proofs.lemmas.List.Elements.{All-from_get_or}
 use Rattle.fraction128.specs.Fraction.{Fraction, IsForm, IsQuotient, whole}
 use Rattle.fraction128.specs.Gives.{HasNoForm}
 use Rattle.fraction128.specs.Scaling.{IsLeastCommon, IsScaled, fraction_at}
 use Rattle.fraction128.proofs.Forms.{form_of_negated, form_of_zero}
-use Rattle.fraction128.proofs.Unique.{one_quotient}
+use Rattle.fraction128.proofs.Unique.{one_quotient, apart_of_positive}
 use Rattle.fraction128.proofs.ScalingLemmas.{least_exists, scaled_over}
 use Rattle.program_form.specs.Program.{ProgramDef, IsProgram, columns, height}
 use Rattle.program_form.specs.Certificate.{DualDef}
@@ -26,9 +26,7 @@ use Rattle.exchange_runs.proofs.Once.{forms, one_less}
 use Rattle.exchange_runs.proofs.Leasts.{least_among}
 use Rattle.exchange_runs.proofs.Loops.{reached_next, less_at_zero, quotient_of_zero, value_none, value_here, value_more, duals_not_below}
 use Rattle.exchange_runs.proofs.Found.{quotient_found, less_found, all_or_some, listed}
-
-not_zero : (x : ℤ) → pos 0 <ℤ x → x ≡ pos 0 → ⊥
-not_zero x h e = omega (arith, ints)
+use Rattle.exchange_runs.proofs.Signs.{not_back}
 
 -- Past the place of the limit every cell of a run is zero.
 pub zero_past_run : (p : ProgramDef) (k : ℕ) (t : Table) → IsProgram p → Reached p k t → (i v : ℕ) → i ≤ height p
@@ -45,7 +43,7 @@ zero_past_run p (suc k) t accepted h i v l past =
     let form = forms p k s accepted h.3 in
     let pivot : t.cell r v ≡ whole (pos 0)
     = one_quotient (s.cell r v) (s.cell r e) (t.cell r v) (whole (pos 0)) (form r v within)
-    (not_zero (s.cell r e).num h.4.leaves.least.has.above)
+    (apart_of_positive (s.cell r e).num h.4.leaves.least.has.above)
     (h.4.divided_form v) form_of_zero (h.4.divided v)
     (quotient_of_zero (s.cell r v) (s.cell r e) (ap (λ c. c.num) (zero_past_run p k s accepted h.3 r v within past))) in
     elim (cases_eq i r) [
@@ -77,9 +75,6 @@ entering_or_last p t = elim (entering_among p t (variables p)) [
   | inl there ↦ inl (there.0, record { within = there.1; above = there.2; least = there.3 })
   | inr none ↦ inr (record { none = none })
 ]
-
-not_back : (x y : ℤ) → x <ℤ y → y ≤ℤ x → ⊥
-not_back x y h k = omega (arith, ints)
 
 -- A row has no ratio, or one with a form, or one with none.
 ratio_found : (w : ℕ) (t : Table) (e i : ℕ) → IsForm (t.cell i w)
@@ -165,7 +160,7 @@ left_or_wide p k t e r accepted reached within has divided =
             zero_past_run p k t accepted reached r v (omega (arith, within)) (omega (arith, past)) in
             let zero_divided : (divided v).0 ≡ whole (pos 0)
             = one_quotient (t.cell r v) (t.cell r e) (divided v).0 (whole (pos 0)) (form r v (omega (arith, within)))
-            (not_zero (t.cell r e).num has.above)
+            (apart_of_positive (t.cell r e).num has.above)
             (divided v).1 form_of_zero (divided v).2 (quotient_of_zero (t.cell r v) (t.cell r e) (ap (λ c. c.num) zero_there)) in
             (t.cell i v, less_at_zero (t.cell i v) (t.cell i e) (divided v).0 (ap (λ c. c.num) zero_divided) (form i v l))
       ])

@@ -10,6 +10,7 @@ use Rattle.bounded_sums.proofs.TotalLaws.{total_below-agree, total_below-zero, t
 use Rattle.bounded_sums.proofs.TotalLaws.{total_below-only, total_below-swap, total_below-split, only_at-here}
 use Rattle.bounded_sums.proofs.TotalLaws.{only_at-away}
 use Rattle.exchange_runs.proofs.Invariants.{IsMix, IsRead}
+use Rattle.exchange_runs.proofs.Signs.{zero_times}
 
 -- A slack stands with one in its own first row and with zero in each other, the objective row among them.
 abbrev pub HasSlacks : ℕ → ℕ → (ℕ → ℕ → ℤ) → Type 0
@@ -17,9 +18,6 @@ HasSlacks m n first = (r k : ℕ) → r ≤ m → k < m → first r (n + k) ≡ 
 
 one_times : (a : ℤ) → pos 1 *ℤ a ≡ a
 one_times a = omega (arith, ints)
-
-zero_times : (a : ℤ) → pos 0 *ℤ a ≡ pos 0
-zero_times a = omega (arith, ints)
 
 zero_plus : (a b : ℤ) → b ≡ (pos 0 *ℤ a) +ℤ b
 zero_plus a b = omega (arith, ints)

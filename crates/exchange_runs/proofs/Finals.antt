@@ -1,6 +1,5 @@
 -- How a run ends: at the optimum, in one way.
 use Rattle.std.proofs.Common.{◌≡◌, inl, inr, ℕ, ◌<◌, ◌≤◌, ◌^◌, List, length, slice_index, ℤ, pos, ◌<ℤ◌, refl, ap, ◌∙◌, sym, subst, arith}
-use Rattle.std.proofs.lemmas.Int.{ints}
 use Rattle.std.proofs.lemmas.Bool.{cases_eq}
 use Rattle.std.proofs.lemmas.List.{same_lists, get_or_default}
 use Rattle.std.proofs.lemmas.Grind.{same_number_lists}
@@ -22,6 +21,7 @@ use Rattle.exchange_runs.specs.Outcomes.{EndsWithin, IsWideWithin, NeedsMoreThan
 use Rattle.exchange_runs.proofs.Shadows.{IsShadow, shadow_reached}
 use Rattle.exchange_runs.proofs.Best.{optimum_value, primal_is_point, dual_is_optimal, dual_worth}
 use Rattle.exchange_runs.proofs.Once.{forms, one_run, not_last, no_later, apart_in_run}
+use Rattle.exchange_runs.proofs.Signs.{same_natural}
 
 -- What a run ends at is the optimum, attained by its point, and its dual is optimal.
 pub value_is_best : (p : ProgramDef) (k : ℕ) (t : Table) → IsExchangeRun p k t → IsOptimumValue p (value_of p t)
@@ -91,11 +91,8 @@ duals_positive p t fs form are i l =
     (form (height p) (slack p i) (omega arith)).positive
 
 -- A fraction is one number over a scale.
-one_number : (l k j : ℕ) (f : Fraction) → pos 0 <ℤ f.den → IsScaled l f k → IsScaled l f j → k ≡ j
+pub one_number : (l k j : ℕ) (f : Fraction) → pos 0 <ℤ f.den → IsScaled l f k → IsScaled l f j → k ≡ j
 one_number l k j f positive h i = same_natural k j (cancel (pos k) (pos j) f.den positive (h.same ∙ sym i.same))
-  where
-    same_natural : (a b : ℕ) → pos a ≡ pos b → a ≡ b
-    same_natural a b e = omega (arith, ints)
 
 one_scaling : (l : ℕ) (fs : List Fraction) (ks js : List ℕ)
     → ((i : ℕ) → i < length fs → pos 0 <ℤ (fraction_at fs i).den) → AreScaled l fs ks → AreScaled l fs js → ks ≡ js

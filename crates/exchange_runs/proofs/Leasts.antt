@@ -6,7 +6,7 @@ use Rattle.number_laws.proofs.Comparison.{chained_le}
 use Rattle.fraction128.specs.Fraction.{Fraction, IsAtMost}
 use Rattle.exchange_runs.specs.Table.{Table}
 use Rattle.exchange_runs.specs.Exchange.{HasRatio, IsRatioOver, IsLeastOver}
-use Rattle.exchange_runs.proofs.Signs.{weaker}
+use Rattle.exchange_runs.proofs.Signs.{weaker, not_back}
 
 -- Has each such value a denominator above zero?
 abbrev pub AreFractions : (Fraction → Type 0) → Type 0
@@ -85,9 +85,6 @@ least_replaced IsCell w t e k r f g are h has_k is at_most tie = record {
     | inr here ↦ let same : i ≡ k = omega arith in rw same (g, is, record { le = at_most_itself _ }, λ back. omega arith)
   ];
 }
-
-not_back : (x y : ℤ) → x <ℤ y → y ≤ℤ x → ⊥
-not_back x y h k = omega (arith, ints)
 
 -- One more row with a ratio: it takes the place of the least, or does not.
 least_more : (IsCell : Fraction → Type 0) (w : ℕ) (t : Table) (e k r : ℕ) (f g : Fraction) → AreFractions IsCell

@@ -5,7 +5,7 @@ use Rattle.std.proofs.Common.{◌<ℤ◌, ◌∙◌, sym, subst, arith}
 use Rattle.std.proofs.lemmas.Int.{ints}
 use Rattle.std.proofs.lemmas.Bool.{cases_lt, cases_eq, lt-ltb, le-ltb}
 use Rattle.fraction128.specs.Fraction.{Fraction, IsForm, IsAtMost}
-use Rattle.fraction128.proofs.Unique.{one_difference, one_product, one_quotient}
+use Rattle.fraction128.proofs.Unique.{one_difference, one_product, one_quotient, apart_of_positive}
 use Rattle.fraction128.proofs.Forms.{form_of_whole}
 use Rattle.program_form.specs.Program.{ProgramDef, IsProgram, columns, height}
 use Rattle.exchange_runs.specs.Table.{Table, variables, slack, objective, first_entries, first_limit, first_number}
@@ -72,9 +72,6 @@ same_back p t u same = record { cells = λ i v l. sym (same.cells i v l); basis 
 not_both : (x : ℤ) → pos 0 <ℤ x → x ≤ℤ pos 0 → ⊥
 not_both x h k = omega (arith, ints)
 
-not_zero : (x : ℤ) → pos 0 <ℤ x → x ≡ pos 0 → ⊥
-not_zero x h e = omega (arith, ints)
-
 -- What enters one of two same tables is not passed over in the other.
 not_earlier : (p : ProgramDef) (t u : Table) (e f : ℕ) → IsSameTable p t u → IsEntering p t e → IsEntering p u f → e < f → ⊥
 not_earlier p t u e f same h k l =
@@ -103,7 +100,7 @@ has_same p t u e i same l h = record { above = rw (same.cells i e l) h.above }
 pub one_ratio : (w : ℕ) (t : Table) (e i : ℕ) (f g : Fraction) → IsForm (t.cell i w) → HasRatio t e i
     → IsRatio w t e i f → IsRatio w t e i g → f ≡ g
 one_ratio w t e i f g form has h k =
-    one_quotient (t.cell i w) (t.cell i e) f g form (not_zero (t.cell i e).num has.above) h.form k.form h.quotient k.quotient
+    one_quotient (t.cell i w) (t.cell i e) f g form (apart_of_positive (t.cell i e).num has.above) h.form k.form h.quotient k.quotient
 
 pub one_leaving : (p : ProgramDef) (t u : Table) (e r s : ℕ) → IsSameTable p t u
     → ((i v : ℕ) → i ≤ height p → IsForm (t.cell i v))
@@ -147,7 +144,7 @@ pub one_exchange : (p : ProgramDef) (t t' u u' : Table) (e r : ℕ) → IsSameTa
 one_exchange p t t' u u' e r same form h k =
     let within : r ≤ height p = omega (arith, h.leaves.least.within) in
     let pivot : (v : ℕ) → u.cell r v ≡ u'.cell r v = λ v.
-    one_quotient (t.cell r v) (t.cell r e) (u.cell r v) (u'.cell r v) (form r v within) (not_zero (t.cell r e).num h.leaves.least.has.above)
+    one_quotient (t.cell r v) (t.cell r e) (u.cell r v) (u'.cell r v) (form r v within) (apart_of_positive (t.cell r e).num h.leaves.least.has.above)
     (h.divided_form v) (k.divided_form v) (h.divided v) (rw (same.cells r v within, same.cells r e within) (k.divided v)) in
     record {
       cells = λ i v l. elim (cases_eq i r) [
@@ -224,7 +221,7 @@ wide_taking p t u s e r same form h wide =
     let v : ℕ = wide.at_place in
     let pivot : wide.divided v ≡ s.cell r v
     = one_quotient (t.cell r v) (t.cell r e) (wide.divided v) (s.cell r v) (form r v within)
-    (not_zero (t.cell r e).num h.leaves.least.has.above)
+    (apart_of_positive (t.cell r e).num h.leaves.least.has.above)
     (wide.divided_form v) (h.divided_form v) (rw (same.cells r v within, same.cells r e within) (wide.is_divided v)) (h.divided v) in
     wide_less (t.cell i v) (t.cell i e) (s.cell r v) (s.cell i v) (form i e wide.within) (h.divided_form v)
     (h.taken i v wide.within wide.other)

@@ -4,6 +4,7 @@ use Rattle.std.proofs.lemmas.Int.{ints}
 use Rattle.number_laws.proofs.Ring.{as_diff, diffs, same_diff, by_one, by_three, mul-neg_left}
 use Rattle.number_laws.proofs.Order.{times_positive, times_le, times_lt, cancel, cancel_le, cancel_lt}
 use Rattle.fraction128.specs.Fraction.{Fraction, IsQuotient, IsProduct, IsDifference, IsAtMost, over, whole}
+use Rattle.exchange_runs.proofs.Signs.{zero_times, weaker}
 
 -- Is f the value x / d, over a denominator above zero?
 pub record Shows (d x : ℤ) (f : Fraction) : Type 0 where
@@ -78,17 +79,11 @@ shows_difference d x y a c f ha hc positive h = record {
   positive = positive;
 }
 
-zero_times : (z : ℤ) → pos 0 *ℤ z ≡ pos 0
-zero_times z = omega (arith, ints)
-
 below_of : (x y u v : ℤ) → x ≡ u → y ≡ v → x <ℤ y → u <ℤ v
 below_of x y u v p q h = omega (arith, ints)
 
 at_most_of : (x y u v : ℤ) → x ≡ u → y ≡ v → x ≤ℤ y → u ≤ℤ v
 at_most_of x y u v p q h = omega (arith, ints)
-
-not_negative : (z : ℤ) → pos 0 <ℤ z → pos 0 ≤ℤ z
-not_negative z h = omega (arith, ints)
 
 -- A fraction above zero has a number above zero, and the other way round.
 pub shows_above : (d x : ℤ) (f : Fraction) → pos 0 <ℤ d → Shows d x f → pos 0 <ℤ f.num → pos 0 <ℤ x
@@ -104,13 +99,13 @@ above_shown d x f pd h above =
 pub shows_at_most_zero : (d x : ℤ) (f : Fraction) → pos 0 <ℤ d → Shows d x f → f.num ≤ℤ pos 0 → x ≤ℤ pos 0
 shows_at_most_zero d x f pd h below =
     cancel_le x (pos 0) f.den h.positive
-    (at_most_of _ _ _ _ h.same (zero_times d ∙ sym (zero_times f.den)) (times_le f.num (pos 0) d (not_negative d pd) below))
+    (at_most_of _ _ _ _ h.same (zero_times d ∙ sym (zero_times f.den)) (times_le f.num (pos 0) d (weaker pd) below))
 
 pub at_least_zero_shown : (d x : ℤ) (f : Fraction) → pos 0 <ℤ d → Shows d x f → pos 0 ≤ℤ x → pos 0 ≤ℤ f.num
 at_least_zero_shown d x f pd h above =
     cancel_le (pos 0) f.num d pd
     (at_most_of _ _ _ _ (zero_times f.den ∙ sym (zero_times d)) (sym h.same)
-    (times_le (pos 0) x f.den (not_negative f.den h.positive) above))
+    (times_le (pos 0) x f.den (weaker h.positive) above))
 
 at_most_left : (fn fd gd d x b : ℤ) → fn *ℤ d ≡ x *ℤ fd → (fn *ℤ gd) *ℤ (d *ℤ b) ≡ (x *ℤ b) *ℤ (fd *ℤ gd)
 at_most_left fn fd gd d x b h =
@@ -128,7 +123,7 @@ pub shows_at_most : (d x b y : ℤ) (f g : Fraction) → pos 0 <ℤ d → pos 0 
 shows_at_most d x b y f g pd pb hf hg h =
     cancel_le (x *ℤ b) (y *ℤ d) (f.den *ℤ g.den) (times_positive f.den g.den hf.positive hg.positive)
     (at_most_of _ _ _ _ (at_most_left f.num f.den g.den d x b hf.same) (at_most_right f.den g.num g.den d b y hg.same)
-    (times_le (f.num *ℤ g.den) (g.num *ℤ f.den) (d *ℤ b) (not_negative _ (times_positive d b pd pb)) h.le))
+    (times_le (f.num *ℤ g.den) (g.num *ℤ f.den) (d *ℤ b) (weaker (times_positive d b pd pb)) h.le))
 
 -- And the other way round.
 pub at_most_shown : (d x b y : ℤ) (f g : Fraction) → pos 0 <ℤ d → pos 0 <ℤ b → Shows d x f → Shows b y g
@@ -136,5 +131,5 @@ pub at_most_shown : (d x b y : ℤ) (f g : Fraction) → pos 0 <ℤ d → pos 0 
 at_most_shown d x b y f g pd pb hf hg h = record {
   le = cancel_le (f.num *ℤ g.den) (g.num *ℤ f.den) (d *ℤ b) (times_positive d b pd pb)
       (at_most_of _ _ _ _ (sym (at_most_left f.num f.den g.den d x b hf.same)) (sym (at_most_right f.den g.num g.den d b y hg.same))
-      (times_le (x *ℤ b) (y *ℤ d) (f.den *ℤ g.den) (not_negative _ (times_positive f.den g.den hf.positive hg.positive)) h));
+      (times_le (x *ℤ b) (y *ℤ d) (f.den *ℤ g.den) (weaker (times_positive f.den g.den hf.positive hg.positive)) h));
 }

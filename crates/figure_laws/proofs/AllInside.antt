@@ -1,7 +1,7 @@
 -- In a schedule that keeps its bounds all blocked ticks of a task's jobs lie within their windows.
-use Rattle.std.proofs.Common.{◌≡◌, ℕ, ◌+◌, ◌-◌, ◌<◌, ◌≤◌, ◌==◌, Bool, true, false, List, length, refl, ap, subst, arith}
+use Rattle.std.proofs.Common.{◌≡◌, ℕ, ◌+◌, ◌-◌, ◌<◌, ◌≤◌, ◌==◌, Bool, false, List, length, ap, subst, arith}
 use Rattle.std.specs.Prelude.{slice_index, nat_le, nat_lt}
-use Rattle.std.proofs.lemmas.Bool.{and_parts, ltb-true}
+use Rattle.std.proofs.lemmas.Bool.{and_parts, ltb-true, false_from_ne_true}
 use Rattle.bounded_sums.specs.Sums.{only_if}
 use Rattle.bounded_sums.specs.Tests.{count_below}
 use Rattle.bounded_sums.proofs.SumLaws.{sum_below-agree}
@@ -15,10 +15,6 @@ use Rattle.charge_model.specs.Windows.{window_end}
 use Rattle.soundness_laws.specs.Sound.{due_tick, KeepsBounds}
 use Rattle.soundness_laws.proofs.MeasuresKept.{blocked_inside}
 use Rattle.figure_laws.specs.Figures.{blocked_sum, blocked_ticks}
-
-not_true : (b : Bool) → (b ≡ true → ⊥) → b ≡ false
-not_true true h = absurd (h refl)
-not_true false h = refl
 
 -- What counts nothing from m on counts as much below m.
 counted_before : (m n : ℕ) (p : ℕ → Bool) → m ≤ n → ((t : ℕ) → m ≤ t → t < n → p t ≡ false) → count_below m p ≡ count_below n p
@@ -38,7 +34,7 @@ unfolding blocking_of
 job_inside interferes w n bounds values j kept l =
     counted_before (window_end w (slice_index bounds) n j) n (λ t. is_blocked interferes w t j) (omega arith) past where
       past : (t : ℕ) → window_end w (slice_index bounds) n j ≤ t → t < n → is_blocked interferes w t j ≡ false
-      past t after before = not_true (is_blocked interferes w t j) (λ blocked.
+      past t after before = false_from_ne_true (is_blocked interferes w t j) (λ blocked.
           let parts = and_parts (nat_le (job_of w.jobs j).release t) (nat_lt t (due_tick w bounds j))
           (blocked_inside interferes w n bounds values t j kept l before blocked) in
           let inside : t < due_tick w bounds j = ltb-true t (due_tick w bounds j) parts.1 in

@@ -9,6 +9,7 @@ use Rattle.std.proofs.lemmas.Int.{ints, unsigned_abs-mul}
 use Rattle.std.proofs.Math.Nat.{eq-one_of_dvd-one, div-mul_cancel, pos_of_dvd_of_pos, dvd-mul_right, le_of_mul-le-mul_right}
 use Rattle.number_laws.specs.Divisors.{IsCoprime}
 use Rattle.number_laws.proofs.Divisors.{parts_apart, coprime_of_gcd, lowest_terms_once}
+use Rattle.number_laws.proofs.Ring.{mul-one}
 use Rattle.fraction128.specs.Fraction.{Fraction, IsForm, IsSame, over}
 use Rattle.fraction128.specs.LowestTerms.{IsLowest, signed}
 use Rattle.fraction128.proofs.Unique.{size_positive}
@@ -147,13 +148,10 @@ no_lowest_form n d above lowest wide =
     no_form n d (unsigned_abs n) (unsigned_abs d) (omega (arith, ints))
     (record { same = refl; positive = size_positive d above; lowest = lowest }) (λ small. wide small.0)
 
-one_right : (z : ℤ) → z *ℤ pos 1 ≡ z
-one_right z = omega (arith, ints)
-
 -- the same for the numerator that a difference has
 pub coprime_whole_taken : (a b : Fraction) → b.den ≡ pos 1 → IsCoprime (unsigned_abs a.num) (unsigned_abs a.den)
     → IsCoprime (unsigned_abs ((a.num *ℤ b.den) -ℤ (b.num *ℤ a.den))) (unsigned_abs a.den)
 coprime_whole_taken a b one h =
-    let own : a.num *ℤ b.den ≡ a.num = ap (λ z. a.num *ℤ z) one ∙ one_right a.num in
+    let own : a.num *ℤ b.den ≡ a.num = ap (λ z. a.num *ℤ z) one ∙ mul-one a.num in
     subst (λ (z : ℤ). IsCoprime (unsigned_abs (z -ℤ (b.num *ℤ a.den))) (unsigned_abs a.den)) (sym own)
     (coprime_less a.num b.num a.den h)

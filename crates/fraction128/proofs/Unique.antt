@@ -26,7 +26,7 @@ same_form f g h k e =
     let nums : f.num ≡ g.num = cancel f.num g.num g.den k.positive (e ∙ ap (λ d. g.num *ℤ d) dens) in
     same_parts f g nums dens
 
-apart_of_positive : (z : ℤ) → pos 0 <ℤ z → z ≡ pos 0 → ⊥
+pub apart_of_positive : (z : ℤ) → pos 0 <ℤ z → z ≡ pos 0 → ⊥
 apart_of_positive z h e = omega (arith, ints)
 
 -- one value n / d, for a d that isn't 0, has one form

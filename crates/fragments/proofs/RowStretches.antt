@@ -1,17 +1,11 @@
 -- Rows over stretches of columns: where a row's columns stand, and that what stands outside is zero.
 use Rattle.std.proofs.Common.{◌≡◌, ℕ, ◌+◌, ◌<◌, ◌≤◌, ◌==◌, ◌&&◌, false, List, arith, inl, inr}
 use Rattle.std.proofs.Math.ListN.{get_or}
-use Rattle.std.proofs.lemmas.Bool.{cases_Bool, and_parts, eqb-true}
+use Rattle.std.proofs.lemmas.Bool.{cases_Bool, and_parts, eqb-true, ne_eqb}
 use Rattle.fragments.specs.ColumnDef.{ColumnDef, column_seen, AreKnown}
 use Rattle.fragments.specs.Constraints.{ConstraintDef}
 use Rattle.fragments.specs.declared.columns.Fragment.{Fragment}
 use Rattle.fragments.specs.Stretches.{slot, slot_of, BeginsAt, IsStretch}
-
-other_number : (a b : ℕ) → (a ≡ b → ⊥) → (a == b) ≡ false
-other_number a b apart = elim (cases_Bool (a == b)) [
-  | inl same ↦ absurd (apart (eqb-true a b same))
-  | inr other ↦ other
-]
 
 other_numbers : (a b c d : ℕ) → (a ≡ b → c ≡ d → ⊥) → ((a == b) && (c == d)) ≡ false
 other_numbers a b c d apart = elim (cases_Bool ((a == b) && (c == d))) [
@@ -46,11 +40,11 @@ stretch_of_task n m x cs row a b known few from to order zero = record {
   within = to.within;
   before = λ k d l h.
       let here : slot_of (get_or cs k d) < slot x 0 = from.before k d l h in
-      zero (column_seen (get_or cs k d)) (other_number (get_or cs k d).task.0 x (λ e. absurd (omega (arith, here, e))));
+      zero (column_seen (get_or cs k d)) (ne_eqb (get_or cs k d).task.0 x (λ e. absurd (omega (arith, here, e))));
   behind = λ k d l h.
       let here : slot (x + 1) 0 ≤ slot_of (get_or cs k d) = to.behind k d l h in
       let q : (get_or cs k d).resource.0 < m = (known k d h).1 in
-      zero (column_seen (get_or cs k d)) (other_number (get_or cs k d).task.0 x (λ e. absurd (omega (arith, here, q, e))));
+      zero (column_seen (get_or cs k d)) (ne_eqb (get_or cs k d).task.0 x (λ e. absurd (omega (arith, here, q, e))));
 }
 
 -- And one that counts columns of its requests of q alone those between where they begin and where the next resource's do.

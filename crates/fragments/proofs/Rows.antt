@@ -1,15 +1,10 @@
 -- Rows that are there, and loops that add the rows of one number after another.
-use Rattle.std.proofs.Common.{◌≡◌, ℕ, Bool, true, List, [], ◌∷◌, ◌++◌, map, refl, ◌+◌, add-one}
+use Rattle.std.proofs.Common.{◌≡◌, ℕ, true, List, [], ◌∷◌, ◌++◌, map, refl, ◌+◌, add-one}
 use Rattle.std.specs.Prelude.{slice_index}
-use Rattle.std.specs.List.{list_any}
 use Rattle.bounded_sums.specs.Sums.{collect_below}
 use Rattle.program_form.specs.RowBlock.{RowBlockDef}
 use Rattle.fragments.specs.ColumnDef.{ColumnDef}
 use Rattle.fragments.specs.Constraints.{ConstraintDef, holds_some, with_rows, pushed_row}
-
-pub list_any-map : {X Y : Type 0} (f : X → Y) (p : Y → Bool) (xs : List X) → list_any p (map f xs) ≡ list_any (λ x. p (f x)) xs
-list_any-map f p [] = refl
-list_any-map f p (x ∷ xs) = rw (list_any-map f p xs) refl
 
 -- A row in which some column has a coefficient above zero adds its coefficients and its limit.
 pub row_there : (b : RowBlockDef) (cs : List ColumnDef) (row : ConstraintDef) (bounds : List ℕ) → holds_some cs row ≡ true

@@ -1,3 +1,4 @@
+pub mod Asked
 pub mod Ceilings
 pub mod ColumnDef
 pub mod Columns

@@ -2,11 +2,13 @@
 use Rattle.std.specs.Prelude.{◌≡◌, ℕ, ◌<◌, ◌==◌, ◌&&◌, ◌||◌, not, Bool, List, length}
 use Rattle.std.specs.List.{All, list_any}
 use Rattle.bounded_sums.specs.Tests.{any_below}
-use Rattle.sporadic_model.specs.SetDef.{SetDef}
+use Rattle.sporadic_model.specs.SetDef.{SetDef, task_at}
 use Rattle.sporadic_model.specs.Users.{is_user}
 use Rattle.sporadic_model.specs.declared.ids.Protocol.{Protocol}
 use Rattle.sporadic_model.specs.declared.ids.Protocol.TheVariants as protocol
+use Rattle.sporadic_model.specs.declared.ids.TaskId.{TaskId}
 use Rattle.sporadic_model.specs.declared.ids.ResourceId.{ResourceId}
+use Rattle.fragments.specs.Ceilings.{place_in}
 use Rattle.fragments.specs.declared.linking.Rival.{Rival}
 use Rattle.fragments.specs.Columns.{have_one_processor}
 
@@ -25,8 +27,14 @@ is_link protocol.Dpcp set i x r = is_user set r i
 abbrev pub ArePassing : (ℕ → Bool) → ℕ → List ResourceId → Type 0
 ArePassing is_one m resources = (test : ℕ → Bool) → list_any (λ r. test r.0) resources ≡ any_below m (λ r. is_one r && test r)
 
-abbrev pub AreLinks : Protocol → SetDef → ℕ → ℕ → List ResourceId → Type 0
-AreLinks p set i x resources = ArePassing (is_link p set i x) (length set.resources) resources
+-- Are they those that i uses?
+abbrev pub AreAsked : SetDef → ℕ → List ResourceId → Type 0
+AreAsked set i resources = ArePassing (λ r. is_user set r i) (length set.resources) resources
+
+-- Are the resources of the rivals those by which requests by x can block i indirectly?
+abbrev pub AreLinks : Protocol → SetDef → ℕ → ℕ → List Rival → Type 0
+AreLinks p set i x links = (test : ℕ → Bool) → list_any (λ e. test e.resource.0) links
+    ≡ any_below (length set.resources) (λ r. is_link p set i x r && test r)
 
 -- Does another task y than i use resource r, which i uses too?
 abbrev pub is_rival : SetDef → ℕ → ℕ → ℕ → Bool
@@ -45,10 +53,32 @@ abbrev pub AreRivalsAt : SetDef → ℕ → ℕ → ℕ → List Rival → List 
 AreRivalsAt set i r n before now = (test : ℕ → ℕ → Bool) → list_any (λ e. test e.task.0 e.resource.0) now
     ≡ (list_any (λ e. test e.task.0 e.resource.0) before || any_below n (λ y. (not (y == i) && is_user set r y) && test y r))
 
--- Are they tasks and resources of the set?
-abbrev pub AreKnownRivals : SetDef → List Rival → Type 0
-AreKnownRivals set rivals = All (λ e. (e.task.0 < length set.tasks) × (e.resource.0 < length set.resources)) rivals
+-- A task with a resource that it uses.
+abbrev pub rival_at : Protocol → SetDef → TaskId → ResourceId → Rival
+rival_at p set y r = record {
+  task = y;
+  resource = r;
+  processor = (task_at set y.0).processor;
+  place = place_in p set (task_at set y.0).processor r.0;
+}
+
+-- Is it a task of the set, with its processor, and with the place of the resource's ceiling as that processor sees it?
+abbrev pub IsKnownRival : Protocol → SetDef → Rival → Type 0
+IsKnownRival p set e = (e.task.0 < length set.tasks) × (e.processor ≡ (task_at set e.task.0).processor)
+    × (e.place ≡ place_in p set (task_at set e.task.0).processor e.resource.0)
+
+-- Are they all?
+abbrev pub AreKnownRivals : Protocol → SetDef → List Rival → Type 0
+AreKnownRivals p set rivals = All (IsKnownRival p set) rivals
+
+-- Has each the place of its resource's ceiling as processor k sees it?
+abbrev pub AreSeenFrom : Protocol → SetDef → ℕ → List Rival → Type 0
+AreSeenFrom p set k links = All (λ e. e.place ≡ place_in p set k e.resource.0) links
 
 -- Is the task y beside x, and not x?
 abbrev pub is_beside : SetDef → ℕ → ℕ → Bool
 is_beside set x y = have_one_processor set y x && not (y == x)
+
+-- Is it a rival on processor k, and not x?
+abbrev pub is_at : ℕ → ℕ → Rival → Bool
+is_at k x e = (e.processor == k) && not (e.task.0 == x)

@@ -4,6 +4,7 @@
 mod class_order;
 mod columns;
 mod constraints;
+mod homes;
 mod linking;
 mod passing;
 mod places;
@@ -16,6 +17,7 @@ mod windows;
 pub use class_order::classes_stand_in_order;
 pub use columns::{Class, Fragment, fragments};
 pub use constraints::{Constraint, RowKind, add_row, add_row_limited, add_row_within};
+pub use homes::{asked_beside, blocks_at_home};
 pub use passing::{ColumnTest, fragments_where};
 pub use places::{ceiling_place, home, lower_local, share_processor, uses};
 pub use single_rows::{EachRequest, EachTask, RequestRow, TaskRow, add_row_of_task};

@@ -3,9 +3,11 @@
 ghost use Rattle.std.specs.Prelude.{◌≡◌, ℕ, ◌<◌, ◌+◌, ◌++◌, length, OnOk, IfOk, [], ◌∷◌, not, ◌==◌, ◌&&◌, if◌then◌else◌};
 ghost use Rattle.std.specs.List.{All};
 ghost use Rattle.sporadic_model.specs.Users.{is_user};
-ghost use Rattle.fragments.specs.Links.{AreLinks, AreRivalsAt, AreRivalsBelow, AreRivals, AreKnownRivals, is_beside};
+ghost use Rattle.fragments.specs.Links.{AreAsked, AreLinks, AreSeenFrom, AreRivalsAt, AreRivalsBelow, AreRivals, AreKnownRivals};
+ghost use Rattle.fragments.specs.Links.{rival_at, is_at};
+ghost use Rattle.sporadic_model.specs.SetDef.{task_at};
 
-use crate::places::{share_processor, uses};
+use crate::places::{place_seen, uses};
 use sporadic_model::{Protocol, ResourceId, TaskId, TaskSet};
 use std::alloc::{AllocError, Global};
 
@@ -14,6 +16,10 @@ use std::alloc::{AllocError, Global};
 pub(crate) struct Rival {
     pub(crate) task: TaskId,
     pub(crate) resource: ResourceId,
+    /// The task's processor.
+    pub(crate) processor: u32,
+    /// The place of the resource's ceiling as that processor sees it.
+    pub(crate) place: u32,
 }
 
 // Adds the resource, if `i` uses it.
@@ -33,14 +39,14 @@ fn add_asked(
     Ok(())
 }
 
-/// The resources that `i` uses. Under DPCP requests of any task can block it indirectly by these.
+/// The resources that `i` uses.
 pub(crate) fn asked_by(
     alloc: Global,
     set: &TaskSet,
     i: TaskId,
 ) -> Result<Vec<ResourceId>, AllocError>
     requires task { i.0 < length set.now.tasks }
-    ensures links { IfOk result (λ v. (x : ℕ) → AreLinks Protocol.Dpcp set.now i.0 x v.items) }
+    ensures asked { IfOk result (λ v. AreAsked set.now i.0 v.items) }
     ensures known { IfOk result (λ v. All (λ r. r.0 < length set.now.resources) v.items) }
 {
     let mut list = Vec::new(alloc);
@@ -54,16 +60,24 @@ pub(crate) fn asked_by(
 fn add_rival(
     rivals: &mut Vec<Rival>,
     set: &TaskSet,
+    protocol: Protocol,
     i: TaskId,
-    rival: Rival,
+    y: TaskId,
+    r: ResourceId,
 ) -> Result<(), AllocError>
-    requires task { rival.task.0 < length set.now.tasks }
-    requires by { rival.resource.0 < length set.now.resources }
+    requires task { y.0 < length set.now.tasks }
+    requires by { r.0 < length set.now.resources }
     ensures { OnOk result (rivals.new.items ≡ rivals.old.items
-        ++ (if not (rival.task.0 == i.0) && is_user set.now rival.resource.0 rival.task.0 then rival ∷ [] else [])) }
+        ++ (if not (y.0 == i.0) && is_user set.now r.0 y.0 then rival_at protocol set.now y r ∷ [] else [])) }
 {
-    if rival.task.0 != i.0 && uses(set, rival.task, rival.resource) {
-        rivals.push(rival)?;
+    if y.0 != i.0 && uses(set, y, r) {
+        let processor = set.processor(y);
+        rivals.push(Rival {
+            task: y,
+            resource: r,
+            processor,
+            place: place_seen(set, protocol, processor, r),
+        })?;
     }
     Ok(())
 }
@@ -72,20 +86,17 @@ fn add_rival(
 fn add_users(
     rivals: &mut Vec<Rival>,
     set: &TaskSet,
+    protocol: Protocol,
     i: TaskId,
     r: ResourceId,
 ) -> Result<(), AllocError>
     requires by { r.0 < length set.now.resources }
-    requires known { AreKnownRivals set.now rivals.old.items }
+    requires known { AreKnownRivals protocol set.now rivals.old.items }
     ensures users { OnOk result (AreRivalsAt set.now i.0 r.0 (length set.now.tasks) rivals.old.items rivals.new.items) }
-    ensures known { OnOk result (AreKnownRivals set.now rivals.new.items) }
+    ensures known { OnOk result (AreKnownRivals protocol set.now rivals.new.items) }
 {
     for y in 0..set.tasks() {
-        let rival = Rival {
-            task: TaskId(y),
-            resource: r,
-        };
-        add_rival(rivals, set, i, rival)?;
+        add_rival(rivals, set, protocol, i, TaskId(y), r)?;
     }
     Ok(())
 }
@@ -95,72 +106,73 @@ fn add_users(
 fn add_rivals_at(
     rivals: &mut Vec<Rival>,
     set: &TaskSet,
+    protocol: Protocol,
     i: TaskId,
     r: ResourceId,
 ) -> Result<(), AllocError>
     requires task { i.0 < length set.now.tasks }
     requires by { r.0 < length set.now.resources }
     requires rivals { AreRivalsBelow set.now i.0 r.0 rivals.old.items }
-    requires known { AreKnownRivals set.now rivals.old.items }
+    requires known { AreKnownRivals protocol set.now rivals.old.items }
     ensures rivals { OnOk result (AreRivalsBelow set.now i.0 (r.0 + 1) rivals.new.items) }
-    ensures known { OnOk result (AreKnownRivals set.now rivals.new.items) }
+    ensures known { OnOk result (AreKnownRivals protocol set.now rivals.new.items) }
 {
     if !uses(set, i, r) {
         return Ok(());
     }
-    add_users(rivals, set, i, r)?;
+    add_users(rivals, set, protocol, i, r)?;
     Ok(())
 }
 
 /// The tasks that use a resource which `i` uses too, each with the resource.
-pub(crate) fn rivals_of(alloc: Global, set: &TaskSet, i: TaskId) -> Result<Vec<Rival>, AllocError>
+pub(crate) fn rivals_of(
+    alloc: Global,
+    set: &TaskSet,
+    protocol: Protocol,
+    i: TaskId,
+) -> Result<Vec<Rival>, AllocError>
     requires task { i.0 < length set.now.tasks }
     ensures rivals { IfOk result (λ v. AreRivals set.now i.0 v.items) }
-    ensures known { IfOk result (λ v. AreKnownRivals set.now v.items) }
+    ensures known { IfOk result (λ v. AreKnownRivals protocol set.now v.items) }
 {
     let mut rivals = Vec::new(alloc);
     for r in 0..set.resources() {
-        add_rivals_at(&mut rivals, set, i, ResourceId(r))?;
+        add_rivals_at(&mut rivals, set, protocol, i, ResourceId(r))?;
     }
     Ok(rivals)
 }
 
-// Adds the rival's resource, if its task is beside `x`, and not `x`.
-fn add_link(
-    list: &mut Vec<ResourceId>,
-    set: &TaskSet,
-    x: TaskId,
-    rival: Rival,
-) -> Result<(), AllocError>
-    requires other { x.0 < length set.now.tasks }
-    requires rival { rival.task.0 < length set.now.tasks }
-    ensures { OnOk result (list.new.items ≡ list.old.items ++ (if is_beside set.now x.0 rival.task.0 then rival.resource ∷ [] else [])) }
+// Adds the rival, if its task is another one than `x` on processor `k`.
+fn add_link(links: &mut Vec<Rival>, k: u32, x: TaskId, rival: Rival) -> Result<(), AllocError>
+    ensures { OnOk result (links.new.items ≡ links.old.items ++ (if is_at k x.0 rival then rival ∷ [] else [])) }
 {
-    if share_processor(set, rival.task, x) && rival.task.0 != x.0 {
-        list.push(rival.resource)?;
+    if rival.processor == k && rival.task.0 != x.0 {
+        links.push(rival)?;
     }
     Ok(())
 }
 
-/// The resources by which requests by `x` can block `i` indirectly, under MPCP and FMLP+. One may stand in it several times.
-pub(crate) fn links_of(
-    alloc: Global,
+/// Finds the rivals by whose resources requests by `x` can block `i` indirectly, under MPCP and FMLP+, in place of those in the list.
+/// A resource may be that of several.
+pub(crate) fn find_links(
+    links: &mut Vec<Rival>,
     set: &TaskSet,
     protocol: Protocol,
     i: TaskId,
     x: TaskId,
     rivals: &[Rival],
-) -> Result<Vec<ResourceId>, AllocError>
+) -> Result<(), AllocError>
     requires sharing { protocol ≡ Protocol.Dpcp → ⊥ }
     requires other { x.0 < length set.now.tasks }
     requires rivals { AreRivals set.now i.0 rivals.now }
-    requires known { AreKnownRivals set.now rivals.now }
-    ensures links { IfOk result (λ v. AreLinks protocol set.now i.0 x.0 v.items) }
-    ensures known { IfOk result (λ v. All (λ r. r.0 < length set.now.resources) v.items) }
+    requires known { AreKnownRivals protocol set.now rivals.now }
+    ensures links { OnOk result (AreLinks protocol set.now i.0 x.0 links.new.items) }
+    ensures seen { OnOk result (AreSeenFrom protocol set.now (task_at set.now x.0).processor links.new.items) }
 {
-    let mut list = Vec::new(alloc);
+    let k = set.processor(x);
+    links.clear();
     for rival in rivals {
-        add_link(&mut list, set, x, *rival)?;
+        add_link(links, k, x, *rival)?;
     }
-    Ok(list)
+    Ok(())
 }

@@ -1,10 +1,10 @@
 ghost use Rattle.std.specs.Prelude.{◌≡◌, ◌<◌, ◌≤◌, length};
 ghost use Rattle.sporadic_model.specs.Users.{is_user};
 ghost use Rattle.sporadic_model.specs.Homes.{home_in};
-ghost use Rattle.fragments.specs.Ceilings.{ceiling_rank, remote_ceiling_rank};
+ghost use Rattle.fragments.specs.Ceilings.{ceiling_rank, remote_ceiling_rank, place_in, may_precede};
 ghost use Rattle.fragments.specs.Columns.{have_one_processor, is_lower_local};
 
-use sporadic_model::{ResourceId, TaskId, TaskSet};
+use sporadic_model::{Protocol, ResourceId, TaskId, TaskSet};
 
 /// Does the task use the resource?
 pub fn uses(set: &TaskSet, x: TaskId, q: ResourceId) -> bool
@@ -55,8 +55,8 @@ pub fn ceiling_place(set: &TaskSet, q: ResourceId) -> u32
     }
 }
 
-/// The position of the resource's ceiling as processor `k` sees it; the number of tasks where it has no user.
-pub(crate) fn boost_place(set: &TaskSet, q: ResourceId, k: u32) -> u32
+// The position of the resource's ceiling as processor `k` sees it; the number of tasks where it has no user.
+fn boost_place(set: &TaskSet, q: ResourceId, k: u32) -> u32
     requires { q.0 < length set.now.resources }
     ensures { result ≡ remote_ceiling_rank set.now q.0 k }
 {
@@ -69,5 +69,27 @@ pub(crate) fn boost_place(set: &TaskSet, q: ResourceId, k: u32) -> u32
     match set.boost(q, k) {
         Some(task) => task.0,
         None => set.tasks(),
+    }
+}
+
+/// The place of the resource by which it is told whether a holder of it may run before another one's on processor `k`.
+pub(crate) fn place_seen(set: &TaskSet, protocol: Protocol, k: u32, q: ResourceId) -> u32
+    requires { q.0 < length set.now.resources }
+    ensures { result ≡ place_in protocol set.now k q.0 }
+{
+    match protocol {
+        Protocol::Mpcp => boost_place(set, q, k),
+        Protocol::FmlpPlus | Protocol::Dpcp => 0,
+    }
+}
+
+/// May a holder of a resource with the first place run while one with the second is ready?
+pub(crate) fn may_precede(protocol: Protocol, first: u32, second: u32) -> bool
+    ensures { result ≡ may_precede protocol first second }
+{
+    match protocol {
+        Protocol::Mpcp => first <= second,
+        Protocol::FmlpPlus => true,
+        Protocol::Dpcp => false,
     }
 }

@@ -1,6 +1,6 @@
 //! Rows of which each task, or each task and resource, has one, over its own columns alone.
 
-ghost use Rattle.std.specs.Prelude.{◌≡◌, ℕ, ◌<◌, ◌==◌, ◌&&◌, false, [], ◌∷◌, map, length, OnOk, slice_index};
+ghost use Rattle.std.specs.Prelude.{◌≡◌, ℕ, ◌<◌, ◌==◌, ◌&&◌, false, List, [], ◌∷◌, map, length, OnOk, slice_index};
 ghost use Rattle.sporadic_model.specs.SetDef.{SetDef};
 ghost use Rattle.program_sources.specs.Bounds.{AreWithinDeadlines};
 ghost use Rattle.fragments.specs.ColumnDef.{ColumnDef, column_seen, AreKnown};
@@ -8,7 +8,7 @@ ghost use Rattle.fragments.specs.Constraints.{ConstraintDef};
 ghost use Rattle.fragments.specs.Stretches.{IsTaskStretch};
 
 use crate::columns::Fragment;
-use crate::constraints::{Constraint, RowKind, add_row_within};
+use crate::constraints::{Constraint, RowKind, add_row_limited, add_row_within};
 use crate::taking::RowTaker;
 use crate::walks::{PerRequest, PerTask};
 use sporadic_model::{ResourceId, TaskId, TaskSet};
@@ -18,6 +18,9 @@ use std::alloc::{AllocError, Global};
 pub trait TaskRow {
     /// The row of a task, for a set and the analysed task.
     ghost row_of: { Self → SetDef → ℕ → ℕ → ConstraintDef };
+
+    /// Are the rows those of the set and the analysed task at these bounds, where they are made of further numbers?
+    ghost fits: { Self → SetDef → ℕ → List ℕ → Type 0 };
 
     /// The column's coefficient in the row of task `x`.
     fn coefficient(&self, set: &TaskSet, i: TaskId, x: TaskId, column: Fragment) -> u64
@@ -29,6 +32,7 @@ pub trait TaskRow {
 
     /// What the sum of that row may be at most, where these are the bounds.
     fn limit(&self, set: &TaskSet, i: TaskId, x: TaskId, bounds: &[u64]) -> u64
+        requires fits { fits self.now set.now i.0 bounds.now }
         requires task { i.0 < length set.now.tasks }
         requires other { x.0 < length set.now.tasks }
         requires within { AreWithinDeadlines set.now bounds.now }
@@ -55,12 +59,6 @@ impl<'a, K: TaskRow> RowKind for RowOfTask<'a, K> {
     }
 }
 
-impl<'a, K: TaskRow> Constraint for RowOfTask<'a, K> {
-    fn limit(&self, set: &TaskSet, i: TaskId, bounds: &[u64]) -> u64 {
-        self.kind.limit(set, i, self.task, bounds)
-    }
-}
-
 /// Adds the row of task `x`, whose columns are those of the stretch, to what the taker has, if some column has a coefficient above
 /// zero in it.
 pub fn add_row_of_task<T: RowTaker, K: TaskRow>(
@@ -74,6 +72,7 @@ pub fn add_row_of_task<T: RowTaker, K: TaskRow>(
     columns: &[Fragment],
     stretch: (usize, usize),
 ) -> Result<(), AllocError>
+    requires fits { K.fits kind.now set.now i.0 bounds.now }
     requires task { i.0 < length set.now.tasks }
     requires other { x.0 < length set.now.tasks }
     requires within { AreWithinDeadlines set.now bounds.now }
@@ -84,7 +83,8 @@ pub fn add_row_of_task<T: RowTaker, K: TaskRow>(
     // a set has at most 32 resources, so the slots of a task end before those of the next one
     let _resources = set.resources();
     let row = RowOfTask { kind, task: x };
-    add_row_within(alloc, taker, &row, set, i, bounds, columns, stretch)
+    let limit = kind.limit(set, i, x, bounds);
+    add_row_limited(alloc, taker, &row, set, i, bounds, columns, stretch, limit)
 }
 
 /// The row of each task.
@@ -93,6 +93,8 @@ pub struct EachTask<K>(pub K);
 
 impl<K: TaskRow> PerTask for EachTask<K> {
     ghost rows_of = { λ r set i x. K.row_of r.0 set i x ∷ [] };
+
+    ghost fits = { λ r. K.fits r.0 };
 
     fn add<T: RowTaker>(
         &self,

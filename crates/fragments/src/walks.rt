@@ -20,6 +20,9 @@ pub trait PerTask {
     /// The rows of a task, for a set and the analysed task.
     ghost rows_of: { Self → SetDef → ℕ → ℕ → List ConstraintDef };
 
+    /// Are the rows those of the set and the analysed task at these bounds, where they are made of further numbers?
+    ghost fits: { Self → SetDef → ℕ → List ℕ → Type 0 };
+
     /// Adds the rows of task `x`, whose columns are those of the stretch.
     fn add<T: RowTaker>(
         &self,
@@ -32,6 +35,7 @@ pub trait PerTask {
         columns: &[Fragment],
         stretch: (usize, usize),
     ) -> Result<(), AllocError>
+        requires fits { fits self.now set.now i.0 bounds.now }
         requires task { i.0 < length set.now.tasks }
         requires other { x.0 < length set.now.tasks }
         requires within { AreWithinDeadlines set.now bounds.now }
@@ -50,6 +54,7 @@ pub fn add_per_task<T: RowTaker, R: PerTask>(
     bounds: &[u64],
     columns: &[Fragment],
 ) -> Result<(), AllocError>
+    requires fits { R.fits rows.now set.now i.0 bounds.now }
     requires task { i.0 < length set.now.tasks }
     requires within { AreWithinDeadlines set.now bounds.now }
     requires known { AreKnown (length set.now.tasks) (length set.now.resources) columns.now }

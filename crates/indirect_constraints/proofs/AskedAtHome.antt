@@ -1,7 +1,7 @@
 -- The columns of a task under DPCP are of homes where it makes requests, and rows of other homes are not there.
-use Rattle.std.proofs.Common.{◌≡◌, ℕ, ◌<◌, ◌==◌, ◌&&◌, ◌||◌, not, Bool, true, false, List, [], ◌∷◌, map, length, refl}
+use Rattle.std.proofs.Common.{◌≡◌, ℕ, ◌<◌, ◌==◌, ◌&&◌, ◌||◌, not, true, false, List, [], ◌∷◌, map, length, refl}
 use Rattle.std.proofs.Common.{◌∙◌, nat_lt, nat_le, inl, inr}
-use Rattle.std.proofs.lemmas.Bool.{and_parts, cases_Bool, both_ways, eqb-true, eq-eqb}
+use Rattle.std.proofs.lemmas.Bool.{and_parts, cases_Bool, both_ways, eqb-true, eq-eqb, not-true}
 use Rattle.std.proofs.lemmas.List.Elements.{All-head, All-tail, All-same}
 use Rattle.bounded_sums.specs.Sums.{sum_below, only_if}
 use Rattle.bounded_sums.proofs.SumLaws.{sum_below-no_term}
@@ -45,10 +45,6 @@ columns_asked_at_home set i cs same = all_mapped (IsAskedAtHome set i) column_se
     (All-same (IsAskedAtHome set i) (map column_seen cs) (columns_of protocol.Dpcp set i) same
     (λ k d l. asked_at_home set i _ (columns_known protocol.Dpcp set i k d l).1 (columns_pass protocol.Dpcp set i k d l)))
 
-not_preempting : (b : Bool) → not b ≡ true → b ≡ false
-not_preempting true h = absurd cc
-not_preempting false h = refl
-
 -- A sum of requests at a home that is zero counts no user of one of its resources.
 no_count : (set : SetDef) (i k : ℕ) → sum_below (length set.resources) (λ q. only_if (home_in set q == k) (count_of set i q)) ≡ 0
     → (q : ℕ) → q < length set.resources → is_user set q i ≡ true → home_in set q ≡ k → ⊥
@@ -65,7 +61,7 @@ home_fails set i k none c asked = elim (cases_Bool ((not (is_preemption c.class)
   | inl all ↦
       let parts = and_parts (not (is_preemption c.class) && nat_lt i c.task) (home_in set c.resource == k) all in
       let waits : not (is_preemption c.class) ≡ true = (and_parts (not (is_preemption c.class)) (nat_lt i c.task) parts.0).0 in
-      let own = asked (not_preempting (is_preemption c.class) waits) in
+      let own = asked (not-true (is_preemption c.class) waits) in
       let home : home_in set own.0 ≡ k = own.3 ∙ eqb-true (home_in set c.resource) k parts.1 in
       absurd (no_count set i k none own.0 own.1 own.2 home)
   | inr apart ↦ rw apart refl

@@ -1,1 +1,3 @@
 mod AskedAtHome
+mod Beside
+mod ByTask

@@ -1,27 +1,32 @@
 //! The kinds of rows, each with its row for every task or processor.
 
-ghost use Rattle.std.specs.Prelude.{◌<◌, ◌≤◌, ◌+◌, ◌&&◌, not, [], ◌∷◌};
+ghost use Rattle.std.specs.Prelude.{◌≡◌, ◌<◌, ◌≤◌, ◌+◌, ◌&&◌, not, [], ◌∷◌, slice_index};
 ghost use Rattle.std.proofs.Common.{ap};
 ghost use Rattle.bounded_sums.specs.Sums.{flag};
 ghost use Rattle.fragments.specs.declared.columns.Class.TheVariants.{Indirect, Preemption};
 ghost use Rattle.fragments.specs.ColumnDef.{is_class};
+ghost use Rattle.fragments.specs.Windows.{all_requests};
 ghost use Rattle.indirect_constraints.specs.Asked.{AreAskedAtHome};
 ghost use Rattle.indirect_constraints.specs.Rows.{queue_row, holding_row, home_row};
+ghost use Rattle.indirect_constraints.specs.Tables.{AreHoldings};
 
-use crate::holdings::holding_count;
 use fragments::{
     Constraint, Fragment, PerNumber, RowKind, RowTaker, TaskRow, add_row, home, requests_at,
-    requests_of,
 };
 use sporadic_model::{TaskId, TaskSet};
 use std::alloc::{AllocError, Global};
 
 /// Of a task: each request of the analysed task waits for at most one of the task's.
 #[derive(Drop)]
-pub(crate) struct Queues;
+pub(crate) struct Queues {
+    /// How many requests a job of the analysed task can make.
+    pub(crate) requests: u64,
+}
 
 impl TaskRow for Queues {
     ghost row_of = { λ k. queue_row };
+
+    ghost fits = { λ k set i bounds. k.requests ≡ all_requests set i };
 
     ghost alone = { λ k set i x c other. ap (λ b. flag (b && not (is_class Preemption c.class))) other };
 
@@ -33,17 +38,22 @@ impl TaskRow for Queues {
         }
     }
 
-    fn limit(&self, set: &TaskSet, i: TaskId, _x: TaskId, _bounds: &[u64]) -> u64 {
-        requests_of(set, i)
+    fn limit(&self, _set: &TaskSet, _i: TaskId, _x: TaskId, _bounds: &[u64]) -> u64 {
+        self.requests
     }
 }
 
 /// Of a task: in each holding of another task on its processor it runs at most one request.
 #[derive(Drop)]
-pub(crate) struct Holdings;
+pub(crate) struct Holdings {
+    /// By task, how many requests that a job of the analysed task may wait for others can hold on its processor.
+    pub(crate) counts: Vec<u64>,
+}
 
 impl TaskRow for Holdings {
     ghost row_of = { λ k. holding_row };
+
+    ghost fits = { λ k set i bounds. AreHoldings set (slice_index bounds) i k.counts.items };
 
     ghost alone = { λ k set i x c other. ap (λ b. flag (b && is_class Indirect c.class)) other };
 
@@ -55,8 +65,8 @@ impl TaskRow for Holdings {
         }
     }
 
-    fn limit(&self, set: &TaskSet, i: TaskId, x: TaskId, bounds: &[u64]) -> u64 {
-        holding_count(set, i, x, bounds)
+    fn limit(&self, _set: &TaskSet, _i: TaskId, x: TaskId, _bounds: &[u64]) -> u64 {
+        self.counts[x.0 as usize]
     }
 }
 

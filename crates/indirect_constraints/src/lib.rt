@@ -10,11 +10,12 @@ ghost use Rattle.fragments.specs.Columns.{columns_of};
 ghost use Rattle.fragments.specs.Constraints.{per, block_of};
 ghost use Rattle.fragments.specs.Stretches.{AreInOrder};
 ghost use Rattle.indirect_constraints.specs.Asked.{AreAskedAtHome};
-ghost use Rattle.indirect_constraints.specs.Rows.{home_row, indirect_rows};
+ghost use Rattle.indirect_constraints.specs.Rows.{queue_row, holding_row, home_row, indirect_rows};
 
 use fragments::{
-    EachTask, Fragment, RowTaker, add_per_number, add_per_task, columns_stand_in_order,
+    EachTask, Fragment, RowTaker, add_per_number, add_per_task, columns_stand_in_order, requests_of,
 };
+use holdings::holdings_of;
 use kinds::{Holdings, Homes, Queues};
 use program_form::RowBlock;
 use sporadic_model::{Protocol, TaskId, TaskSet};
@@ -22,6 +23,49 @@ use std::alloc::{AllocError, Global};
 
 mod holdings;
 mod kinds;
+mod tables;
+
+// Adds the row of queues of each task.
+fn add_queue_rows<T: RowTaker>(
+    alloc: Global,
+    taker: &mut T,
+    set: &TaskSet,
+    i: TaskId,
+    bounds: &[u64],
+    columns: &[Fragment],
+) -> Result<(), AllocError>
+    requires task { i.0 < length set.now.tasks }
+    requires within { AreWithinDeadlines set.now bounds.now }
+    requires known { AreKnown (length set.now.tasks) (length set.now.resources) columns.now }
+    requires order { AreInOrder columns.now }
+    ensures { OnOk result (T.takes taker.old (map column_seen columns.now)
+        (per (length set.now.tasks) (queue_row set.now i.0)) bounds.now taker.new) }
+{
+    let requests = requests_of(set, i);
+    let rows = EachTask(Queues { requests });
+    add_per_task(alloc, taker, &rows, set, i, bounds, columns)
+}
+
+// Adds the row of holdings of each task.
+fn add_holding_rows<T: RowTaker>(
+    alloc: Global,
+    taker: &mut T,
+    set: &TaskSet,
+    i: TaskId,
+    bounds: &[u64],
+    columns: &[Fragment],
+) -> Result<(), AllocError>
+    requires task { i.0 < length set.now.tasks }
+    requires within { AreWithinDeadlines set.now bounds.now }
+    requires known { AreKnown (length set.now.tasks) (length set.now.resources) columns.now }
+    requires order { AreInOrder columns.now }
+    ensures { OnOk result (T.takes taker.old (map column_seen columns.now)
+        (per (length set.now.tasks) (holding_row set.now i.0)) bounds.now taker.new) }
+{
+    let counts = holdings_of(alloc, set, i, bounds)?;
+    let rows = EachTask(Holdings { counts });
+    add_per_task(alloc, taker, &rows, set, i, bounds, columns)
+}
 
 // Adds the rows of each processor's resources.
 fn add_home_rows<T: RowTaker>(
@@ -60,16 +104,8 @@ pub fn add_rows<T: RowTaker>(
 {
     columns_stand_in_order(set, protocol, i, columns);
     match protocol {
-        Protocol::FmlpPlus => add_per_task(
-            alloc,
-            taker,
-            &EachTask(Queues),
-            set,
-            i,
-            bounds,
-            columns,
-        ),
-        Protocol::Mpcp => add_per_task(alloc, taker, &EachTask(Holdings), set, i, bounds, columns),
+        Protocol::FmlpPlus => add_queue_rows(alloc, taker, set, i, bounds, columns),
+        Protocol::Mpcp => add_holding_rows(alloc, taker, set, i, bounds, columns),
         Protocol::Dpcp => add_home_rows(alloc, taker, set, i, bounds, columns),
     }
 }

@@ -9,7 +9,7 @@ ghost use Rattle.program_laws.proofs.CoveredColumns.{covered};
 use crate::Mpcp;
 use program_form::Program;
 use program_sources::ProgramSource;
-use protocol_programs::{interference, limits, program};
+use protocol_programs::{interference, keeps_jobs, limits, program};
 use sporadic_model::{Protocol, TaskId, TaskSet};
 use std::alloc::{AllocError, Global};
 
@@ -46,6 +46,10 @@ impl ProgramSource for Mpcp {
         bounds: &[u64],
     ) -> Result<Vec<u64>, AllocError> {
         limits(alloc, set, Protocol::Mpcp, i, bounds)
+    }
+
+    fn keeps_limits(&self, set: &TaskSet, i: TaskId, earlier: &[u64], bounds: &[u64]) -> bool {
+        keeps_jobs(set, i, earlier, bounds)
     }
 
     fn interference(&self, set: &TaskSet, i: TaskId, bounds: &[u64]) -> u64 {

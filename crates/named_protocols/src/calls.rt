@@ -18,20 +18,21 @@ ghost use Rattle.schedule_answers.specs.TaskAnswers.{no_figures};
 ghost use Rattle.figure_laws.specs.Figures.{blocked_sum, blocked_ticks};
 ghost use Rattle.named_laws.specs.Named.{HasHomes, rules_of, choice_of, interference_of, charges_of, source_of, SoundUnder};
 
-use audit_figures::{AuditStop, TaskFigures, audit_with};
+use audit_figures::{AuditStop, TaskFigures, audit_rows_with};
 use dflp_protocol::Dflp;
 use dual_check::{Invalid, Valid, check_with};
 use program_form::Certificate;
 use protocol_names::ProtocolName;
 use request_windows::DpcpWindows;
 use response_fixpoint::{Stop, Verdict, analyse_with};
+use row_readers::{ListedRows, RowReader};
 use schedule_model::{JobList, RowList};
 use sim_engine::simulate_with;
 use spin_protocol::Spin;
 use sporadic_model::TaskSet;
 use std::alloc::{AllocError, Global};
 use std::thread::Threads;
-use trace_conform::{Measured, Unlawful, conform_with};
+use trace_conform::{Measured, Unlawful, conform_rows_with};
 
 /// The least bounds of the set under the protocol of this name, as `analyse` of `response_fixpoint` finds them.
 pub fn analyse<R: Threads + Sync>(
@@ -77,8 +78,28 @@ pub fn check(
     }
 }
 
-/// Whether each row keeps the rules of the protocol of this name, with the measures of each task, as `conform` of `trace_conform`
-/// judges it.
+/// Whether each row that is read keeps the rules of the protocol of this name, with the measures of each task, as `conform_rows` of
+/// `trace_conform` judges it. At first the reader stands at the first run.
+pub fn conform_rows<R: RowReader>(
+    alloc: Global,
+    protocol: ProtocolName,
+    jobs: &JobList,
+    rows: &mut R,
+) -> Result<Measured, Unlawful>
+    requires suits { HasHomes protocol jobs.now.set }
+    requires fits { is_fitting (R.rows rows.old) jobs.now ≡ true }
+    requires start { R.at rows.old ≡ 0 }
+    ensures { Conforms (rules_of protocol) (interference_of protocol) (trace_in jobs.now (R.rows rows.old).runs) (ticks_of (R.rows rows.old).runs) result }
+{
+    match protocol {
+        ProtocolName::Base(base) => trace_conform::conform_rows(alloc, base, jobs, rows),
+        ProtocolName::Dflp => conform_rows_with(alloc, &Dflp, jobs, rows),
+        ProtocolName::Spin => conform_rows_with(alloc, &Spin, jobs, rows),
+        ProtocolName::DpcpWindows => conform_rows_with(alloc, &DpcpWindows, jobs, rows),
+    }
+}
+
+/// The same of a list of rows.
 pub fn conform(
     alloc: Global,
     protocol: ProtocolName,
@@ -89,12 +110,7 @@ pub fn conform(
     requires fits { is_fitting rows.now jobs.now ≡ true }
     ensures { Conforms (rules_of protocol) (interference_of protocol) (trace_in jobs.now rows.now.runs) (ticks_of rows.now.runs) result }
 {
-    match protocol {
-        ProtocolName::Base(base) => trace_conform::conform(alloc, base, jobs, rows),
-        ProtocolName::Dflp => conform_with(alloc, &Dflp, jobs, rows),
-        ProtocolName::Spin => conform_with(alloc, &Spin, jobs, rows),
-        ProtocolName::DpcpWindows => conform_with(alloc, &DpcpWindows, jobs, rows),
-    }
+    conform_rows(alloc, protocol, jobs, &mut ListedRows::new(rows))
 }
 
 /// The schedule that the protocol of this name chooses, as `simulate` of `sim_engine` makes it.
@@ -119,7 +135,37 @@ pub fn simulate(
     }
 }
 
-/// The figures of each task under the protocol of this name, as `audit` of `audit_figures` finds them.
+/// The figures of each task under the protocol of this name, as `audit_rows` of `audit_figures` finds them. At first the reader stands
+/// at the first run.
+pub fn audit_rows<R: RowReader>(
+    alloc: Global,
+    protocol: ProtocolName,
+    certificate: &Certificate,
+    jobs: &JobList,
+    rows: &mut R,
+) -> Result<Vec<TaskFigures>, AuditStop>
+    requires homes { HasHomes protocol jobs.now.set }
+    requires denominators { HasDenominators (certificate_seen certificate.now) }
+    requires fits { is_fitting (R.rows rows.old) jobs.now ≡ true }
+    requires start { R.at rows.old ≡ 0 }
+    ensures audits { Audits (rules_of protocol) (interference_of protocol) (charges_of protocol) (source_of protocol jobs.now.set)
+        (certificate_seen certificate.now) (trace_in jobs.now (R.rows rows.old).runs) (ticks_of (R.rows rows.old).runs) result }
+    ensures within { IfOk result (λ v. All LieWithin v.items) }
+    ensures adds_up { IfOk result (λ v. (x : ℕ) → x < length jobs.now.set.tasks → charged_ticks (slice_index_or v.items x no_figures)
+        ≡ blocked_sum (interference_of protocol) (trace_in jobs.now (R.rows rows.old).runs) (slice_index certificate.now.bounds.items)
+        (ticks_of (R.rows rows.old).runs) x) }
+    ensures adds_up_to_all { IfOk result (λ v. (x : ℕ) → x < length jobs.now.set.tasks → charged_ticks (slice_index_or v.items x no_figures)
+        ≡ blocked_ticks (interference_of protocol) (trace_in jobs.now (R.rows rows.old).runs) (ticks_of (R.rows rows.old).runs) x) }
+{
+    match protocol {
+        ProtocolName::Base(base) => audit_figures::audit_rows(alloc, base, certificate, jobs, rows),
+        ProtocolName::Dflp => audit_rows_with(alloc, &Dflp, certificate, jobs, rows),
+        ProtocolName::Spin => audit_rows_with(alloc, &Spin, certificate, jobs, rows),
+        ProtocolName::DpcpWindows => audit_rows_with(alloc, &DpcpWindows, certificate, jobs, rows),
+    }
+}
+
+/// The same of a list of rows.
 pub fn audit(
     alloc: Global,
     protocol: ProtocolName,
@@ -139,10 +185,11 @@ pub fn audit(
     ensures adds_up_to_all { IfOk result (λ v. (x : ℕ) → x < length jobs.now.set.tasks → charged_ticks (slice_index_or v.items x no_figures)
         ≡ blocked_ticks (interference_of protocol) (trace_in jobs.now rows.now.runs) (ticks_of rows.now.runs) x) }
 {
-    match protocol {
-        ProtocolName::Base(base) => audit_figures::audit(alloc, base, certificate, jobs, rows),
-        ProtocolName::Dflp => audit_with(alloc, &Dflp, certificate, jobs, rows),
-        ProtocolName::Spin => audit_with(alloc, &Spin, certificate, jobs, rows),
-        ProtocolName::DpcpWindows => audit_with(alloc, &DpcpWindows, certificate, jobs, rows),
-    }
+    audit_rows(
+        alloc,
+        protocol,
+        certificate,
+        jobs,
+        &mut ListedRows::new(rows),
+    )
 }

@@ -4,7 +4,6 @@ use Rattle.std.proofs.Common.{get_or, replicate, refl, sym, ap, subst, ◌∙◌
 use Rattle.std.proofs.Common.{None, leb, cond}
 use Rattle.std.specs.List.{list_any}
 use Rattle.std.proofs.lemmas.Bool.{cases_lt, cases_Bool, and_parts, and_from, leb-true, le-leb, eqb-true, eq-eqb}
-use Rattle.std.proofs.lemmas.List.{get_or_append_left, get_or_at}
 use Rattle.bounded_sums.specs.Tests.{first_below}
 use Rattle.bounded_sums.proofs.TestLaws.{first_below-at_most, first_below-passes, first_below-least}
 use Rattle.sporadic_model.specs.Accepted.{TaskNumbers}
@@ -19,6 +18,7 @@ use Rattle.phase_machine.specs.Taking.{CanTake}
 use Rattle.phase_machine.specs.Steps.{StepsTo, MovesTo}
 use Rattle.phase_machine.proofs.Coming.{due_later, due_at_first, coming_here, coming_next}
 use Rattle.phase_machine.proofs.Facts.{can_take}
+use Rattle.phase_machine.proofs.Pushed.{one_pushed}
 use Rattle.phase_machine.proofs.Taking.{runs_listed, machine_at_first, shows_at_first, taken_shows}
 
 -- A list with an element for each number below n that has one.
@@ -30,17 +30,10 @@ listed_each {A = A} d P (suc n) each =
     let last : (a : A) × P n a = each n (omega arith) in (
       before.0 ++ last.0 ∷ [],
       length-append before.0 (last.0 ∷ []) ∙ more n (length before.0) before.1,
-      λ x l. at before.0 before.1 before.2 last.0 last.1 x l,
+      λ x l. one_pushed P before.0 last.0 d n before.1 before.2 last.1 x l,
     ) where
       more : (n k : ℕ) → k ≡ n → k + 1 ≡ suc n
       more n k e = omega arith
-
-      at : (l : List A) → length l ≡ n → ((x : ℕ) → x < n → P x (get_or l x d)) → (a : A) → P n a → (x : ℕ) → x < suc n
-          → P x (get_or (l ++ a ∷ []) x d)
-      at l size rest a own x b = elim (cases_lt x n) [
-        | inl early ↦ rw (get_or_append_left l (a ∷ []) d x (omega arith)) (rest x early)
-        | inr here ↦ let same : x ≡ n = omega arith in rw (same, get_or_at l a [] d n size) own
-      ]
 
 -- The task's first job from a number on.
 pub next_exists : (jobs : List JobDef) (x from : ℕ) → from ≤ length jobs → (j : ℕ) × IsNext jobs x from j

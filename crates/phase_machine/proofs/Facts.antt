@@ -4,7 +4,7 @@ use Rattle.std.proofs.Common.{◌∙◌, arith, inl, inr, Option, Some, None, le
 use Rattle.std.proofs.lemmas.Bool.{cases_lt, cases_order, cases_Bool, and_parts, lt-ltb, le-ltb, ltb-true, leb-true}
 use Rattle.std.proofs.lemmas.Bool.{le-leb, false_from_ne_true}
 use Rattle.schedule_model.specs.JobDef.{JobDef, job_of, segment_ticks, total_ticks}
-use Rattle.schedule_model.specs.RowDef.{RowDef, Trace, is_job, held_before}
+use Rattle.schedule_model.specs.RowDef.{RowDef, Trace, held_before}
 use Rattle.schedule_model.specs.Phase.{Phase, is_local, is_finished, is_asking, executed, phase_of}
 use Rattle.schedule_model.specs.Phase.Phase.{Local, Asking, Finished}
 use Rattle.schedule_model.specs.Activity.{task_of, is_active, active_job_of, is_requester, issue_tick_of, holds_by}
@@ -14,6 +14,7 @@ use Rattle.schedule_laws.proofs.Agreement.{executed_agree, phase_agree, issue_ag
 use Rattle.schedule_laws.proofs.Ticks.{finished_true, finished_executed}
 use Rattle.schedule_laws.proofs.ActiveJobs.{Active, active_is, active_from, active_listed, active_job_from, active_job_missing}
 use Rattle.schedule_laws.proofs.Rows.{job_named, named_job}
+use Rattle.schedule_laws.proofs.DpcpAgreement.{holds_agree}
 use Rattle.phase_machine.specs.declared.place.ScriptPlace.{ScriptPlace}
 use Rattle.phase_machine.specs.MachineDef.{MachineDef, IsMachine, IsPlace, place_of, task_in, segment_in, under}
 use Rattle.phase_machine.specs.Now.{phase_in, phase_at_place, phase_now, current_in, current_now, active_now}
@@ -165,13 +166,16 @@ current_from m rows j shows h =
       ]
     ]
 
+-- A job of task x that isn't its current one isn't active.
+pub not_current : (m : MachineDef) (rows : ℕ → RowDef) (x k : ℕ) (o : Option ℕ) → Shows m rows → current_now m x ≡ o
+    → (o ≡ Some k → ⊥) → task_in m.list.jobs k ≡ x → is_active (under m rows) m.tick k ≡ true → ⊥
+not_current m rows x k o shows e other own h =
+    other (sym e ∙ ap (current_now m) (sym own) ∙ current_from m rows k shows h)
+
 none_active : (m : MachineDef) (rows : ℕ → RowDef) (x j : ℕ) → Shows m rows → current_now m x ≡ None
     → task_of (under m rows) j ≡ x → is_active (under m rows) m.tick j ≡ false
 none_active m rows x j shows e own =
-    false_from_ne_true (is_active (under m rows) m.tick j) (λ h. absent (current_from m rows j shows h))
-  where
-    absent : current_now m (task_in m.list.jobs j) ≡ Some j → ⊥
-    absent f = let x : None ≡ Some j = sym e ∙ ap (current_now m) (sym own) ∙ f in cc
+    false_from_ne_true (is_active (under m rows) m.tick j) (not_current m rows x j None shows e (λ (f : None ≡ Some j). cc) own)
 
 -- So the current job is the active job of the task.
 pub current_is : (m : MachineDef) (rows : ℕ → RowDef) (x : ℕ) → Shows m rows → x < length m.list.set.tasks
@@ -213,7 +217,7 @@ active_shown m rows j shows = same_bool (active_now m j) (is_active (under m row
     (active_true m rows j shows) (active_back m rows j shows)
 
 -- Two tests that ask for an active job agree where they do for a listed one.
-same_where_active : (a b : Bool) (c d : Bool) → a ≡ b → (b ≡ true → c ≡ d) → (a && c) ≡ (b && d)
+pub same_where_active : (a b : Bool) (c d : Bool) → a ≡ b → (b ≡ true → c ≡ d) → (a && c) ≡ (b && d)
 same_where_active a true c d e h = rw e (h refl)
 same_where_active a false c d e h = rw e refl
 
@@ -229,11 +233,6 @@ requester_shown m rows q j shows =
 pub holder_shown : (m : MachineDef) (rows : ℕ → RowDef) (q : ℕ) → Shows m rows → holder_now m q ≡ held_before (under m rows) m.tick q
 holder_shown m rows q shows = shows.holders q
 
-holds_same : (f g : ℕ → Option ℕ) (j : ℕ) (p : Phase) → ((q : ℕ) → f q ≡ g q) → holds_by f j p ≡ holds_by g j p
-holds_same f g j (Asking n q) h = ap (is_job j) (h q)
-holds_same f g j Local h = refl
-holds_same f g j Finished h = refl
-
 pub ready_shown : (m : MachineDef) (rows : ℕ → RowDef) (j : ℕ) → Shows m rows → ready_now m j ≡ is_ready_before (under m rows) m.tick j
 unfolding ready_now is_ready_before
 ready_shown m rows j shows =
@@ -243,7 +242,7 @@ ready_shown m rows j shows =
     (active_shown m rows j shows)
     (λ h. ap (λ p. is_local p || holds_by (holder_now m) j p) (phase_shown m rows j shows (active_listed (under m rows) m.tick j h))
     ∙ ap (λ b. is_local (phase_of (under m rows) m.tick j) || b)
-    (holds_same (holder_now m) (held_before (under m rows) m.tick) j (phase_of (under m rows) m.tick j) shows.holders))
+    (holds_agree (holder_now m) (held_before (under m rows) m.tick) j shows.holders (phase_of (under m rows) m.tick j)))
 
 pub waiting_shown : (m : MachineDef) (rows : ℕ → RowDef) (j : ℕ) → Shows m rows
     → waiting_now m j ≡ is_waiting_before (under m rows) m.tick j

@@ -11,3 +11,4 @@ pub mod Least
 pub mod Coming
 pub mod Named
 pub mod Existence
+pub mod Pushed

@@ -89,8 +89,9 @@ ahead_of m least i j machine is some l e =
             omega (arith, ap (λ k. (job_of m.list.jobs k).release) equal)
       ]
 
-within : (c j : ℕ) (names : List (Option ℕ)) → get_or names c None ≡ Some j → c < length names
-within c j names e = elim (cases_lt c (length names)) [
+-- A place that names a job is within the list.
+pub place_within : (names : List (Option ℕ)) (c j : ℕ) → get_or names c None ≡ Some j → c < length names
+place_within names c j e = elim (cases_lt c (length names)) [
   | inl l ↦ l
   | inr past ↦ let x : None ≡ Some j = sym (get_or_past names c None past) ∙ e in absurd (cc)
 ]
@@ -102,7 +103,7 @@ unfolding left_now
 left_of m row most least i j is runs e = at (runs_where row j runs) where
   at : (k : ℕ) × (running_on row k ≡ Some j) → least ≤ i
   at (zero, h) = absurd (cc)
-  at (suc c, h) = is.each i (c, j, within c j row.running h, h, e)
+  at (suc c, h) = is.each i (c, j, place_within row.running c j h, h, e)
 
 -- The least of what is left of the phases and of the ticks until the next release is the length of the stretch.
 pub stretch_of : (m : MachineDef) (row : RowDef) (most least : ℕ) → IsMachine m

@@ -1,35 +1,24 @@
 -- The columns of a row one after the other: a job that runs stands in a column, and the places move with each column
 -- that is taken.
-use Rattle.std.proofs.Common.{◌≡◌, ℕ, zero, suc, ◌+◌, ◌<◌, ◌≤◌, ◌||◌, Bool, true, false, List, [], length, get_or, take}
-use Rattle.std.proofs.Common.{refl, sym, ap, ◌∙◌, arith, inl, inr, Option, Some, None}
+use Rattle.std.proofs.Common.{◌≡◌, ℕ, ◌+◌, ◌<◌, ◌≤◌, ◌||◌, true, false, List, length, get_or, take}
+use Rattle.std.proofs.Common.{sym, ap, ◌∙◌, arith, inl, inr, Option, Some, None}
 use Rattle.std.specs.List.{list_any}
 use Rattle.std.proofs.lemmas.Bool.{cases_lt, cases_eq, false_from_ne_true, or_right, ne_eqb}
 use Rattle.std.proofs.lemmas.List.{get_or-take, get_or_past, length-take}
 use Rattle.std.proofs.lemmas.List.Folds.{list_any_more}
+use Rattle.std.proofs.Math.Bool.{or-false}
 use Rattle.schedule_model.specs.JobDef.{JobDef, JobsDef}
-use Rattle.schedule_model.specs.RowDef.{is_job, running_on, runs_in}
-use Rattle.schedule_laws.proofs.Rows.{runs_from, runs_where, named_job}
+use Rattle.schedule_model.specs.RowDef.{is_job}
+use Rattle.schedule_laws.proofs.Rows.{named_job, any_place}
 use Rattle.phase_machine.specs.declared.place.ScriptPlace.{ScriptPlace}
 use Rattle.phase_machine.specs.MachineDef.{task_in, no_place}
 use Rattle.phase_machine.specs.Steps.{StepsTo, MovesTo, ArePlaces, AreCurrent}
-
--- A list that names a job names it at some place, and the other way round.
-pub named_where : (names : List (Option ℕ)) (j : ℕ) → list_any (is_job j) names ≡ true → (c : ℕ) × (get_or names c None ≡ Some j)
-unfolding runs_in
-named_where names j h = at (runs_where (record { running = names; holders = [] }) j h) where
-  at : (k : ℕ) × (running_on (record { running = names; holders = [] }) k ≡ Some j) → (c : ℕ) × (get_or names c None ≡ Some j)
-  at (zero, e) = absurd (cc)
-  at (suc c, e) = (c, e)
-
-pub named_from : (names : List (Option ℕ)) (c j : ℕ) → get_or names c None ≡ Some j → list_any (is_job j) names ≡ true
-unfolding runs_in
-named_from names c j e = runs_from (record { running = names; holders = [] }) (suc c) j e
 
 -- The first columns name a job only where some column before names it.
 pub named_before : (names : List (Option ℕ)) (n j : ℕ) → list_any (is_job j) (take n names) ≡ true
     → (c : ℕ) × (c < n) × (get_or names c None ≡ Some j)
 named_before names n j h =
-    let at : (c : ℕ) × (get_or (take n names) c None ≡ Some j) = named_where (take n names) j h in
+    let at : (c : ℕ) × (get_or (take n names) c None ≡ Some j) = any_place (take n names) j h in
     elim (cases_lt at.0 n) [
       | inl before ↦ (at.0, before, sym (get_or-take n names at.0 None before) ∙ at.1)
       | inr past ↦
@@ -54,10 +43,6 @@ pub column_more : (names : List (Option ℕ)) (n j : ℕ) (o : Option ℕ) → n
     → list_any (is_job j) (take (n + 1) names) ≡ (list_any (is_job j) (take n names) || is_job j o)
 column_more names n j o l e = list_any_more (is_job j) names n None l ∙ ap (λ o. list_any (is_job j) (take n names) || is_job j o) e
 
-or_none : (b : Bool) → (b || false) ≡ b
-or_none true = refl
-or_none false = refl
-
 -- A column that names another job, or none, moves no place.
 pub moved_past : (jobs : List JobDef) (after more x : ℕ) (names : List (Option ℕ)) (n : ℕ) (o : Option ℕ)
     (p q r : ScriptPlace) → n < length names → get_or names n None ≡ o
@@ -68,7 +53,7 @@ moved_past jobs after more x names n o p q r l e other same moves = record {
 } where
   before : list_any (is_job p.job) (take (n + 1) names) ≡ list_any (is_job p.job) (take n names)
   before = column_more names n p.job o l e ∙ ap (λ b. list_any (is_job p.job) (take n names) || b) other
-      ∙ or_none (list_any (is_job p.job) (take n names))
+      ∙ or-false (list_any (is_job p.job) (take n names))
 
 -- The column that names a place's job makes it step.
 pub moved_here : (jobs : List JobDef) (after more x : ℕ) (names : List (Option ℕ)) (n j : ℕ) (p q r : ScriptPlace)

@@ -10,20 +10,14 @@ ghost use Rattle.phase_machine.specs.Taking.{IsRowFor, CanTake, RunsAlone, AreAl
 use crate::machine::Machine;
 use schedule_model::{JobId, Row};
 
-fn are_below(places: &[Option<JobId>], jobs: u32) -> bool
-    ensures { result ≡ list_all (λ o. is_below jobs (place_seen o)) places.now }
+/// Do the places name jobs below this number alone?
+fn name_below(places: &[Option<JobId>], jobs: u32) -> bool
+    ensures { result ≡ names_below jobs (map place_seen places.now) }
 {
     places.iter().all(|place| match place {
         Some(job) => job.0 < jobs,
         None => true,
     })
-}
-
-/// Do the places name jobs below this number alone?
-fn name_below(places: &[Option<JobId>], jobs: u32) -> bool
-    ensures { result ≡ names_below jobs (map place_seen places.now) }
-{
-    are_below(places, jobs)
 }
 
 /// Does one of the first columns run the job?

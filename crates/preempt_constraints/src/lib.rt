@@ -1,7 +1,7 @@
 //! The rows of preemption blocking: what requests of lower tasks on the analysed task's processor can do to it.
 #![tactic(auto)]
 
-ghost use Rattle.std.specs.Prelude.{◌≡◌, ◌<◌, map, length, IfOk, OnOk, [], ◌∷◌, if◌then◌else◌, ◌&&◌};
+ghost use Rattle.std.specs.Prelude.{◌≡◌, ◌<◌, ◌+◌, map, length, IfOk, OnOk, [], ◌∷◌, if◌then◌else◌, ◌&&◌};
 ghost use Rattle.std.proofs.Common.{ap};
 ghost use Rattle.bounded_sums.specs.Sums.{flag};
 ghost use Rattle.program_form.specs.RowBlock.{block_seen};
@@ -10,6 +10,7 @@ ghost use Rattle.sporadic_model.specs.Homes.{HasHomesFor};
 ghost use Rattle.fragments.specs.declared.columns.Class.TheVariants.{Preemption};
 ghost use Rattle.fragments.specs.ColumnDef.{column_seen, is_class, AreKnown};
 ghost use Rattle.fragments.specs.Columns.{columns_of, is_lower_local};
+ghost use Rattle.fragments.specs.Windows.{all_requests};
 ghost use Rattle.fragments.specs.Constraints.{block_of};
 ghost use Rattle.fragments.specs.Stretches.{AreInOrder};
 ghost use Rattle.preempt_constraints.specs.Rows.{interval_row, preemption_rows};
@@ -24,10 +25,15 @@ use std::alloc::{AllocError, Global};
 
 // Of one task: in each interval at which a job of the analysed task can be preempted, at most one of its requests preempts.
 #[derive(Drop)]
-struct Interval;
+struct Interval {
+    // How many intervals a job of the analysed task has: one begins at its release, and one at the end of each request.
+    intervals: u64,
+}
 
 impl TaskRow for Interval {
     ghost row_of = { λ k. interval_row };
+
+    ghost fits = { λ k set i bounds. k.intervals ≡ 1 + all_requests set i };
 
     ghost alone = { λ k set i x c other. ap (λ b. flag (b && is_class Preemption c.class)) other };
 
@@ -39,17 +45,19 @@ impl TaskRow for Interval {
         }
     }
 
-    fn limit(&self, set: &TaskSet, i: TaskId, _x: TaskId, _bounds: &[u64]) -> u64 {
-        1 + requests_of(set, i)
+    fn limit(&self, _set: &TaskSet, _i: TaskId, _x: TaskId, _bounds: &[u64]) -> u64 {
+        self.intervals
     }
 }
 
 // The rows of intervals, one for each lower task on the analysed task's processor.
 #[derive(Drop)]
-struct Intervals;
+struct Intervals(Interval);
 
 impl PerTask for Intervals {
     ghost rows_of = { λ k set i x. if is_lower_local set i x then interval_row set i x ∷ [] else [] };
+
+    ghost fits = { λ k set i bounds. k.0.intervals ≡ 1 + all_requests set i };
 
     fn add<T: RowTaker>(
         &self,
@@ -65,7 +73,7 @@ impl PerTask for Intervals {
         if !lower_local(set, i, x) {
             return Ok(());
         }
-        add_row_of_task(alloc, taker, &Interval, set, i, x, bounds, columns, stretch)
+        add_row_of_task(alloc, taker, &self.0, set, i, x, bounds, columns, stretch)
     }
 }
 
@@ -85,7 +93,10 @@ pub fn add_interval_rows<T: RowTaker>(
     requires order { AreInOrder columns.now }
     ensures { OnOk result (T.takes taker.old (map column_seen columns.now) (preemption_rows set.now i.0) bounds.now taker.new) }
 {
-    add_per_task(alloc, taker, &Intervals, set, i, bounds, columns)
+    let rows = Intervals(Interval {
+        intervals: 1 + requests_of(set, i),
+    });
+    add_per_task(alloc, taker, &rows, set, i, bounds, columns)
 }
 
 /// The rows of preemption blocking, the same under every protocol.

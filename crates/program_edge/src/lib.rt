@@ -4,19 +4,13 @@
 ghost use Rattle.std.specs.Prelude.{◌≡◌, drop, IfOk};
 ghost use Rattle.std.specs.Vec.Iter.{into_iter_items};
 ghost use Rattle.std.specs.Process.{exit_status};
-ghost use Rattle.command_words.specs.Words.{words_seen};
-ghost use Rattle.command_inputs.specs.Statuses.{number_of};
-ghost use Rattle.run_plans.specs.Run.{IsRun};
 ghost use Rattle.program_edge.specs.Edge.{GivesWords, number_ended};
 
-use block_top::{Status, run};
-use outside_ports::{Shelf, Sink};
+use command_inputs::Status;
 use std::alloc::{AllocError, Global};
 use std::env::Args;
 use std::io::{self, ErrorKind};
 use std::process::ExitCode;
-use std::rt::Runtime;
-use std::thread::Threads;
 
 /// The words after the program's name.
 fn words_behind_name(alloc: Global, given: Args) -> Result<Vec<String>, AllocError>
@@ -40,25 +34,6 @@ pub fn words_of(alloc: Global, given: io::Result<Args>) -> Result<Vec<String>, A
         Err(error) if error.kind() == ErrorKind::OutOfMemory => Err(AllocError),
         Err(_) => Ok(Vec::new(alloc)),
     }
-}
-
-/// Answers the words over this shelf and this sink, with this runtime's memory and threads.
-pub fn status_of<R: Runtime + AllocGlobal + Threads + Sync, S: Shelf, K: Sink>(
-    rt: &R,
-    words: &[String],
-    shelf: &mut S,
-    sink: &mut K,
-) -> Status
-    ensures { IsRun (record {
-      words = words_seen words.now;
-      shelf_before = S.seen shelf.old;
-      shelf_now = S.seen shelf.new;
-      sink_before = K.seen sink.old;
-      sink_now = K.seen sink.new;
-      status = number_of result;
-    }) }
-{
-    run(rt, rt.alloc(), words, shelf, sink)
 }
 
 /// How the process ends.

@@ -3,7 +3,7 @@ use Rattle.std.proofs.Common.{◌≡◌, ℕ, ◌^◌, ◌<◌, ◌≤◌, List,
 use Rattle.std.proofs.Common.{◌&&◌, not, nat_lt, nat_le, ◌==◌, cond, Option, Some, None, ◌↔◌, inl, inr}
 use Rattle.std.specs.List.{list_all}
 use Rattle.std.proofs.lemmas.Bool.{and_parts, and_from, cases_Bool, both_ways, not-false, not-true, ltb-true, ltb-false}
-use Rattle.std.proofs.lemmas.Bool.{lt-ltb, le-ltb, leb-true, le-leb, eqb-true, eq-eqb}
+use Rattle.std.proofs.lemmas.Bool.{lt-ltb, le-ltb, leb-true, le-leb, eqb-true, eq-eqb, not_from_true, not_from_false}
 use Rattle.bounded_sums.proofs.TestLaws.{any_below-some, any_below-from, any_below-none, any_below-none_from}
 use Rattle.bounded_sums.proofs.TestLaws.{first_below-before, first_below-passes, first_below-is}
 use Rattle.program_form.specs.Program.{ProgramDef, HasLengths, IsCovered, IsFirstUncovered, AreSmall, IsProgram}
@@ -46,12 +46,6 @@ uncovered_shown p c h = any_below-none_from (height p) (λ r. nat_lt 0 (entry p 
 abbrev first_at : ProgramDef → ℕ
 first_at p = first_uncovered (columns p) p.rows
 
-not_of_true : (b : Bool) → b ≡ true → not b ≡ false
-not_of_true b h = rw h refl
-
-not_of_false : (b : Bool) → b ≡ false → not b ≡ true
-not_of_false b h = rw h refl
-
 before_first : (p : ProgramDef) (d : ℕ) → d < first_at p → IsCovered p d
 before_first p d l =
     covered_held p d (not-false (is_covered p.rows d) (first_below-before (columns p) (λ c. not (is_covered p.rows c)) d l))
@@ -68,13 +62,13 @@ first_shown : (p : ProgramDef) (c : ℕ) → IsFirstUncovered p c → first_at p
 first_shown p c h =
     let within : c < columns p = h.within in
     first_below-is (columns p) (λ c. not (is_covered p.rows c)) c (omega arith)
-    (λ d l. not_of_true (is_covered p.rows d) (covered_shown p d (h.earlier d l)))
-    (λ l. not_of_false (is_covered p.rows c) (uncovered_shown p c h.none))
+    (λ d l. not_from_true (is_covered p.rows d) (covered_shown p d (h.earlier d l)))
+    (λ l. not_from_false (is_covered p.rows c) (uncovered_shown p c h.none))
 
 none_first : (p : ProgramDef) → ((c : ℕ) → c < columns p → IsCovered p c) → first_at p ≡ columns p
 none_first p h =
     first_below-is (columns p) (λ c. not (is_covered p.rows c)) (columns p) (omega arith)
-    (λ d l. not_of_true (is_covered p.rows d) (covered_shown p d (h d l)))
+    (λ d l. not_from_true (is_covered p.rows d) (covered_shown p d (h d l)))
     (λ l. absurd (omega arith))
 
 all_small_at : (xs : List ℕ) → are_small xs ≡ true → (i : ℕ) → slice_index xs i ≤ MOST_NUMBER

@@ -1,11 +1,7 @@
--- A test of all elements of a list, after a map and at one place.
-use Rattle.std.proofs.Common.{◌≡◌, ℕ, zero, suc, ◌<◌, List, [], ◌∷◌, length, get_or, map, refl, ap, arith, Bool, true, ◌&&◌}
+-- A test of all elements of a list, and of the one at a place.
+use Rattle.std.proofs.Common.{◌≡◌, ℕ, zero, suc, ◌<◌, List, [], ◌∷◌, length, get_or, refl, arith, Bool, true}
 use Rattle.std.specs.List.{list_all}
 use Rattle.std.proofs.lemmas.Bool.{and_parts, and_from}
-
-pub list_all-map : {X Y : Type 0} (f : X → Y) (p : Y → Bool) (xs : List X) → list_all p (map f xs) ≡ list_all (λ x. p (f x)) xs
-list_all-map f p [] = refl
-list_all-map f p (x ∷ xs) = ap (λ b. p (f x) && b) (list_all-map f p xs)
 
 -- what passes at the default passes at every place
 pub list_all-place : {X : Type 0} (p : X → Bool) (d : X) (xs : List X) → p d ≡ true → list_all p xs ≡ true → (i : ℕ)

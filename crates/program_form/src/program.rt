@@ -119,6 +119,14 @@ impl Program {
     {
         self.limits[r as usize]
     }
+
+    /// What the sum of each row may be at most.
+    pub fn limits(&self) -> &[u64]
+        ensures value { result.now ≡ self.now.limits }
+        ensures program { IsProgram self.now }
+    {
+        &self.limits
+    }
 }
 
 // The coefficient at a row and a column.

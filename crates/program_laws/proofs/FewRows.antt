@@ -9,7 +9,7 @@ use Rattle.std.proofs.lemmas.List.Elements.{filter-append, All-head, All-tail}
 use Rattle.bounded_sums.specs.Sums.{sum_below, flag, only_if}
 use Rattle.bounded_sums.specs.Tests.{count_below}
 use Rattle.bounded_sums.proofs.SumLaws.{sum_below-agree, sum_below-monotone}
-use Rattle.bounded_sums.proofs.CountLaws.{flag-at_most, flag-of_false, count_below-at_most, count_below-monotone}
+use Rattle.bounded_sums.proofs.CountLaws.{flag-at_most, flag-of_false, count_below-at_most, count_below-monotone, flag-passes}
 use Rattle.program_form.specs.Program.{height}
 use Rattle.sporadic_model.specs.SetDef.{SetDef}
 use Rattle.sporadic_model.specs.Users.{is_user, length_of}
@@ -140,21 +140,17 @@ where_rows_few test set i only row accepted here others of =
       f.tasks,
     )
 
-pub flag_passes : (b : Bool) → 0 < flag b → b ≡ true
-flag_passes true h = refl
-flag_passes false h = absurd (omega arith)
-
 only_passes : (b : Bool) (n : ℕ) → 0 < only_if b n → b ≡ true
 only_passes true n h = refl
 only_passes false n h = absurd (omega arith)
 
 flagged_pair : (a b : Bool) → 0 < flag (a && b) → a ≡ true
-flagged_pair a b h = (and_parts a b (flag_passes (a && b) h)).0
+flagged_pair a b h = (and_parts a b (flag-passes (a && b) h)).0
 
 request_of : (set : SetDef) (i x q : ℕ) → IsOfPair x q (request_row set i x q)
 request_of set i x q c some =
     let both : ((c.task == x) ≡ true) × ((c.resource == q) ≡ true) =
-    and_parts _ _ (flag_passes ((c.task == x) && (c.resource == q)) some) in
+    and_parts _ _ (flag-passes ((c.task == x) && (c.resource == q)) some) in
     (eqb-true _ _ both.0, eqb-true _ _ both.1)
 
 time_of : (set : SetDef) (i x : ℕ) → IsOfTask x (time_row set i x)

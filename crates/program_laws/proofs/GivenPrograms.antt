@@ -1,9 +1,9 @@
 -- The lists of columns and rows that are written down are a program, and its limits rise with the bounds.
-use Rattle.std.proofs.Common.{ℕ, ◌<◌, ◌≤◌, ◌^◌, Bool, List, [], ◌∷◌, map, length, refl, sym, ◌∙◌, ap, arith}
+use Rattle.std.proofs.Common.{◌≡◌, ℕ, ◌<◌, ◌≤◌, ◌^◌, Bool, List, [], ◌∷◌, map, length, refl, sym, ◌∙◌, ap, arith}
 use Rattle.std.specs.Prelude.{slice_index, slice_index_or}
 use Rattle.std.specs.List.{All, Contains}
 use Rattle.std.proofs.lemmas.List.{get_or-map, length-map}
-use Rattle.std.proofs.lemmas.List.Elements.{All-nil, All-cons, All-filter, All-map, All-weaker}
+use Rattle.std.proofs.lemmas.List.Elements.{All-nil, All-cons, All-head, All-tail, All-filter, All-map, All-weaker}
 use Rattle.program_form.specs.Program.{IsProgram, HasLengths, AreSmall}
 use Rattle.program_form.specs.Limits.{HasLimitsAtMost}
 use Rattle.sporadic_model.specs.SetDef.{SetDef}
@@ -28,6 +28,21 @@ limits_at_most set cs rows r s rise = record {
   limits = λ k l. index_rises (λ row. row.limit (slice_index r)) (λ row. row.limit (slice_index s)) (rows_there cs rows)
       (All-filter (holds_some cs) (Rises r s) rows rise) k;
 }
+
+-- Rows that rise both ways have the same limits.
+same_limits : (rows : List ConstraintDef) (r s : List ℕ) → All (Rises r s) rows → All (Rises s r) rows
+    → map (λ row. row.limit (slice_index r)) rows ≡ map (λ row. row.limit (slice_index s)) rows
+same_limits [] r s rise fall = refl
+same_limits (row ∷ rows) r s rise fall =
+    let one : row.limit (slice_index r) ≡ row.limit (slice_index s) =
+    omega (arith, All-head (Rises r s) row rows rise, All-head (Rises s r) row rows fall) in
+    ap (λ n. n ∷ map (λ (k : ConstraintDef). k.limit (slice_index r)) rows) one
+    ∙ ap (λ ns. row.limit (slice_index s) ∷ ns) (same_limits rows r s (All-tail (Rises r s) row rows rise) (All-tail (Rises s r) row rows fall))
+
+pub limits_stay : (set : SetDef) (cs : List ColumnDef) (rows : List ConstraintDef) (r s : List ℕ) → All (Rises r s) rows
+    → All (Rises s r) rows → (program_with set cs rows r).limits ≡ (program_with set cs rows s).limits
+limits_stay set cs rows r s rise fall = same_limits (rows_there cs rows) r s (All-filter (holds_some cs) (Rises r s) rows rise)
+    (All-filter (holds_some cs) (Rises s r) rows fall)
 
 all_of : {X : Type 0} (xs : List X) (P : X → Type 0) → ((x : X) → P x) → All P xs
 all_of [] P holds = All-nil P

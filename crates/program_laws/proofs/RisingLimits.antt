@@ -1,4 +1,4 @@
--- No limit of a row falls where bounds rise.
+-- No limit of a row falls where as many jobs of each task can run or more, as where bounds rise.
 use Rattle.std.proofs.Common.{ℕ, ◌+◌, ◌<◌, ◌≤◌, Bool, true, false, List, length, arith}
 use Rattle.std.specs.Prelude.{slice_index}
 use Rattle.std.specs.List.{All}
@@ -14,48 +14,51 @@ use Rattle.fragments.specs.Windows.{jobs_in, requests_in}
 use Rattle.direct_constraints.specs.Rows.{time_row, common_rows}
 use Rattle.preempt_constraints.specs.Rows.{preemption_rows}
 use Rattle.indirect_constraints.specs.Rows.{is_beside, higher_holdings, lower_holdings, holdings}
-use Rattle.program_laws.specs.Written.{Rises}
+use Rattle.program_laws.specs.Written.{Rises, HasJobsAtMost, KeepsJobs}
 use Rattle.program_laws.proofs.RowKinds.{EachKind, common_each, preemption_each}
 
-pub jobs_rise : (set : SetDef) (r s : List ℕ) (i x : ℕ) → slice_index r i ≤ slice_index s i → slice_index r x ≤ slice_index s x
-    → jobs_in set (slice_index r) i x ≤ jobs_in set (slice_index s) i x
-jobs_rise set r s i x own other = div_ceil_rises (slice_index r i + (slice_index r x + (task_at set x).jitter))
-    (slice_index s i + (slice_index s x + (task_at set x).jitter)) (task_at set x).period (omega arith)
+-- Where bounds rise, as many jobs can run or more.
+pub jobs_rise : (set : SetDef) (r s : List ℕ) (i : ℕ) → i < length set.tasks → AtMost (length set.tasks) r s → HasJobsAtMost set i r s
+jobs_rise set r s i here h x there = div_ceil_rises (slice_index r i + (slice_index r x + (task_at set x).jitter))
+    (slice_index s i + (slice_index s x + (task_at set x).jitter)) (task_at set x).period (omega (arith, h i here, h x there))
 
-pub requests_rise : (set : SetDef) (r s : List ℕ) (i x q : ℕ) → slice_index r i ≤ slice_index s i → slice_index r x ≤ slice_index s x
+-- Where as many can run, no more can at one than at the other.
+pub jobs_stay : (set : SetDef) (r s : List ℕ) (i : ℕ) → KeepsJobs set i r s → (HasJobsAtMost set i r s) × HasJobsAtMost set i s r
+jobs_stay set r s i same = (λ x there. omega (arith, same x there), λ x there. omega (arith, same x there))
+
+pub requests_rise : (set : SetDef) (r s : List ℕ) (i x q : ℕ) → jobs_in set (slice_index r) i x ≤ jobs_in set (slice_index s) i x
     → requests_in set (slice_index r) i x q ≤ requests_in set (slice_index s) i x q
-requests_rise set r s i x q own other = mul-le-mul_left (count_of set x q) (jobs_rise set r s i x own other)
+requests_rise set r s i x q jobs = mul-le-mul_left (count_of set x q) jobs
 
 pub only_if_rises : (b : Bool) (m n : ℕ) → m ≤ n → only_if b m ≤ only_if b n
 only_if_rises true m n h = h
 only_if_rises false m n h = omega arith
 
-pub holdings_rise : (set : SetDef) (r s : List ℕ) (i x : ℕ) → i < length set.tasks → AtMost (length set.tasks) r s
+pub holdings_rise : (set : SetDef) (r s : List ℕ) (i x : ℕ) → i < length set.tasks → HasJobsAtMost set i r s
     → holdings set (slice_index r) i x ≤ holdings set (slice_index s) i x
 holdings_rise set r s i x here h = sum_below-monotone (length set.resources) _ _ (λ q l.
     let higher : higher_holdings set (slice_index r) i x q ≤ higher_holdings set (slice_index s) i x q =
-    sum_below-monotone i _ _ (λ y a. only_if_rises (is_beside set x y) _ _ (requests_rise set r s i y q (h i here) (h y (omega arith)))) in
+    sum_below-monotone i _ _ (λ y a. only_if_rises (is_beside set x y) _ _ (requests_rise set r s i y q (h y (omega arith)))) in
     only_if_rises (is_user set q i) (higher_holdings set (slice_index r) i x q + lower_holdings set i x q)
     (higher_holdings set (slice_index s) i x q + lower_holdings set i x q) (omega arith))
 
-pub time_rises : (set : SetDef) (r s : List ℕ) (i x : ℕ) → slice_index r i ≤ slice_index s i → slice_index r x ≤ slice_index s x
+pub time_rises : (set : SetDef) (r s : List ℕ) (i x : ℕ) → jobs_in set (slice_index r) i x ≤ jobs_in set (slice_index s) i x
     → Rises r s (time_row set i x)
-time_rises set r s i x own other = mul-le-mul_left (task_at set x).cost (jobs_rise set r s i x own other)
+time_rises set r s i x jobs = mul-le-mul_left (task_at set x).cost jobs
 
 -- The rows that every protocol has rise.
-pub common_rises : (set : SetDef) (i : ℕ) (r s : List ℕ) → i < length set.tasks → AtMost (length set.tasks) r s
-    → All (Rises r s) (common_rows set i)
-common_rises set i r s here h = common_each (Rises r s) set i (λ x q a b. requests_rise set r s i x q (h i here) (h x a))
-    (λ x a. time_rises set r s i x (h i here) (h x a))
+pub common_rises : (set : SetDef) (i : ℕ) (r s : List ℕ) → HasJobsAtMost set i r s → All (Rises r s) (common_rows set i)
+common_rises set i r s h = common_each (Rises r s) set i (λ x q a b. requests_rise set r s i x q (h x a))
+    (λ x a. time_rises set r s i x (h x a))
 
 pub preemption_rises : (set : SetDef) (i : ℕ) (r s : List ℕ) → All (Rises r s) (preemption_rows set i)
 preemption_rises set i r s = preemption_each (Rises r s) set i (λ x a local. omega arith)
 
 pub limits_rise : (p : Protocol) (set : SetDef) (i : ℕ) (r s : List ℕ) → i < length set.tasks
-    → AtMost (length set.tasks) r s → EachKind (Rises r s) p set i
+    → HasJobsAtMost set i r s → EachKind (Rises r s) p set i
 limits_rise p set i r s here h = record {
-  request = λ x q a b. requests_rise set r s i x q (h i here) (h x a);
-  time = λ x a. time_rises set r s i x (h i here) (h x a);
+  request = λ x q a b. requests_rise set r s i x q (h x a);
+  time = λ x a. time_rises set r s i x (h x a);
   interval = λ x a local. omega arith;
   turn = λ e x q a b. omega arith;
   queue = λ e x a. omega arith;

@@ -9,6 +9,7 @@ use Rattle.std.specs.Str.{bytes_eq}
 use Rattle.std.proofs.lemmas.Bool.{cases_lt}
 use Rattle.std.proofs.lemmas.Grind.{div_ceil_times}
 use Rattle.std.proofs.Math.Nat.{mul-le-mul_left, mul-le-mul_right}
+use Rattle.std.proofs.lemmas.Nat.{mul-le}
 use Rattle.bounded_sums.specs.Sums.{flag, only_if, sum_below}
 use Rattle.bounded_sums.specs.Tests.{any_below}
 use Rattle.bounded_sums.proofs.CountLaws.{flag-at_most}
@@ -77,24 +78,18 @@ jobs_small set r i x accepted within here there =
     (omega (arith, numbers.cost_from, numbers.cost_to, numbers.deadline_to)) in
     omega (arith, jobs, bound_small set r i accepted within here, late_bound_small set r x accepted within there)
 
-pub times_at_most : (a b m n : ℕ) → a ≤ m → b ≤ n → a * b ≤ m * n
-times_at_most a b m n h k =
-    let left : a * b ≤ m * b = mul-le-mul_right b h in
-    let right : m * b ≤ m * n = mul-le-mul_left m k in
-    omega (arith, left, right)
-
 pub requests_small : (set : SetDef) (r : List ℕ) (i x q : ℕ) → IsAccepted set → AreWithinDeadlines set r
     → i < length set.tasks → x < length set.tasks
     → requests_in set (slice_index r) i x q ≤ 2000000000000
 requests_small set r i x q accepted within here there =
-    times_at_most (count_of set x q) (jobs_in set (slice_index r) i x) 1000 2000000000
+    mul-le (count_of set x q) (jobs_in set (slice_index r) i x) 1000 2000000000
     (count_small set x q accepted there) (jobs_small set r i x accepted within here there)
 
 pub time_small : (set : SetDef) (r : List ℕ) (i x : ℕ) → IsAccepted set → AreWithinDeadlines set r → i < length set.tasks → x < length set.tasks
     → (task_at set x).cost * jobs_in set (slice_index r) i x ≤ 2000000000000000000
 time_small set r i x accepted within here there =
     let numbers = numbers_of_accepted set x accepted there in
-    times_at_most (task_at set x).cost (jobs_in set (slice_index r) i x) 1000000000 2000000000
+    mul-le (task_at set x).cost (jobs_in set (slice_index r) i x) 1000000000 2000000000
     (omega (arith, numbers.cost_to, numbers.deadline_to, numbers.period_to))
     (jobs_small set r i x accepted within here there)
 

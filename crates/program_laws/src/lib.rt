@@ -15,7 +15,7 @@ ghost use Rattle.fragments.specs.ColumnDef.{ColumnDef};
 ghost use Rattle.fragments.specs.Columns.{columns_where, columns_of, AreRequests};
 ghost use Rattle.fragments.specs.Constraints.{ConstraintDef};
 ghost use Rattle.program_laws.specs.Programs.{program_with, program_of};
-ghost use Rattle.program_laws.specs.Written.{AreWritten, Rises};
+ghost use Rattle.program_laws.specs.Written.{AreWritten, Rises, KeepsJobs};
 ghost use Rattle.program_laws.specs.Worked.{three_tasks, sizes};
 
 /// Columns and rows that are written down for an accepted set make a program, whatever the protocol: each column is covered, and no
@@ -31,6 +31,12 @@ pub fn limits_rise_with_rows()
         → HasLimitsAtMost (program_with set columns rows r) (program_with set columns rows s) }
 {}
 
+/// Where each row rises both ways, the limits are the same.
+pub fn limits_stay_with_rows()
+    ensures { (set : SetDef) (columns : List ColumnDef) (rows : List ConstraintDef) (r s : List ℕ) → All (Rises r s) rows
+        → All (Rises s r) rows → (program_with set columns rows r).limits ≡ (program_with set columns rows s).limits }
+{}
+
 /// The lists of a task of an accepted set, at bounds within the deadlines, are a program: each column is covered, and no
 /// number is large.
 pub fn written_programs_are_accepted()
@@ -42,6 +48,12 @@ pub fn written_programs_are_accepted()
 pub fn limits_rise_with_bounds()
     ensures { (p : Protocol) (set : SetDef) (i : ℕ) (r s : List ℕ) → i < length set.tasks → AtMost (length set.tasks) r s
         → HasLimitsAtMost (program_of p set i r) (program_of p set i s) }
+{}
+
+/// And they depend on the bounds only by how many jobs of each task can run within the bound of a job of the analysed one.
+pub fn limits_follow_jobs()
+    ensures { (p : Protocol) (set : SetDef) (i : ℕ) (r s : List ℕ) → i < length set.tasks → KeepsJobs set i r s
+        → (program_of p set i r).limits ≡ (program_of p set i s).limits }
 {}
 
 /// Of columns that are requests by users of their resources, at most three stand for each request entry of the set, so at most 768.

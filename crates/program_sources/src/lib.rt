@@ -14,5 +14,5 @@ pub use laws::{
     fitting_bounds_are_from_the_costs, recurrence_is_monotone, the_recurrence_has_one_value,
     valid_certificates_fit,
 };
-pub use source::{ProgramSource, limits_of};
+pub use source::ProgramSource;
 pub use times::response;

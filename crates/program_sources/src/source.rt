@@ -1,4 +1,4 @@
-ghost use Rattle.std.specs.Prelude.{◌≡◌, ℕ, ◌*◌, ◌<◌, ◌≤◌, List, length, IfOk};
+ghost use Rattle.std.specs.Prelude.{◌≡◌, ℕ, ◌*◌, ◌<◌, ◌≤◌, List, length, IfOk, IsTrue};
 ghost use Rattle.program_form.specs.Program.{IsProgram, IsCovered, columns};
 ghost use Rattle.program_form.specs.Limits.{HasLimitsAtMost};
 ghost use Rattle.sporadic_model.specs.SetDef.{SetDef, task_at};
@@ -9,17 +9,6 @@ ghost use Rattle.program_sources.specs.Recurrence.{SourceDef, interference_of};
 use program_form::Program;
 use sporadic_model::{TaskId, TaskSet};
 use std::alloc::{AllocError, Global};
-
-/// The limits of a program's rows.
-pub fn limits_of(alloc: Global, program: &Program) -> Result<Vec<u64>, AllocError>
-    ensures { IfOk result (λ v. v.items ≡ program.now.limits) }
-{
-    let mut limits = Vec::new(alloc);
-    for r in 0..program.rows() {
-        limits.push(program.limit(r))?;
-    }
-    Ok(limits)
-}
 
 /// A source of blocking programs: for each set that it serves a program of each task at a vector of bounds, and each task's
 /// interfering cost. Bounds are in ticks, one for each task.
@@ -60,7 +49,21 @@ pub trait ProgramSource {
     {
         // a source that can compute limits alone does so
         let program = self.program(alloc, set, i, bounds)?;
-        limits_of(alloc, &program)
+        program.limits().to_vec(alloc)
+    }
+
+    /// Has task `i`'s program surely the same limits at these bounds as at the earlier ones? Then a caller that has it, and its solution,
+    /// goes on with both. A source that can't tell answers no.
+    fn keeps_limits(&self, set: &TaskSet, i: TaskId, earlier: &[u64], bounds: &[u64]) -> bool
+        requires serves { serves self.now set.now }
+        requires task { i.0 < length set.now.tasks }
+        requires earlier { AreWithinDeadlines set.now earlier.now }
+        requires within { AreWithinDeadlines set.now bounds.now }
+        ensures { IsTrue result → ((source self.now set.now).program i.0 earlier.now).limits
+            ≡ ((source self.now set.now).program i.0 bounds.now).limits }
+    {
+        // whoever asks then computes the limits and compares them
+        false
     }
 
     /// The ticks that the recurrence counts for jobs of all higher tasks on `i`'s processor together.

@@ -16,24 +16,16 @@ use program_form::{Program, RowBlock, refusals_are_exact};
 use sporadic_model::{Protocol, TaskId, TaskSet};
 use std::alloc::{AllocError, Global};
 
-// The lengths of the columns' requests, in ticks.
-fn lengths(alloc: Global, set: &TaskSet, columns: &[Fragment]) -> Result<Vec<u64>, AllocError>
+/// What any columns of the set are worth: the lengths of their requests, in ticks.
+pub fn costs(alloc: Global, set: &TaskSet, columns: &[Fragment]) -> Result<Vec<u64>, AllocError>
     requires { AreKnown (length set.now.tasks) (length set.now.resources) columns.now }
-    ensures { IfOk result (λ v. v.items ≡ map (λ c. cost_of set.now (column_seen c)) columns.now) }
+    ensures { IfOk result (λ v. v.items ≡ map (cost_of set.now) (map column_seen columns.now)) }
 {
     let mut costs = Vec::with_capacity(alloc, columns.len())?;
     for column in columns {
         costs.push(set.length(column.task, column.resource))?;
     }
     Ok(costs)
-}
-
-/// What any columns of the set are worth: the lengths of their requests, in ticks.
-pub fn costs(alloc: Global, set: &TaskSet, columns: &[Fragment]) -> Result<Vec<u64>, AllocError>
-    requires { AreKnown (length set.now.tasks) (length set.now.resources) columns.now }
-    ensures { IfOk result (λ v. v.items ≡ map (cost_of set.now) (map column_seen columns.now)) }
-{
-    lengths(alloc, set, columns)
 }
 
 /// Adds all rows of the protocol, in their order, behind those that the taker has.

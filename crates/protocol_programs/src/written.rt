@@ -1,4 +1,4 @@
-use crate::{interference, limits, program};
+use crate::{interference, keeps_jobs, limits, program};
 use program_form::Program;
 use program_sources::ProgramSource;
 use sporadic_model::{Protocol, TaskId, TaskSet};
@@ -46,6 +46,10 @@ impl ProgramSource for Written {
         bounds: &[u64],
     ) -> Result<Vec<u64>, AllocError> {
         limits(alloc, set, self.0, i, bounds)
+    }
+
+    fn keeps_limits(&self, set: &TaskSet, i: TaskId, earlier: &[u64], bounds: &[u64]) -> bool {
+        keeps_jobs(set, i, earlier, bounds)
     }
 
     fn interference(&self, set: &TaskSet, i: TaskId, bounds: &[u64]) -> u64 {

@@ -4,6 +4,7 @@ use Rattle.std.proofs.Common.{append_assoc, Ok, Err, IfOk}
 use Rattle.std.specs.Prelude.{Result, slice_index}
 use Rattle.std.proofs.lemmas.List.{append-nil}
 use Rattle.program_form.specs.Certificate.{DualDef}
+use Rattle.program_form.specs.Program.{ProgramDef}
 use Rattle.program_sources.specs.Bounds.{IsInRange}
 use Rattle.program_sources.specs.Recurrence.{SourceDef}
 use Rattle.program_sources.specs.Fitting.{ComesUpAbove, tasks_of, latest_of}
@@ -46,22 +47,23 @@ found_first f r left round used values = record {
 }
 
 -- One more task passes.
-pub found_more : (f : SourceDef) (r : List ℕ) (left i latest : ℕ) (earlier : List StepDef) (before now : Round) (run : PointRun)
+pub found_more : (f : SourceDef) (r : List ℕ) (left i latest : ℕ) (earlier : List StepDef) (before now : Round)
+    (program : ProgramDef) (run : PointRun)
     → latest ≡ latest_of f i → HasFound f r left i earlier before → GivesPointRun (Ok run) f r i (left - before.used)
-    → TakesRun (Ok now) before run i latest → HasFound f r left (i + 1) earlier now
-found_more f r left i latest earlier before now run is old (runs, steps, least, most) (low, used, values, more) =
+    → TakesRun (Ok now) before program run i latest → HasFound f r left (i + 1) earlier now
+found_more f r left i latest earlier before now program run is old (runs, steps, least, most, solved) (low, used, values, more, kept) =
     let point : DualDef = point_seen run.point in
-    let next : Found = with_task old.found run.used run.value point in
-    let here : PointRuns f r i (left - old.found.used) (Valued run.used run.value point) =
-    subst (λ (n : ℕ). PointRuns f r i (left - n) (Valued run.used run.value point)) (sym old.used) runs in
+    let next : Found = with_task old.found run.solution.used run.value point in
+    let here : PointRuns f r i (left - old.found.used) (Valued run.solution.used run.value point) =
+    subst (λ (n : ℕ). PointRuns f r i (left - n) (Valued run.solution.used run.value point)) (sym old.used) runs in
     let within : run.value ≤ latest_of f i = omega (arith, low, is) in
-    let passed : Passes (refuting f) r left (suc i) next = (old.found, run.used, run.value, point, old.passed, here, within, refl) in
+    let passed : Passes (refuting f) r left (suc i) next = (old.found, run.solution.used, run.value, point, old.passed, here, within, refl) in
     let count : suc i ≡ i + 1 = omega arith in
     let joined : map step_seen now.steps.items ≡ earlier ++ round_steps r next (suc i) =
     more ∙ ap (λ (xs : List StepDef). xs ++ steps_given i run.value run.point) old.steps
     ∙ append_assoc earlier (round_steps r old.found i) (steps_given i run.value run.point)
     ∙ ap (λ (xs : List StepDef). earlier ++ (round_steps r old.found i ++ xs)) steps
-    ∙ ap (λ (xs : List StepDef). earlier ++ xs) (sym (steps_more (refuting f) r left i old.found run.used run.value point old.passed)) in
+    ∙ ap (λ (xs : List StepDef). earlier ++ xs) (sym (steps_more (refuting f) r left i old.found run.solution.used run.value point old.passed)) in
     record {
       found = next;
       passed = subst (λ (k : ℕ). Passes (refuting f) r left k next) count passed;
@@ -91,17 +93,17 @@ run_halts f r left i earlier before solve_stop.Units here old run = (
 run_halts f r left i earlier before solve_stop.Memory here old run = tt
 
 -- It ends at a value that passes the latest.
-pub value_halts : (f : SourceDef) (r : List ℕ) (left i latest : ℕ) (earlier : List StepDef) (before : Round) (run : PointRun)
-    (e : RoundEnd) → i < tasks_of f → latest ≡ latest_of f i → slice_index r i ≤ latest_of f i
+pub value_halts : (f : SourceDef) (r : List ℕ) (left i latest : ℕ) (earlier : List StepDef) (before : Round)
+    (program : ProgramDef) (run : PointRun) (e : RoundEnd) → i < tasks_of f → latest ≡ latest_of f i → slice_index r i ≤ latest_of f i
     → HasFound f r left i earlier before → GivesPointRun (Ok run) f r i (left - before.used)
-    → TakesRun (Err e) before run i latest → GivesRound (Err e) f r left earlier
-value_halts f r left i latest earlier before run (round_end.Refused refusal) here is within old (runs, steps, least, most) (late, all) =
+    → TakesRun (Err e) before program run i latest → GivesRound (Err e) f r left earlier
+value_halts f r left i latest earlier before program run (round_end.Refused refusal) here is within old (runs, steps, least, most, solved) (late, all) =
     let point : DualDef = point_seen run.point in
-    let halts : Halts f r left i (Valued run.used run.value point) = record {
+    let halts : Halts f r left i (Valued run.solution.used run.value point) = record {
       found = old.found;
       below = here;
       passed = old.passed;
-      run = subst (λ (n : ℕ). PointRuns f r i (left - n) (Valued run.used run.value point)) (sym old.used) runs;
+      run = subst (λ (n : ℕ). PointRuns f r i (left - n) (Valued run.solution.used run.value point)) (sym old.used) runs;
     } in
     let past : slice_index r i < run.value = omega (arith, within, is, late) in
     let last : steps_given i run.value run.point ≡ step_of i run.value point ∷ [] =
@@ -109,10 +111,10 @@ value_halts f r left i latest earlier before run (round_end.Refused refusal) her
     let joined : steps_seen refusal ≡ earlier ++ round_steps r old.found i ++ step_of i run.value point ∷ [] =
     all ∙ ap (λ (xs : List StepDef). xs ++ steps_given i run.value run.point) old.steps
     ∙ ap (λ (xs : List StepDef). earlier ++ round_steps r old.found i ++ xs) last in
-    (i, run.used, run.value, point, omega (arith, is, late), halts, joined)
-value_halts f r left i latest earlier before run (round_end.Wide task) here is within old runs given = absurd given
-value_halts f r left i latest earlier before run round_end.Allowance here is within old runs given = absurd given
-value_halts f r left i latest earlier before run round_end.Memory here is within old runs given = tt
+    (i, run.solution.used, run.value, point, omega (arith, is, late), halts, joined)
+value_halts f r left i latest earlier before program run (round_end.Wide task) here is within old runs given = absurd given
+value_halts f r left i latest earlier before program run round_end.Allowance here is within old runs given = absurd given
+value_halts f r left i latest earlier before program run round_end.Memory here is within old runs given = tt
 
 comes_there : (f : SourceDef) (a k spent : ℕ) (r : List ℕ) (i : ℕ) (e : RunEnd) → Reaches (refuting f) a k spent r
     → (h : Halts f r (a - spent) i e) → ComesTo (refuting f) a r i (a - spent - h.found.used) h.found

@@ -6,7 +6,7 @@ use Rattle.std.proofs.Math.Nat.{mul-le-mul_left, le_of_mul-le-mul_right}
 use Rattle.std.proofs.lemmas.Int.{ints, unsigned_abs-mul}
 use Rattle.std.proofs.lemmas.List.{get_or_default}
 use Rattle.std.proofs.lemmas.Grind.{same_number_lists}
-use Rattle.number_laws.proofs.Order.{times_nonneg, cancel_le, cancel}
+use Rattle.number_laws.proofs.Order.{times_nonneg, cancel_le}
 use Rattle.bounded_sums.specs.Sums.{sum_below}
 use Rattle.bounded_sums.proofs.SumLaws.{sum_below-agree, sum_below-times_right}
 use Rattle.fraction128.specs.Fraction.{Fraction, IsForm, whole}
@@ -23,20 +23,15 @@ use Rattle.exchange_runs.specs.Outcomes.{EndsWithin}
 use Rattle.exchange_runs.specs.Readings.{IsPrimal}
 use Rattle.exchange_runs.specs.Table.{variables}
 use Rattle.exchange_runs.proofs.Best.{optimum_at, scaled_shown, shown_scaled}
-use Rattle.exchange_runs.proofs.Finals.{ends_at_optimum, ends_at_point}
+use Rattle.exchange_runs.proofs.Finals.{ends_at_optimum, ends_at_point, one_number}
 use Rattle.exchange_runs.proofs.Once.{forms}
 use Rattle.exchange_runs.proofs.Shown.{Shows}
+use Rattle.exchange_runs.proofs.Signs.{weaker, same_natural}
 use Rattle.refusal_laws.specs.Steps.{whole_worth}
 use Rattle.refusal_cert.specs.Refuting.{IsWritten, IsUnwritable}
 
-same_natural : (a b : ℕ) → pos a ≡ pos b → a ≡ b
-same_natural a b e = omega (arith, ints)
-
 above_zero : (n : ℕ) → 0 < n → pos 0 <ℤ pos n
 above_zero n h = omega (arith, ints)
-
-weaker : (z : ℤ) → pos 0 <ℤ z → pos 0 ≤ℤ z
-weaker z h = omega (arith, ints)
 
 -- Each number of the best point is a fraction in lowest terms.
 best_form : (p : ProgramDef) (units k : ℕ) (value : Fraction) (best : List Fraction) (d : DualDef) → IsProgram p
@@ -58,7 +53,7 @@ best_forms p units k value best d is ends = λ c x here.
 -- A number over a scale above zero isn't below zero.
 not_below : (s y : ℕ) (f : Fraction) → 0 < s → pos 0 <ℤ f.den → IsScaled s f y → pos 0 ≤ℤ f.num
 not_below s y f above positive scaled =
-    let product : pos 0 ≤ℤ (pos y *ℤ f.den) = times_nonneg (pos y) f.den (natural y) (weaker f.den positive) in
+    let product : pos 0 ≤ℤ (pos y *ℤ f.den) = times_nonneg (pos y) f.den (natural y) (weaker positive) in
     let there : pos 0 ≤ℤ (f.num *ℤ pos s) = subst (λ (z : ℤ). pos 0 ≤ℤ z) scaled.same product in
     cancel_le (pos 0) f.num (pos s) (above_zero s above) (from_zero s (f.num *ℤ pos s) there)
   where
@@ -149,9 +144,6 @@ best_point p units k value best d point b is ends written greatest =
     }
 
 -- A best point is written in one way.
-one_number : (l k j : ℕ) (f : Fraction) → pos 0 <ℤ f.den → IsScaled l f k → IsScaled l f j → k ≡ j
-one_number l k j f positive h i = same_natural k j (cancel (pos k) (pos j) f.den positive (h.same ∙ sym i.same))
-
 form_at : (best : List Fraction) → All IsForm best → (c : ℕ) → c < length best → IsForm (fraction_at best c)
 form_at best all c here = all c (whole (pos 0)) here
 

@@ -1,9 +1,9 @@
 -- The steps of a round, one task more at a time.
-use Rattle.std.proofs.Common.{◌≡◌, ℕ, zero, suc, ◌<◌, ◌≤◌, List, [], ◌∷◌, ◌++◌, length, nat_lt, true, false, refl, ◌∙◌, ap, arith}
+use Rattle.std.proofs.Common.{◌≡◌, ℕ, suc, ◌<◌, ◌≤◌, List, [], ◌∷◌, ◌++◌, length, nat_lt, true, false, refl, ◌∙◌, ap, arith}
 use Rattle.std.specs.Prelude.{slice_index}
 use Rattle.std.proofs.lemmas.Bool.{lt-ltb, le-ltb}
 use Rattle.std.proofs.lemmas.List.{get_or_push, get_or_append_left}
-use Rattle.bounded_sums.specs.Sums.{collect_below}
+use Rattle.bounded_sums.proofs.SumLaws.{collect_below-agree}
 use Rattle.program_form.specs.Certificate.{DualDef}
 use Rattle.program_sources.specs.Valid.{dual_at, no_dual}
 use Rattle.refusal_laws.specs.Steps.{StepDef}
@@ -17,12 +17,6 @@ step_above bound i value point above = let is : nat_lt bound value ≡ true = lt
 
 pub no_step_below : (bound i value : ℕ) (point : DualDef) → value ≤ bound → steps_over bound i value point ≡ []
 no_step_below bound i value point most = let is : nat_lt bound value ≡ false = le-ltb bound value most in rw is refl
-
-collect_agree : {X : Type 0} (n : ℕ) (f g : ℕ → List X) → ((k : ℕ) → k < n → f k ≡ g k) → collect_below n f ≡ collect_below n g
-collect_agree zero f g same = refl
-collect_agree {X} (suc n) f g same =
-    ap (λ (xs : List X). xs ++ f n) (collect_agree n f g (λ k l. same k (omega arith)))
-    ∙ ap (λ (xs : List X). collect_below n g ++ xs) (same n (omega arith))
 
 -- The steps once one more task has passed.
 pub steps_more : (o : RoundsOf) (r : List ℕ) (left i : ℕ) (before : Found) (used value : ℕ) (point : DualDef) → Passes o r left i before
@@ -41,7 +35,7 @@ steps_more o r left i before used value point passed =
     let new_value : slice_index values i ≡ value = get_or_push before.values value 0 i count in
     let new_point : dual_at points i ≡ point = get_or_push before.duals point no_dual i point_count in
     ap (λ (xs : List StepDef). xs ++ steps_over (slice_index r i) i (slice_index values i) (dual_at points i))
-    (collect_agree i (λ k. steps_over (slice_index r k) k (slice_index values k) (dual_at points k))
+    (collect_below-agree i (λ k. steps_over (slice_index r k) k (slice_index values k) (dual_at points k))
     (λ k. steps_over (slice_index r k) k (slice_index before.values k) (dual_at before.duals k)) old)
     ∙ ap (λ (v : ℕ). round_steps r before i ++ steps_over (slice_index r i) i v (dual_at points i)) new_value
     ∙ ap (λ (d : DualDef). round_steps r before i ++ steps_over (slice_index r i) i value d) new_point

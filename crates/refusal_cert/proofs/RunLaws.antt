@@ -1,68 +1,42 @@
 -- What the run of a task's program gives, from what solving it and writing its best point answer.
-use Rattle.std.proofs.Common.{◌≡◌, ℕ, ◌+◌, ◌/◌, ◌<◌, List, pos, ◌≤ℤ◌, unsigned_abs, refl, sym, subst, arith, inl, inr, Ok, Err, Some}
+use Rattle.std.proofs.Common.{◌≡◌, ℕ, ◌<◌, List, pos, ◌≤ℤ◌, refl, sym, subst, arith, inl, inr, Ok, Err, Some}
 use Rattle.std.specs.Prelude.{All, Option, None, slice_index}
 use Rattle.fraction128.specs.Fraction.{Fraction}
 use Rattle.fraction128.specs.Scales.{Scales}
 use Rattle.fraction128.specs.declared.scaling.Scaled.{Scaled}
 use Rattle.fraction128.specs.declared.scaling.ScalingError.TheVariants as scaling
-use Rattle.program_form.specs.Certificate.{dual_seen}
-use Rattle.program_form.specs.Program.{IsProgram}
+use Rattle.program_form.specs.Certificate.{DualDef, dual_seen}
+use Rattle.program_form.specs.Program.{ProgramDef}
 use Rattle.program_form.specs.declared.certificate.Dual.{Dual}
-use Rattle.program_form.proofs.Duality.{optimum_reached}
-use Rattle.exchange_runs.specs.Feasible.{IsOptimumValue}
-use Rattle.exchange_runs.specs.Outcomes.{EndsWithin}
-use Rattle.simplex.specs.Solves.{Solves}
+use Rattle.exchange_runs.proofs.Finals.{one_answer}
 use Rattle.simplex.specs.declared.SolveStop.{SolveStop}
 use Rattle.simplex.specs.declared.SolveStop.TheVariants as solve_stop
-use Rattle.program_sources.specs.Recurrence.{SourceDef, response_with}
+use Rattle.program_sources.specs.Recurrence.{SourceDef}
 use Rattle.response_fixpoint.specs.Rounds.{Valued}
 use Rattle.response_fixpoint.specs.Runs.{TaskRuns}
+use Rattle.response_fixpoint.specs.Solutions.{IsSolution}
+use Rattle.response_fixpoint.specs.Answers.{GivesRun}
+use Rattle.response_fixpoint.specs.declared.task_run.Solution.{Solution}
+use Rattle.response_fixpoint.specs.declared.task_run.TaskRun.{TaskRun}
 use Rattle.response_fixpoint.proofs.AnswerLaws.{run_units}
 use Rattle.refusal_cert.specs.Refuting.{IsUnwritable, GivesPoint, PointRuns}
 use Rattle.refusal_cert.specs.Steps.{steps_over}
-use Rattle.refusal_cert.specs.Answers.{GivesSolved, GivesPointRun, WritesPoint, WritesStep, point_seen, steps_given}
-use Rattle.refusal_cert.specs.declared.task_run.SolvedTask.{SolvedTask}
+use Rattle.refusal_cert.specs.Answers.{GivesPointRun, WritesPoint, WritesStep, point_seen, steps_given}
 use Rattle.refusal_cert.specs.declared.task_run.PointRun.{PointRun}
 use Rattle.refusal_cert.proofs.PointLaws.{best_not_below}
 use Rattle.refusal_cert.proofs.RoundSteps.{step_above, no_step_below}
 
--- A solved program is a run that ends, with its best point.
-pub solved_task : (f : SourceDef) (r : List ℕ) (i units : ℕ) (s : SolvedTask) → IsProgram (f.program i r)
-    → EndsWithin (f.program i r) units s.solved.exchanges s.solved.value s.solved.primal.items (dual_seen s.solved.dual)
-    → IsOptimumValue (f.program i r) s.solved.value
-    → s.value ≡ response_with f r i (unsigned_abs s.solved.value.num / unsigned_abs s.solved.value.den)
-    → GivesSolved (Ok s) f r i units
-solved_task f r i units s is ends best response =
-    let run : TaskRuns f r i units (Valued (s.solved.exchanges + 1) s.value (dual_seen s.solved.dual)) = record {
-      is_program = is;
-      ends = record {
-        exchanges = s.solved.exchanges;
-        optimum = s.solved.value;
-        best = s.solved.primal.items;
-        ends = ends;
-        units = refl;
-        response = record {
-          blocking = unsigned_abs s.solved.value.num / unsigned_abs s.solved.value.den;
-          greatest = optimum_reached (f.program i r) (unsigned_abs s.solved.value.num) (unsigned_abs s.solved.value.den) best.optimum;
-          response = response;
-        };
-      };
-    } in
-    (run, refl)
+-- The numbers of a solution's best point aren't below zero.
+pub solution_not_below : (p : ProgramDef) (s : Solution) → IsSolution p s → All (λ x. pos 0 ≤ℤ x.num) s.best.items
+solution_not_below p s is = best_not_below p s.used is.exchanges is.optimum s.best.items (dual_seen s.dual) is.is_program is.ends
 
-pub stopped_task : (f : SourceDef) (r : List ℕ) (i units : ℕ) (e : SolveStop) → IsProgram (f.program i r)
-    → Solves (Err e) (f.program i r) units → GivesSolved (Err e) f r i units
-stopped_task f r i units solve_stop.Wide is run = record { is_program = is; ends = run }
-stopped_task f r i units solve_stop.Units is run = record { is_program = is; ends = run }
-stopped_task f r i units solve_stop.Memory is run = tt
-
--- The numbers of its best point aren't below zero.
-pub solved_not_below : (f : SourceDef) (r : List ℕ) (i left : ℕ) (s : SolvedTask) → GivesSolved (Ok s) f r i left
-    → All (λ x. pos 0 ≤ℤ x.num) s.solved.primal.items
-solved_not_below f r i left s (run, same) =
-    let ends = run.ends in
-    subst (λ (xs : List Fraction). All (λ (x : Fraction). pos 0 ≤ℤ x.num) xs) same
-    (best_not_below (f.program i r) left ends.exchanges ends.optimum ends.best (dual_seen s.solved.dual) run.is_program ends.ends)
+-- A run that ends with a solution has its best point.
+solved_best : (f : SourceDef) (r : List ℕ) (i left value : ℕ) (s : Solution)
+    (run : TaskRuns f r i left (Valued s.used value (dual_seen s.dual))) → IsSolution (f.program i r) s → run.ends.best ≡ s.best.items
+solved_best f r i left value s run is =
+    let d : DualDef = dual_seen s.dual in
+    (one_answer (f.program i r) left s.used run.ends.exchanges is.exchanges run.ends.optimum is.optimum run.ends.best s.best.items d d
+    run.is_program run.ends.ends is.ends).2
 
 -- Scaled numbers are the written point.
 pub scaled_point : (best : List Fraction) (s : Scaled) (point : Dual) → Scales (Ok s) best → point.den ≡ s.den → point.num ≡ s.num
@@ -96,34 +70,35 @@ given_steps : (i bound value : ℕ) (best : List Fraction) (point : Option Dual)
 given_steps i bound value best None most = sym (no_step_below bound i value (point_seen None) most)
 given_steps i bound value best (Some point) (past, written) = sym (step_above bound i value (dual_seen point) past)
 
-pub point_run : (f : SourceDef) (r : List ℕ) (i left : ℕ) (s : SolvedTask) (point : Option Dual) (run : PointRun)
-    → GivesSolved (Ok s) f r i left → WritesStep (Ok point) (slice_index r i) s.value s.solved.primal.items
-    → run.used ≡ s.solved.exchanges + 1 → run.value ≡ s.value → run.point ≡ point → GivesPointRun (Ok run) f r i left
-point_run f r i left s point run (solved, same) step used value given =
+pub point_run : (f : SourceDef) (r : List ℕ) (i left : ℕ) (s : TaskRun) (point : Option Dual) (run : PointRun)
+    → GivesRun (Ok s) f r i left → WritesStep (Ok point) (slice_index r i) s.value s.solution.best.items
+    → run.solution ≡ s.solution → run.value ≡ s.value → run.point ≡ point → GivesPointRun (Ok run) f r i left
+point_run f r i left s point run (solved, is) step solution value given =
     let bound : ℕ = slice_index r i in
+    let dual : DualDef = dual_seen s.solution.dual in
     let there : WritesStep (Ok point) bound s.value solved.ends.best =
-    subst (λ (xs : List Fraction). WritesStep (Ok point) bound s.value xs) (sym same) step in
-    let units = run_units f r i left (s.solved.exchanges + 1) s.value (dual_seen s.solved.dual) solved in
-    let runs : PointRuns f r i left (Valued (s.solved.exchanges + 1) s.value (point_seen point)) =
-    (dual_seen s.solved.dual, solved, point_given bound s.value solved.ends.best point there) in
-    rw (used, value, given) (runs, given_steps i bound s.value s.solved.primal.items point step, units.0, units.1)
+    subst (λ (xs : List Fraction). WritesStep (Ok point) bound s.value xs) (sym (solved_best f r i left s.value s.solution solved is)) step in
+    let units = run_units f r i left s.solution.used s.value dual solved in
+    let runs : PointRuns f r i left (Valued s.solution.used s.value (point_seen point)) =
+    (dual, solved, point_given bound s.value solved.ends.best point there) in
+    rw (solution, value, given) (runs, given_steps i bound s.value s.solution.best.items point step, units.0, units.1, is)
 
 -- A task whose point of a step can't be written, or that stops before.
-pub point_stopped : (f : SourceDef) (r : List ℕ) (i left : ℕ) (s : SolvedTask) (e : SolveStop) → GivesSolved (Ok s) f r i left
-    → WritesStep (Err e) (slice_index r i) s.value s.solved.primal.items → GivesPointRun (Err e) f r i left
-point_stopped f r i left s solve_stop.Wide (run, same) (above, wide) =
+pub point_stopped : (f : SourceDef) (r : List ℕ) (i left : ℕ) (s : TaskRun) (e : SolveStop) → GivesRun (Ok s) f r i left
+    → WritesStep (Err e) (slice_index r i) s.value s.solution.best.items → GivesPointRun (Err e) f r i left
+point_stopped f r i left s solve_stop.Wide (run, is) (above, wide) =
     inr (
-      s.solved.exchanges + 1,
+      s.solution.used,
       s.value,
-      dual_seen s.solved.dual,
+      dual_seen s.solution.dual,
       run,
       above,
-      subst (λ (xs : List Fraction). IsUnwritable xs) (sym same) wide,
+      subst (λ (xs : List Fraction). IsUnwritable xs) (sym (solved_best f r i left s.value s.solution run is)) wide,
     )
-point_stopped f r i left s solve_stop.Units (run, same) step = absurd step
-point_stopped f r i left s solve_stop.Memory (run, same) step = tt
+point_stopped f r i left s solve_stop.Units (run, is) step = absurd step
+point_stopped f r i left s solve_stop.Memory (run, is) step = tt
 
-pub run_stopped : (f : SourceDef) (r : List ℕ) (i left : ℕ) (e : SolveStop) → GivesSolved (Err e) f r i left
+pub run_stopped : (f : SourceDef) (r : List ℕ) (i left : ℕ) (e : SolveStop) → GivesRun (Err e) f r i left
     → GivesPointRun (Err e) f r i left
 run_stopped f r i left solve_stop.Wide run = inl run
 run_stopped f r i left solve_stop.Units run = run

@@ -2,6 +2,7 @@
 use Rattle.std.specs.Prelude.{◌≡◌, ℕ, ◌+◌, ◌-◌, ◌<◌, ◌≤◌, List, [], ◌∷◌, ◌++◌, map, slice_index, Result, Ok, Err, Option, None, Some}
 use Rattle.fraction128.specs.Fraction.{Fraction}
 use Rattle.program_form.specs.Certificate.{DualDef, dual_seen}
+use Rattle.program_form.specs.Program.{ProgramDef}
 use Rattle.program_form.specs.declared.certificate.Dual.{Dual}
 use Rattle.program_sources.specs.Recurrence.{SourceDef}
 use Rattle.program_sources.specs.Fitting.{AreFitting, tasks_of, latest_of}
@@ -12,7 +13,8 @@ use Rattle.refusal_laws.specs.Steps.{StepDef, Holds}
 use Rattle.refusal_laws.specs.Seen.{step_seen, steps_seen}
 use Rattle.response_fixpoint.specs.Rounds.{RunEnd, Valued, TooWide, OutOfUnits, Ending, Schedulable, NotShown, Wide, Allowance}
 use Rattle.response_fixpoint.specs.Rounds.{Found, Passes, EndsIn}
-use Rattle.response_fixpoint.specs.Runs.{TaskRuns, rounds_of}
+use Rattle.response_fixpoint.specs.Runs.{rounds_of}
+use Rattle.response_fixpoint.specs.Solutions.{IsSolution, AreKept}
 use Rattle.refusal_cert.specs.Refuting.{IsWritten, IsUnwritable, PointRuns, refuting, AreWritable}
 use Rattle.refusal_cert.specs.Steps.{step_of, steps_over, round_steps, refusal_of}
 use Rattle.refusal_cert.specs.declared.answer.Answer.{Answer}
@@ -20,7 +22,6 @@ use Rattle.refusal_cert.specs.declared.answer.Answer.TheVariants as answer
 use Rattle.refusal_cert.specs.declared.answer.RefuteStop.{RefuteStop}
 use Rattle.refusal_cert.specs.declared.answer.RefuteStop.TheVariants as stop
 use Rattle.refusal_cert.specs.declared.task_run.PointRun.{PointRun}
-use Rattle.refusal_cert.specs.declared.task_run.SolvedTask.{SolvedTask}
 use Rattle.refusal_cert.specs.declared.rounds.Round.{Round}
 use Rattle.refusal_cert.specs.declared.rounds.RoundEnd.{RoundEnd}
 use Rattle.refusal_cert.specs.declared.rounds.RoundEnd.TheVariants as round_end
@@ -66,15 +67,6 @@ FollowsAnalysis (Ok answer.Schedulable) f allowance = (EndsFitting f allowance) 
 FollowsAnalysis (Err stop.Memory) f allowance = Unit {0}
 FollowsAnalysis (Err e) f allowance = (EndsLate f allowance → ⊥) × (EndsFitting f allowance → ⊥)
 
--- What comes of task i's program where so many units are left: its run's end, with the best point. Want of memory says nothing.
-abbrev pub GivesSolved : Result SolvedTask SolveStop → SourceDef → List ℕ → ℕ → ℕ → Type 0
-GivesSolved (Ok s) f r i left =
-    (run : TaskRuns f r i left (Valued (s.solved.exchanges + 1) s.value (dual_seen s.solved.dual)))
-    × (run.ends.best ≡ s.solved.primal.items)
-GivesSolved (Err solve_stop.Wide) f r i left = TaskRuns f r i left TooWide
-GivesSolved (Err solve_stop.Units) f r i left = TaskRuns f r i left OutOfUnits
-GivesSolved (Err solve_stop.Memory) f r i left = Unit {0}
-
 -- What writing the best point of a run gives.
 abbrev pub WritesPoint : Result Dual SolveStop → List Fraction → Type 0
 WritesPoint (Ok point) best = IsWritten best (dual_seen point)
@@ -100,25 +92,26 @@ abbrev pub steps_given : ℕ → ℕ → Option Dual → List StepDef
 steps_given i value None = []
 steps_given i value (Some point) = step_of i value (dual_seen point) ∷ []
 
--- Is this how task i's run ends where so many units are left? Want of memory says nothing.
+-- Is this how task i's run ends where so many units are left, and which solution it has? Want of memory says nothing.
 abbrev pub GivesPointRun : Result PointRun SolveStop → SourceDef → List ℕ → ℕ → ℕ → Type 0
-GivesPointRun (Ok run) f r i left = (PointRuns f r i left (Valued run.used run.value (point_seen run.point)))
+GivesPointRun (Ok run) f r i left = (PointRuns f r i left (Valued run.solution.used run.value (point_seen run.point)))
     × (steps_given i run.value run.point ≡ steps_over (slice_index r i) i run.value (point_seen run.point))
-    × (1 ≤ run.used) × (run.used ≤ left)
+    × (1 ≤ run.solution.used) × (run.solution.used ≤ left) × IsSolution (f.program i r) run.solution
 GivesPointRun (Err solve_stop.Wide) f r i left = PointRuns f r i left TooWide
 GivesPointRun (Err solve_stop.Units) f r i left = PointRuns f r i left OutOfUnits
 GivesPointRun (Err solve_stop.Memory) f r i left = Unit {0}
 
 -- What comes of a task's run in a round: it passes where its value is at most its latest bound, and gives the last step where it isn't.
-abbrev pub TakesRun : Result Round RoundEnd → Round → PointRun → ℕ → ℕ → Type 0
-TakesRun (Ok now) before run i latest = (run.value ≤ latest) × (now.used ≡ before.used + run.used)
+abbrev pub TakesRun : Result Round RoundEnd → Round → ProgramDef → PointRun → ℕ → ℕ → Type 0
+TakesRun (Ok now) before program run i latest = (run.value ≤ latest) × (now.used ≡ before.used + run.solution.used)
     × (now.values.items ≡ before.values.items ++ run.value ∷ [])
     × (map step_seen now.steps.items ≡ map step_seen before.steps.items ++ steps_given i run.value run.point)
-TakesRun (Err (round_end.Refused refusal)) before run i latest = (latest < run.value)
+    × (now.kept.items ≡ before.kept.items ++ record { program = program; solution = run.solution } ∷ [])
+TakesRun (Err (round_end.Refused refusal)) before program run i latest = (latest < run.value)
     × (steps_seen refusal ≡ map step_seen before.steps.items ++ steps_given i run.value run.point)
-TakesRun (Err (round_end.Wide task)) before run i latest = ⊥
-TakesRun (Err round_end.Allowance) before run i latest = ⊥
-TakesRun (Err round_end.Memory) before run i latest = Unit {0}
+TakesRun (Err (round_end.Wide task)) before program run i latest = ⊥
+TakesRun (Err round_end.Allowance) before program run i latest = ⊥
+TakesRun (Err round_end.Memory) before program run i latest = Unit {0}
 
 -- Has a round at r that began with `left` units and these steps come past its first i tasks, having found this?
 pub record HasFound (f : SourceDef) (r : List ℕ) (left i : ℕ) (earlier : List StepDef) (round : Round) : Type 0 where
@@ -139,6 +132,7 @@ pub record Halts (f : SourceDef) (r : List ℕ) (left i : ℕ) (e : RunEnd) : Ty
 abbrev pub GivesRound : Result Round RoundEnd → SourceDef → List ℕ → ℕ → List StepDef → Type 0
 GivesRound (Ok round) f r left earlier =
     (HasFound f r left (tasks_of f) earlier round) × (round.used ≤ left) × (tasks_of f ≤ round.used)
+    × AreKept f r (tasks_of f) round.kept.items
 GivesRound (Err (round_end.Refused refusal)) f r left earlier =
     (i : ℕ) × (used : ℕ) × (value : ℕ) × (point : DualDef) × (latest_of f i < value) × (h : Halts f r left i (Valued used value point))
     × (steps_seen refusal ≡ earlier ++ round_steps r h.found i ++ step_of i value point ∷ [])

@@ -8,7 +8,7 @@ ghost use Rattle.refusal_cert.specs.Steps.{refusal_of};
 use crate::answer::{Answer, RefuteStop};
 use crate::rounds::{Round, RoundEnd, take_round};
 use program_sources::{ProgramSource, recurrence_is_monotone};
-use response_fixpoint::costs;
+use response_fixpoint::{costs, next_plan};
 use sporadic_model::TaskSet;
 use std::alloc::Global;
 
@@ -37,22 +37,26 @@ fn take_rounds<P: ProgramSource>(
     let mut bounds = costs(alloc, set)?;
     // a set has a task, so each round takes a unit, and the rounds end
     let _tasks = set.tasks();
+    // the first round forms the programs, in their places
+    let mut plan = Vec::new(alloc);
     let mut steps = Vec::new(alloc);
     let mut spent = 0;
     loop {
         let left = allowance - spent;
-        let next = match take_round(alloc, set, protocol, &bounds, left, steps) {
+        let next = match take_round(alloc, set, protocol, &bounds, left, plan, steps) {
             Ok(next) => next,
             Err(end) => return ended(end),
         };
         let Round {
             used,
             values,
+            kept,
             steps: more,
         } = next;
         if values == bounds {
             return Ok(Answer::Schedulable);
         }
+        plan = next_plan(alloc, set, protocol, &bounds, &values, kept)?;
         bounds = values;
         steps = more;
         spent += used;
@@ -61,9 +65,10 @@ fn take_rounds<P: ProgramSource>(
 
 /// Shows that no bounds fit, by steps that a reader can judge from the programs alone, or that some do.
 ///
-/// The rounds are those of an analysis. A task whose value is above its bound at the round's start gives a step: the value, and the
-/// best point of its program over its least common denominator. The task whose value passes its latest bound gives the last one.
-/// `allowance` is the number of units that all programs together may take, counted as in an analysis.
+/// The rounds are those of an analysis, with one program solved at a time, and a solution taken over where its program's limits stay. A
+/// task whose value is above its bound at the round's start gives a step: the value, and the best point of its program over its least
+/// common denominator. The task whose value passes its latest bound gives the last one. `allowance` is the number of units that all
+/// programs together may take, counted as in an analysis.
 ///
 /// `RefuteStop::Wide` names the first task whose run is wide, or whose step's point passes 2^63 - 1; `RefuteStop::Allowance` comes
 /// exactly where the rounds end so, and `RefuteStop::Memory` for want of memory alone.

@@ -1,6 +1,8 @@
 ghost use Rattle.std.specs.Prelude.{◌≡◌, ◌<◌, ◌≤◌, ◌^◌, ◌+◌, ◌++◌, map, IfOk};
 ghost use Rattle.program_sources.specs.Bounds.{IsInRange};
 ghost use Rattle.program_sources.specs.Recurrence.{source_at};
+ghost use Rattle.response_fixpoint.specs.Places.{AreEach};
+ghost use Rattle.response_fixpoint.specs.Solutions.{IsPlanned};
 ghost use Rattle.refusal_laws.specs.Seen.{step_seen};
 ghost use Rattle.refusal_cert.specs.Answers.{GivesRound, TakesRun, end_at, steps_given};
 
@@ -8,16 +10,18 @@ use crate::task_run::{PointRun, run_task};
 use program_form::Dual;
 use program_sources::ProgramSource;
 use refusal_laws::{Refusal, RefusalStep};
-use simplex::SolveStop;
+use response_fixpoint::{Kept, Planned, begun_or_formed};
+use simplex::{SolveStop, SparseProgram};
 use sporadic_model::{TaskId, TaskSet};
 use std::alloc::{AllocError, AllocFailed, Global};
 
-/// What a round has found: its units, for each task that passed the next bound in ticks, and the steps up to here, those of the rounds
-/// before it among them.
+/// What a round has found: its units, for each task that passed the next bound in ticks, and its program with its solution, and the
+/// steps up to here, those of the rounds before it among them.
 #[derive(Drop)]
 pub struct Round {
     pub used: u64,
     pub values: Vec<u64>,
+    pub kept: Vec<Kept>,
     pub steps: Vec<RefusalStep>,
 }
 
@@ -83,18 +87,26 @@ fn with_step(
     Ok(steps)
 }
 
-/// Takes the run of a task into the round, where its value is at most the latest bound. Where it isn't, the task's step is the last one.
-fn take_run(round: Round, run: PointRun, task: TaskId, latest: u64) -> Result<Round, RoundEnd>
-    requires { round.used + run.used < 2 ^ 64 }
-    ensures { TakesRun result round run task.0 latest }
+/// Takes the run of a task's program into the round, where its value is at most the latest bound. Where it isn't, the task's step is
+/// the last one.
+fn take_run(
+    round: Round,
+    program: SparseProgram,
+    run: PointRun,
+    task: TaskId,
+    latest: u64,
+) -> Result<Round, RoundEnd>
+    requires { round.used + run.solution.used < 2 ^ 64 }
+    ensures { TakesRun result round program run task.0 latest }
 {
     let Round {
         used,
         mut values,
+        mut kept,
         steps,
     } = round;
     let PointRun {
-        used: units,
+        solution,
         value,
         point,
     } = run;
@@ -102,40 +114,51 @@ fn take_run(round: Round, run: PointRun, task: TaskId, latest: u64) -> Result<Ro
     if value > latest {
         return Err(RoundEnd::Refused(Refusal { steps }));
     }
+    let units = solution.used;
     values.push(value)?;
+    kept.push(Kept { program, solution })?;
     Ok(Round {
         used: used + units,
         values,
+        kept,
         steps,
     })
 }
 
-/// One round: the recurrence at `bounds`, task by task, each program with the units that the tasks before it have left. `steps` are
-/// those of the rounds before.
+/// One round: the recurrence at `bounds`, task by task, each program with the units that the tasks before it have left. `plan` has the
+/// tasks' programs at these bounds, and one that it lacks is formed in its place. `steps` are those of the rounds before.
 pub fn take_round<P: ProgramSource>(
     alloc: Global,
     set: &TaskSet,
     protocol: &P,
     bounds: &[u64],
     left: u64,
+    plan: Vec<Planned>,
     steps: Vec<RefusalStep>,
 ) -> Result<Round, RoundEnd>
     requires serves { P.serves protocol.now set.now }
     requires range { IsInRange set.now bounds.now }
+    requires plan { AreEach (IsPlanned (source_at (P.source protocol.now) set.now) bounds.now left) 0 plan.items }
     ensures { GivesRound result (source_at (P.source protocol.now) set.now) bounds.now left (map step_seen steps.items) }
 {
     let mut round = Round {
         used: 0,
         values: Vec::new(alloc),
+        kept: Vec::new(alloc),
         steps,
     };
+    let mut plan = plan.into_iter();
     for i in 0..set.tasks() {
         let task = TaskId(i);
-        let run = match run_task(alloc, set, protocol, task, bounds, left - round.used) {
+        let begun = plan.next();
+        let planned = begun_or_formed(alloc, set, protocol, task, bounds, left, begun)?;
+        let Planned { program, ahead, .. } = planned;
+        let here = left - round.used;
+        let run = match run_task(alloc, set, protocol, task, bounds, &program, here, ahead) {
             Ok(run) => run,
             Err(stop) => return Err(stopped(stop, task)),
         };
-        round = match take_run(round, run, task, set.latest_bound(task)) {
+        round = match take_run(round, program, run, task, set.latest_bound(task)) {
             Ok(next) => next,
             Err(end) => return Err(end),
         };

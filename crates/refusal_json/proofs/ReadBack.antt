@@ -1,8 +1,9 @@
 -- What is read of the text of a refusal is the refusal.
-use Rattle.std.proofs.Common.{◌≡◌, ℕ, ◌≤◌, ◌&&◌, Bool, true, false, List, [], ◌∷◌, map, Some, option_map, option_and_then}
+use Rattle.std.proofs.Common.{◌≡◌, ℕ, ◌≤◌, ◌&&◌, true, List, [], ◌∷◌, map, Some, option_map, option_and_then}
 use Rattle.std.proofs.Common.{Result, Ok, Err, IsUtf8, codes, refl, ap, ap₂, unwrap_or, replicate, ◌∙◌, arith}
 use Rattle.std.proofs.lemmas.List.Elements.{All-head, All-tail}
 use Rattle.std.specs.List.{list_all}
+use Rattle.std.proofs.lemmas.Bool.{both_ways}
 use Rattle.json.specs.Tree as tree
 use Rattle.json.proofs.Printed.Utf8.{IsUtf8-are_ascii}
 use Rattle.serde_json.specs.Data.{Data, item}
@@ -128,9 +129,6 @@ digest-written word digest steps is = ap (λ o. unwrap_or o (replicate size_of_d
 
 -- ---- so it is read again
 
-true_not_false : (b : Bool) → b ≡ true → b ≡ false → ⊥
-true_not_false b is_true is_false = cc
-
 record IsWritten (word digest : List ℕ) (steps : List StepDef) : Type 0 where
   utf8 : IsUtf8 word
   bytes : IsDigest digest
@@ -150,10 +148,10 @@ gives_back word digest steps (Err fault.NotJson) w h =
     absurd (h (refusal_data word digest steps) (is_value word digest steps w.utf8 w.small))
 gives_back word digest steps (Err fault.Shape) w h =
     let same : h.0 ≡ refusal_data word digest steps = own_value word digest steps w h.0 h.1 in
-    absurd (true_not_false (is_refusal h.0) (ap is_refusal same ∙ formed word digest steps w.bytes w.small) h.2)
+    absurd (both_ways (is_refusal h.0) h.2 (ap is_refusal same ∙ formed word digest steps w.bytes w.small))
 gives_back word digest steps (Err fault.OtherProtocol) w h =
     let same : h.0 ≡ refusal_data word digest steps = own_value word digest steps w h.0 h.1 in
-    absurd (true_not_false (is_for word h.0) (ap (is_for word) same ∙ same_word word) h.2.1)
+    absurd (both_ways (is_for word h.0) h.2.1 (ap (is_for word) same ∙ same_word word))
 gives_back word digest steps (Err fault.Memory) w h = refl
 
 pub read_back : (word digest : List ℕ) (steps : List StepDef) (answer : Result (Refusal × List ℕ) ReadFault)

@@ -49,16 +49,10 @@ fn is_step(value: &Value) -> bool
     has_step_members(value) && has_point(value)
 }
 
-fn each_is_step(values: &[Value]) -> bool
-    ensures { result ≡ list_all (λ v. is_step (view v)) values.now }
-{
-    values.iter().all(|value| is_step(value))
-}
-
 fn are_steps(values: &[Value]) -> bool
     ensures { result ≡ list_all is_step (map view values.now) }
 {
-    each_is_step(values)
+    values.iter().all(|value| is_step(value))
 }
 
 /// Is it the word of the verdict that a set isn't shown?

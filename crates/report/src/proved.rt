@@ -72,8 +72,9 @@ fn push_full_tasks(
 }
 
 /// The table of a set with what a certificate proves of each task: its bound, the value of its dual, and how far the bound is
-/// below the latest one, which is the deadline less the jitter, all in ticks. Header and loads are as in [`crate::set_table`]. There is a bound and a value for each
-/// task, and no bound and its task's jitter together pass the deadline. An error is want of memory.
+/// below the latest one, which is the deadline less the jitter, all in ticks. Header and loads are as in [`crate::set_table`].
+/// There is a bound and a value for each task, and no bound and its task's jitter together pass the deadline. An error is want of
+/// memory.
 pub fn full_table(
     alloc: Global,
     set: &TaskSet,

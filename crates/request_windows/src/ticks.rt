@@ -32,7 +32,7 @@ fn holds_up(set: &TaskSet, i: TaskId, k: u32, x: TaskId, q: ResourceId) -> bool
     requires resource { q.0 < length set.now.resources }
     ensures { result ≡ may_hold_up set.now i.0 k x.0 q.0 }
 {
-    i.0 < x.0 && home(set, q) == k && uses(set, x, q) && ceiling_place(set, q) <= i.0
+    i < x && home(set, q) == k && uses(set, x, q) && ceiling_place(set, q) <= i.0
 }
 
 // For how many ticks may the longest of these requests by `x` last?

@@ -47,7 +47,23 @@ each_rest holds n xs rest x same each = λ k y here.
     let next : n + suc k ≡ n + 1 + k = omega arith in
     subst (λ (i : ℕ). holds i y) next (each (suc k) y (ap (λ (ys : List _). slice_get ys (suc k)) same ∙ here))
 
--- What stands at the next place, if there is one, and what stands behind it.
+-- What is so of each is so of the next, if there is one, and of what stands behind it.
+pub next_first : {X : Type 0} (holds : ℕ → X → Type 0) (n : ℕ) (xs rest : List X) (first : Option X) → xs ≡ option_to_list first ++ rest
+    → AreEach holds n xs → IfSome first (λ x. holds n x)
+next_first holds n xs rest None same each = tt
+next_first holds n xs rest (Some x) same each = each_first holds n xs rest x same each
+
+pub next_rest : {X : Type 0} (holds : ℕ → X → Type 0) (n count : ℕ) (xs rest : List X) (first : Option X)
+    → xs ≡ option_to_list first ++ rest → (IsSome first ↔ (0 < count)) → count ≡ length xs → AreEach holds n xs
+    → AreEach holds (n + 1) rest
+next_rest {X} holds n count xs rest None same some are each = λ k x here.
+    let within : k < length rest = slice_get_within rest k x here in
+    let none : length xs ≡ length rest = ap length same in
+    let never : IsSome {T = X} None = some.1 (omega (arith, within, none, are)) in
+    cc
+next_rest holds n count xs rest (Some x) same some are each = each_rest holds n xs rest x same each
+
+-- So with what was found at places.
 pub found_first : {X : Type 0} (holds : ℕ → X → Type 0) (n : ℕ) (places rest : List (Option X)) (first : Option (Option X))
     → places ≡ option_to_list first ++ rest → AreEachFound holds n places → IfSome (option_flatten first) (λ x. holds n x)
 found_first holds n places rest None same each = tt
@@ -56,13 +72,8 @@ found_first holds n places rest (Some o) same each = each_first (λ i p. IfSome 
 pub found_rest : {X : Type 0} (holds : ℕ → X → Type 0) (n count : ℕ) (places rest : List (Option X)) (first : Option (Option X))
     → places ≡ option_to_list first ++ rest → (IsSome first ↔ (0 < count)) → count ≡ length places → AreEachFound holds n places
     → AreEachFound holds (n + 1) rest
-found_rest {X} holds n count places rest None same some are each = λ k o here.
-    let within : k < length rest = slice_get_within rest k o here in
-    let none : length places ≡ length rest = ap length same in
-    let never : IsSome {T = Option X} None = some.1 (omega (arith, within, none, are)) in
-    cc
-found_rest holds n count places rest (Some o) same some are each =
-    each_rest (λ i p. IfSome p (λ x. holds i x)) n places rest o same each
+found_rest holds n count places rest first same some are each =
+    next_rest (λ i p. IfSome p (λ x. holds i x)) n count places rest first same some are each
 
 -- What was found of a task may be put at its place.
 one_put : {X : Type 0} (holds : ℕ → X → Type 0) (i : ℕ) (places : List (Option X)) (x : X) → i < length places

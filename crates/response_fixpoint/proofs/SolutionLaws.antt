@@ -49,11 +49,11 @@ wide_within p units more most w = record {
 pub needs_more : (p : ProgramDef) (s : Solution) (left : ℕ) → IsSolution p s → left < s.used → NeedsMoreThan p left
 needs_more p s left is few = elim (has_outcome p left is.is_program) [
   | inl ended ↦
-      let same = one_answer p s.used left is.exchanges ended.0 is.optimum ended.1 is.best ended.2 (dual_seen s.dual)
+      let same = one_answer p s.used left is.exchanges ended.0 is.optimum ended.1 s.best.items ended.2 (dual_seen s.dual)
       ended.3 is.is_program is.ends ended.4 in
       absurd (omega (arith, same.0, ended.4.within, is.units, few))
   | inr stopped ↦ elim stopped [
-    | inl wide ↦ absurd (ends_not_wide p s.used left is.exchanges is.optimum is.best (dual_seen s.dual) is.is_program is.ends wide)
+    | inl wide ↦ absurd (ends_not_wide p s.used left is.exchanges is.optimum s.best.items (dual_seen s.dual) is.is_program is.ends wide)
     | inr more ↦ more
   ]
 ]
@@ -75,16 +75,15 @@ still_needs_more p units left is fewer more = elim (has_outcome p left is) [
 pub solved_solution : (p : ProgramDef) (units : ℕ) (x : Solved) (s : Solution) → IsProgram p
     → EndsWithin p units x.exchanges x.value x.primal.items (dual_seen x.dual) → IsOptimumValue p x.value
     → s.used ≡ x.exchanges + 1 → s.blocking ≡ unsigned_abs x.value.num / unsigned_abs x.value.den → s.blocking < 2 ^ 63
-    → s.dual ≡ x.dual → IsSolution p s
-solved_solution p units x s is ends best used blocking most dual =
+    → s.best ≡ x.primal → s.dual ≡ x.dual → IsSolution p s
+solved_solution p units x s is ends best used blocking most point dual =
     let greatest = optimum_reached p (unsigned_abs x.value.num) (unsigned_abs x.value.den) best.optimum in
     let within : x.exchanges < s.used = omega (arith, used) in
     record {
       is_program = is;
       exchanges = x.exchanges;
       optimum = x.value;
-      best = x.primal.items;
-      ends = rw dual (ends_within p units s.used x.exchanges x.value x.primal.items (dual_seen x.dual) ends within);
+      ends = rw (point, dual) (ends_within p units s.used x.exchanges x.value x.primal.items (dual_seen x.dual) ends within);
       units = used;
       greatest = subst (λ (b : ℕ). IsGreatestReached p b) (sym blocking) greatest;
       most = most;
@@ -123,11 +122,11 @@ renewed_program f i q r p limits rises is there =
     (ap (λ (x : ProgramDef). x.rows) is ∙ sym from_q.same_rows ∙ from_r.same_rows) there
 
 -- So they are a program where that is one.
-pub renewed_is_program : (f : SourceDef) (i : ℕ) (r limits : List ℕ) (k : Kept) → Rises f i → IsKept f i k
+pub renewed_is_program : (f : SourceDef) (i : ℕ) (q r limits : List ℕ) (k : Kept) → Rises f i → IsKept f q i k
     → limits ≡ (f.program i r).limits → IsProgram (f.program i r)
     → IsProgram (record { costs = k.program.costs; rows = k.program.rows; limits = limits })
-renewed_is_program f i r limits k rises kept there is =
-    subst (λ (y : ProgramDef). IsProgram y) (sym (renewed_program f i kept.bounds r k.program limits rises kept.program there)) is
+renewed_is_program f i q r limits k rises kept there is =
+    subst (λ (y : ProgramDef). IsProgram y) (sym (renewed_program f i q r k.program limits rises kept.program there)) is
 
 -- A solution of a program that is the same is what this one gives.
 taken_over : (f : SourceDef) (r : List ℕ) (left i : ℕ) (p q : ProgramDef) (s : Solution) (o : Option (Result Solution SolveStop))
@@ -138,14 +137,21 @@ taken_over f r left i p q s (Some x) (same, one) is there =
     record { gives = subst (λ (y : Result Solution SolveStop). GivesSolution y (f.program i r) left) (sym same) solved }
 
 -- So a kept program with the limits at other bounds is the task's there, with its solution where the limits are the same.
-pub renewed_planned : (f : SourceDef) (i : ℕ) (r limits : List ℕ) (k : Kept) (p : Planned) (left : ℕ) → Rises f i → IsKept f i k
+pub renewed_planned : (f : SourceDef) (i : ℕ) (q r limits : List ℕ) (k : Kept) (p : Planned) (left : ℕ) → Rises f i → IsKept f q i k
     → limits ≡ (f.program i r).limits → p.program ≡ record { costs = k.program.costs; rows = k.program.rows; limits = limits }
     → IfSome p.ahead (λ o. (o ≡ Ok k.solution) × (k.program ≡ p.program)) → IsPlanned f r left i p
-renewed_planned f i r limits k p left rises kept there is ahead =
-    let program : p.program ≡ f.program i r = is ∙ renewed_program f i kept.bounds r k.program limits rises kept.program there in
+renewed_planned f i q r limits k p left rises kept there is ahead =
+    let program : p.program ≡ f.program i r = is ∙ renewed_program f i q r k.program limits rises kept.program there in
     let solution : IsSolution k.program k.solution =
     subst (λ (y : ProgramDef). IsSolution y k.solution) (sym kept.program) kept.solution in
     record { program = program; ahead = taken_over f r left i k.program p.program k.solution p.ahead ahead solution program }
+
+-- And a kept program is the task's at other bounds, with its solution, where its limits are the same there.
+pub kept_planned : (f : SourceDef) (i : ℕ) (q r : List ℕ) (k : Kept) (p : Planned) (left : ℕ) → Rises f i → IsKept f q i k
+    → (f.program i q).limits ≡ (f.program i r).limits → p.program ≡ k.program
+    → IfSome p.ahead (λ o. (o ≡ Ok k.solution) × (k.program ≡ p.program)) → IsPlanned f r left i p
+kept_planned f i q r k p left rises kept same is ahead = renewed_planned f i q r k.program.limits k p left rises kept
+    (ap (λ (x : ProgramDef). x.limits) kept.program ∙ same) is ahead
 
 -- A run that ran out of units ahead of its place is out of units there too.
 pub units_from_ahead : (p : ProgramDef) (left : ℕ) (ahead : Option (Result Solution SolveStop))
@@ -158,13 +164,18 @@ units_from_ahead p left ahead o e given is failed short =
     let stopped : IsAhead p left (Err solve_stop.Units) = rw short at mid in
     (stopped.2.0, still_needs_more p stopped.0 left stopped.2.0 stopped.1 stopped.2.1)
 
--- What is known ahead, from the plan or from a thread, is what the program gave with as many units as are left or more.
+-- What is known ahead of its place is what the program gave with as many units as are left there or more.
+pub planned_ahead : (f : SourceDef) (r : List ℕ) (left used i : ℕ) (p : ProgramDef) (a : Option (Result Solution SolveStop))
+    → p ≡ f.program i r → IfSome a (λ o. IsOutcome f r left i o) → IfSome a (λ o. IsAhead p (left - used) o)
+planned_ahead f r left used i p None same planned = tt
+planned_ahead f r left used i p (Some x) same planned = (left, omega arith, rw same planned.gives)
+
+-- So it is, whether the plan or a thread has it.
 pub either_ahead : (f : SourceDef) (r : List ℕ) (left used i : ℕ) (p : ProgramDef) (a b : Option (Result Solution SolveStop))
     → p ≡ f.program i r → IfSome a (λ o. IsOutcome f r left i o) → IfSome b (λ o. IsOutcome f r left i o)
     → IfSome (option_or a b) (λ o. IsAhead p (left - used) o)
-either_ahead f r left used i p (Some x) b same planned found = (left, omega arith, rw same planned.gives)
-either_ahead f r left used i p None (Some x) same planned found = (left, omega arith, rw same found.gives)
-either_ahead f r left used i p None None same planned found = tt
+either_ahead f r left used i p (Some x) b same planned found = planned_ahead f r left used i p (Some x) same planned
+either_ahead f r left used i p None b same planned found = planned_ahead f r left used i p b same found
 
 -- A solution whose units are there is a solved task.
 pub solved_run : (f : SourceDef) (r : List ℕ) (i left value : ℕ) (s : Solution) → IsSolution (f.program i r) s → s.used ≤ left
@@ -176,8 +187,8 @@ solved_run f r i left value s is most response =
       ends = record {
         exchanges = is.exchanges;
         optimum = is.optimum;
-        best = is.best;
-        ends = ends_within (f.program i r) s.used left is.exchanges is.optimum is.best (dual_seen s.dual) is.ends within;
+        best = s.best.items;
+        ends = ends_within (f.program i r) s.used left is.exchanges is.optimum s.best.items (dual_seen s.dual) is.ends within;
         units = is.units;
         response = record { blocking = s.blocking; greatest = is.greatest; response = response };
       };

@@ -1,8 +1,10 @@
 -- Laws of vectors: sums over them, and when two are equal.
-use Rattle.std.proofs.Common.{◌≡◌, ◌≢◌, ℕ, zero, suc, ◌<◌, ◌≤◌, List, length, sym, ◌∙◌, arith, inl, inr}
+use Rattle.std.proofs.Common.{◌≡◌, ◌≢◌, ℕ, zero, suc, ◌<◌, ◌≤◌, true, false, List, length, sym, ◌∙◌, arith, inl, inr}
 use Rattle.std.proofs.lemmas.Bool.{cases_lt}
 use Rattle.std.specs.Prelude.{slice_index}
 use Rattle.std.proofs.lemmas.Grind.{same_number_lists}
+use Rattle.std.specs.Str.{bytes_eq}
+use Rattle.std.proofs.lemmas.Slice.Eq.{bytes_eq-Decides}
 use Rattle.bounded_sums.specs.Sums.{sum_below}
 use Rattle.program_sources.specs.Bounds.{AtMost}
 
@@ -43,3 +45,10 @@ total_grows n r s a b h differs =
       | inl less ↦ less
       | inr more ↦ absurd (differs (same_number_lists r s (a ∙ sym b) (λ i below. same_total n r s h more i (omega arith))))
     ]
+
+-- What a test of two vectors says.
+pub same_vectors : (xs ys : List ℕ) → true ≡ bytes_eq xs ys → xs ≡ ys
+same_vectors xs ys e = (bytes_eq-Decides xs ys).0 (sym e)
+
+pub other_vectors : (xs ys : List ℕ) → false ≡ bytes_eq xs ys → ys ≢ xs
+other_vectors xs ys e = λ same. (let yes = (bytes_eq-Decides xs ys).1 (sym same) in let both : false ≡ true = e ∙ yes in cc)

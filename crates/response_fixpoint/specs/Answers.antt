@@ -94,7 +94,7 @@ pub record Halts (f : SourceDef) (r : List ℕ) (left i : ℕ) (e : RunEnd) : Ty
 abbrev pub GivesRound : Result Round RoundStop → SourceDef → List ℕ → ℕ → Type 0
 GivesRound (Ok round) f r left =
     (Passes (rounds_of f) r left (tasks_of f) (found_of round)) × (round.used ≤ left) × (tasks_of f ≤ round.used)
-    × AreKept f (tasks_of f) round.kept.items
+    × AreKept f r (tasks_of f) round.kept.items
 GivesRound (Err (round_stop.NotShown task bound)) f r left =
     (latest_of f task.0 < bound) × (used : ℕ) × (dual : DualDef) × Halts f r left task.0 (Valued used bound dual)
 GivesRound (Err (round_stop.Wide task)) f r left = Halts f r left task.0 TooWide

@@ -15,13 +15,13 @@ use Rattle.response_fixpoint.specs.declared.task_run.Solution.{Solution}
 use Rattle.response_fixpoint.specs.declared.plan.Kept.{Kept}
 use Rattle.response_fixpoint.specs.declared.plan.Planned.{Planned}
 
--- Is this what solving the program gives: the units that its exchange run takes, its greatest whole blocking, and its dual?
+-- Is this what solving the program gives: the units that its exchange run takes, its greatest whole blocking, its best point, and its
+-- dual?
 pub record IsSolution (p : ProgramDef) (s : Solution) : Type 0 where
   pub is_program : IsProgram p
   pub exchanges : ℕ
   pub optimum : Fraction
-  pub best : List Fraction
-  pub ends : EndsWithin p s.used exchanges optimum best (dual_seen s.dual)
+  pub ends : EndsWithin p s.used exchanges optimum s.best.items (dual_seen s.dual)
   pub units : s.used ≡ exchanges + 1
   pub greatest : IsGreatestReached p s.blocking
   pub most : s.blocking < 2 ^ 63
@@ -56,13 +56,12 @@ pub record IsPlan (f : SourceDef) (r : List ℕ) (left : ℕ) (plan : List Plann
   pub one_each : length plan ≡ tasks_of f
   pub planned : AreEach (IsPlanned f r left) 0 plan
 
--- Is this task i's program at some bounds, with its solution?
-pub record IsKept (f : SourceDef) (i : ℕ) (k : Kept) : Type 0 where
-  pub bounds : List ℕ
-  pub program : k.program ≡ f.program i bounds
-  pub solution : IsSolution (f.program i bounds) k.solution
+-- Is this task i's program at the bounds r, with its solution?
+pub record IsKept (f : SourceDef) (r : List ℕ) (i : ℕ) (k : Kept) : Type 0 where
+  pub program : k.program ≡ f.program i r
+  pub solution : IsSolution (f.program i r) k.solution
 
 -- Is there one for each of the first n tasks, and none besides?
-pub record AreKept (f : SourceDef) (n : ℕ) (kept : List Kept) : Type 0 where
+pub record AreKept (f : SourceDef) (r : List ℕ) (n : ℕ) (kept : List Kept) : Type 0 where
   pub one_each : length kept ≡ n
-  pub each : AreEach (IsKept f) 0 kept
+  pub each : AreEach (IsKept f r) 0 kept

@@ -13,6 +13,7 @@ use crate::beginning::first_plan;
 use crate::laws::no_requests_no_columns;
 use crate::plan::{Kept, next_plan};
 use crate::rounds::{Round, RoundStop, take_round};
+use crate::task_run::Solution;
 use crate::verdict::{Stop, Verdict};
 use program_form::{Certificate, Dual};
 use program_sources::{ProgramSource, recurrence_is_monotone};
@@ -51,7 +52,9 @@ fn duals_of(alloc: Global, kept: Vec<Kept>) -> Result<Vec<Dual>, AllocError>
 {
     let mut duals = Vec::new(alloc);
     for last in kept {
-        duals.push(last.solution.dual)?;
+        let Kept { solution, .. } = last;
+        let Solution { dual, .. } = solution;
+        duals.push(dual)?;
     }
     Ok(duals)
 }
@@ -90,8 +93,8 @@ fn take_rounds<R: Threads + Sync, P: ProgramSource + Sync>(
         if values == bounds {
             return settled(alloc, values, kept);
         }
+        plan = next_plan(alloc, set, protocol, &bounds, &values, kept)?;
         bounds = values;
-        plan = next_plan(alloc, set, protocol, &bounds, kept)?;
         spent += used;
     }
 }

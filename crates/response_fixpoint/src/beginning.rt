@@ -112,8 +112,8 @@ fn begin_beside<R: Threads + Sync, P: ProgramSource + Sync>(
     )
 }
 
-/// The program of task `i` as a thread has begun it, and where none has, formed now.
-fn begun_or_formed<P: ProgramSource>(
+/// The program of task `i` as it was begun or planned, and where it wasn't, formed now.
+pub fn begun_or_formed<P: ProgramSource>(
     alloc: Global,
     set: &TaskSet,
     protocol: &P,

@@ -17,11 +17,13 @@ mod task_run;
 mod verdict;
 
 pub use analysis::{analyse, analyse_with, costs};
+pub use beginning::begun_or_formed;
 pub use laws::{
     a_least_fitting_vector_exists, fitting_is_by_the_values_of_the_recurrence,
     no_requests_no_columns, the_rounds_have_one_ending, three_tasks_take_four_rounds,
 };
-pub use task_run::whole_part;
+pub use plan::{Kept, Planned, next_plan};
+pub use task_run::{Solution, TaskRun, run_task};
 pub use verdict::{Stop, Verdict};
 
 #[cfg(test)]

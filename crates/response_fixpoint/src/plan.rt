@@ -4,7 +4,7 @@ ghost use Rattle.std.specs.Prelude.{◌≡◌, ℕ, ◌<◌, Ok, length, IfOk, I
 ghost use Rattle.program_form.specs.Program.{IsProgram};
 ghost use Rattle.program_sources.specs.Bounds.{IsInRange};
 ghost use Rattle.program_sources.specs.Recurrence.{source_at};
-ghost use Rattle.response_fixpoint.specs.Solutions.{IsPlan, AreKept};
+ghost use Rattle.response_fixpoint.specs.Solutions.{IsPlanned, IsPlan, IsKept, AreKept};
 
 use crate::task_run::Solution;
 use program_sources::ProgramSource;
@@ -29,6 +29,19 @@ pub struct Planned {
     pub work: u64,
 }
 
+/// The program and its solution, which are both taken over.
+fn taken_over(kept: Kept) -> Planned
+    ensures program { result.program ≡ kept.program }
+    ensures ahead { IfSome result.ahead (λ o. (o ≡ Ok kept.solution) × (kept.program ≡ result.program)) }
+{
+    let Kept { program, solution } = kept;
+    Planned {
+        program,
+        ahead: Some(Ok(solution)),
+        work: 0,
+    }
+}
+
 /// The program with these limits. Where they are those that it has, its solution is taken over, and else its run is likely to be as much
 /// work as the last one.
 fn renewed(kept: Kept, limits: Vec<u64>) -> Planned
@@ -36,17 +49,13 @@ fn renewed(kept: Kept, limits: Vec<u64>) -> Planned
     ensures program { result.program ≡ record { costs = kept.program.costs; rows = kept.program.rows; limits = limits.items } }
     ensures ahead { IfSome result.ahead (λ o. (o ≡ Ok kept.solution) × (kept.program ≡ result.program)) }
 {
+    if kept.program.limits() == limits.as_slice() {
+        return taken_over(kept);
+    }
     let Kept {
         mut program,
         solution,
     } = kept;
-    if program.limits() == limits.as_slice() {
-        return Planned {
-            program,
-            ahead: Some(Ok(solution)),
-            work: 0,
-        };
-    }
     let work = solution.used.saturating_mul(limits.len() as u64);
     program.renew(limits);
     Planned {
@@ -56,26 +65,56 @@ fn renewed(kept: Kept, limits: Vec<u64>) -> Planned
     }
 }
 
-/// The plan of the round at these bounds: the programs of the round before, with new limits.
+/// Task `i`'s program at these bounds, where this is what it was at the earlier ones. Limits that the source says are kept aren't
+/// computed.
+fn planned_after<P: ProgramSource>(
+    alloc: Global,
+    set: &TaskSet,
+    protocol: &P,
+    i: TaskId,
+    earlier: &[u64],
+    bounds: &[u64],
+    kept: Kept,
+) -> Result<Planned, AllocError>
+    requires serves { P.serves protocol.now set.now }
+    requires task { i.0 < length set.now.tasks }
+    requires earlier { IsInRange set.now earlier.now }
+    requires range { IsInRange set.now bounds.now }
+    requires kept { IsKept (source_at (P.source protocol.now) set.now) earlier.now i.0 kept }
+    ensures { IfOk result (λ p. (left : ℕ) → IsPlanned (source_at (P.source protocol.now) set.now) bounds.now left i.0 p) }
+{
+    // the lists of a set at bounds within its deadlines are a program
+    let _tasks = set.tasks();
+    if protocol.keeps_limits(set, i, earlier, bounds) {
+        return Ok(taken_over(kept));
+    }
+    let limits = protocol.limits(alloc, set, i, bounds)?;
+    Ok(renewed(kept, limits))
+}
+
+/// The plan of the round at these bounds: the programs of the round before, at the earlier bounds, with the limits that are other ones
+/// now.
 pub fn next_plan<P: ProgramSource>(
     alloc: Global,
     set: &TaskSet,
     protocol: &P,
+    earlier: &[u64],
     bounds: &[u64],
     kept: Vec<Kept>,
 ) -> Result<Vec<Planned>, AllocError>
     requires serves { P.serves protocol.now set.now }
+    requires earlier { IsInRange set.now earlier.now }
     requires range { IsInRange set.now bounds.now }
-    requires kept { AreKept (source_at (P.source protocol.now) set.now) (length set.now.tasks) kept.items }
+    requires kept { AreKept (source_at (P.source protocol.now) set.now) earlier.now (length set.now.tasks) kept.items }
     ensures { IfOk result (λ v. (left : ℕ) → IsPlan (source_at (P.source protocol.now) set.now) bounds.now left v.items) }
 {
-    // the lists of a set at bounds within its deadlines are a program
+    // a set has at most 64 tasks, so their numbers fit
     let _tasks = set.tasks();
     let mut plan = Vec::new(alloc);
     for last in kept {
         let task = TaskId(plan.len() as u32);
-        let limits = protocol.limits(alloc, set, task, bounds)?;
-        plan.push(renewed(last, limits))?;
+        let planned = planned_after(alloc, set, protocol, task, earlier, bounds, last)?;
+        plan.push(planned)?;
     }
     Ok(plan)
 }

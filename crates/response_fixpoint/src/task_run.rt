@@ -18,6 +18,8 @@ pub struct Solution {
     pub used: u64,
     /// The whole part of its optimum, in ticks.
     pub blocking: u64,
+    /// Its best point.
+    pub best: Vec<Frac>,
     /// Its dual.
     pub dual: Dual,
 }
@@ -31,7 +33,7 @@ pub struct TaskRun {
 }
 
 /// The whole part of an optimum: the whole ticks that a job is blocked for.
-pub fn whole_part(optimum: Frac) -> u64
+fn whole_part(optimum: Frac) -> u64
     ensures value { result ≡ unsigned_abs optimum.num / unsigned_abs optimum.den }
     ensures most { result < 2 ^ 63 }
 {
@@ -52,6 +54,7 @@ pub fn solve_program(
         Ok(solved) => Ok(Solution {
             used: solved.exchanges + 1,
             blocking: whole_part(solved.value),
+            best: solved.primal,
             dual: solved.dual,
         }),
         Err(stop) => Err(stop),

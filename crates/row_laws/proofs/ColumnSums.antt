@@ -41,14 +41,10 @@ sum_by-swap e h (x ∷ xs) =
     ∙ sum_below-agree e (λ t. h x t + sum_by (λ y. h y t) xs) (λ t. sum_by (λ y. h y t) (x ∷ xs))
     (λ t l. sym (sum_by-cons (λ y. h y t) x xs))
 
--- Functions that agree have one sum over a list; one that is less, a lesser.
+-- Functions that agree have one sum over a list.
 pub sum_by-agree : {X : Type 0} (f g : X → ℕ) → ((x : X) → f x ≡ g x) → (xs : List X) → sum_by f xs ≡ sum_by g xs
 sum_by-agree f g h [] = refl
 sum_by-agree f g h (x ∷ xs) = omega (arith, sum_by-cons f x xs, sum_by-cons g x xs, h x, sum_by-agree f g h xs)
-
-pub sum_by-monotone : {X : Type 0} (f g : X → ℕ) → ((x : X) → f x ≤ g x) → (xs : List X) → sum_by f xs ≤ sum_by g xs
-sum_by-monotone f g h [] = omega arith
-sum_by-monotone f g h (x ∷ xs) = omega (arith, sum_by-cons f x xs, sum_by-cons g x xs, h x, sum_by-monotone f g h xs)
 
 -- The value of an element is at most the sum.
 pub sum_by-element : {X : Type 0} (f : X → ℕ) (xs : List X) (x : X) → Contains xs x → f x ≤ sum_by f xs

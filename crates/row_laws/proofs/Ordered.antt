@@ -1,16 +1,12 @@
 -- Holders under DPCP: at each row, of two holders at one processor the higher one is strictly higher than the ceiling of the
 -- lower one's resource. So where a lower request runs while a job waits there, its resource's ceiling is no lower than the job.
 use Rattle.std.proofs.Common.{◌≡◌, ◌⊎◌, ℕ, zero, suc, ◌<◌, ◌≤◌, ◌==◌, ◌&&◌, ◌||◌, not, Bool, true, false, length, refl}
-use Rattle.std.proofs.Common.{sym, ap, ◌∙◌, arith, inl, inr, Option, Some, None, nat_le, unwrap_or}
+use Rattle.std.proofs.Common.{sym, ap, ◌∙◌, arith, inl, inr, Option, Some, None, nat_le}
 use Rattle.std.specs.Option.{option_map_or}
 use Rattle.std.proofs.lemmas.Bool.{cases_lt, cases_Bool, both_ways, and_parts, and_from, eq-eqb, eqb-true, le-leb}
-use Rattle.std.proofs.lemmas.Bool.{leb-true, ltb-true, leb-false, not-true, not_from_false}
+use Rattle.std.proofs.lemmas.Bool.{leb-true, leb-false, not-true, not_from_false}
 use Rattle.bounded_sums.specs.Tests.{all_below, any_below}
 use Rattle.bounded_sums.proofs.TestLaws.{any_below-some, any_below-from, all_below-each, all_below-fails}
-use Rattle.sporadic_model.specs.SetDef.{SetDef}
-use Rattle.sporadic_model.specs.Users.{is_user, ceiling_of, count_of}
-use Rattle.sporadic_model.specs.Accepted.{IsHighestUser, HasNoUser}
-use Rattle.sporadic_model.proofs.Laws.{highest_user, no_user}
 use Rattle.schedule_model.specs.declared.rule.Rule.TheVariants as rule
 use Rattle.schedule_model.specs.JobDef.{job_of}
 use Rattle.schedule_model.specs.LawfulJobs.{AreLawfulJobs, IsLawfulJob}
@@ -25,27 +21,13 @@ use Rattle.schedule_model.specs.DpcpRules.{RunsFirstHolder, KeepsPriority}
 use Rattle.schedule_model.specs.Ranks.{by_task}
 use Rattle.schedule_model.specs.Protocols.{dpcp_rule}
 use Rattle.schedule_model.specs.Keeping.{KeepsBefore}
+use Rattle.schedule_model.proofs.RuleTests.{then_true}
 use Rattle.schedule_laws.proofs.ActiveJobs.{active_listed, one_active, Requester, requester_is, requester_from, requester_listed}
 use Rattle.schedule_laws.proofs.Rows.{job_named, named_job, holds_from}
 use Rattle.schedule_laws.proofs.RuleUses.{request_among}
 use Rattle.schedule_laws.proofs.Segments.{open_resource, open_user}
+use Rattle.schedule_laws.proofs.DpcpStretches.{ceiling_low}
 use Rattle.charge_laws.proofs.DpcpCharging.{RunsRequest, request_at_from, request_at_is}
-
--- Who uses a resource is no higher than its ceiling.
-pub ceiling_above : (set : SetDef) (q x : ℕ) → x < length set.tasks → is_user set q x ≡ true
-    → unwrap_or (ceiling_of set q) (length set.tasks) ≤ x
-ceiling_above set q x l user = go (ceiling_of set q) refl where
-  some : 0 < count_of set x q
-  some = ltb-true 0 (count_of set x q) user
-
-  go : (o : Option ℕ) → ceiling_of set q ≡ o → unwrap_or o (length set.tasks) ≤ x
-  go None e = let none : HasNoUser set q = no_user set q e in absurd (omega (arith, some, none x l))
-  go (Some c) e =
-      let high : IsHighestUser set q c = highest_user set q c e in
-      elim (cases_lt x c) [
-        | inl less ↦ absurd (omega (arith, some, high.highest x less))
-        | inr most ↦ most
-      ]
 
 -- A job that holds a resource: it requests it, and is lawful.
 pub record HoldsAt (w : Trace) (t q y : ℕ) : Type 0 where
@@ -67,7 +49,7 @@ requester_facts w t q y lawful asks =
       number = r.number;
       request = r.phase;
       within = open_resource w.set w t y r.number q job r.phase;
-      ceiling = ceiling_above w.set q (task_of w y) job.task (open_user w.set w t y r.number q job r.phase);
+      ceiling = ceiling_low w.set q (task_of w y) (open_user w.set w t y r.number q job r.phase) job.task;
     }
 
 pub holder_facts : (w : Trace) (n t q y : ℕ) → AreLawfulJobs (jobs_of w) → KeepsBefore dpcp_rule w n → t < n
@@ -94,16 +76,12 @@ pub record Granted (w : Trace) (t k y : ℕ) : Type 0 where
   pub first : (i : ℕ) → i < length w.jobs → waits_at w t k i ≡ true → task_of w y ≤ task_of w i
   pub above : (r : ℕ) → r < length w.set.resources → home_of w r ≡ k → is_kept w t r ≡ true → task_of w y < ceiling_rank w r
 
-passes_first : (a b : Bool) → (not a || b) ≡ true → a ≡ true → b ≡ true
-passes_first true b h e = h
-passes_first false b h e = absurd (cc)
-
 granted_is : (w : Trace) (t k y : ℕ) → is_granted w t k y ≡ true → Granted w t k y
 unfolding is_granted is_first_waiting is_barred
 granted_is w t k y h =
     record {
       waits = first.0;
-      first = λ i l waits. leb-true _ _ (passes_first (waits_at w t k i) (nat_le (task_of w y) (task_of w i))
+      first = λ i l waits. leb-true _ _ (then_true (waits_at w t k i) (nat_le (task_of w y) (task_of w i))
           (all_below-each (length w.jobs) _ first.1 i l) waits);
       above = above;
     } where

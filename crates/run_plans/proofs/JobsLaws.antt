@@ -5,6 +5,7 @@ use Rattle.std.specs.Prelude.{unwrap_or}
 use Rattle.std.specs.Option.{option_or}
 use Rattle.std.specs.List.{list_all}
 use Rattle.std.proofs.lemmas.Bool.{and_parts, lt-ltb, not-false}
+use Rattle.std.proofs.lemmas.List.{take_more, map-append}
 use Rattle.sporadic_model.specs.SetDef.{SetDef}
 use Rattle.sporadic_model.specs.Users.{task_with_name, resource_with_name}
 use Rattle.sporadic_model.proofs.Laws.{named_task, named_resource}
@@ -21,7 +22,6 @@ use Rattle.trace_csv.specs.JobAnswers.{IsOfSet}
 use Rattle.trace_csv.specs.JobsFile.{job_lines}
 use Rattle.trace_csv.specs.declared.refusal.JobsRefusal.{JobsRefusal}
 use Rattle.trace_csv.specs.declared.refusal.JobsRefusal.TheVariants as refusal
-use Rattle.trace_csv.proofs.JobsTaken.{taken_here}
 use Rattle.command_inputs.specs.Inputs.{ReadsJobs}
 
 -- ---- where nothing is refused
@@ -97,6 +97,11 @@ one_more before line k lawful none =
 no_jobs : (set : SetDef) → AreLawfulJobs (record { set = set; jobs = [] })
 no_jobs set = record { each = λ j l. absurd (omega (arith, l)); apart = λ a b l m same. absurd (omega (arith, m)) }
 
+with_line : (set : SetDef) (lines : List Fields) (n : ℕ) → n < length lines
+    → with_job (jobs_written set (take n lines)) (job_written set (line_at lines n)) ≡ jobs_written set (take (n + 1) lines)
+with_line set lines n here =
+    rw (take_more lines n [] here, map-append (job_written set) (take n lines) (line_at lines n ∷ [])) refl
+
 lines_lawful : (set : SetDef) (lines : List Fields) → ((i : ℕ) → i < length lines → refusal_at set lines i ≡ None) → (n : ℕ)
     → n ≤ length lines → AreLawfulJobs (jobs_written set (take n lines))
 lines_lawful set lines none zero most = no_jobs set
@@ -105,7 +110,7 @@ lines_lawful set lines none (suc n) most =
     let before : JobsDef = jobs_written set (take n lines) in
     let line : Fields = line_at lines n in
     let next : with_job before (job_written set line) ≡ jobs_written set (take (n + 1) lines) =
-    taken_here set lines n line before (with_job before (job_written set line)) here refl refl refl in
+    with_line set lines n here in
     let more : AreLawfulJobs (with_job before (job_written set line)) =
     one_more before line (n + 1) (lines_lawful set lines none n (omega (arith, most))) (none n here) in
     let same : n + 1 ≡ suc n = omega arith in

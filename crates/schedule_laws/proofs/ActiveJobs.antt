@@ -1,5 +1,5 @@
 -- Active jobs: one of each task, each of them in the list, and each until it is finished.
-use Rattle.std.proofs.Common.{◌≡◌, ℕ, ◌<◌, ◌≤◌, ◌==◌, ◌&&◌, ◌||◌, not, Bool, true, false, length, refl, sym, ◌∙◌, arith}
+use Rattle.std.proofs.Common.{◌≡◌, ℕ, ◌<◌, ◌≤◌, ◌==◌, ◌&&◌, ◌||◌, not, true, false, length, refl, sym, ◌∙◌, arith}
 use Rattle.std.proofs.Common.{inl, inr, Option, None, Some, leb}
 use Rattle.std.proofs.lemmas.Bool.{cases_lt, cases_Bool, and_parts, and_from, or_left, or_right, not-true}
 use Rattle.std.proofs.lemmas.Bool.{not_from_false, leb-true, le-leb, eq-eqb, eqb-true}
@@ -11,6 +11,7 @@ use Rattle.schedule_model.specs.Phase.{is_local, is_finished, is_asking, phase_o
 use Rattle.schedule_model.specs.Phase.Phase.{Local, Asking, Finished}
 use Rattle.schedule_model.specs.Activity.{task_of, is_pending, is_next, is_active, is_active_job_of, active_job_of}
 use Rattle.schedule_model.specs.Activity.{is_requester, is_active_local}
+use Rattle.schedule_model.proofs.RuleTests.{then_true}
 use Rattle.schedule_laws.proofs.Ticks.{finished_true, local_true, asking_true, asking_is, finished_stays, unfinished_listed}
 
 -- What it is to be active.
@@ -18,10 +19,6 @@ pub record Active (w : Trace) (t j : ℕ) : Type 0 where
   pub released : (job_of w.jobs j).release ≤ t
   pub unfinished : is_finished (phase_of w t j) ≡ false
   pub next : (e : ℕ) → e < j → task_of w e ≡ task_of w j → phase_of w t e ≡ Finished
-
-earlier_finished : (a b : Bool) → (not a || b) ≡ true → a ≡ true → b ≡ true
-earlier_finished true b h e = h
-earlier_finished false b h e = absurd (cc)
 
 -- An active job is all that.
 pub active_is : (w : Trace) (t j : ℕ) → is_active w t j ≡ true → Active w t j
@@ -33,7 +30,7 @@ active_is w t j h =
     record {
       released = leb-true _ _ pending.0;
       unfinished = not-true _ pending.1;
-      next = λ e l s. finished_true (phase_of w t e) (earlier_finished (task_of w e == task_of w j) (is_finished (phase_of w t e))
+      next = λ e l s. finished_true (phase_of w t e) (then_true (task_of w e == task_of w j) (is_finished (phase_of w t e))
           (all_below-each j (λ k. not (task_of w k == task_of w j) || is_finished (phase_of w t k)) parts.1 e l) (eq-eqb _ _ s));
     }
 

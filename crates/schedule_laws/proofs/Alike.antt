@@ -35,7 +35,7 @@ waits_through w t n j (suc i) steady waits l =
     let next : t + suc i ≡ suc (t + i) = omega arith in
     ap (λ u. executed w u j) next ∙ executed_waits w (t + i) j here ∙ waits_through w t n j i steady waits (omega arith)
 
-phase_through : (w : Trace) (t n i j : ℕ) → IsSteady w t n → i < n → phase_of w (t + i) j ≡ phase_of w t j
+pub phase_through : (w : Trace) (t n i j : ℕ) → IsSteady w t n → i < n → phase_of w (t + i) j ≡ phase_of w t j
 phase_through w t n i j steady l = elim (cases_Bool (runs_in (w.row t) j)) [
   | inl runs ↦ steady.phases i j l runs
   | inr waits ↦ phase_same w (t + i) t j (waits_through w t n j i steady waits l)

@@ -1,17 +1,13 @@
 -- Who is named in a row: running jobs and their columns, holders, and jobs that are ready.
-use Rattle.std.proofs.Common.{◌≡◌, ◌⊎◌, ℕ, zero, suc, ◌<◌, true, List, [], ◌∷◌, length, get_or, refl, ap, inl, inr, Option, Some, None}
+use Rattle.std.proofs.Common.{◌≡◌, ◌⊎◌, ℕ, zero, suc, ◌<◌, true, List, [], ◌∷◌, length, get_or, refl, inl, inr, Option, Some, None}
 use Rattle.std.specs.List.{list_any}
-use Rattle.std.proofs.lemmas.Bool.{and_parts, and_from, or_cases, or_left, or_right, eq-eqb, eqb-true}
+use Rattle.std.proofs.lemmas.Bool.{and_parts, and_from, or_cases, or_left, or_right, eq-eqb}
 use Rattle.schedule_model.specs.RowDef.{RowDef, Trace, is_job, running_on, holder_in, runs_in}
 use Rattle.schedule_model.specs.Phase.{Phase, phase_of}
 use Rattle.schedule_model.specs.Phase.Phase.{Local, Asking, Finished}
 use Rattle.schedule_model.specs.Activity.{is_active, is_active_local, holds_by, is_ready_holder, is_ready}
+pub use Rattle.schedule_model.proofs.RuleTests.{job_named}
 use Rattle.schedule_laws.proofs.ActiveJobs.{active_listed, ActiveLocal, active_local_is}
-
--- A place passes for j where it names j.
-pub job_named : (j : ℕ) (o : Option ℕ) → is_job j o ≡ true → o ≡ Some j
-job_named j None h = absurd (cc)
-job_named j (Some i) h = ap (λ k. Some k) (eqb-true i j h)
 
 -- A place that names j passes for j.
 pub named_job : (j : ℕ) (o : Option ℕ) → o ≡ Some j → is_job j o ≡ true
@@ -22,7 +18,7 @@ place_any [] c j e = absurd (cc)
 place_any (o ∷ places) zero j e = or_left (is_job j o) (list_any (is_job j) places) (named_job j o e)
 place_any (o ∷ places) (suc c) j e = or_right (is_job j o) (list_any (is_job j) places) (place_any places c j e)
 
-any_place : (places : List (Option ℕ)) (j : ℕ) → list_any (is_job j) places ≡ true → (c : ℕ) × (get_or places c None ≡ Some j)
+pub any_place : (places : List (Option ℕ)) (j : ℕ) → list_any (is_job j) places ≡ true → (c : ℕ) × (get_or places c None ≡ Some j)
 any_place [] j h = absurd (cc)
 any_place (o ∷ places) j h = elim (or_cases (is_job j o) (list_any (is_job j) places) h) [
   | inl here ↦ (0, job_named j o here)

@@ -20,7 +20,7 @@ pub record IsLastAt (jobs : List JobDef) (x r : ℕ) : Type 0 where
   pub arrival : (job_of jobs place).arrival ≡ r
   pub after : (c : ℕ) → place < c → c < length jobs → (job_of jobs c).task ≡ x → ⊥
 
-option_or-none : (o p : Option ℕ) → option_or o p ≡ None → (o ≡ None) × (p ≡ None)
+pub option_or-none : {A : Type 0} (o p : Option A) → option_or o p ≡ None → (o ≡ None) × (p ≡ None)
 option_or-none None p h = (refl, h)
 option_or-none (Some r) p h = absurd (cc)
 

@@ -1,6 +1,6 @@
 -- The chosen row as a test that computes, for the worked examples: where the test passes, the row is chosen.
 use Rattle.std.proofs.Common.{◌≡◌, ◌≢◌, ℕ, ◌<◌, ◌≤◌, ◌==◌, ◌&&◌, ◌||◌, not, Bool, true, length, Some, leb}
-use Rattle.std.proofs.lemmas.Bool.{and_parts, and_from, leb-true, eqb-true, eq-eqb}
+use Rattle.std.proofs.lemmas.Bool.{and_parts, and_from, leb-true, eqb-true, eq-eqb, false_from_ne_true}
 use Rattle.bounded_sums.specs.Tests.{all_below}
 use Rattle.bounded_sums.proofs.TestLaws.{all_below-each}
 use Rattle.sporadic_model.specs.SetDef.{SetDef}
@@ -8,8 +8,8 @@ use Rattle.schedule_model.specs.RowDef.{RowDef, Trace, is_job, running_on, holde
 use Rattle.schedule_model.specs.Activity.{task_of, processor_of, is_requester, is_ready_holder}
 use Rattle.schedule_model.specs.SharedRules.{Ranks}
 use Rattle.schedule_model.specs.Chosen.{IsSized, IsSharedChoice}
-use Rattle.schedule_model.proofs.RuleTests.{each_place, each_running, place_named, running_named, is_job-true}
-use Rattle.schedule_model.proofs.RuleTests.{then_true, or_other, not_true, passes_shared, shared_from}
+use Rattle.schedule_model.proofs.RuleTests.{each_place, each_running, place_named, running_named, job_named}
+use Rattle.schedule_model.proofs.RuleTests.{then_true, or_other, passes_shared, shared_from}
 use Rattle.schedule_model.proofs.KeepingTests.{each_rule, each_rule-passes}
 
 abbrev pub is_sized : SetDef → RowDef → Bool
@@ -74,7 +74,7 @@ choice_from o w t h = record {
       ≡ true = or_other (is_job j (held_before w t q))
       (all_below (length w.jobs) (λ x. not (ties_grant o w t q j x) || leb (task_of w j) (task_of w x)))
       (place_named (w.row t).holders (is_highest_grant o w t) three.0 q j e)
-      (not_true (is_job j (held_before w t q)) (λ k. new (is_job-true j (held_before w t q) k))) in
+      (false_from_ne_true (is_job j (held_before w t q)) (λ k. new (job_named j (held_before w t q) k))) in
       leb-true _ _ (then_true (ties_grant o w t q j i) (leb (task_of w j) (task_of w i))
       (all_below-each (length w.jobs) (λ x. not (ties_grant o w t q j x) || leb (task_of w j) (task_of w x)) all i l)
       (and_from (is_requester w t q i) (o.grant w t i == o.grant w t j) r (eq-eqb _ _ same)))

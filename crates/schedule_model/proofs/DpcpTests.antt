@@ -2,7 +2,7 @@
 use Rattle.std.proofs.Common.{◌≡◌, ℕ, ◌<◌, ◌≤◌, ◌==◌, ◌&&◌, ◌||◌, not, Bool, true, false, length, refl, ap, sym, ◌∙◌}
 use Rattle.std.proofs.Common.{Option, Some, None, is_some, leb}
 use Rattle.std.specs.Option.{option_map_or}
-use Rattle.std.proofs.lemmas.Bool.{and_parts, leb-true, eqb-true}
+use Rattle.std.proofs.lemmas.Bool.{and_parts, leb-true, eqb-true, false_from_ne_true}
 use Rattle.bounded_sums.specs.Tests.{all_below}
 use Rattle.bounded_sums.proofs.TestLaws.{all_below-each, any_below-some}
 use Rattle.schedule_model.specs.Protocols.{dpcp_rule}
@@ -15,8 +15,8 @@ use Rattle.schedule_model.specs.Activity.{task_of, processor_of, is_active, is_r
 use Rattle.schedule_model.specs.DpcpRules.{home_of, is_at, has_request_at, has_requests, holds_at, is_granted, KeepsRun}
 use Rattle.schedule_model.specs.DpcpRules.{KeepsGrant, KeepsIdle, RunsFirstHolder, KeepsPriority}
 use Rattle.schedule_model.specs.Ranks.{by_task}
-use Rattle.schedule_model.proofs.RuleTests.{each_place, each_running, place_named, running_named, is_job-true}
-use Rattle.schedule_model.proofs.RuleTests.{then_true, or_other, not_true, passes_keep, keep_from}
+use Rattle.schedule_model.proofs.RuleTests.{each_place, each_running, place_named, running_named, job_named}
+use Rattle.schedule_model.proofs.RuleTests.{then_true, or_other, passes_keep, keep_from}
 
 -- Run.
 abbrev pub is_in_place : Trace → ℕ → ℕ → ℕ → Phase → Bool
@@ -43,7 +43,7 @@ request_place w t k j q (Asking n r) h a =
     let same : r ≡ q = eqb-true _ _ a in
     let parts : ((k == home_of w r) ≡ true) × (is_job j (holder_in (w.row t) r) ≡ true) =
     and_parts (k == home_of w r) (is_job j (holder_in (w.row t) r)) h in
-    (eqb-true _ _ parts.0 ∙ ap (home_of w) same, ap (λ p. holder_in (w.row t) p) (sym same) ∙ is_job-true j (holder_in (w.row t) r) parts.1)
+    (eqb-true _ _ parts.0 ∙ ap (home_of w) same, ap (λ p. holder_in (w.row t) p) (sym same) ∙ job_named j (holder_in (w.row t) r) parts.1)
 
 pub run_from : (w : Trace) (t : ℕ) → passes_run w t ≡ true → KeepsRun w t
 run_from w t h = record {
@@ -73,7 +73,7 @@ given_asked w t q j Finished h a g = absurd (cc)
 given_asked w t q j (Asking n r) h a g =
     let same : r ≡ q = eqb-true _ _ a in
     let granted : is_granted w t (home_of w r) j ≡ true = ap (λ p. is_granted w t (home_of w p) j) same ∙ g in
-    ap (λ p. holder_in (w.row t) p) (sym same) ∙ is_job-true j (holder_in (w.row t) r)
+    ap (λ p. holder_in (w.row t) p) (sym same) ∙ job_named j (holder_in (w.row t) r)
     (then_true (is_granted w t (home_of w r) j) (is_job j (holder_in (w.row t) r)) h granted)
 
 pub grant_from : (w : Trace) (t : ℕ) → passes_grant w t ≡ true → KeepsGrant w t
@@ -81,7 +81,7 @@ unfolding is_requester
 grant_from w t h = record {
   requests = λ q j e. (may q j e).0;
   new = λ q j e other. or_other (is_job j (held_before w t q)) (is_granted w t (home_of w q) j) (may q j e).1
-      (not_true (is_job j (held_before w t q)) (λ k. other (is_job-true j (held_before w t q) k)));
+      (false_from_ne_true (is_job j (held_before w t q)) (λ k. other (job_named j (held_before w t q) k)));
   granted = λ q j l r g. given_asked w t q j (phase_of w t j)
       (all_below-each (length w.jobs) (λ i. is_given w t i (phase_of w t i)) parts.1 j l)
       (and_parts (is_active w t j) (is_asking q (phase_of w t j)) r).1 g;
@@ -132,8 +132,8 @@ idle_busy w t k none busy = let wrong : is_some {T = ℕ} None ≡ true = rw non
 
 pub idle_from : (w : Trace) (t : ℕ) → passes_idle w t ≡ true → KeepsIdle w t
 idle_from w t h = record {
-  requests = λ k none. not_true (has_requests w t k) (λ some. idle_busy w t k none (request_told w t k (is_busy w t) parts.0 some));
-  locals = λ k none i l e. not_true (is_active_local w t i) (λ local. idle_busy w t k none
+  requests = λ k none. false_from_ne_true (has_requests w t k) (λ some. idle_busy w t k none (request_told w t k (is_busy w t) parts.0 some));
+  locals = λ k none i l e. false_from_ne_true (is_active_local w t i) (λ local. idle_busy w t k none
       (ap (is_busy w t) (sym e) ∙ then_true (is_active_local w t i) (is_busy w t (processor_of w i))
       (all_below-each (length w.jobs) (λ x. not (is_active_local w t x) || is_busy w t (processor_of w x)) parts.1 i l)
       local));

@@ -1,10 +1,10 @@
 -- What a list of jobs keeps when a job is pushed.
-use Rattle.std.proofs.Common.{◌≡◌, ℕ, ◌<◌, ◌≤◌, ◌+◌, ◌&&◌, ◌||◌, not, Bool, true, false, cond, List, [], ◌∷◌, ◌++◌}
+use Rattle.std.proofs.Common.{◌≡◌, ℕ, ◌<◌, ◌≤◌, ◌+◌, ◌&&◌, not, Bool, true, false, cond, List, [], ◌∷◌, ◌++◌}
 use Rattle.std.proofs.Common.{length, refl, ap, sym, subst, ◌∙◌, arith, inl, inr, Option, Some, None, leb, ltb}
 use Rattle.std.proofs.Common.{length-append}
 use Rattle.std.specs.Option.{option_map_or}
 use Rattle.std.specs.List.{list_all}
-use Rattle.std.proofs.lemmas.Bool.{and_parts, ltb-false, leb-true, leb-false, cases_lt}
+use Rattle.std.proofs.lemmas.Bool.{and_parts, ltb-false, leb-true, leb-false, cases_lt, or_parts}
 use Rattle.std.proofs.Math.ListN.{get_or-append}
 use Rattle.std.proofs.Math.Seq.{get_or-append_seam}
 use Rattle.std.proofs.lemmas.List.Sums.{sum_by-append}
@@ -75,10 +75,6 @@ within_from set job h =
       lengths = three.1;
     }
 
-or_none : (a b : Bool) → (a || b) ≡ false → (a ≡ false) × (b ≡ false)
-or_none true b h = absurd (cc)
-or_none false b h = (refl, h)
-
 -- What it says that a job isn't late.
 pub in_time_from : (set : SetDef) (job : JobDef) → is_late set job ≡ false
     → (job.arrival ≤ job.release) × (job.release ≤ job.arrival + (task_at set job.task).jitter)
@@ -86,7 +82,7 @@ unfolding is_late
 in_time_from set job h =
     let parts : (ltb job.release job.arrival ≡ false)
     × (ltb (job.arrival + (task_at set job.task).jitter) job.release ≡ false) =
-    or_none (ltb job.release job.arrival) (ltb (job.arrival + (task_at set job.task).jitter) job.release) h in
+    or_parts (ltb job.release job.arrival) (ltb (job.arrival + (task_at set job.task).jitter) job.release) h in
     (ltb-false _ _ parts.0, ltb-false _ _ parts.1)
 
 lawful_from : (jobs : JobsDef) (job : JobDef) → job.task < length jobs.set.tasks
@@ -122,7 +118,7 @@ apart_from jobs job h =
     let period : ℕ = (task_at jobs.set job.task).period in
     let parts : (option_map_or (λ r. ltb job.arrival (r + period)) (last_arrival jobs.jobs job.task) false ≡ false)
     × (ltb MOST_TICKS job.release ≡ false) =
-    or_none (option_map_or (λ r. ltb job.arrival (r + period)) (last_arrival jobs.jobs job.task) false)
+    or_parts (option_map_or (λ r. ltb job.arrival (r + period)) (last_arrival jobs.jobs job.task) false)
     (ltb MOST_TICKS job.release) h in
     record {
       last = λ r e. let late : ltb job.arrival (r + period) ≡ false = rw e at parts.0 in ltb-false _ _ late;
@@ -209,7 +205,7 @@ listed_more jobs job listed none =
     let apart = apart_from jobs job accepted.apart in
     let room : (leb MOST_JOBS (length jobs.jobs) ≡ false)
     × (ltb MOST_SEGMENTS (segment_count jobs.jobs + length job.script) ≡ false) =
-    or_none (leb MOST_JOBS (length jobs.jobs)) (ltb MOST_SEGMENTS (segment_count jobs.jobs + length job.script))
+    or_parts (leb MOST_JOBS (length jobs.jobs)) (ltb MOST_SEGMENTS (segment_count jobs.jobs + length job.script))
     accepted.room in
     let fewer : length jobs.jobs < MOST_JOBS = leb-false _ _ room.0 in
     let shorter : segment_count jobs.jobs + length job.script ≤ MOST_SEGMENTS = ltb-false _ _ room.1 in

@@ -1,8 +1,8 @@
 -- No refusal is due for a job with which a list is lawful and within its limits.
-use Rattle.std.proofs.Common.{◌≡◌, ℕ, ◌<◌, ◌≤◌, ◌+◌, ◌||◌, not, Bool, true, false, cond, List, [], ◌∷◌, ◌++◌, length}
+use Rattle.std.proofs.Common.{◌≡◌, ℕ, ◌<◌, ◌≤◌, ◌+◌, not, Bool, true, false, cond, List, [], ◌∷◌, ◌++◌, length}
 use Rattle.std.proofs.Common.{refl, sym, ap, ◌∙◌, subst, arith, Option, Some, None, leb, ltb, length-append}
 use Rattle.std.specs.Option.{option_map_or}
-use Rattle.std.proofs.lemmas.Bool.{and_from, le-leb, le-ltb, lt-leb}
+use Rattle.std.proofs.lemmas.Bool.{and_from, le-leb, le-ltb, lt-leb, or_from}
 use Rattle.bounded_sums.specs.Tests.{all_below}
 use Rattle.bounded_sums.proofs.TestLaws.{all_below-from}
 use Rattle.sporadic_model.specs.SetDef.{task_at}
@@ -26,9 +26,6 @@ within_budget jobs job lawful =
     (all_below-from (length jobs.set.resources)
     (λ q. leb (number_of_requests job.script q) (count_of jobs.set job.task q)) (λ q l. le-leb _ _ (lawful.count q)))
     lawful.lengths))
-
-none_of : (a b : Bool) → a ≡ false → b ≡ false → (a || b) ≡ false
-none_of a b e f = rw (e, f) refl
 
 -- What holds of each job of the list with one more holds of that one.
 of_last : (P : JobDef → Type 0) (jobs : List JobDef) (job : JobDef)
@@ -56,7 +53,7 @@ after_last jobs job r lawful e =
 
 far_enough : (jobs : JobsDef) (job : JobDef) → AreLawfulJobs (with_job jobs job) → job.release ≤ MOST_TICKS → is_too_close jobs job ≡ false
 unfolding is_too_close
-far_enough jobs job lawful release = none_of _ _
+far_enough jobs job lawful release = or_from _ _
     (go (last_arrival jobs.jobs job.task) (λ r e. after_last jobs job r lawful e)) (le-ltb _ _ release)
   where
     go : (o : Option ℕ) → ((r : ℕ) → o ≡ Some r → r + (task_at jobs.set job.task).period ≤ job.arrival)
@@ -70,11 +67,11 @@ has_room jobs job listed =
     let fewer : length jobs.jobs < MOST_JOBS = omega (arith, listed.most, length-append jobs.jobs (job ∷ [])) in
     let shorter : segment_count jobs.jobs + length job.script ≤ MOST_SEGMENTS =
     omega (arith, listed.segments, segments_more jobs.jobs job) in
-    none_of _ _ (lt-leb _ _ fewer) (le-ltb _ _ shorter)
+    or_from _ _ (lt-leb _ _ fewer) (le-ltb _ _ shorter)
 
 is_early : (jobs : JobsDef) (job : JobDef) → IsLawfulJob jobs.set job → is_late jobs.set job ≡ false
 unfolding is_late
-is_early jobs job lawful = none_of _ _ (le-ltb _ _ lawful.arrived) (le-ltb _ _ lawful.in_time)
+is_early jobs job lawful = or_from _ _ (le-ltb _ _ lawful.arrived) (le-ltb _ _ lawful.in_time)
 
 five : (a b c d e : Bool) → a ≡ true → b ≡ true → c ≡ false → d ≡ false → e ≡ false
     → cond (not a) (Some refusal.Script)

@@ -2,7 +2,7 @@
 use Rattle.std.proofs.Common.{◌≡◌, ◌≢◌, ℕ, zero, suc, ◌<◌, ◌≤◌, ◌==◌, ◌&&◌, ◌||◌, not, Bool, true, false, List, length}
 use Rattle.std.proofs.Common.{get_or, refl, ap, ◌∙◌, inl, inr, Option, Some, None, is_some, leb}
 use Rattle.std.specs.Option.{option_map_or}
-use Rattle.std.proofs.lemmas.Bool.{both_ways, and_parts, or_cases, leb-true, eqb-true, cases_lt}
+use Rattle.std.proofs.lemmas.Bool.{both_ways, and_parts, or_cases, leb-true, eqb-true, cases_lt, false_from_ne_true}
 use Rattle.std.proofs.lemmas.List.{get_or_past}
 use Rattle.bounded_sums.specs.Tests.{all_below, any_below}
 use Rattle.bounded_sums.proofs.TestLaws.{all_below-each, any_below-some}
@@ -45,9 +45,10 @@ pub before_named : (w : Trace) (t : ℕ) (p : ℕ → ℕ → Bool) → each_bef
 before_named w zero p h q j e = absurd (cc)
 before_named w (suc u) p h q j e = place_named (w.row u).holders p h q j e
 
-pub is_job-true : (j : ℕ) (o : Option ℕ) → is_job j o ≡ true → o ≡ Some j
-is_job-true j None h = absurd (cc)
-is_job-true j (Some i) h = ap (λ k. Some k) (eqb-true i j h)
+-- A place passes for j where it names j.
+pub job_named : (j : ℕ) (o : Option ℕ) → is_job j o ≡ true → o ≡ Some j
+job_named j None h = absurd (cc)
+job_named j (Some i) h = ap (λ k. Some k) (eqb-true i j h)
 
 -- A test that says 'if a then b' gives b where a passes.
 pub then_true : (a b : Bool) → (not a || b) ≡ true → a ≡ true → b ≡ true
@@ -57,10 +58,6 @@ then_true false b h e = absurd (cc)
 pub or_other : (a b : Bool) → (a || b) ≡ true → a ≡ false → b ≡ true
 or_other true b h e = absurd (cc)
 or_other false b h e = h
-
-pub not_true : (b : Bool) → (b ≡ true → ⊥) → b ≡ false
-not_true true h = absurd (h refl)
-not_true false h = refl
 
 -- Run, and Keep.
 abbrev pub passes_run : Trace → ℕ → Bool
@@ -79,7 +76,7 @@ passes_keep w t = each_before w t (λ q j. not (is_requester w t q j) || is_job 
 
 pub keep_from : (w : Trace) (t : ℕ) → passes_keep w t ≡ true → shared.KeepsKeep w t
 keep_from w t h q j e r =
-    is_job-true j (holder_in (w.row t) q) (then_true (is_requester w t q j) (is_job j (holder_in (w.row t) q))
+    job_named j (holder_in (w.row t) q) (then_true (is_requester w t q j) (is_job j (holder_in (w.row t) q))
     (before_named w t (λ p i. not (is_requester w t p i) || is_job i (holder_in (w.row t) p)) h q j e) r)
 
 -- Grant.
@@ -108,7 +105,7 @@ unfolding is_requester
 grant_from o w t h = record {
   requests = λ q j e. (may q j e).0;
   first = λ q j e new i l r. first q j e new i l r;
-  free = λ q none i l. not_true (is_requester w t q i) (λ r. unheld q none i l r);
+  free = λ q none i l. false_from_ne_true (is_requester w t q i) (λ r. unheld q none i l r);
 } where
   parts : (each_place (w.row t).holders (may_hold o w t) ≡ true)
       × (all_below (length w.jobs) (λ i. not (is_active w t i && is_unheld (w.row t) (phase_of w t i))) ≡ true)
@@ -124,7 +121,7 @@ grant_from o w t h = record {
       → is_requester w t q i ≡ true → o.grant w t j ≤ o.grant w t i
   first q j e new i l r =
       let firsts : goes_first o w t q j ≡ true = or_other (is_job j (held_before w t q)) (goes_first o w t q j)
-      (may q j e).1 (not_true (is_job j (held_before w t q)) (λ k. new (is_job-true j (held_before w t q) k))) in
+      (may q j e).1 (false_from_ne_true (is_job j (held_before w t q)) (λ k. new (job_named j (held_before w t q) k))) in
       leb-true _ _ (then_true (is_requester w t q i) (leb (o.grant w t j) (o.grant w t i))
       (all_below-each (length w.jobs) (λ x. not (is_requester w t q x) || leb (o.grant w t j) (o.grant w t x)) firsts i
       l) r)
@@ -144,7 +141,7 @@ abbrev pub passes_idle : Trace → ℕ → Bool
 passes_idle w t = all_below (length w.jobs) (λ i. not (is_ready w t i) || is_some (running_on (w.row t) (processor_of w i)))
 
 pub idle_from : (w : Trace) (t : ℕ) → passes_idle w t ≡ true → shared.KeepsIdle w t
-idle_from w t h k none i l e = not_true (is_ready w t i) (λ r.
+idle_from w t h k none i l e = false_from_ne_true (is_ready w t i) (λ r.
     let some : is_some (running_on (w.row t) (processor_of w i)) ≡ true =
     then_true (is_ready w t i) (is_some (running_on (w.row t) (processor_of w i)))
     (all_below-each (length w.jobs) (λ x. not (is_ready w t x) || is_some (running_on (w.row t) (processor_of w x))) h i
@@ -170,7 +167,7 @@ passes_priority o w t =
     && all_below (length w.jobs) (λ i. not (is_active_local w t i)
     || option_map_or (yields_to_higher w t i) (running_on (w.row t) (processor_of w i)) true)
 
-runner_passes : (p : ℕ → Bool) (o : Option ℕ) (r : ℕ) → option_map_or p o true ≡ true → o ≡ Some r → p r ≡ true
+pub runner_passes : (p : ℕ → Bool) (o : Option ℕ) (r : ℕ) → option_map_or p o true ≡ true → o ≡ Some r → p r ≡ true
 runner_passes p o r h e = rw e at h
 
 pub priority_from : (o : Ranks) (w : Trace) (t : ℕ) → passes_priority o w t ≡ true → shared.KeepsPriority o w t

@@ -8,8 +8,7 @@ use Rattle.std.specs.Int.{is_in_range}
 use Rattle.std.proofs.lemmas.Bool.{cases_Bool, both_ways, and_parts, and_from, ltb-true, leb-true, lt-ltb, eqb-true}
 use Rattle.std.proofs.lemmas.List.Folds.{list_all-map, list_all_at}
 use Rattle.std.proofs.lemmas.List.Sums.{sum_by-cons}
-use Rattle.std.proofs.lemmas.List.{length-map}
-use Rattle.sporadic_model.proofs.Mapped.{take-map}
+use Rattle.std.proofs.lemmas.List.{length-map, take-map}
 use Rattle.sporadic_model.specs.declared.ids.ResourceId.{ResourceId}
 use Rattle.sporadic_model.specs.declared.limits.TheConstants.{MOST_TICKS}
 use Rattle.schedule_model.specs.JobDef.{SegmentDef, asks_for, number_of_requests}

@@ -110,20 +110,14 @@ impl RowList {
     }
 }
 
-fn are_below(places: &[Option<JobId>], jobs: u32) -> bool
-    ensures { result ≡ list_all (λ o. is_below jobs (place_seen o)) places.now }
+/// Are the jobs that are named at these places below so many?
+fn name_below(places: &[Option<JobId>], jobs: u32) -> bool
+    ensures { result ≡ names_below jobs (map place_seen places.now) }
 {
     places.iter().all(|place| match place {
         Some(job) => job.0 < jobs,
         None => true,
     })
-}
-
-/// Are the jobs that are named at these places below so many?
-fn name_below(places: &[Option<JobId>], jobs: u32) -> bool
-    ensures { result ≡ names_below jobs (map place_seen places.now) }
-{
-    are_below(places, jobs)
 }
 
 /// Are the jobs that the row names below so many?
@@ -142,15 +136,9 @@ fn fits_sizes(row: &Row, processors: u32, resources: u32, jobs: u32) -> bool
         && names_only(row, jobs)
 }
 
-fn each_fits(runs: &[RowRun], processors: u32, resources: u32, jobs: u32) -> bool
-    ensures { result ≡ list_all (λ run. fits_row processors resources jobs (run_seen run).row) runs.now }
-{
-    runs.iter()
-        .all(|run| fits_sizes(&run.row, processors, resources, jobs))
-}
-
 fn all_fit(runs: &[RowRun], processors: u32, resources: u32, jobs: u32) -> bool
     ensures { result ≡ list_all (λ run. fits_row processors resources jobs run.row) (map run_seen runs.now) }
 {
-    each_fits(runs, processors, resources, jobs)
+    runs.iter()
+        .all(|run| fits_sizes(&run.row, processors, resources, jobs))
 }

@@ -1,5 +1,5 @@
 -- What the holders and the running jobs are once all tasks have come makes the row the chosen one.
-use Rattle.std.proofs.Common.{◌≡◌, ℕ, ◌<◌, ◌≤◌, ◌&&◌, Bool, true, false, refl, sym, ap, ◌∙◌, arith, Some}
+use Rattle.std.proofs.Common.{◌≡◌, ℕ, ◌<◌, ◌≤◌, true, false, refl, sym, ap, ◌∙◌, arith, Some}
 use Rattle.std.proofs.lemmas.Bool.{both_ways, false_from_ne_true}
 use Rattle.schedule_model.specs.declared.rule.Rule.{Rule}
 use Rattle.schedule_model.specs.declared.rule.Rule.TheVariants as rule
@@ -11,6 +11,7 @@ use Rattle.schedule_model.specs.Protocols.{shared_rule}
 use Rattle.schedule_model.specs.Chosen.{IsSized, IsSharedChoice}
 use Rattle.schedule_laws.proofs.ActiveJobs.{Requester, requester_is, requester_from, ActiveLocal, active_local_is}
 use Rattle.schedule_laws.proofs.Rows.{ReadyHolder, ready_holder_is, ready_active, ready_listed}
+use Rattle.phase_machine.proofs.Facts.{same_where_active}
 use Rattle.shared_choosing.specs.Scene.{Scene, requests, holds, may_run}
 use Rattle.shared_choosing.specs.Choosing.{Leads, Granted, Placed}
 
@@ -24,10 +25,6 @@ pub record IsSceneOf (o : Ranks) (s : Scene) (w : Trace) (t : ℕ) : Type 0 wher
   pub held : (q : ℕ) → s.before q ≡ held_before w t q
   pub grants : (q j : ℕ) → is_requester w t q j ≡ true → s.grant j ≡ o.grant w t j
   pub runs : (q j : ℕ) → is_requester w t q j ≡ true → s.run j ≡ o.run w t j
-
-same_where_active : (a b c d : Bool) → a ≡ b → (b ≡ true → c ≡ d) → (a && c) ≡ (b && d)
-same_where_active a true c d e h = rw e (h refl)
-same_where_active a false c d e h = rw e refl
 
 pub requests_shown : (o : Ranks) (s : Scene) (w : Trace) (t q j : ℕ) → IsSceneOf o s w t → requests s q j ≡ is_requester w t q j
 unfolding is_requester

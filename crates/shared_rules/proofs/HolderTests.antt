@@ -1,5 +1,5 @@
 -- The tests of Keep and of Grant say that the row keeps them.
-use Rattle.std.proofs.Common.{◌≡◌, ℕ, ◌<◌, ◌≤◌, ◌||◌, not, Bool, true, false, length, refl, sym, ap, ◌∙◌, arith, inl}
+use Rattle.std.proofs.Common.{◌≡◌, ℕ, ◌<◌, ◌≤◌, not, true, false, length, refl, sym, ap, ◌∙◌, arith, inl}
 use Rattle.std.proofs.Common.{inr, Option, Some, None}
 use Rattle.std.specs.Option.{option_map_or}
 use Rattle.std.proofs.lemmas.Bool.{cases_Bool, and_parts, and_from, or_left, or_right, not_from_false, both_ways}
@@ -11,6 +11,7 @@ use Rattle.schedule_model.specs.Phase.{Phase}
 use Rattle.schedule_model.specs.Phase.Phase.{Local, Asking, Finished}
 use Rattle.schedule_model.specs.Activity.{is_active, is_requester}
 use Rattle.schedule_model.specs.SharedRules.{Ranks, KeepsKeep, KeepsGrant}
+use Rattle.schedule_model.proofs.RuleTests.{or_other}
 use Rattle.schedule_laws.proofs.ActiveJobs.{active_listed, requester_listed, requester_from, Requester, requester_is}
 use Rattle.schedule_laws.proofs.Rows.{job_named, named_job}
 use Rattle.phase_machine.specs.MachineDef.{MachineDef, under}
@@ -18,18 +19,14 @@ use Rattle.phase_machine.specs.Now.{phase_now, holder_now, requester_now}
 use Rattle.phase_machine.specs.Shows.{Shows}
 use Rattle.phase_machine.proofs.Facts.{phase_shown, requester_shown}
 use Rattle.phase_machine.specs.Order.{GivesRanks}
+use Rattle.phase_machine.proofs.Stretches.{place_within}
 use Rattle.shared_rules.specs.RowTests.{each_current, stays_holder, kept_passes, passes_keep, holder_passes}
 use Rattle.shared_rules.specs.RowTests.{goes_before, is_served, request_passes, passes_grant}
 use Rattle.shared_rules.proofs.Currents.{each_is, each_from}
-use Rattle.shared_rules.proofs.RunTest.{some_within}
-
-pub right_of : (x y : Bool) → (x || y) ≡ true → x ≡ false → y ≡ true
-right_of true y h e = absurd (cc)
-right_of false y h e = h
 
 -- Who held a resource in the last row held one of the set.
 pub held_within : (m : MachineDef) (rows : ℕ → RowDef) (q j : ℕ) → Shows m rows → holder_now m q ≡ Some j → q < length m.list.set.resources
-held_within m rows q j shows e = omega (arith, some_within m.holders q j e, shows.machine.holders_length)
+held_within m rows q j shows e = omega (arith, place_within m.holders q j e, shows.machine.holders_length)
 
 pub keep_is : (m : MachineDef) (rows : ℕ → RowDef) → Shows m rows → passes_keep m (rows m.tick) ≡ true → KeepsKeep (under m rows) m.tick
 unfolding passes_keep
@@ -39,7 +36,7 @@ keep_is m rows shows h q j e asks =
     (kept_passes m (rows m.tick)) h q (held_within m rows q j shows held) in
     let stays : stays_holder m (rows m.tick) q j ≡ true = sym (ap (λ o. option_map_or (stays_holder m (rows m.tick) q) o true) held) ∙ p in
     let no : not (requester_now m q j) ≡ false = ap not (requester_shown m rows q j shows ∙ asks) in
-    job_named j (holder_in (rows m.tick) q) (right_of (not (requester_now m q j)) (is_job j (holder_in (rows m.tick) q)) stays no)
+    job_named j (holder_in (rows m.tick) q) (or_other (not (requester_now m q j)) (is_job j (holder_in (rows m.tick) q)) stays no)
 
 pub keep_from : (m : MachineDef) (rows : ℕ → RowDef) → Shows m rows → KeepsKeep (under m rows) m.tick → passes_keep m (rows m.tick) ≡ true
 unfolding passes_keep
@@ -99,7 +96,7 @@ grant_is o grants runs m rows gives shows within h = record {
       let before : goes_before m (grants m) q i (Some j) ≡ true = sym (ap (goes_before m (grants m) q i) e) ∙ served q i a in
       let is_new : is_job j (holder_now m q) ≡ false = false_from_ne_true (is_job j (holder_now m q))
       (λ f. new (sym (shows.holders q) ∙ job_named j (holder_now m q) f)) in
-      let le : grants m j ≤ grants m i = leb-true _ _ (right_of (is_job j (holder_now m q)) _ before is_new) in
+      let le : grants m j ≤ grants m i = leb-true _ _ (or_other (is_job j (holder_now m q)) _ before is_new) in
       omega (arith, le, gives.grant m rows shows q j (asks q j e), gives.grant m rows shows q i a)
 
 pub grant_from : (o : Ranks) (grants runs : MachineDef → ℕ → ℕ) (m : MachineDef) (rows : ℕ → RowDef)

@@ -7,6 +7,7 @@ use Rattle.std.proofs.lemmas.Bool.{false_from_ne_true, leb-true, le-leb}
 use Rattle.schedule_model.specs.RowDef.{RowDef, running_on, holder_in}
 use Rattle.schedule_model.specs.Activity.{task_of, processor_of, is_active, is_active_local, is_ready_holder, is_ready}
 use Rattle.schedule_model.specs.SharedRules.{Ranks, KeepsRun, KeepsIdle, KeepsPriority}
+use Rattle.schedule_model.proofs.RuleTests.{or_other}
 use Rattle.schedule_laws.proofs.ActiveJobs.{active_listed, ActiveLocal, active_local_is}
 use Rattle.schedule_laws.proofs.Rows.{ReadyHolder, ready_holder_is, ready_active, ready_listed}
 use Rattle.phase_machine.specs.MachineDef.{MachineDef, task_in, under}
@@ -16,7 +17,6 @@ use Rattle.phase_machine.specs.Now.{processor_now, is_local_now, holds_now, may_
 use Rattle.shared_rules.specs.RowTests.{idle_passes, passes_idle}
 use Rattle.shared_rules.specs.RowTests.{runs_before, priority_passes, passes_priority}
 use Rattle.shared_rules.proofs.Currents.{each_is, each_from, local_shown, holds_shown, may_run_shown, run_given}
-use Rattle.shared_rules.proofs.HolderTests.{right_of}
 
 pub idle_is : (m : MachineDef) (rows : ℕ → RowDef) → Shows m rows → passes_idle m (rows m.tick) ≡ true → KeepsIdle (under m rows) m.tick
 unfolding passes_idle
@@ -27,7 +27,7 @@ idle_is m rows shows h k e i l own = false_from_ne_true (is_ready (under m rows)
       let p : idle_passes m (rows m.tick) i ≡ true = each_is m rows (idle_passes m (rows m.tick)) i shows h active in
       let no : not (may_run_now m (holder_in (rows m.tick)) i) ≡ false = ap not (may_run_shown m rows i shows active ∙ ready) in
       let busy : is_some (running_on (rows m.tick) (processor_now m i)) ≡ true =
-      right_of (not (may_run_now m (holder_in (rows m.tick)) i)) _ p no in
+      or_other (not (may_run_now m (holder_in (rows m.tick)) i)) _ p no in
       let empty : is_some (running_on (rows m.tick) (processor_now m i)) ≡ false =
       ap (λ c. is_some (running_on (rows m.tick) c)) own ∙ ap is_some e in
       both_ways _ empty busy
@@ -78,7 +78,7 @@ priority_is o grants runs m rows gives shows run h = record {
       let no : not (holds_now m (holder_in (rows m.tick)) i) ≡ false = ap not (holds_shown m rows i shows ri.active ∙ hi) in
       let p = both k r i (beside k r i e own ri.active) in
       let q = and_parts (holds_now m (holder_in (rows m.tick)) r) (leb (runs m r) (runs m i))
-      (right_of (not (holds_now m (holder_in (rows m.tick)) i))
+      (or_other (not (holds_now m (holder_in (rows m.tick)) i))
       (holds_now m (holder_in (rows m.tick)) r && leb (runs m r) (runs m i)) p.0 no) in
       let hr : is_ready_holder (under m rows) m.tick r ≡ true = sym (holds_shown m rows r shows active) ∙ q.0 in
       let le : runs m r ≤ runs m i = leb-true _ _ q.1 in
@@ -94,9 +94,9 @@ priority_is o grants runs m rows gives shows run h = record {
       let not_held : holds_now m (holder_in (rows m.tick)) r ≡ false = holds_shown m rows r shows active ∙ none in
       let p = both k r i (beside k r i e own local.active) in
       let q : (holds_now m (holder_in (rows m.tick)) r || leb (task_in m.list.jobs r) (task_in m.list.jobs i)) ≡ true =
-      right_of (not (is_local_now m i))
+      or_other (not (is_local_now m i))
       (holds_now m (holder_in (rows m.tick)) r || leb (task_in m.list.jobs r) (task_in m.list.jobs i)) p.1 no in
-      leb-true (task_in m.list.jobs r) (task_in m.list.jobs i) (right_of (holds_now m (holder_in (rows m.tick)) r)
+      leb-true (task_in m.list.jobs r) (task_in m.list.jobs i) (or_other (holds_now m (holder_in (rows m.tick)) r)
       (leb (task_in m.list.jobs r) (task_in m.list.jobs i)) q not_held)
 
 pub priority_from : (o : Ranks) (grants runs : MachineDef → ℕ → ℕ) (m : MachineDef) (rows : ℕ → RowDef)

@@ -1,9 +1,8 @@
 -- The test of Run says that the row keeps it.
-use Rattle.std.proofs.Common.{◌≡◌, ℕ, ◌+◌, ◌<◌, zero, suc, true, length, List, refl, sym, ap, ◌∙◌, arith, inl, inr}
+use Rattle.std.proofs.Common.{◌≡◌, ℕ, ◌+◌, zero, suc, true, length, refl, sym, ap, ◌∙◌, arith}
 use Rattle.std.proofs.Common.{Option, Some, None, get_or}
 use Rattle.std.specs.Option.{option_map_or}
-use Rattle.std.proofs.lemmas.Bool.{cases_lt, and_parts, and_from, eq-eqb, eqb-true}
-use Rattle.std.proofs.lemmas.List.{get_or_past}
+use Rattle.std.proofs.lemmas.Bool.{and_parts, and_from, eq-eqb, eqb-true}
 use Rattle.bounded_sums.proofs.TestLaws.{all_below-each, all_below-from}
 use Rattle.schedule_model.specs.RowDef.{RowDef, running_on, holder_in}
 use Rattle.schedule_model.specs.Activity.{is_ready, is_active}
@@ -14,15 +13,9 @@ use Rattle.phase_machine.specs.Now.{active_now}
 use Rattle.phase_machine.specs.Shows.{Shows}
 use Rattle.phase_machine.proofs.Facts.{active_shown}
 use Rattle.phase_machine.specs.Now.{processor_now, may_run_now}
+use Rattle.phase_machine.proofs.Stretches.{place_within}
 use Rattle.shared_rules.specs.RowTests.{may_stand, column_passes, each_stands, passes_run}
 use Rattle.shared_rules.proofs.Currents.{may_run_shown}
-
--- What is named is within the list.
-pub some_within : (places : List (Option ℕ)) (i j : ℕ) → get_or places i None ≡ Some j → i < length places
-some_within places i j e = elim (cases_lt i (length places)) [
-  | inl within ↦ within
-  | inr past ↦ let x : None ≡ Some j = sym (get_or_past places i None past) ∙ e in absurd (cc)
-]
 
 -- What the test says of a job that runs.
 pub record Stands (m : MachineDef) (place : ℕ → ℕ) (row : RowDef) (k j : ℕ) : Type 0 where
@@ -36,7 +29,7 @@ unfolding each_stands
 stands m place row zero j h e = absurd (cc)
 stands m place row (suc c) j h e =
     let p : column_passes m place row c ≡ true =
-    all_below-each (length row.running) (column_passes m place row) h c (some_within row.running c j e) in
+    all_below-each (length row.running) (column_passes m place row) h c (place_within row.running c j e) in
     let q : may_stand m place row c j ≡ true = sym (ap (λ o. option_map_or (may_stand m place row c) o true) e) ∙ p in
     let a = and_parts _ _ q in
     let b = and_parts _ _ a.1 in

@@ -10,8 +10,9 @@ use Rattle.phase_machine.specs.MachineDef.{MachineDef, under}
 use Rattle.phase_machine.specs.Shows.{Shows}
 use Rattle.phase_machine.specs.Taking.{IsRowFor}
 use Rattle.phase_machine.specs.Order.{GivesRanks}
+use Rattle.phase_machine.proofs.Stretches.{place_within}
 use Rattle.shared_rules.specs.RowTests.{passes_run, passes_keep, passes_grant, passes_idle, passes_priority, first_of, first_failed}
-use Rattle.shared_rules.proofs.RunTest.{some_within, run_is, run_from}
+use Rattle.shared_rules.proofs.RunTest.{run_is, run_from}
 use Rattle.shared_rules.proofs.HolderTests.{keep_is, keep_from, grant_is, grant_from}
 use Rattle.shared_rules.proofs.ReadyTests.{idle_is, idle_from, priority_is, priority_from}
 
@@ -109,7 +110,7 @@ tests_say o grants runs m rows gives shows fits = record {
   priority_from = priority_from o grants runs m rows gives shows;
 } where
   within : (q j : ℕ) → holder_in (rows m.tick) q ≡ Some j → q < length m.list.set.resources
-  within q j e = omega (arith, some_within (rows m.tick).holders q j e, fits.sized.resources)
+  within q j e = omega (arith, place_within (rows m.tick).holders q j e, fits.sized.resources)
 
 pub judged_none : (o : Ranks) (grants runs : MachineDef → ℕ → ℕ) (m : MachineDef) (rows : ℕ → RowDef) (row : RowDef)
     → GivesRanks o grants runs → Shows m rows → IsRowFor m.list row

@@ -1,5 +1,5 @@
 -- The least ratio of the rows so far, and one row more.
-use Rattle.std.proofs.Common.{◌≡◌, inl, inr, ℕ, zero, suc, ◌<◌, ◌≤◌, ◌+◌, ◌-◌, ℤ, pos, ◌≤ℤ◌, ◌<ℤ◌}
+use Rattle.std.proofs.Common.{◌≡◌, inl, inr, ℕ, zero, suc, ◌<◌, ◌≤◌, ◌+◌, ◌-◌, pos, ◌<ℤ◌}
 use Rattle.std.proofs.Common.{Option, Some, None, List, length, ap, sym, ◌∙◌, subst, arith}
 use Rattle.std.proofs.lemmas.Int.{ints}
 use Rattle.std.proofs.lemmas.Bool.{cases_eq}
@@ -10,6 +10,7 @@ use Rattle.exchange_runs.specs.Exchange.{HasRatio, IsRatio}
 use Rattle.fraction128.specs.Gives.{HasNoForm}
 use Rattle.exchange_runs.specs.WideExchange.{IsWideRatio}
 use Rattle.exchange_runs.proofs.Loops.{least_skip}
+use Rattle.exchange_runs.proofs.Signs.{not_back, weaker}
 use Rattle.simplex.specs.Choice.{IsLeastSoFar}
 use Rattle.simplex.specs.Entries.{entry_at, IsSplit}
 use Rattle.simplex.specs.declared.entries.Entry.{Entry}
@@ -17,15 +18,9 @@ use Rattle.simplex.specs.Rows.{RowDef}
 use Rattle.simplex.specs.Tables.{table_of, IsColumn}
 use Rattle.simplex.proofs.Listed.{split_gap}
 
-lt-le : (a b : ℤ) → a <ℤ b → a ≤ℤ b
-lt-le a b h = omega (arith, ints)
-
-lt-not_le : (a b : ℤ) → a <ℤ b → b ≤ℤ a → ⊥
-lt-not_le a b h k = omega (arith, ints)
-
 -- the lesser ratio comes first, whatever the basic variables are
 pub below_comes : (g f : Fraction) (j i : ℕ) → IsBelow g f → IsAtMost g f × (IsAtMost f g → j ≤ i)
-below_comes g f j i h = (record { le = lt-le _ _ h.lt }, λ k. absurd (lt-not_le _ _ h.lt k.le))
+below_comes g f j i h = (record { le = weaker h.lt }, λ k. absurd (not_back _ _ h.lt k.le))
 
 -- a row that has no ratio changes nothing
 pub no_more : (place : ℕ) (t : Table) (e i : ℕ) (best : Option (ℕ × Fraction)) → IsLeastSoFar place t e i best → (HasRatio t e i → ⊥)

@@ -186,7 +186,9 @@ fn push_run(list: &mut Vec<Entry>, run: &[Entry]) -> Result<(), AllocError>
 }
 
 // What is left of each cell when f times the pivot's is taken away, at variables below `end`, in order. Cells between two of the
-// pivot's stay as they are, and a cell that becomes zero gets no entry. The list is made in `spare`.
+// pivot's stay as they are, and a cell that becomes zero gets no entry. The list is made in `spare`. Inlined into the run the loop would
+// lack registers.
+#[inline(never)]
 pub(crate) fn take_away(
     entries: &[Entry],
     f: Frac,
@@ -208,8 +210,8 @@ pub(crate) fn take_away(
         let place = next_place(entries, i, y.variable);
         push_run(&mut left, &entries[i..place])?;
         let rest = taken_behind(entries, place, y.variable, f, y.value)?;
-        push_cell(&mut left, y.variable, rest)?;
         i = count_through(entries, place, y.variable);
+        push_cell(&mut left, y.variable, rest)?;
     }
     left.extend_from_slice(&entries[i..])?;
     Ok(left)

@@ -4,7 +4,8 @@ ghost use Rattle.std.specs.Prelude.{◌≡◌, ◌≢◌, ℕ, ◌+◌, ◌<◌,
 ghost use Rattle.exchange_runs.specs.Exchange.{IsEntering};
 ghost use Rattle.exchange_runs.specs.Run.{Reached};
 ghost use Rattle.simplex.specs.Entries.{listed_at, AreSparse, AreBelow};
-ghost use Rattle.simplex.specs.Rows.{places, HasForms};
+ghost use Rattle.simplex.specs.Rows.{places, cell_at, HasForms};
+ghost use Rattle.simplex.specs.CellSteps.{IsPushed};
 ghost use Rattle.simplex.specs.Tables.{row_of, table_of, IsColumn, HasSize};
 ghost use Rattle.simplex.specs.Exchanges.{TakesAll, ExchangesIn, Steps};
 
@@ -17,13 +18,27 @@ use fraction128::Wide;
 use std::alloc::{AllocError, Global};
 use std::mem;
 
-// Reads the nonzero cells at the variable e, in order of their rows.
+// Adds the cell of row i at the variable e, where it isn't zero.
+fn push_read(column: &mut Vec<Entry>, i: usize, row: &SparseRow, e: usize) -> Result<(), AllocError>
+    requires { row.now.place ≢ e }
+    ensures pushed { IfOk result (λ _. IsPushed column.old.items i (cell_at row.now e) column.new.items) }
+    ensures forms { HasForms row.now }
+{
+    if !row.may_have(e) {
+        return Ok(());
+    }
+    push_cell(column, i, row.cell(e))
+}
+
+// Reads the nonzero cells at the variable e, in order of their rows. Inlined into the run the loop would lack registers.
+#[inline(never)]
 fn read_column(column: &mut Vec<Entry>, rows: &[SparseRow], e: usize) -> Result<(), AllocError>
+    requires { (i : ℕ) → i < length rows.now → (row_of rows.now i).place ≢ e }
     ensures { IfOk result (λ _. IsColumn rows.now e column.new.items) }
 {
     column.clear();
     for i in 0..rows.len() {
-        push_cell(column, i, rows[i].cell(e))?;
+        push_read(column, i, &rows[i], e)?;
     }
     Ok(())
 }

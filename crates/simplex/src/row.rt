@@ -1,7 +1,7 @@
 //! A row of a table, and what an exchange does to it.
 
-ghost use Rattle.std.specs.Prelude.{◌≡◌, ◌≢◌, ℕ, ◌<◌, pos, IfOk};
-ghost use Rattle.fraction128.specs.Fraction.{IsForm};
+ghost use Rattle.std.specs.Prelude.{◌≡◌, ◌≢◌, ℕ, ◌<◌, false, pos, IfOk};
+ghost use Rattle.fraction128.specs.Fraction.{IsForm, whole};
 ghost use Rattle.simplex.specs.Entries.{AreSparse, AreBelow};
 ghost use Rattle.simplex.specs.Choice.{IsFirstAbove};
 ghost use Rattle.simplex.specs.Rows.{RowDef, places, cell_at, no_row, HasForms, IsSparseRow};
@@ -68,11 +68,18 @@ impl SparseRow {
         if self.place == v {
             return self.limit;
         }
-        // few rows list a given variable, and the others' lists needn't be looked at
         if !may_list(self.filter, v) {
             return Frac::whole(0);
         }
         value_at(&self.entries, v)
+    }
+
+    // Whether the cell of a variable may be other than zero. Few rows list a given variable, and the others' lists needn't be looked at.
+    pub(crate) fn may_have(&self, v: usize) -> bool
+        ensures value { self.now.place ≢ v → result ≡ false → cell_at self.now v ≡ whole (pos 0) }
+        ensures forms { HasForms self.now }
+    {
+        may_list(self.filter, v)
     }
 
     // The first variable whose cell is above 0.
@@ -117,7 +124,7 @@ impl SparseRow {
     }
 
     // Takes f times another row away. What is left is made in `spare`, which is long enough for any row, and copied, so that the
-    // row's own list stays as short as the row.
+    // row's own list stays as short as the row. Where that has as much room already, the two lists change places.
     pub(crate) fn take_away(
         &mut self,
         alloc: Global,
@@ -130,6 +137,11 @@ impl SparseRow {
     {
         let list = mem::replace(spare, Vec::new(alloc));
         let left = self.left(f, pivot, list)?;
+        if self.entries.capacity() >= left.entries.capacity() {
+            let before = mem::replace(self, left);
+            *spare = before.entries;
+            return Ok(());
+        }
         self.copy_from(&left)?;
         *spare = left.entries;
         Ok(())

@@ -46,7 +46,7 @@ impl SparseProgram {
     {
         let costs = costs_of(alloc, program)?;
         let rows = rows_of(alloc, program)?;
-        let limits = limits_of(alloc, program)?;
+        let limits = program.limits().to_vec(alloc)?;
         Ok(SparseProgram {
             costs,
             rows,
@@ -120,17 +120,6 @@ fn costs_of(alloc: Global, program: &Program) -> Result<Vec<u64>, AllocError>
     let mut list = Vec::with_capacity(alloc, program.columns() as usize)?;
     for c in 0..program.columns() {
         list.push(program.cost(c))?;
-    }
-    Ok(list)
-}
-
-// The limit of each row.
-fn limits_of(alloc: Global, program: &Program) -> Result<Vec<u64>, AllocError>
-    ensures { IfOk result (λ v. v.items ≡ program.now.limits) }
-{
-    let mut list = Vec::with_capacity(alloc, program.rows() as usize)?;
-    for r in 0..program.rows() {
-        list.push(program.limit(r))?;
     }
     Ok(list)
 }

@@ -1,5 +1,5 @@
--- The lists that are written down are a program, and no limit falls where bounds rise.
-use Rattle.std.proofs.Common.{ℕ, ◌+◌, ◌*◌, ◌<◌, ◌≤◌, ◌^◌, ◌∷◌, List, length, arith}
+-- The lists that are written down are a program, and no limit falls where bounds rise or as many jobs can run.
+use Rattle.std.proofs.Common.{◌≡◌, ℕ, ◌+◌, ◌*◌, ◌<◌, ◌≤◌, ◌^◌, ◌∷◌, List, length, arith}
 use Rattle.std.specs.Prelude.{slice_index}
 use Rattle.std.specs.List.{All}
 use Rattle.std.proofs.Math.Nat.{mul-le-mul_right}
@@ -19,14 +19,14 @@ use Rattle.fragments.specs.Constraints.{ConstraintDef, per_pair}
 use Rattle.fragments.specs.Windows.{requests_in}
 use Rattle.fragments.proofs.KnownColumns.{passing_known}
 use Rattle.direct_constraints.specs.Rows.{common_rows}
-use Rattle.program_laws.specs.Written.{IsSmallRow, Rises}
+use Rattle.program_laws.specs.Written.{IsSmallRow, Rises, HasJobsAtMost, KeepsJobs}
 use Rattle.program_laws.proofs.Lists.{sum_at_most}
 use Rattle.program_laws.proofs.RowKinds.{all_per_pair}
-use Rattle.program_laws.proofs.RisingLimits.{common_rises, requests_rise, only_if_rises}
+use Rattle.program_laws.proofs.RisingLimits.{jobs_rise, jobs_stay, common_rises, requests_rise, only_if_rises}
 use Rattle.program_laws.proofs.SmallNumbers.{common_small, count_small, requests_small, flag_small}
 use Rattle.program_laws.proofs.CoveredColumns.{covered_by, request_row_among}
 use Rattle.program_laws.proofs.ListLengths.{Few, few, common_few, pair_at_most}
-use Rattle.program_laws.proofs.GivenPrograms.{limits_at_most, is_program, written_where}
+use Rattle.program_laws.proofs.GivenPrograms.{limits_at_most, limits_stay, is_program, written_where}
 use Rattle.spin_charging.specs.SpinPrograms.{is_spin_column, spin_columns, lower_request_row, higher_requests, is_used_below}
 use Rattle.spin_charging.specs.SpinPrograms.{spinning_row, own_spinning_row, spinning_rows, spin_rows, spin_program}
 
@@ -48,11 +48,11 @@ spin_each P set i common lower all own =
     All-append P (common_rows set i) (lower_request_row ∷ spinning_rows set i) common
     (All-cons P lower_request_row (spinning_rows set i) lower (spinning_each P set i all own))
 
--- The requests of higher tasks rise with the bounds, and are not many.
-higher_rise : (set : SetDef) (i q : ℕ) (r s : List ℕ) → i < length set.tasks → AtMost (length set.tasks) r s
+-- The requests of higher tasks rise with the jobs that can run, and are not many.
+higher_rise : (set : SetDef) (i q : ℕ) (r s : List ℕ) → i < length set.tasks → HasJobsAtMost set i r s
     → higher_requests set (slice_index r) i q ≤ higher_requests set (slice_index s) i q
 higher_rise set i q r s here h = sum_below-monotone i _ _ (λ x l.
-    only_if_rises (have_one_processor set x i) _ _ (requests_rise set r s i x q (h i here) (h x (omega arith))))
+    only_if_rises (have_one_processor set x i) _ _ (requests_rise set r s i x q (h x (omega arith))))
 
 higher_small : (set : SetDef) (i q : ℕ) (r : List ℕ) → IsAccepted set → AreWithinDeadlines set r → i < length set.tasks
     → higher_requests set (slice_index r) i q ≤ 128000000000000
@@ -66,11 +66,20 @@ higher_small set i q r accepted within here =
     )) in
     omega (arith, sum, sizes.tasks_to)
 
+rows_rise : (set : SetDef) (i : ℕ) (r s : List ℕ) → i < length set.tasks → HasJobsAtMost set i r s → All (Rises r s) (spin_rows set i)
+rows_rise set i r s here h = spin_each (Rises r s) set i (common_rises set i r s h) (omega arith)
+    (λ k q a b. omega (arith, higher_rise set i q r s here h)) (λ k q a b. omega arith)
+
 pub spin_rises : (set : SetDef) (i : ℕ) (r s : List ℕ) → i < length set.tasks → AtMost (length set.tasks) r s
     → HasLimitsAtMost (spin_program set i r) (spin_program set i s)
-spin_rises set i r s here h = limits_at_most set (spin_columns set i) (spin_rows set i) r s
-    (spin_each (Rises r s) set i (common_rises set i r s here h) (omega arith) (λ k q a b. omega (arith, higher_rise set i q r s here h))
-    (λ k q a b. omega arith))
+spin_rises set i r s here h =
+    limits_at_most set (spin_columns set i) (spin_rows set i) r s (rows_rise set i r s here (jobs_rise set r s i here h))
+
+pub spin_follows : (set : SetDef) (i : ℕ) (r s : List ℕ) → i < length set.tasks → KeepsJobs set i r s
+    → (spin_program set i r).limits ≡ (spin_program set i s).limits
+spin_follows set i r s here same =
+    let both = jobs_stay set r s i same in
+    limits_stay set (spin_columns set i) (spin_rows set i) r s (rows_rise set i r s here both.0) (rows_rise set i s r here both.1)
 
 rows_few : (set : SetDef) (i : ℕ) → IsAccepted set → length (spin_rows set i) < 2 ^ 32
 rows_few set i accepted =

@@ -25,6 +25,7 @@ ghost use Rattle.schedule_model.specs.Keeping.{KeepsBefore};
 ghost use Rattle.schedule_model.specs.BlockedTicks.{is_shared_interference, is_blocked};
 ghost use Rattle.program_sources.specs.Bounds.{AtMost, AreWithinDeadlines};
 ghost use Rattle.program_laws.specs.Worked.{three_tasks, sizes};
+ghost use Rattle.program_laws.specs.Written.{KeepsJobs};
 ghost use Rattle.charge_model.specs.Charges.{Charge};
 ghost use Rattle.charge_model.specs.ChargedTicks.{IsCharged};
 ghost use Rattle.charge_model.specs.Interferers.{interferes_with_some};
@@ -80,6 +81,12 @@ pub fn spin_programs_are_accepted()
         → IsCovered (spin_program set i r) c }
     ensures rises { (set : SetDef) (i : ℕ) (r s : List ℕ) → i < length set.tasks → AtMost (length set.tasks) r s
         → HasLimitsAtMost (spin_program set i r) (spin_program set i s) }
+{}
+
+/// Bounds stand in these limits only by how many jobs of each task can run within the bound of a job of the analysed one.
+pub fn spin_limits_follow_jobs()
+    ensures { (set : SetDef) (i : ℕ) (r s : List ℕ) → i < length set.tasks → KeepsJobs set i r s
+        → (spin_program set i r).limits ≡ (spin_program set i s).limits }
 {}
 
 /// A worked set of three tasks on three processors: the program of the first has three columns and eleven rows, three of requests, two

@@ -1,9 +1,8 @@
 -- The charge by a machine's value is that of each schedule that it shows.
-use Rattle.std.proofs.Common.{◌≡◌, ℕ, ◌<◌, ◌==◌, ◌&&◌, Bool, true, false, length, refl, sym, ap, ◌∙◌, arith, Option, Some, None}
+use Rattle.std.proofs.Common.{◌≡◌, ℕ, ◌<◌, ◌==◌, ◌&&◌, true, false, length, refl, sym, ap, ◌∙◌, Option, Some, None}
 use Rattle.std.specs.Option.{option_and_then, option_map_or}
-use Rattle.std.proofs.lemmas.Bool.{lt-ltb, le-ltb}
-use Rattle.bounded_sums.specs.Tests.{first_below, found_below}
-use Rattle.bounded_sums.proofs.TestLaws.{first_below-is, found_below-agree, found_below-is}
+use Rattle.bounded_sums.specs.Tests.{found_below}
+use Rattle.bounded_sums.proofs.TestLaws.{found_below-agree, found_below-is}
 use Rattle.sporadic_model.specs.SetDef.{task_at}
 use Rattle.schedule_model.specs.RowDef.{RowDef, running_on, holder_in}
 use Rattle.schedule_model.specs.Phase.{Phase, phase_of}
@@ -22,17 +21,6 @@ use Rattle.spin_protocol.specs.SpinTests.{spins_now}
 use Rattle.spin_protocol.specs.SpinChargeNow.{current_spins, is_spinning_task_now, spinner_now, charge_in, spinner_charge_now}
 use Rattle.spin_protocol.specs.SpinChargeNow.{spinning_charge_now, charge_with, beside_charge_now}
 use Rattle.spin_protocol.proofs.SpinVerdict.{spins_shown}
-
--- The first that passes is what is found; and nothing is, where none does.
-pub found_first : (n : ℕ) (p : ℕ → Bool) (k : ℕ) → k < n → ((i : ℕ) → i < k → p i ≡ false) → p k ≡ true → found_below n p ≡ Some k
-found_first n p k l before h =
-    let e : first_below n p ≡ k = first_below-is n p k (omega arith) before (λ b. h) in
-    rw (e, lt-ltb k n l) refl
-
-pub found_none : (n : ℕ) (p : ℕ → Bool) → ((i : ℕ) → i < n → p i ≡ false) → found_below n p ≡ None
-found_none n p before =
-    let e : first_below n p ≡ n = first_below-is n p n (omega arith) before (λ b. absurd (omega arith)) in
-    rw (e, le-ltb n n (omega arith)) refl
 
 current_shows : (m : MachineDef) (rows : ℕ → RowDef) (x : ℕ) → Shows m rows → x < length m.list.set.tasks
     → current_spins m (rows m.tick) x ≡ option_map_or (spins (under m rows) m.tick) (active_job_of (under m rows) m.tick x) false

@@ -10,6 +10,7 @@ use Rattle.schedule_model.specs.Activity.{task_of, processor_of, is_active, is_a
 use Rattle.schedule_model.specs.SharedRules.{KeepsRun}
 use Rattle.schedule_model.specs.Ranks.{fmlp_plus}
 use Rattle.schedule_model.specs.Keeping.{KeepsRow, Breaks}
+use Rattle.schedule_model.proofs.RuleTests.{or_other}
 use Rattle.schedule_laws.proofs.ActiveJobs.{active_listed, ActiveLocal, active_local_is}
 use Rattle.schedule_laws.proofs.Rows.{ready_active, ready_listed}
 use Rattle.phase_machine.specs.MachineDef.{MachineDef, task_in, under}
@@ -19,11 +20,12 @@ use Rattle.phase_machine.proofs.Facts.{phase_shown}
 use Rattle.fmlp_rules.specs.IssueOrder.{issue_now}
 use Rattle.fmlp_rules.specs.IssueOrderLaw.{issue_gives}
 use Rattle.phase_machine.specs.Now.{processor_now, is_local_now, may_run_now}
+use Rattle.phase_machine.proofs.Stretches.{place_within}
 use Rattle.shared_rules.specs.RowTests.{each_current}
 use Rattle.shared_rules.specs.RowTests.{passes_run, passes_keep, passes_grant}
 use Rattle.shared_rules.proofs.Currents.{each_is, each_from, local_shown, may_run_shown}
-use Rattle.shared_rules.proofs.HolderTests.{right_of, keep_is, keep_from, grant_is, grant_from}
-use Rattle.shared_rules.proofs.RunTest.{some_within, run_is, run_from}
+use Rattle.shared_rules.proofs.HolderTests.{keep_is, keep_from, grant_is, grant_from}
+use Rattle.shared_rules.proofs.RunTest.{run_is, run_from}
 use Rattle.shared_rules.proofs.Verdict.{Tests, all_kept, first_broken}
 use Rattle.spin_rules.specs.SpinRules.{is_in_request, spins, has_spinner, KeepsIdle, KeepsPriority, spin_rule}
 use Rattle.spin_rules.proofs.InRequests.{InRequest, in_request_is, spins_in_request, spinner_from, spinner_is}
@@ -83,11 +85,11 @@ idle_is m rows shows h k e none i l own = false_from_ne_true (is_ready (under m 
       let off : not (may_run_now m (holder_in (rows m.tick)) i) ≡ false = ap not (may_run_shown m rows i shows active ∙ ready) in
       let either : (is_some (running_on (rows m.tick) (processor_now m i))
       || has_spinner_now m (holder_in (rows m.tick)) (processor_now m i)) ≡ true =
-      right_of (not (may_run_now m (holder_in (rows m.tick)) i)) _ p off in
+      or_other (not (may_run_now m (holder_in (rows m.tick)) i)) _ p off in
       let empty : is_some (running_on (rows m.tick) (processor_now m i)) ≡ false =
       ap (λ c. is_some (running_on (rows m.tick) c)) own ∙ ap is_some e in
       let spinner : has_spinner_now m (holder_in (rows m.tick)) (processor_now m i) ≡ true =
-      right_of (is_some (running_on (rows m.tick) (processor_now m i))) _ either empty in
+      or_other (is_some (running_on (rows m.tick) (processor_now m i))) _ either empty in
       both_ways _ (has_spinner_shown m rows k shows ∙ none) (ap (has_spinner_now m (holder_in (rows m.tick))) (sym own) ∙ spinner)
 
 pub idle_from : (m : MachineDef) (rows : ℕ → RowDef) → Shows m rows → KeepsIdle (under m rows) m.tick → passes_idle m (rows m.tick) ≡ true
@@ -136,7 +138,7 @@ priority_is m rows shows run h = record {
   after_request k r i e own asks =
       let a : InRequest (under m rows) m.tick i = in_request_is (under m rows) m.tick i asks in
       let no : not (is_request_now m i) ≡ false = ap not (request_shown m rows i shows a.active ∙ asks) in
-      eqb-true r i (right_of (not (is_request_now m i)) (r == i) (beside k r i e own a.active).0 no)
+      eqb-true r i (or_other (not (is_request_now m i)) (r == i) (beside k r i e own a.active).0 no)
 
   after_local : (k r i : ℕ) → running_on (rows m.tick) k ≡ Some r → processor_of (under m rows) i ≡ k
       → is_in_request (under m rows) m.tick r ≡ false → is_active_local (under m rows) m.tick i ≡ true
@@ -147,8 +149,8 @@ priority_is m rows shows run h = record {
       let no : not (is_local_now m i) ≡ false = ap not (local_shown m rows i shows local.active ∙ li) in
       let free : is_request_now m r ≡ false = request_shown m rows r shows active ∙ none in
       leb-true (task_in m.list.jobs r) (task_in m.list.jobs i)
-      (right_of (is_request_now m r) (leb (task_in m.list.jobs r) (task_in m.list.jobs i))
-      (right_of (not (is_local_now m i)) (is_request_now m r || leb (task_in m.list.jobs r) (task_in m.list.jobs i))
+      (or_other (is_request_now m r) (leb (task_in m.list.jobs r) (task_in m.list.jobs i))
+      (or_other (not (is_local_now m i)) (is_request_now m r || leb (task_in m.list.jobs r) (task_in m.list.jobs i))
       (beside k r i e own local.active).1 no) free)
 
 pub priority_from : (m : MachineDef) (rows : ℕ → RowDef) → Shows m rows → KeepsRun (under m rows) m.tick
@@ -214,7 +216,7 @@ tests_say m rows shows fits = record {
   priority_from = priority_from m rows shows;
 } where
   within : (q j : ℕ) → holder_in (rows m.tick) q ≡ Some j → q < length m.list.set.resources
-  within q j e = omega (arith, some_within (rows m.tick).holders q j e, fits.sized.resources)
+  within q j e = omega (arith, place_within (rows m.tick).holders q j e, fits.sized.resources)
 
 pub judged_none : (m : MachineDef) (rows : ℕ → RowDef) (row : RowDef) → Shows m rows → IsRowFor m.list row
     → rows m.tick ≡ row → first_failed m (issue_now m) row ≡ None → KeepsRow spin_rule (under m rows) m.tick

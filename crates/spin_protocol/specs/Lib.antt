@@ -3,3 +3,4 @@ pub mod SpinTests
 pub mod SpinClaims
 pub mod SpinChargeNow
 pub mod NextRow
+pub mod Used

@@ -26,7 +26,7 @@ use fragments::Class;
 use phase_machine::{Judge, Machine};
 use program_form::Program;
 use program_sources::ProgramSource;
-use protocol_programs::interference;
+use protocol_programs::{interference, keeps_jobs};
 use schedule_model::{BlockingProtocol, JobId, Row, Rule};
 use shared_rules::blocked_shared;
 use sporadic_model::{Protocol, TaskId, TaskSet};
@@ -103,6 +103,10 @@ impl ProgramSource for Spin {
         bounds: &[u64],
     ) -> Result<Vec<u64>, AllocError> {
         programs::limits(alloc, set, i, bounds)
+    }
+
+    fn keeps_limits(&self, set: &TaskSet, i: TaskId, earlier: &[u64], bounds: &[u64]) -> bool {
+        keeps_jobs(set, i, earlier, bounds)
     }
 
     /// As under FMLP+: a higher job interferes for up to its task's cost.

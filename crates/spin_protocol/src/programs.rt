@@ -11,6 +11,7 @@ ghost use Rattle.sporadic_model.specs.Users.{is_user};
 ghost use Rattle.spin_charging.specs.SpinPrograms.{is_used_beside, blocks_by_spinning, is_spin_column};
 ghost use Rattle.spin_charging.specs.SpinPrograms.{spinning_rows, spin_rows, spin_program};
 ghost use Rattle.spin_protocol.specs.SpinRows.{row_of_kind};
+ghost use Rattle.spin_protocol.specs.Used.{AreUsedBeside};
 
 use crate::rows::{LowerRequestRow, Spinning, SpinningRows};
 use direct_constraints::add_common;
@@ -47,25 +48,40 @@ fn is_used_beside(set: &TaskSet, i: TaskId, q: ResourceId) -> bool
     false
 }
 
+/// By resource, whether another task of `i`'s processor uses it.
+fn used_beside(alloc: Global, set: &TaskSet, i: TaskId) -> Result<Vec<bool>, AllocError>
+    requires { i.0 < length set.now.tasks }
+    ensures { IfOk result (λ v. AreUsedBeside set.now i.0 v.items) }
+{
+    let mut used = Vec::with_capacity(alloc, set.resources() as usize)?;
+    for q in 0..set.resources() {
+        used.push(is_used_beside(set, i, ResourceId(q)))?;
+    }
+    Ok(used)
+}
+
 /// May these requests block in this way?
-fn blocks_by_spinning(set: &TaskSet, i: TaskId, column: Fragment) -> bool
+fn blocks_by_spinning(set: &TaskSet, i: TaskId, column: Fragment, used: &[bool]) -> bool
     requires task { i.0 < length set.now.tasks }
     requires column { column.task.0 < length set.now.tasks }
     requires resource { column.resource.0 < length set.now.resources }
+    requires used { AreUsedBeside set.now i.0 used.now }
     ensures { result ≡ blocks_by_spinning set.now i.0 column.task.0 column.resource.0 column.class }
 {
     match column.class {
         Class::Direct => !share_processor(set, column.task, i) && uses(set, i, column.resource),
         Class::Indirect => {
-            !share_processor(set, column.task, i) && is_used_beside(set, i, column.resource)
+            !share_processor(set, column.task, i) && used[column.resource.0 as usize]
         }
         Class::Preemption => lower_local(set, i, column.task),
     }
 }
 
-/// The test of a task's columns.
+/// The test of a task's columns, which has by resource whether another task of its processor uses it.
 #[derive(Drop)]
-struct SpinColumns;
+struct SpinColumns {
+    used: Vec<bool>,
+}
 
 impl ColumnTest for SpinColumns {
     ghost use Rattle.fragments.specs.Requested.{columns_are_requests};
@@ -75,11 +91,11 @@ impl ColumnTest for SpinColumns {
 
     ghost requests = { λ k set i. columns_are_requests (blocks_by_spinning set i) set i };
 
-    ghost fits = { λ k set i x. Unit {0} };
+    ghost fits = { λ k set i x. AreUsedBeside set i k.used.items };
 
     fn test(&self, set: &TaskSet, i: TaskId, column: Fragment) -> bool {
         (column.task != i && uses(set, column.task, column.resource))
-            && blocks_by_spinning(set, i, column)
+            && blocks_by_spinning(set, i, column, &self.used)
     }
 }
 
@@ -180,8 +196,11 @@ pub(crate) fn program(
 {
     // every set is lawful, so its columns and rows make a program
     let _tasks = set.tasks();
-    let columns = fragments_where(alloc, &SpinColumns, set, i)?;
-    passing_stand_in_order(set, &SpinColumns, i, &columns);
+    let test = SpinColumns {
+        used: used_beside(alloc, set, i)?,
+    };
+    let columns = fragments_where(alloc, &test, set, i)?;
+    passing_stand_in_order(set, &test, i, &columns);
     let block = rows(alloc, set, i, bounds, &columns)?;
     program_over(alloc, set, &columns, block)
 }
@@ -197,8 +216,11 @@ pub(crate) fn limits(
     requires within { AreWithinDeadlines set.now bounds.now }
     ensures { IfOk result (λ v. v.items ≡ (spin_program set.now i.0 bounds.now).limits) }
 {
-    let columns = fragments_where(alloc, &SpinColumns, set, i)?;
-    passing_stand_in_order(set, &SpinColumns, i, &columns);
+    let test = SpinColumns {
+        used: used_beside(alloc, set, i)?,
+    };
+    let columns = fragments_where(alloc, &test, set, i)?;
+    passing_stand_in_order(set, &test, i, &columns);
     let mut taken = RowLimits {
         limits: Vec::new(alloc),
     };

@@ -2,7 +2,7 @@
 use Rattle.std.proofs.Common.{◌≡◌, ℕ, ◌<◌, ◌≤◌, ◌==◌, ◌&&◌, ◌||◌, not, Bool, true, false, length, sym, ap, ◌∙◌, inl, inr}
 use Rattle.std.proofs.Common.{Option, Some, is_some, leb}
 use Rattle.std.specs.Option.{option_map_or}
-use Rattle.std.proofs.lemmas.Bool.{both_ways, and_parts, or_cases, leb-true, eqb-true}
+use Rattle.std.proofs.lemmas.Bool.{both_ways, and_parts, or_cases, leb-true, eqb-true, false_from_ne_true}
 use Rattle.bounded_sums.specs.Tests.{all_below, any_below}
 use Rattle.bounded_sums.proofs.TestLaws.{all_below-each, any_below-some}
 use Rattle.schedule_model.specs.declared.rule.Rule.{Rule}
@@ -10,7 +10,7 @@ use Rattle.schedule_model.specs.declared.rule.Rule.TheVariants as rule
 use Rattle.schedule_model.specs.RowDef.{Trace, running_on}
 use Rattle.schedule_model.specs.Activity.{task_of, processor_of, is_active_local, is_ready}
 use Rattle.schedule_model.specs.Ranks.{fmlp_plus}
-use Rattle.schedule_model.proofs.RuleTests.{then_true, or_other, not_true, passes_run, run_from, passes_keep, keep_from, passes_grant, grant_from}
+use Rattle.schedule_model.proofs.RuleTests.{then_true, or_other, passes_run, run_from, passes_keep, keep_from, passes_grant, grant_from, runner_passes}
 use Rattle.spin_rules.specs.SpinRules.{is_in_request, has_spinner, KeepsIdle, KeepsPriority, spin_rule}
 
 abbrev pub idle_at : Trace → ℕ → ℕ → Bool
@@ -20,7 +20,7 @@ abbrev pub passes_idle : Trace → ℕ → Bool
 passes_idle w t = all_below (length w.jobs) (idle_at w t)
 
 pub idle_from : (w : Trace) (t : ℕ) → passes_idle w t ≡ true → KeepsIdle w t
-idle_from w t h k empty none i l place = not_true (is_ready w t i) (λ ready.
+idle_from w t h k empty none i l place = false_from_ne_true (is_ready w t i) (λ ready.
     let either : (is_some (running_on (w.row t) (processor_of w i)) || has_spinner w t (processor_of w i)) ≡ true =
     then_true (is_ready w t i) _ (all_below-each (length w.jobs) (idle_at w t) h i l) ready in
     let off : is_some (running_on (w.row t) (processor_of w i)) ≡ false =
@@ -41,9 +41,6 @@ priority_at w t i = option_map_or (runs_rightly w t i) (running_on (w.row t) (pr
 
 abbrev pub passes_priority : Trace → ℕ → Bool
 passes_priority w t = all_below (length w.jobs) (priority_at w t)
-
-runner_passes : (p : ℕ → Bool) (o : Option ℕ) (r : ℕ) → option_map_or p o true ≡ true → o ≡ Some r → p r ≡ true
-runner_passes p o r h e = rw e at h
 
 pub priority_from : (w : Trace) (t : ℕ) → passes_priority w t ≡ true → KeepsPriority w t
 priority_from w t h = record {

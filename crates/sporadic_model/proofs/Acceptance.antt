@@ -5,7 +5,7 @@ use Rattle.std.specs.List.{find, slice_index_or, list_any}
 use Rattle.std.specs.Int.{is_in_range}
 use Rattle.std.specs.Option.{option_map_or}
 use Rattle.std.specs.Str.{bytes_eq}
-use Rattle.std.proofs.lemmas.Bool.{cases_Bool}
+use Rattle.std.proofs.lemmas.Bool.{cases_Bool, le-ltb}
 use Rattle.std.proofs.lemmas.Bool.Decides.{nat_tests}
 use Rattle.std.proofs.lemmas.List.{get_or-take, length-take}
 use Rattle.std.proofs.lemmas.List.Folds.{list_any_at}
@@ -46,9 +46,6 @@ inside least most n h l = grind (arith, nat_tests)
 
 length_inside : (n most : ℕ) → 1 ≤ n → n < most → not (nat_lt 0 n && nat_lt n most) ≡ false
 length_inside n most h l = grind (arith, nat_tests)
-
-within : (most n : ℕ) → n ≤ most → nat_lt most n ≡ false
-within most n h = grind (arith, nat_tests)
 
 some : (n : ℕ) → 1 ≤ n → (n == 0) ≡ false
 some n h = grind (arith, nat_tests)
@@ -98,7 +95,7 @@ sizes_free set s =
     (nat_lt MOST_TASKS (length set.tasks)) (nat_lt MOST_RESOURCES (length set.resources))
     (nat_lt MOST_REQUESTS (request_count set))
     (some _ s.tasks_from) (inside 1 MOST_PROCESSORS set.processors s.processors_from s.processors_to)
-    (within MOST_TASKS _ s.tasks_to) (within MOST_RESOURCES _ s.resources_to) (within MOST_REQUESTS _ s.requests_to)
+    (le-ltb MOST_TASKS _ s.tasks_to) (le-ltb MOST_RESOURCES _ s.resources_to) (le-ltb MOST_REQUESTS _ s.requests_to)
 
 names_free : (set : SetDef) → KeepsRanges set → find (is_due set) (name_refusals set) ≡ None
 unfolding is_due

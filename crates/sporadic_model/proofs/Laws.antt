@@ -1,5 +1,5 @@
 -- What follows from a set's being accepted, in the words of the field.
-use Rattle.std.proofs.Common.{◌≡◌, ◌≢◌, ℕ, ◌+◌, ◌-◌, ◌<◌, ◌≤◌, ◌↔◌, Bool, true, false, cond, not, List, [], ◌∷◌, length, arith, Option}
+use Rattle.std.proofs.Common.{◌≡◌, ◌≢◌, ℕ, ◌+◌, ◌<◌, ◌≤◌, ◌↔◌, Bool, true, false, cond, not, List, [], ◌∷◌, length, arith, Option}
 use Rattle.std.proofs.Common.{Some, None, suc, subst, nat_lt, ◌&&◌, ◌==◌, ◌⊎◌, inl, inr, sym, IfSome}
 use Rattle.std.specs.List.{find, slice_index_or}
 use Rattle.std.specs.Option.{option_map}

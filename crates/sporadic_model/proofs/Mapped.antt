@@ -1,18 +1,14 @@
 -- A list as contracts see it, `map f xs`, beside the list of the parts.
 use Rattle.std.proofs.Common.{◌≡◌, ℕ, zero, suc, ◌+◌, ◌<◌, cond, Option, Some, None, true, false, not, Bool, List, []}
-use Rattle.std.proofs.Common.{◌∷◌, map, length, take, refl, ap, arith, ◌||◌}
+use Rattle.std.proofs.Common.{◌∷◌, map, length, refl, ap, arith, ◌||◌}
 use Rattle.std.specs.List.{list_any, position_or_len, position, find, slice_index_or}
 use Rattle.std.specs.Option.{option_map}
 use Rattle.std.proofs.lemmas.List.{length-map}
+pub use Rattle.std.proofs.lemmas.List.{take-map}
 
 pub list_any-map : {A B : Type 0} (f : A → B) (p : B → Bool) → (xs : List A) → list_any p (map f xs) ≡ list_any (λ x. p (f x)) xs
 list_any-map f p [] = refl
 list_any-map f p (x ∷ xs) = ap (λ b. p (f x) || b) (list_any-map f p xs)
-
-pub take-map : {A B : Type 0} (f : A → B) → (n : ℕ) (xs : List A) → take n (map f xs) ≡ map f (take n xs)
-take-map f zero xs = refl
-take-map f (suc n) [] = refl
-take-map f (suc n) (x ∷ xs) = ap (λ l. f x ∷ l) (take-map f n xs)
 
 pub element-map : {A B : Type 0} (f : A → B) → (xs : List A) (i : ℕ) (d : A) (e : B) → i < length xs
     → slice_index_or (map f xs) i e ≡ f (slice_index_or xs i d)

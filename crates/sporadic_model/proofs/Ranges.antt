@@ -1,6 +1,6 @@
 -- Where no refusal of a task set is due, all stands in its range; and where all does, none is due.
 use Rattle.std.proofs.Common.{◌≡◌, ◌≢◌, ℕ, ◌+◌, ◌-◌, ◌<◌, ◌≤◌, Bool, true, false, not, List, [], ◌∷◌, map, length, take, refl}
-use Rattle.std.proofs.Common.{arith, Some, None, suc, nat_lt, ◌&&◌, ◌||◌, ◌==◌, lit<, IsTrue, ◌⊎◌, inl, inr}
+use Rattle.std.proofs.Common.{arith, Some, None, suc, nat_lt, ◌&&◌, ◌==◌, lit<, IsTrue, inl, inr}
 use Rattle.std.specs.List.{find, slice_index_or, list_any}
 use Rattle.std.specs.Int.{is_in_range}
 use Rattle.std.specs.Str.{bytes_eq}
@@ -8,6 +8,7 @@ use Rattle.std.proofs.lemmas.Bool.Decides.{nat_tests}
 use Rattle.std.proofs.lemmas.List.{get_or-take, length-take}
 use Rattle.std.proofs.lemmas.List.Folds.{list_any_at}
 use Rattle.std.proofs.lemmas.Slice.Eq.{bytes_eq-Decides}
+use Rattle.std.proofs.lemmas.Bool.{ltb-false, or_cases}
 use Rattle.sporadic_model.specs.SetDef.{SetDef, task_at, resource_at, request_at, request_count, no_task, no_resource, no_request}
 use Rattle.sporadic_model.specs.Names.{is_name}
 use Rattle.sporadic_model.specs.Users.{numbers}
@@ -113,9 +114,6 @@ requests_of_free set x j h i k =
     (not_at_request set (λ y l. refusal.Length (place.Request y l)) x j i k c.back) in
     record { count_from = count.from; count_to = count.to; length_from = length.0; length_to = length.1 }
 
-pub at_most : (most n : ℕ) → nat_lt most n ≡ false → n ≤ most
-at_most most n h = grind (arith, nat_tests)
-
 pub not_zero : (n : ℕ) → (n == 0) ≡ false → 1 ≤ n
 not_zero n h = grind (arith, nat_tests)
 
@@ -130,9 +128,9 @@ sizes_of_free set h =
       processors_from = processors.from;
       processors_to = processors.to;
       tasks_from = not_zero (length set.tasks) (fails 0 (lit< tt));
-      tasks_to = at_most MOST_TASKS (length set.tasks) (fails 2 (lit< tt));
-      resources_to = at_most MOST_RESOURCES (length set.resources) (fails 3 (lit< tt));
-      requests_to = at_most MOST_REQUESTS (request_count set) (fails 4 (lit< tt));
+      tasks_to = ltb-false MOST_TASKS (length set.tasks) (fails 2 (lit< tt));
+      resources_to = ltb-false MOST_RESOURCES (length set.resources) (fails 3 (lit< tt));
+      requests_to = ltb-false MOST_REQUESTS (request_count set) (fails 4 (lit< tt));
     }
 
 -- The home of a resource of an set for which no refusal is due, where it has one, is a processor of the set.
@@ -155,16 +153,12 @@ differs {A} name xs i j d h k none same =
     let there : list_any test (take j xs) ≡ true = list_any_at test (take j xs) i d within passes in
     cc
 
-pub passes_or : (a b : Bool) → (a || b) ≡ true → (a ≡ true) ⊎ (b ≡ true)
-passes_or true b h = inl refl
-passes_or false b h = inr h
-
 -- Where some element passes, one of some number does.
 pub passing : {A : Type 0} (p : A → Bool) (xs : List A) (d : A) → list_any p xs ≡ true
     → (k : ℕ) × (k < length xs) × (p (slice_index_or xs k d) ≡ true)
 passing p [] d h = absurd (cc)
 passing p (x ∷ xs) d h =
-    elim (passes_or (p x) (list_any p xs) h) [
+    elim (or_cases (p x) (list_any p xs) h) [
       | inl here ↦ (0, omega arith, here)
       | inr later ↦ let rest = passing p xs d later in (suc rest.0, omega (arith, rest.1), rest.2)
     ]

@@ -1,5 +1,5 @@
-/// A task, by its position in the set, counted from 0.
-#[derive(Clone, Copy, Debug, PartialEq, Eq)]
+/// A task, by its position in the set, counted from 0. A task before another one is of higher base priority.
+#[derive(Clone, Copy, Debug, PartialEq, Eq, PartialOrd, Ord)]
 pub struct TaskId(pub u32);
 
 /// A resource, by its position in the set, counted from 0.

@@ -29,45 +29,27 @@ pub(crate) fn request_part(requests: &[RequestPart], j: usize) -> &RequestPart
     &requests[j]
 }
 
-fn first_entry<'a>(entries: &'a [RequestPart], name: &[u8]) -> Option<&'a RequestPart>
-    ensures { option_map (λ e. e.now) result ≡ find (λ e. bytes_eq (string_bytes e.resource) name.now) entries.now }
+/// The first entry that names the resource.
+pub(crate) fn entry_for<'a>(entries: &'a [RequestPart], name: &[u8]) -> Option<&'a RequestPart>
+    ensures { option_map (λ e. request_seen e.now) result ≡ find (λ e. bytes_eq e.resource name.now) (map request_seen entries.now) }
 {
     entries
         .iter()
         .find(|entry| entry.resource.as_bytes() == name)
 }
 
-/// The first entry that names the resource.
-pub(crate) fn entry_for<'a>(entries: &'a [RequestPart], name: &[u8]) -> Option<&'a RequestPart>
-    ensures { option_map (λ e. request_seen e.now) result ≡ find (λ e. bytes_eq e.resource name.now) (map request_seen entries.now) }
-{
-    first_entry(entries, name)
-}
-
-fn first_task(tasks: &[TaskPart], name: &[u8]) -> Option<usize>
-    ensures { result ≡ position (λ t. bytes_eq (string_bytes t.name) name.now) tasks.now }
-{
-    tasks.iter().position(|task| task.name.as_bytes() == name)
-}
-
 /// The position of the first task of the name.
 pub(crate) fn place_of_task(tasks: &[TaskPart], name: &[u8]) -> Option<usize>
     ensures { result ≡ position (λ t. bytes_eq t.name name.now) (map task_seen tasks.now) }
 {
-    first_task(tasks, name)
-}
-
-fn first_resource(resources: &[ResourcePart], name: &[u8]) -> Option<usize>
-    ensures { result ≡ position (λ r. bytes_eq (string_bytes r.name) name.now) resources.now }
-{
-    resources
-        .iter()
-        .position(|resource| resource.name.as_bytes() == name)
+    tasks.iter().position(|task| task.name.as_bytes() == name)
 }
 
 /// The position of the first resource of the name.
 pub(crate) fn place_of_resource(resources: &[ResourcePart], name: &[u8]) -> Option<usize>
     ensures { result ≡ position (λ r. bytes_eq r.name name.now) (map resource_seen resources.now) }
 {
-    first_resource(resources, name)
+    resources
+        .iter()
+        .position(|resource| resource.name.as_bytes() == name)
 }

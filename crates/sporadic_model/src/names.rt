@@ -35,45 +35,27 @@ pub(crate) fn is_name(text: &[u8]) -> bool
     is_within(1, MOST_NAME, text.len() as u64) && has_name_bytes(text)
 }
 
-fn any_task(tasks: &[TaskPart], name: &[u8]) -> bool
-    ensures { result ≡ list_any (λ t. bytes_eq (string_bytes t.name) name.now) tasks.now }
-{
-    tasks.iter().any(|task| task.name.as_bytes() == name)
-}
-
 /// Does one of the tasks have the name?
 pub(crate) fn is_task_named(tasks: &[TaskPart], name: &[u8]) -> bool
     ensures { result ≡ has_task_named (map task_seen tasks.now) name.now }
 {
-    any_task(tasks, name)
-}
-
-fn any_resource(resources: &[ResourcePart], name: &[u8]) -> bool
-    ensures { result ≡ list_any (λ r. bytes_eq (string_bytes r.name) name.now) resources.now }
-{
-    resources
-        .iter()
-        .any(|resource| resource.name.as_bytes() == name)
+    tasks.iter().any(|task| task.name.as_bytes() == name)
 }
 
 /// Does one of the resources have the name?
 pub(crate) fn is_resource_named(resources: &[ResourcePart], name: &[u8]) -> bool
     ensures { result ≡ has_resource_named (map resource_seen resources.now) name.now }
 {
-    any_resource(resources, name)
-}
-
-fn any_entry(entries: &[RequestPart], name: &[u8]) -> bool
-    ensures { result ≡ list_any (λ e. bytes_eq (string_bytes e.resource) name.now) entries.now }
-{
-    entries
+    resources
         .iter()
-        .any(|entry| entry.resource.as_bytes() == name)
+        .any(|resource| resource.name.as_bytes() == name)
 }
 
 /// Does one of the entries name the resource?
 pub(crate) fn is_entry_for(entries: &[RequestPart], name: &[u8]) -> bool
     ensures { result ≡ has_entry_for (map request_seen entries.now) name.now }
 {
-    any_entry(entries, name)
+    entries
+        .iter()
+        .any(|entry| entry.resource.as_bytes() == name)
 }

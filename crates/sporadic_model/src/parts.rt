@@ -3,6 +3,7 @@
 pub struct Parts {
     /// How many processors there are; they are numbered from 1.
     pub processors: u64,
+    /// The resources that its tasks share.
     pub resources: Vec<ResourcePart>,
     /// The tasks from the highest base priority to the lowest.
     pub tasks: Vec<TaskPart>,
@@ -11,6 +12,7 @@ pub struct Parts {
 /// A resource that tasks share.
 #[derive(Debug, Drop)]
 pub struct ResourcePart {
+    /// The resource's name, which no other resource of the set has.
     pub name: String,
     /// The processor that serves its requests, where a protocol asks for one.
     pub home: Option<u64>,
@@ -19,6 +21,7 @@ pub struct ResourcePart {
 /// A sporadic task. Its times are in ticks.
 #[derive(Debug, Drop)]
 pub struct TaskPart {
+    /// The task's name, which no other task of the set has.
     pub name: String,
     /// The processor that its jobs run on, counted from 1.
     pub processor: u64,
@@ -30,9 +33,10 @@ pub struct TaskPart {
     pub cost: u64,
     /// The greatest number of ticks that one job executes outside its requests, at most the cost.
     pub local: u64,
-    /// The greatest time from the arrival of a job to its release, at most the deadline less the cost:
-    /// the release jitter of Audsley et al. (1993). 0 where each job is released as it arrives.
+    /// The greatest time from the arrival of a job to its release, at most the deadline less the cost.
+    /// 0 where each job is released as it arrives.
     pub jitter: u64,
+    /// The request entries, one for each resource that its jobs request.
     pub requests: Vec<RequestPart>,
 }
 

@@ -20,8 +20,11 @@ pub enum Place {
 /// A size of a task set that has a limit.
 #[derive(Clone, Copy, Debug, PartialEq, Eq)]
 pub enum SizeOf {
+    /// The processors, of which there is at least one.
     Processors,
+    /// The tasks.
     Tasks,
+    /// The resources.
     Resources,
     /// The request entries over all tasks.
     Requests,

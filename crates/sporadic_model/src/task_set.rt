@@ -359,6 +359,6 @@ impl TaskSet {
         requires other { h.0 < length self.now.tasks }
         ensures { result ≡ is_higher_local self.now i.0 h.0 }
     {
-        h.0 < i.0 && self.processor(h) == self.processor(i)
+        h < i && self.processor(h) == self.processor(i)
     }
 }

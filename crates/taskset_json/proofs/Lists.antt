@@ -1,12 +1,8 @@
 -- Laws of lists.
-use Rattle.std.proofs.Common.{◌∙◌, ap, ◌≡◌, ℕ, zero, suc, ◌<◌, Bool, true, false, List, [], ◌∷◌, length, map, Some}
+use Rattle.std.proofs.Common.{◌∙◌, ap, ◌≡◌, ℕ, zero, suc, ◌<◌, Bool, true, false, List, [], ◌∷◌, length, Some}
 use Rattle.std.proofs.Common.{None, refl, get_or, arith}
 use Rattle.std.proofs.lemmas.Bool.{lt-ltb, le-ltb}
-use Rattle.std.specs.List.{list_any, position, position_or_len}
-
-pub list_any-map : {X Y : Type 0} (p : Y → Bool) (h : X → Y) (xs : List X) → list_any p (map h xs) ≡ list_any (λ x. p (h x)) xs
-list_any-map p h [] = refl
-list_any-map p h (x ∷ xs) = rw (list_any-map p h xs)
+use Rattle.std.specs.List.{position, position_or_len}
 
 first_at : {X : Type 0} (p : X → Bool) (xs : List X) (q : ℕ) (d : X) → q < length xs
     → ((k : ℕ) → k < q → p (get_or xs k d) ≡ false) → p (get_or xs q d) ≡ true → position_or_len p xs ≡ q

@@ -8,6 +8,8 @@ mod certificate_tests;
 #[cfg(test)]
 mod refusal_tests;
 #[cfg(test)]
+mod row_text_tests;
+#[cfg(test)]
 mod schedule_tests;
 #[cfg(test)]
 mod set_tests;

@@ -1,6 +1,6 @@
 -- Counting ticks of a steady stretch as its first: for the active job of each task in turn, and what the counts then say.
 use Rattle.std.proofs.Common.{◌≡◌, ℕ, zero, suc, ◌+◌, ◌<◌, ◌≤◌, Bool, true, false, List, length, refl, ap, sym, ◌∙◌}
-use Rattle.std.proofs.Common.{subst, arith, inl, inr, Option, Some, None}
+use Rattle.std.proofs.Common.{subst, arith, inl, inr, Some, None}
 use Rattle.std.proofs.lemmas.Bool.{cases_lt, cases_eq, cases_Bool, both_ways}
 use Rattle.bounded_sums.specs.Sums.{flag, only_if}
 use Rattle.schedule_model.specs.RowDef.{Trace, RowDef, runs_in}
@@ -14,12 +14,12 @@ use Rattle.schedule_laws.proofs.Rows.{runs_where}
 use Rattle.schedule_laws.proofs.ActiveJobs.{Active, active_is, active_listed}
 use Rattle.schedule_laws.proofs.MeasureLaws.{finish_stays, finish_new, blocking_next}
 use Rattle.schedule_laws.specs.Steady.{IsSteady}
+use Rattle.schedule_laws.proofs.Alike.{phase_through}
 use Rattle.phase_machine.specs.MachineDef.{MachineDef, task_in, under}
 use Rattle.phase_machine.specs.Now.{current_now}
 use Rattle.phase_machine.specs.Shows.{Shows}
-use Rattle.phase_machine.proofs.Facts.{current_shown, current_from}
+use Rattle.phase_machine.proofs.Facts.{current_shown, not_current}
 use Rattle.phase_machine.proofs.Lawful.{task_listed}
-use Rattle.trace_walk.proofs.Stretches.{phase_on}
 use Rattle.trace_conform.specs.declared.counts.JobCount.{JobCount}
 use Rattle.trace_conform.specs.Counts.{count_at, counted_on, CountsTicks, AddsTicks, AreCounts}
 
@@ -33,13 +33,6 @@ pub record CountedBelow (interferes : Trace → ℕ → ℕ → Bool) (m : Machi
 pub none_counted : (interferes : Trace → ℕ → ℕ → Bool) (m : MachineDef) (rows : ℕ → RowDef) (n : ℕ)
     (start : List JobCount) → CountedBelow interferes m rows n 0 start start
 none_counted interferes m rows n start = record { done = λ j l. absurd (omega (arith, l)); rest = λ j l. refl }
-
--- A job of task x that isn't the current one isn't active.
-not_current : (m : MachineDef) (rows : ℕ → RowDef) (x k : ℕ) (o : Option ℕ) → Shows m rows → current_now m x ≡ o
-    → (o ≡ Some k → ⊥) → task_in m.list.jobs k ≡ x → is_active (under m rows) m.tick k ≡ true → ⊥
-not_current m rows x k o shows e other own h =
-    let current : current_now m (task_in m.list.jobs k) ≡ Some k = current_from m rows k shows h in
-    other (sym e ∙ ap (current_now m) (sym own) ∙ current)
 
 -- Where the job isn't active, and its count stays, the tick is counted for it.
 idle_counted : (interferes : Trace → ℕ → ℕ → Bool) (w : Trace) (t n k : ℕ) (before after : JobCount)
@@ -187,11 +180,11 @@ counts_on interferes w t (suc n) before after some can steady same counts adds =
     new_end j h before_it = elim (cases_Bool (is_active w t j)) [
       | inl active ↦
           let e : (count_at after j).end ≡ t + suc n = ap (λ c. c.end) ((adds.each j).active active) in
-          let open_still : has_finished w (t + n) j ≡ false = ap is_finished (phase_on w t (suc n) n j steady last) ∙ before_it in
+          let open_still : has_finished w (t + n) j ≡ false = ap is_finished (phase_through w t (suc n) n j steady last) ∙ before_it in
           omega (arith, e, finish_new w (t + n) j open_still)
       | inr idle ↦
           let still : is_finished (phase_of w (suc (t + n)) j) ≡ is_finished (phase_of w t j) =
-          ap is_finished (phase_waits w (t + n) j (waits j idle) ∙ phase_on w t (suc n) n j steady last) in
+          ap is_finished (phase_waits w (t + n) j (waits j idle) ∙ phase_through w t (suc n) n j steady last) in
           absurd (both_ways _ before_it (sym still ∙ h))
     ]
 

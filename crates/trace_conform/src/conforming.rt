@@ -12,14 +12,33 @@ use dpcp_rules::Dpcp;
 use fmlp_rules::FmlpPlus;
 use mpcp_rules::Mpcp;
 use phase_machine::Judge;
+use row_readers::{ListedRows, RowReader};
 use schedule_answers::{Measured, Unlawful};
 use schedule_model::{JobList, RowList};
 use sporadic_model::Protocol;
 use std::alloc::Global;
 use trace_walk::walk;
 
-/// Judges each row by the protocol's rules and measures each task: Ok exactly where every row keeps all five rules; else
-/// the first row that breaks one.
+/// Judges each row that is read by the protocol's rules and measures each task: Ok exactly where every row keeps all five
+/// rules; else the first row that breaks one. At first the reader stands at the first run.
+pub fn conform_rows_with<P: Judge, R: RowReader>(
+    alloc: Global,
+    protocol: &P,
+    jobs: &JobList,
+    rows: &mut R,
+) -> Result<Measured, Unlawful>
+    requires suits { P.suits protocol.now jobs.now.set }
+    requires fits { is_fitting (R.rows rows.old) jobs.now ≡ true }
+    requires start { R.at rows.old ≡ 0 }
+    ensures { Conforms (P.keeps protocol.now) (P.interferes protocol.now) (trace_in jobs.now (R.rows rows.old).runs)
+        (ticks_of (R.rows rows.old).runs) result }
+{
+    let mut counts = no_counts(alloc, jobs.len())?;
+    let machine = walk(alloc, protocol, jobs, rows, &JobCounter, &mut counts)?;
+    Ok(measures_of(alloc, &machine, &counts)?)
+}
+
+/// The same of a list of rows.
 pub fn conform_with<P: Judge>(
     alloc: Global,
     protocol: &P,
@@ -31,12 +50,30 @@ pub fn conform_with<P: Judge>(
     ensures { Conforms (P.keeps protocol.now) (P.interferes protocol.now) (trace_in jobs.now rows.now.runs)
         (ticks_of rows.now.runs) result }
 {
-    let mut counts = no_counts(alloc, jobs.len())?;
-    let machine = walk(alloc, protocol, jobs, rows, &JobCounter, &mut counts)?;
-    Ok(measures_of(alloc, &machine, &counts)?)
+    conform_rows_with(alloc, protocol, jobs, &mut ListedRows::new(rows))
 }
 
-/// The same by the protocol's name. Under DPCP each resource of the set has a home.
+/// `conform_rows_with` by the protocol's name. Under DPCP each resource of the set has a home.
+pub fn conform_rows<R: RowReader>(
+    alloc: Global,
+    protocol: Protocol,
+    jobs: &JobList,
+    rows: &mut R,
+) -> Result<Measured, Unlawful>
+    requires suits { HasHomesFor protocol jobs.now.set }
+    requires fits { is_fitting (R.rows rows.old) jobs.now ≡ true }
+    requires start { R.at rows.old ≡ 0 }
+    ensures { Conforms (rules_of protocol) (interference_of protocol) (trace_in jobs.now (R.rows rows.old).runs)
+        (ticks_of (R.rows rows.old).runs) result }
+{
+    match protocol {
+        Protocol::Mpcp => conform_rows_with(alloc, &Mpcp, jobs, rows),
+        Protocol::FmlpPlus => conform_rows_with(alloc, &FmlpPlus, jobs, rows),
+        Protocol::Dpcp => conform_rows_with(alloc, &Dpcp, jobs, rows),
+    }
+}
+
+/// The same of a list of rows.
 pub fn conform(
     alloc: Global,
     protocol: Protocol,
@@ -47,9 +84,5 @@ pub fn conform(
     requires fits { is_fitting rows.now jobs.now ≡ true }
     ensures { Conforms (rules_of protocol) (interference_of protocol) (trace_in jobs.now rows.now.runs) (ticks_of rows.now.runs) result }
 {
-    match protocol {
-        Protocol::Mpcp => conform_with(alloc, &Mpcp, jobs, rows),
-        Protocol::FmlpPlus => conform_with(alloc, &FmlpPlus, jobs, rows),
-        Protocol::Dpcp => conform_with(alloc, &Dpcp, jobs, rows),
-    }
+    conform_rows(alloc, protocol, jobs, &mut ListedRows::new(rows))
 }

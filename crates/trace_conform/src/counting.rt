@@ -2,7 +2,7 @@ ghost use Rattle.std.specs.Prelude.{ℕ};
 
 use crate::counts::{JobCount, count_ticks};
 use phase_machine::{Judge, Machine};
-use schedule_model::RowList;
+use row_readers::RowReader;
 use std::alloc::AllocError;
 use trace_walk::Keeper;
 
@@ -25,16 +25,15 @@ impl<P: Judge> Keeper<P> for JobCounter {
         ticks
     }
 
-    fn take(
+    fn take<R: RowReader>(
         &self,
         protocol: &P,
-        rows: &RowList,
-        i: usize,
+        rows: &R,
         machine: &Machine,
         ticks: u64,
         notes: &mut Vec<JobCount>,
     ) -> Result<(), AllocError> {
-        count_ticks(protocol, rows, i, machine, ticks, notes);
+        count_ticks(protocol, rows, machine, ticks, notes);
         Ok(())
     }
 }

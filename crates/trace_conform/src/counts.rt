@@ -9,10 +9,10 @@ ghost use Rattle.trace_walk.specs.Runs.{IsAtRun};
 ghost use Rattle.trace_conform.specs.Counts.{count_at, counted_on, AddsTicks, AreCounts};
 
 use phase_machine::{Judge, Machine};
-use schedule_model::{JobId, RowList};
+use row_readers::RowReader;
+use schedule_model::JobId;
 use sporadic_model::TaskId;
 use std::alloc::{AllocError, Global};
-use trace_walk::runs::run_at;
 
 /// What is counted of a job while its schedule is judged.
 #[derive(Clone, Copy, Debug, PartialEq, Eq)]
@@ -36,27 +36,26 @@ pub fn no_counts(alloc: Global, jobs: u32) -> Result<Vec<JobCount>, AllocError>
 
 /// The count of an active job after so many ticks from the one on that the machine stands at, in a row that keeps the rules; it
 /// is blocked at each of them or at none.
-fn counted<P: Judge>(
+fn counted<P: Judge, R: RowReader>(
     protocol: &P,
-    rows: &RowList,
-    i: usize,
+    rows: &R,
     machine: &Machine,
     ticks: u64,
     j: JobId,
     count: JobCount,
 ) -> JobCount
     requires suits { P.suits protocol.now machine.now.list.set }
-    requires at { IsAtRun rows.now i machine.now }
-    requires shows { Shows machine.now (row_in rows.now.runs) }
-    requires keeps { KeepsRow (P.keeps protocol.now) (under machine.now (row_in rows.now.runs)) machine.now.tick }
+    requires at { IsAtRun (R.rows rows.now) (R.at rows.now) machine.now }
+    requires shows { Shows machine.now (row_in (R.rows rows.now).runs) }
+    requires keeps { KeepsRow (P.keeps protocol.now) (under machine.now (row_in (R.rows rows.now).runs)) machine.now.tick }
     requires listed { j.0 < length machine.now.list.jobs }
     requires room { count.blocked + ticks ≤ MOST_TICKS }
     ensures { result ≡ counted_on
-        (is_blocked (P.interferes protocol.now) (under machine.now (row_in rows.now.runs)) machine.now.tick j.0)
+        (is_blocked (P.interferes protocol.now) (under machine.now (row_in (R.rows rows.now).runs)) machine.now.tick j.0)
         machine.now.tick ticks count }
 {
     let end = machine.tick() + ticks;
-    if protocol.blocked(machine, &run_at(rows, i).row, j) {
+    if protocol.blocked(machine, &rows.run().row, j) {
         return JobCount {
             blocked: count.blocked + ticks,
             end,
@@ -69,29 +68,28 @@ fn counted<P: Judge>(
 }
 
 /// Counts the ticks for the active job.
-fn count_job<P: Judge>(
+fn count_job<P: Judge, R: RowReader>(
     protocol: &P,
-    rows: &RowList,
-    i: usize,
+    rows: &R,
     machine: &Machine,
     ticks: u64,
     j: JobId,
     counts: &mut [JobCount],
 )
     requires suits { P.suits protocol.now machine.now.list.set }
-    requires at { IsAtRun rows.now i machine.now }
-    requires shows { Shows machine.now (row_in rows.now.runs) }
-    requires keeps { KeepsRow (P.keeps protocol.now) (under machine.now (row_in rows.now.runs)) machine.now.tick }
+    requires at { IsAtRun (R.rows rows.now) (R.at rows.now) machine.now }
+    requires shows { Shows machine.now (row_in (R.rows rows.now).runs) }
+    requires keeps { KeepsRow (P.keeps protocol.now) (under machine.now (row_in (R.rows rows.now).runs)) machine.now.tick }
     requires listed { j.0 < length machine.now.list.jobs }
     requires size { length counts.old ≡ length machine.now.list.jobs }
     requires room { (count_at counts.old j.0).blocked + ticks ≤ MOST_TICKS }
     ensures size { length counts.new ≡ length counts.old }
     ensures own { count_at counts.new j.0 ≡ counted_on
-        (is_blocked (P.interferes protocol.now) (under machine.now (row_in rows.now.runs)) machine.now.tick j.0) machine.now.tick ticks
+        (is_blocked (P.interferes protocol.now) (under machine.now (row_in (R.rows rows.now).runs)) machine.now.tick j.0) machine.now.tick ticks
         (count_at counts.old j.0) }
     ensures others { (k : ℕ) → (k ≡ j.0 → ⊥) → count_at counts.new k ≡ count_at counts.old k }
 {
-    counts[j.0 as usize] = counted(protocol, rows, i, machine, ticks, j, counts[j.0 as usize]);
+    counts[j.0 as usize] = counted(protocol, rows, machine, ticks, j, counts[j.0 as usize]);
 }
 
 /// How many tasks are there?
@@ -103,26 +101,25 @@ pub(crate) fn tasks_of(machine: &Machine) -> u32
 
 /// Counts so many ticks as the one that the machine stands at, in a row that keeps the rules: one job of each task is active, or
 /// none.
-pub(crate) fn count_ticks<P: Judge>(
+pub(crate) fn count_ticks<P: Judge, R: RowReader>(
     protocol: &P,
-    rows: &RowList,
-    i: usize,
+    rows: &R,
     machine: &Machine,
     ticks: u64,
     counts: &mut [JobCount],
 )
     requires suits { P.suits protocol.now machine.now.list.set }
-    requires at { IsAtRun rows.now i machine.now }
-    requires shows { Shows machine.now (row_in rows.now.runs) }
-    requires keeps { KeepsRow (P.keeps protocol.now) (under machine.now (row_in rows.now.runs)) machine.now.tick }
+    requires at { IsAtRun (R.rows rows.now) (R.at rows.now) machine.now }
+    requires shows { Shows machine.now (row_in (R.rows rows.now).runs) }
+    requires keeps { KeepsRow (P.keeps protocol.now) (under machine.now (row_in (R.rows rows.now).runs)) machine.now.tick }
     requires size { length counts.old ≡ length machine.now.list.jobs }
     requires room { (j : ℕ) → j < length machine.now.list.jobs → (count_at counts.old j).blocked + ticks ≤ MOST_TICKS }
-    ensures { AddsTicks (P.interferes protocol.now) (under machine.now (row_in rows.now.runs)) machine.now.tick ticks
+    ensures { AddsTicks (P.interferes protocol.now) (under machine.now (row_in (R.rows rows.now).runs)) machine.now.tick ticks
         counts.old counts.new }
 {
     for x in 0..tasks_of(machine) {
         if let Some(j) = machine.current(TaskId(x)) {
-            count_job(protocol, rows, i, machine, ticks, j, counts);
+            count_job(protocol, rows, machine, ticks, j, counts);
         }
     }
 }

@@ -6,7 +6,7 @@ mod counting;
 mod counts;
 mod measures;
 
-pub use conforming::{conform, conform_with};
+pub use conforming::{conform, conform_rows, conform_rows_with, conform_with};
 pub use counting::JobCounter;
 pub use counts::{JobCount, no_counts};
 pub use measures::measures_of;

@@ -15,6 +15,7 @@ use Rattle.trace_csv.specs.JobLines.{completed}
 use Rattle.trace_csv.specs.JobsFile as jobs_file
 use Rattle.trace_csv.specs.RowLines.{processor_count, resource_count}
 use Rattle.trace_csv.specs.RowsFile as rows_file
+use Rattle.trace_csv.specs.RowAnswers.{HeaderTaken}
 
 -- What is said of the lines is said of the records with the header.
 pub under_jobs : (answer : Result JobsDef JobsRefusal) (set : SetDef) (lines : List Fields)
@@ -52,8 +53,17 @@ under_rows (Err (rows.UnknownJob k)) list lines read = inr (refl, read)
 under_rows (Err (rows.TooLong k)) list lines read = inr (refl, read)
 under_rows (Err rows.Memory) list lines read = tt
 
+-- What refuses the header refuses the records.
+pub header_refused : (r : RowsRefusal) (list : JobsDef) (before after : List Fields) → HeaderTaken {T = Unit {0}} (Err r) list before after
+    → rows_file.RecordsRead (Err r) list before
+header_refused (rows.Fields k) list before after taken = inl taken
+header_refused (rows.Number k) list before after taken = inl taken
+header_refused (rows.UnknownJob k) list before after taken = inl taken
+header_refused (rows.TooLong k) list before after taken = inl taken
+header_refused rows.Memory list before after taken = tt
+
 -- A header of rows has as many fields as its lines, so no longer record is one.
-header_length : (set : SetDef) → length (rows_file.rows_header set) ≡ 1 + (set.processors + length set.resources)
+pub header_length : (set : SetDef) → length (rows_file.rows_header set) ≡ 1 + (set.processors + length set.resources)
 header_length set =
     omega (
       arith,
@@ -63,7 +73,7 @@ header_length set =
       length-map set.resources (λ (r : ResourceDef). r.name),
     )
 
-same_header : (line header : Fields) → Some line ≡ Some header → line ≡ header
+pub same_header : (line header : Fields) → Some line ≡ Some header → line ≡ header
 same_header line header e = cc e
 
 pub no_long_header : (list : JobsDef) (line : Fields) (more : List Fields) → 1 + (processor_count list + resource_count list) < length line

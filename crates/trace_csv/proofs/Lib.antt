@@ -2,7 +2,8 @@ pub mod Fields
 pub mod Sized
 pub mod Reading
 pub mod Stepping
-pub mod Lines
+pub mod LinesLeft
+pub mod LinesTaken
 pub mod Marks
 pub mod Quoting
 pub mod Examples
@@ -12,6 +13,7 @@ pub mod Headers
 pub mod JobsTaken
 pub mod RowsTaken
 pub mod Runs
+pub mod RowTexts
 pub mod Decimals
 pub mod RoundTrip
 pub mod ScriptWalks

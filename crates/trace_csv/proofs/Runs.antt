@@ -1,12 +1,12 @@
 -- The run that a line of a file of rows writes is one for the jobs.
-use Rattle.std.proofs.Common.{◌≡◌, ◌≤◌, ◌+◌, ◌-◌, ℕ, true, List, [], ◌∷◌, length, map, take, drop, Option, None, Some}
-use Rattle.std.proofs.Common.{refl, subst, arith, inl, inr}
+use Rattle.std.proofs.Common.{◌≡◌, ◌≤◌, ◌+◌, ◌-◌, min, ℕ, true, List, [], ◌∷◌, length, map, take, drop, Option, None, Some}
+use Rattle.std.proofs.Common.{refl, sym, ap, ◌∙◌, subst, arith, inl, inr}
 use Rattle.std.specs.Prelude.{nat_le, option_map}
 use Rattle.std.specs.Option.{option_and_then}
 use Rattle.std.specs.Int.{is_in_range}
 use Rattle.std.specs.List.{list_all}
-use Rattle.std.proofs.lemmas.Bool.{and_parts, cases_Bool, lt-ltb, leb-true, eq-eqb}
-use Rattle.std.proofs.lemmas.List.{length-take, length-drop, length-map}
+use Rattle.std.proofs.lemmas.Bool.{and_parts, cases_Bool, cases_lt, lt-ltb, leb-true, eq-eqb}
+use Rattle.std.proofs.lemmas.List.{length-take, length-drop, length-map, take_all, drop_all}
 use Rattle.sporadic_model.specs.declared.limits.TheConstants.{MOST_TICKS}
 use Rattle.schedule_model.specs.JobDef.{JobsDef}
 use Rattle.schedule_model.specs.Fitting.{is_below, names_below, is_sized}
@@ -76,3 +76,27 @@ pub none_due : (jobs : JobsDef) (ticks : List ℕ) (cells : List (List ℕ)) (k 
     → list_all is_cell cells ≡ true → list_all (is_listed (job_count jobs)) cells ≡ true → cells_refusal jobs ticks cells k ≡ None
 none_due jobs ticks cells k n size e form listed =
     rw (eq-eqb (length cells) (processor_count jobs + resource_count jobs) size, e, form, listed) refl
+
+-- A row of fewer cells than processors is one of as many processors as cells.
+module _ {A : Type 0} (p : ℕ) (xs : List A) where
+  take_least : take (min p (length xs)) xs ≡ take p xs
+  take_least = elim (cases_lt p (length xs)) [
+    | inl less ↦ let e : min p (length xs) ≡ p = omega (arith, less) in ap (λ k. take k xs) e
+    | inr more ↦
+        let e : min p (length xs) ≡ length xs = omega (arith, more) in
+        ap (λ k. take k xs) e ∙ take_all (length xs) xs (omega arith) ∙ sym (take_all p xs more)
+  ]
+
+  drop_least : drop (min p (length xs)) xs ≡ drop p xs
+  drop_least = elim (cases_lt p (length xs)) [
+    | inl less ↦ let e : min p (length xs) ≡ p = omega (arith, less) in ap (λ k. drop k xs) e
+    | inr more ↦
+        let e : min p (length xs) ≡ length xs = omega (arith, more) in
+        ap (λ k. drop k xs) e ∙ drop_all (length xs) xs (omega arith) ∙ sym (drop_all p xs more)
+  ]
+
+pub row_of_all : (p n : ℕ) (cells : List (List ℕ)) → row_of_cells (min p (length cells)) n cells ≡ row_of_cells p n cells
+row_of_all p n cells = λ i. record {
+  running = map (job_in n) (take_least p cells i);
+  holders = map (job_in n) (drop_least p cells i);
+}

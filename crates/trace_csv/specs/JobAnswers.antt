@@ -1,5 +1,5 @@
 -- What the calls that read a line of a file of jobs say.
-use Rattle.std.specs.Prelude.{◌≡◌, ◌<◌, ℕ, true, List, length, None, Some, Result, Ok, Err}
+use Rattle.std.specs.Prelude.{◌≡◌, ◌<◌, ℕ, Bool, true, List, length, map, None, Some, Result, Ok, Err}
 use Rattle.std.specs.List.{list_all}
 use Rattle.sporadic_model.specs.SetDef.{SetDef}
 use Rattle.schedule_model.specs.JobDef.{JobDef, JobsDef}
@@ -10,7 +10,8 @@ use Rattle.schedule_model.specs.declared.job.Job.{Job}
 use Rattle.trace_csv.specs.declared.refusal.JobsRefusal.{JobsRefusal}
 use Rattle.trace_csv.specs.declared.refusal.JobsRefusal.TheVariants as refusal
 use Rattle.trace_csv.specs.Records.{Fields}
-use Rattle.trace_csv.specs.JobLines.{job_written, form_refusal, line_refusal}
+use Rattle.trace_csv.specs.JobLines.{completed, job_written, jobs_written, form_refusal, line_refusal}
+use Rattle.trace_csv.specs.LinesTaken.{Reasons}
 
 -- Are the job's task and its resources the set's?
 pub record IsOfSet (set : SetDef) (job : JobDef) : Type 0 where
@@ -33,3 +34,12 @@ abbrev pub LineTaken : {T : Type 0} → Result T JobsRefusal → JobsDef → Job
 LineTaken (Ok _) before after line k = (line_refusal before line k ≡ None) × (after ≡ with_job before (job_written before.set line))
 LineTaken (Err refusal.Memory) before after line k = Unit {0}
 LineTaken (Err r) before after line k = line_refusal before line k ≡ Some r
+
+-- Why a line, with an arrival or without one, is refused after these lines.
+abbrev pub job_reason : SetDef → Bool → Reasons JobsRefusal
+job_reason set has_arrivals before line k =
+    line_refusal (jobs_written set (map (completed has_arrivals) before)) (completed has_arrivals line) k
+
+-- Are these the jobs that the lines write?
+abbrev pub HasJobs : SetDef → Bool → List Fields → JobsDef → Type 0
+HasJobs set has_arrivals lines jobs = jobs ≡ jobs_written set (map (completed has_arrivals) lines)

@@ -2,6 +2,7 @@ pub mod Records
 pub mod Places
 pub mod RecordAnswers
 pub mod RecordsView
+pub mod LinesTaken
 pub mod Scripts
 pub mod PartsSeen
 pub mod JobLines
@@ -11,4 +12,7 @@ pub mod JobsFile
 pub mod RowLines
 pub mod RowsFile
 pub mod RowAnswers
+pub mod RowTexts
+pub mod RowTextView
+pub mod TextRowsView
 pub mod Written

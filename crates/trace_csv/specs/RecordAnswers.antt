@@ -30,9 +30,9 @@ PieceRead (Ok piece.End) from text most = record_next (place_seen from) text ≡
 PieceRead (Err _) from text most = Unit {0}
 
 -- The first of the records that were left, and those that are left now; or the first has more fields than the most; or
--- none was left.
+-- none was left, nor is any now.
 abbrev pub IsNext : Result Next AllocError → List Fields → List Fields → ℕ → Type 0
 IsNext (Ok (next.Record fields)) before after most = before ≡ fields_seen fields.items ∷ after
 IsNext (Ok next.Long) before after most = (line : Fields) × (more : List Fields) × (before ≡ line ∷ more) × (most < length line)
-IsNext (Ok next.End) before after most = before ≡ []
+IsNext (Ok next.End) before after most = (before ≡ []) × (after ≡ [])
 IsNext (Err _) before after most = Unit {0}

@@ -1,10 +1,10 @@
 -- What the calls that read a line of a file of rows say.
-use Rattle.std.specs.Prelude.{◌≡◌, ◌++◌, ℕ, true, List, [], ◌∷◌, None, Some, Result, Ok, Err}
+use Rattle.std.specs.Prelude.{◌≡◌, ◌≤◌, ◌+◌, ◌++◌, ℕ, true, List, [], ◌∷◌, None, Some, Result, Ok, Err}
 use Rattle.std.specs.Int.{is_in_range}
 use Rattle.sporadic_model.specs.declared.limits.TheConstants.{MOST_TICKS}
 use Rattle.schedule_model.specs.JobDef.{JobsDef}
-use Rattle.schedule_model.specs.RowDef.{RunDef}
-use Rattle.schedule_model.specs.Fitting.{RowsDef, is_sized, names_jobs}
+use Rattle.schedule_model.specs.RowDef.{RunDef, ticks_of}
+use Rattle.schedule_model.specs.Fitting.{RowsDef, IsRowList, is_sized, names_jobs}
 use Rattle.schedule_model.specs.Seen.{run_seen}
 use Rattle.schedule_model.specs.declared.row.RowRun.{RowRun}
 use Rattle.schedule_model.specs.declared.refusal.RowRefusal.{RowRefusal}
@@ -12,8 +12,10 @@ use Rattle.schedule_model.specs.declared.refusal.RowRefusal.TheVariants as push
 use Rattle.trace_csv.specs.declared.refusal.RowsRefusal.{RowsRefusal}
 use Rattle.trace_csv.specs.declared.refusal.RowsRefusal.TheVariants as refusal
 use Rattle.trace_csv.specs.Records.{Fields}
-use Rattle.trace_csv.specs.RowLines.{cells_refusal, form_refusal, line_refusal, run_written, job_count, processor_count, resource_count}
-use Rattle.trace_csv.specs.RowsFile.{rows_with}
+use Rattle.trace_csv.specs.RowLines.{cells_refusal, form_refusal, line_refusal, run_written, runs_written}
+use Rattle.trace_csv.specs.RowLines.{job_count, processor_count, resource_count}
+use Rattle.trace_csv.specs.LinesTaken.{Reasons}
+use Rattle.trace_csv.specs.RowsFile.{HasRowsHeader, rows_header, rows_with}
 
 -- Is it a run for the jobs: has its row one place per processor and per resource of their set, does it name
 -- jobs of the list alone, and does it last from 1 to 10^9 ticks?
@@ -53,3 +55,30 @@ LineTaken (Ok _) jobs before after line k =
     × (after ≡ rows_with jobs (before.runs ++ run_written jobs line ∷ []))
 LineTaken (Err refusal.Memory) jobs before after line k = Unit {0}
 LineTaken (Err r) jobs before after line k = line_refusal jobs before.runs line k ≡ Some r
+
+-- The same where the ticks of the lines before it are counted, and those of the line with them.
+abbrev pub LineCounted : {T : Type 0} → Result T RowsRefusal → JobsDef → List RunDef → ℕ → Fields → ℕ → Type 0
+LineCounted (Ok _) jobs before ticks line k =
+    (line_refusal jobs before line k ≡ None) × IsRunOf jobs (run_written jobs line)
+    × (ticks ≡ ticks_of before + (run_written jobs line).ticks) × (ticks ≤ MOST_TICKS)
+LineCounted (Err refusal.Memory) jobs before ticks line k = Unit {0}
+LineCounted (Err r) jobs before ticks line k = line_refusal jobs before line k ≡ Some r
+
+-- Why a line is refused after these lines.
+abbrev pub row_reason : JobsDef → Reasons RowsRefusal
+row_reason jobs before line k = line_refusal jobs (runs_written jobs before) line k
+
+-- Are these the rows that the lines write?
+abbrev pub HasRows : JobsDef → List Fields → RowsDef → Type 0
+HasRows jobs lines rows = rows ≡ rows_with jobs (runs_written jobs lines)
+
+-- Are the rows that the lines write a list of rows, and do they have so many ticks?
+pub record HasTicks (jobs : JobsDef) (lines : List Fields) (ticks : ℕ) : Type 0 where
+  pub listed : IsRowList (rows_with jobs (runs_written jobs lines))
+  pub counted : ticks ≡ ticks_of (runs_written jobs lines)
+
+-- The records begin with the header, and these stand behind it; or it is missing.
+abbrev pub HeaderTaken : {T : Type 0} → Result T RowsRefusal → JobsDef → List Fields → List Fields → Type 0
+HeaderTaken (Ok _) jobs before after = before ≡ rows_header jobs.set ∷ after
+HeaderTaken (Err refusal.Memory) jobs before after = Unit {0}
+HeaderTaken (Err r) jobs before after = (r ≡ refusal.Fields 0) × (HasRowsHeader jobs.set before → ⊥)

@@ -5,6 +5,7 @@ ghost use Rattle.trace_csv.specs.JobsFile.{jobs_header, arrivals_header, IsJobsF
 ghost use Rattle.trace_csv.specs.JobAnswers.{LineRead, LineTaken};
 
 use crate::header::are_same;
+use crate::lines::{LineForm, LineTaker, take_lines};
 use crate::records::{Next, Records};
 use crate::refusal::JobsRefusal;
 use crate::segments::{ScriptFault, script_of};
@@ -139,29 +140,71 @@ fn take_line(
     }
 }
 
+/// The lines of a file of jobs, with arrivals or without.
+#[derive(Drop)]
+struct JobLines<'a> {
+    set: &'a TaskSet,
+    has_arrivals: bool,
+}
+
+impl<'a> LineForm for JobLines<'a> {
+    type Refusal = JobsRefusal;
+
+    ghost use Rattle.std.specs.Prelude.{◌≡◌};
+    ghost use Rattle.trace_csv.specs.declared.jobs.TheConstants.{MOST_FIELDS};
+    ghost use Rattle.trace_csv.specs.declared.refusal.JobsRefusal.TheVariants.{Memory};
+    ghost use Rattle.trace_csv.specs.JobAnswers.{job_reason};
+
+    ghost most = { λ f. MOST_FIELDS };
+
+    ghost reason = { λ f. job_reason f.set.now f.has_arrivals };
+
+    ghost is_memory = { λ f r. r ≡ Memory };
+
+    fn most_fields(&self) -> usize {
+        MOST_FIELDS
+    }
+
+    fn too_long(&self, line: u64) -> JobsRefusal {
+        JobsRefusal::Fields(line)
+    }
+
+    fn no_memory(&self) -> JobsRefusal {
+        JobsRefusal::Memory
+    }
+}
+
+impl<'a> LineTaker<JobLines<'a>> for JobList<'a> {
+    ghost use Rattle.trace_csv.specs.JobAnswers.{HasJobs};
+
+    ghost has = { λ f lines jobs. HasJobs f.set.now f.has_arrivals lines jobs };
+
+    fn take(
+        &mut self,
+        form: &JobLines<'a>,
+        alloc: Global,
+        fields: &[Vec<u8>],
+        line: u64,
+    ) -> Result<(), JobsRefusal> {
+        take_line(self, alloc, form.has_arrivals, fields, line)
+    }
+}
+
 /// The jobs that lines write, or the first line that is refused, behind which nothing is read.
 fn jobs_of<'a>(
     alloc: Global,
     set: &'a TaskSet,
     has_arrivals: bool,
-    mut lines: Records,
+    lines: Records,
 ) -> Result<JobList<'a>, JobsRefusal>
     requires { length lines < 2 ^ 64 }
     ensures { LinesRead result set.now (map (completed has_arrivals) lines.entry) }
 {
+    let form = JobLines { set, has_arrivals };
     let mut jobs = JobList::new(alloc, set);
-    let mut line = 0;
-    'lines: loop {
-        let fields = match lines.next(alloc, MOST_FIELDS)? {
-            Next::Record(fields) => fields,
-            Next::Long => return Err(JobsRefusal::Fields(line + 1)),
-            Next::End => return Ok(jobs),
-        };
-        line += 1;
-        match take_line(&mut jobs, alloc, has_arrivals, &fields, line) {
-            Ok(()) => {}
-            Err(refusal) => return Err(refusal),
-        }
+    match take_lines(alloc, &form, lines, &mut jobs) {
+        Ok(()) => Ok(jobs),
+        Err(refusal) => Err(refusal),
     }
 }
 

@@ -137,6 +137,16 @@ impl<'t> Records<'t> {
         }
     }
 
+    /// The same records, to be read from here on.
+    pub(crate) fn again(&self) -> Records<'t>
+        ensures { result ≡ self.now }
+    {
+        Records {
+            rest: self.rest,
+            place: self.place,
+        }
+    }
+
     /// The next record, if there is one and it has at most so many fields.
     pub(crate) fn next(&mut self, alloc: Global, most: usize) -> Result<Next, AllocError>
         ensures { IsNext result self.old self.new most }

@@ -1,12 +1,15 @@
 ghost use Rattle.std.specs.Prelude.{◌≡◌, ◌<◌, ◌≤◌, ◌+◌, ◌^◌, map, length, IfOk};
 ghost use Rattle.std.specs.List.{list_all};
-ghost use Rattle.schedule_model.specs.Seen.{place_seen, row_seen};
+ghost use Rattle.std.specs.Option.{unwrap_or};
+ghost use Rattle.schedule_model.specs.Seen.{place_seen, row_seen, run_seen};
 ghost use Rattle.trace_csv.specs.Records.{fields_seen};
 ghost use Rattle.trace_csv.specs.RowLines.{is_cell, is_listed, job_in, row_of_cells, processor_count, resource_count};
+ghost use Rattle.trace_csv.specs.RowLines.{row_written, run_written, ticks_in};
 ghost use Rattle.trace_csv.specs.RowsFile.{IsRowsFile, LinesRead, RecordsRead, RowsRead, IsUnrefused};
-ghost use Rattle.trace_csv.specs.RowAnswers.{CellsRead, LineRead, LineTaken, at_line, IsMade};
+ghost use Rattle.trace_csv.specs.RowAnswers.{CellsRead, LineRead, LineTaken, HeaderTaken, at_line, IsMade};
 
 use crate::header::is_rows_header;
+use crate::lines::{LineForm, LineTaker, take_lines};
 use crate::records::{Next, Records};
 use crate::refusal::RowsRefusal;
 use crate::slices::slices_of;
@@ -22,17 +25,16 @@ fn is_cell(cell: &[u8]) -> bool
     cell.is_empty() || is_number(cell)
 }
 
-fn each_is_cell(cells: &[&[u8]]) -> bool
-    ensures { result ≡ list_all (λ c. is_cell c.now) cells.now }
-{
-    cells.iter().all(|cell| is_cell(cell))
-}
-
 /// Is each cell empty, or a number?
 fn are_cells(cells: &[&[u8]]) -> bool
     ensures { result ≡ list_all is_cell (map (λ c. c.now) cells.now) }
 {
-    each_is_cell(cells)
+    for cell in cells {
+        if !is_cell(cell) {
+            return false;
+        }
+    }
+    true
 }
 
 /// The job that a cell names among the first ones; none where it is empty.
@@ -52,17 +54,16 @@ fn is_listed(cell: &[u8], jobs: u32) -> bool
     cell.is_empty() || job_in(cell, jobs).is_some()
 }
 
-fn each_is_listed(cells: &[&[u8]], jobs: u32) -> bool
-    ensures { result ≡ list_all (λ c. is_listed jobs c.now) cells.now }
-{
-    cells.iter().all(|cell| is_listed(cell, jobs))
-}
-
 /// Is each cell empty, or does it name one of the first jobs?
 fn are_listed(cells: &[&[u8]], jobs: u32) -> bool
     ensures { result ≡ list_all (is_listed jobs) (map (λ c. c.now) cells.now) }
 {
-    each_is_listed(cells, jobs)
+    for cell in cells {
+        if !is_listed(cell, jobs) {
+            return false;
+        }
+    }
+    true
 }
 
 /// The jobs that cells name among the first ones.
@@ -84,6 +85,14 @@ fn row_of(alloc: Global, cells: &[&[u8]], processors: usize, jobs: u32) -> Resul
     let running = places_of(alloc, &cells[..processors], jobs)?;
     let holders = places_of(alloc, &cells[processors..], jobs)?;
     Ok(Row { running, holders })
+}
+
+/// The row that cells write, whatever they are.
+fn written_row(alloc: Global, jobs: &JobList, cells: &[&[u8]]) -> Result<Row, AllocError>
+    ensures { IfOk result (λ row. row_seen row ≡ row_written jobs.now (map (λ c. c.now) cells.now)) }
+{
+    let processors = (jobs.set().processors() as usize).min(cells.len());
+    row_of(alloc, cells, processors, jobs.len())
 }
 
 /// The run that a field of ticks and cells write, or why their line, which has this number, is refused.
@@ -109,12 +118,12 @@ fn run_of_cells(
     if !are_listed(cells, jobs.len()) {
         return Err(RowsRefusal::UnknownJob(line));
     }
-    let row = row_of(alloc, cells, processors, jobs.len())?;
+    let row = written_row(alloc, jobs, cells)?;
     Ok(RowRun { ticks, row })
 }
 
 /// The run that a line writes, or why the line, which has this number, is refused for what stands on it.
-fn run_of(
+pub(crate) fn run_of(
     alloc: Global,
     jobs: &JobList,
     fields: &[Vec<u8>],
@@ -126,6 +135,40 @@ fn run_of(
     match fields.as_slice() {
         [ticks, cells @ ..] => run_of_cells(alloc, jobs, ticks, cells, line),
         [] => Err(RowsRefusal::Fields(line)),
+    }
+}
+
+/// The ticks that a field writes; 0 where it writes none.
+fn written_ticks(field: &[u8]) -> u64
+    ensures { result ≡ unwrap_or (ticks_in field.now) 0 }
+{
+    match number_between(field, 1, MOST_TICKS) {
+        Some(ticks) => ticks,
+        None => 0,
+    }
+}
+
+/// The run that a line writes, whatever stands on it.
+pub(crate) fn written_run(
+    alloc: Global,
+    jobs: &JobList,
+    fields: &[Vec<u8>],
+) -> Result<RowRun, AllocError>
+    ensures { IfOk result (λ run. run_seen run ≡ run_written jobs.now (fields_seen fields.now)) }
+{
+    let fields = slices_of(alloc, fields)?;
+    match fields.as_slice() {
+        [ticks, cells @ ..] => {
+            let ticks = written_ticks(ticks);
+            let row = written_row(alloc, jobs, cells)?;
+            Ok(RowRun { ticks, row })
+        }
+        [] => {
+            let running = Vec::new(alloc);
+            let holders = Vec::new(alloc);
+            let row = Row { running, holders };
+            Ok(RowRun { ticks: 0, row })
+        }
     }
 }
 
@@ -160,31 +203,90 @@ fn take_line(
 }
 
 /// How many fields a line has: the ticks, one per processor and one per resource.
-fn fields_per_line(jobs: &JobList) -> usize
+pub(crate) fn fields_per_line(jobs: &JobList) -> usize
     ensures { result ≡ 1 + (processor_count jobs.now + resource_count jobs.now) }
 {
     1 + (jobs.set().processors() as usize + jobs.set().resources() as usize)
 }
 
+/// The lines of a file of rows.
+#[derive(Drop)]
+pub(crate) struct RowLines<'a> {
+    pub(crate) jobs: &'a JobList<'a>,
+}
+
+impl<'a> LineForm for RowLines<'a> {
+    type Refusal = RowsRefusal;
+
+    ghost use Rattle.std.specs.Prelude.{◌≡◌, ◌+◌};
+    ghost use Rattle.trace_csv.specs.declared.refusal.RowsRefusal.TheVariants.{Memory};
+    ghost use Rattle.trace_csv.specs.RowLines.{processor_count, resource_count};
+    ghost use Rattle.trace_csv.specs.RowAnswers.{row_reason};
+
+    ghost most = { λ f. 1 + (processor_count f.jobs.now + resource_count f.jobs.now) };
+
+    ghost reason = { λ f. row_reason f.jobs.now };
+
+    ghost is_memory = { λ f r. r ≡ Memory };
+
+    fn most_fields(&self) -> usize {
+        fields_per_line(self.jobs)
+    }
+
+    fn too_long(&self, line: u64) -> RowsRefusal {
+        RowsRefusal::Fields(line)
+    }
+
+    fn no_memory(&self) -> RowsRefusal {
+        RowsRefusal::Memory
+    }
+}
+
+impl<'a> LineTaker<RowLines<'a>> for RowList {
+    ghost use Rattle.trace_csv.specs.RowAnswers.{HasRows};
+
+    ghost has = { λ f lines rows. HasRows f.jobs.now lines rows };
+
+    fn take(
+        &mut self,
+        form: &RowLines<'a>,
+        alloc: Global,
+        fields: &[Vec<u8>],
+        line: u64,
+    ) -> Result<(), RowsRefusal> {
+        take_line(self, alloc, form.jobs, fields, line)
+    }
+}
+
+/// Takes the header of a file of rows, or says why it is refused.
+pub(crate) fn take_header(
+    alloc: Global,
+    jobs: &JobList,
+    records: &mut Records,
+) -> Result<(), RowsRefusal>
+    ensures { HeaderTaken result jobs.now records.old records.new }
+{
+    let header = match records.next(alloc, fields_per_line(jobs))? {
+        Next::Record(header) => header,
+        Next::Long => return Err(RowsRefusal::Fields(0)),
+        Next::End => return Err(RowsRefusal::Fields(0)),
+    };
+    let header = slices_of(alloc, &header)?;
+    if !is_rows_header(alloc, jobs.set(), &header)? {
+        return Err(RowsRefusal::Fields(0));
+    }
+    Ok(())
+}
+
 /// The runs that lines write, or the first line that is refused, behind which nothing is read.
-fn rows_of(alloc: Global, jobs: &JobList, mut lines: Records) -> Result<RowList, RowsRefusal>
+fn rows_of(alloc: Global, jobs: &JobList, lines: Records) -> Result<RowList, RowsRefusal>
     requires { length lines < 2 ^ 64 }
     ensures { LinesRead result jobs.now lines.entry }
 {
-    let most = fields_per_line(jobs);
     let mut rows = RowList::new(alloc, jobs);
-    let mut line = 0;
-    'lines: loop {
-        let fields = match lines.next(alloc, most)? {
-            Next::Record(fields) => fields,
-            Next::Long => return Err(RowsRefusal::Fields(line + 1)),
-            Next::End => return Ok(rows),
-        };
-        line += 1;
-        match take_line(&mut rows, alloc, jobs, &fields, line) {
-            Ok(()) => {}
-            Err(refusal) => return Err(refusal),
-        }
+    match take_lines(alloc, &RowLines { jobs }, lines, &mut rows) {
+        Ok(()) => Ok(rows),
+        Err(refusal) => Err(refusal),
     }
 }
 
@@ -197,16 +299,10 @@ fn rows_under_header(
     requires { length records < 2 ^ 64 }
     ensures { RecordsRead result jobs.now records.entry }
 {
-    let header = match records.next(alloc, fields_per_line(jobs))? {
-        Next::Record(header) => header,
-        Next::Long => return Err(RowsRefusal::Fields(0)),
-        Next::End => return Err(RowsRefusal::Fields(0)),
-    };
-    let header = slices_of(alloc, &header)?;
-    if !is_rows_header(alloc, jobs.set(), &header)? {
-        return Err(RowsRefusal::Fields(0));
+    match take_header(alloc, jobs, &mut records) {
+        Ok(()) => rows_of(alloc, jobs, records),
+        Err(refusal) => Err(refusal),
     }
-    rows_of(alloc, jobs, records)
 }
 
 /// Reads rows of jobs from CSV: the header, and then a line for each run of equal rows, with its number of

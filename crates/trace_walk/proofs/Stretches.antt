@@ -1,25 +1,14 @@
 -- What is known of the rows of a stretch.
-use Rattle.std.proofs.Common.{◌≡◌, ℕ, ◌+◌, ◌<◌, Bool, sym, ap, subst, arith, inl, inr}
-use Rattle.std.proofs.lemmas.Bool.{cases_lt}
+use Rattle.std.proofs.Common.{◌≡◌, ℕ, Bool, sym, subst}
 use Rattle.schedule_model.specs.RowDef.{Trace, RowDef}
-use Rattle.schedule_model.specs.Phase.{phase_of}
 use Rattle.schedule_model.specs.ProtocolLaws.{IsSoundRow}
 use Rattle.schedule_model.specs.Chosen.{IsSized}
 use Rattle.schedule_model.specs.TakenRows.{CanBeTaken}
 use Rattle.schedule_laws.proofs.TakenRows.{sound_taken}
-use Rattle.schedule_laws.specs.Steady.{IsSteady}
-use Rattle.schedule_laws.proofs.Alike.{IsAlike, alike_through}
 use Rattle.phase_machine.specs.MachineDef.{MachineDef, under}
 use Rattle.phase_machine.specs.Shows.{Shows}
 use Rattle.phase_machine.specs.Taking.{IsRowFor, CanTake}
 use Rattle.phase_machine.proofs.Facts.{can_take}
-
--- At each tick of a steady stretch the phase is that of its first.
-pub phase_on : (w : Trace) (t n i j : ℕ) → IsSteady w t n → i < n → phase_of w (t + i) j ≡ phase_of w t j
-phase_on w t n i j steady l = elim (cases_lt 0 i) [
-  | inl some ↦ let a : IsAlike w t (t + i) = alike_through w t n i steady some l in a.phase j
-  | inr none ↦ let here : t + i ≡ t = omega (arith, none) in ap (λ u. phase_of w u j) here
-]
 
 -- A row that fits the jobs and is sound can stand at the machine's tick, and the machine can take it.
 pub row_stands : (interferes : Trace → ℕ → ℕ → Bool) (rows : ℕ → RowDef) (m : MachineDef) (row : RowDef)

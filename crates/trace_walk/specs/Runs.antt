@@ -1,16 +1,9 @@
 -- Where in a list of runs of equal rows is a machine that takes them tick by tick?
-use Rattle.std.specs.Prelude.{◌≡◌, ℕ, ◌+◌, ◌<◌, true, List, length, take, slice_index_or}
-use Rattle.schedule_model.specs.RowDef.{RunDef, idle_row, row_in, ticks_of}
+use Rattle.std.specs.Prelude.{◌≡◌, ℕ, ◌+◌, ◌<◌, true, List, length, take}
+use Rattle.schedule_model.specs.RowDef.{RunDef, row_in, ticks_of}
 use Rattle.schedule_model.specs.Fitting.{RowsDef, is_fitting}
+use Rattle.row_readers.specs.Runs.{run_of}
 use Rattle.phase_machine.specs.MachineDef.{MachineDef}
-
--- What a look-up past the end gives: a run of no ticks.
-abbrev pub no_run : RunDef
-no_run = record { ticks = 0; row = idle_row }
-
--- Run number i.
-abbrev pub run_of : List RunDef → ℕ → RunDef
-run_of runs i = slice_index_or runs i no_run
 
 -- How many ticks do the runs before number i last?
 abbrev pub ticks_before : List RunDef → ℕ → ℕ

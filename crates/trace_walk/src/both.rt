@@ -2,7 +2,7 @@ ghost use Rattle.std.specs.Prelude.{ℕ};
 
 use crate::keeper::Keeper;
 use phase_machine::{Judge, Machine};
-use schedule_model::RowList;
+use row_readers::RowReader;
 use std::alloc::AllocError;
 
 /// Two keepers of one walk, each with its own notes.
@@ -29,18 +29,17 @@ impl<P: Judge, A: Keeper<P>, B: Keeper<P>> Keeper<P> for Both<A, B> {
         self.second.span(machine, self.first.span(machine, ticks))
     }
 
-    fn take(
+    fn take<R: RowReader>(
         &self,
         protocol: &P,
-        rows: &RowList,
-        i: usize,
+        rows: &R,
         machine: &Machine,
         ticks: u64,
         notes: &mut (A::Notes, B::Notes),
     ) -> Result<(), AllocError> {
         self.first
-            .take(protocol, rows, i, machine, ticks, &mut notes.0)?;
+            .take(protocol, rows, machine, ticks, &mut notes.0)?;
         self.second
-            .take(protocol, rows, i, machine, ticks, &mut notes.1)
+            .take(protocol, rows, machine, ticks, &mut notes.1)
     }
 }

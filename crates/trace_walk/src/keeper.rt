@@ -5,7 +5,7 @@ ghost use Rattle.phase_machine.specs.MachineDef.{MachineDef, under};
 ghost use Rattle.trace_walk.specs.NextStretch.{IsNextStretch};
 
 use phase_machine::{Judge, Machine};
-use schedule_model::RowList;
+use row_readers::RowReader;
 use std::alloc::AllocError;
 
 /// What keeps notes of a schedule while it is walked, for a protocol that judges it.
@@ -29,21 +29,20 @@ pub trait Keeper<P: Judge> {
         ensures most { result ≤ ticks }
         ensures spans { (n : ℕ) → n ≤ result → spans self.now machine.now n };
 
-    /// Takes so many ticks more into the notes: a steady stretch of run number `i`, whose rows keep the rules and which the machine
-    /// stands before. It refuses for want of memory alone.
-    fn take(
+    /// Takes so many ticks more into the notes: a steady stretch of the run that the reader stands at, whose rows keep the rules and
+    /// which the machine stands before. It refuses for want of memory alone.
+    fn take<R: RowReader>(
         &self,
         protocol: &P,
-        rows: &RowList,
-        i: usize,
+        rows: &R,
         machine: &Machine,
         ticks: u64,
         notes: &mut Self::Notes,
     ) -> Result<(), AllocError>
         requires suits { P.suits protocol.now machine.now.list.set }
         requires fits { fits self.now machine.now.list.set }
-        requires stretch { IsNextStretch (P.keeps protocol.now) rows.now i machine.now ticks }
+        requires stretch { IsNextStretch (P.keeps protocol.now) (R.rows rows.now) (R.at rows.now) machine.now ticks }
         requires spans { spans self.now machine.now ticks }
-        requires kept { kept self.now protocol.now (under machine.now (row_in rows.now.runs)) machine.now.tick notes.old }
-        ensures { OnOk result (kept self.now protocol.now (under machine.now (row_in rows.now.runs)) (machine.now.tick + ticks) notes.new) };
+        requires kept { kept self.now protocol.now (under machine.now (row_in (R.rows rows.now).runs)) machine.now.tick notes.old }
+        ensures { OnOk result (kept self.now protocol.now (under machine.now (row_in (R.rows rows.now).runs)) (machine.now.tick + ticks) notes.new) };
 }

@@ -4,7 +4,6 @@
 
 mod both;
 mod keeper;
-pub mod runs;
 mod walking;
 
 pub use both::Both;

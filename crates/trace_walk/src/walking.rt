@@ -7,18 +7,17 @@ ghost use Rattle.trace_walk.specs.Reached.{IsReached, GoesOn, GoesSome};
 ghost use Rattle.trace_walk.specs.Walked.{Walks};
 
 use crate::keeper::Keeper;
-use crate::runs::{count_of, run_at};
 use phase_machine::{Judge, Machine};
+use row_readers::RowReader;
 use schedule_answers::{Breach, Unlawful};
-use schedule_model::{JobList, RowList};
+use schedule_model::JobList;
 use std::alloc::Global;
 
-/// Judges the row of run number `i`, of which so many ticks are left, and keeps and takes the ticks of the steady stretch that it
-/// begins, as far as they are of the run and the keeper takes them at once. How many these were.
-fn walk_stretch<P: Judge, K: Keeper<P>>(
+/// Judges the row of the run that the reader stands at, of which so many ticks are left, and keeps and takes the ticks of the steady
+/// stretch that it begins, as far as they are of the run and the keeper takes them at once. How many these were.
+fn walk_stretch<P: Judge, K: Keeper<P>, R: RowReader>(
     protocol: &P,
-    rows: &RowList,
-    i: usize,
+    rows: &R,
     left: u64,
     machine: &mut Machine,
     keeper: &K,
@@ -26,92 +25,98 @@ fn walk_stretch<P: Judge, K: Keeper<P>>(
 ) -> Result<u64, Unlawful>
     requires suits { P.suits protocol.now machine.old.list.set }
     requires fits { K.fits keeper.now machine.old.list.set }
-    requires at { IsAtRun rows.now i machine.old }
-    requires stands { StandsFor rows.now.runs i machine.old.tick left }
+    requires at { IsAtRun (R.rows rows.now) (R.at rows.now) machine.old }
+    requires stands { StandsFor (R.rows rows.now).runs (R.at rows.now) machine.old.tick left }
     requires some { 1 ≤ left }
     requires early { machine.old.tick + left ≤ MOST_TICKS }
-    requires reached { IsReached (P.keeps protocol.now) (K.kept keeper.now protocol.now) (row_in rows.now.runs) machine.old notes.old }
+    requires reached { IsReached (P.keeps protocol.now) (K.kept keeper.now protocol.now) (row_in (R.rows rows.now).runs) machine.old notes.old }
     ensures list { machine.new.list ≡ machine.old.list }
-    ensures walked { GoesSome (P.keeps protocol.now) (K.kept keeper.now protocol.now) (row_in rows.now.runs) left
+    ensures walked { GoesSome (P.keeps protocol.now) (K.kept keeper.now protocol.now) (row_in (R.rows rows.now).runs) left
         machine.old machine.new notes.new result }
 {
-    let row = &run_at(rows, i).row;
+    let row = &rows.run().row;
     let tick = machine.tick();
     match protocol.judge(machine, row) {
         Ok(()) => {}
         Err(rule) => return Err(Unlawful::Broken(Breach { tick, rule })),
     }
     let ticks = keeper.span(machine, machine.steady(row).min(left));
-    keeper.take(protocol, rows, i, machine, ticks, notes)?;
+    keeper.take(protocol, rows, machine, ticks, notes)?;
     machine.advance_by(row, ticks);
     Ok(ticks)
 }
 
-/// Judges, keeps and takes each row of run number `i`, one steady stretch after the other.
-fn walk_run<P: Judge, K: Keeper<P>>(
+/// Judges, keeps and takes each row of the run that the reader stands at, one steady stretch after the other.
+fn walk_run<P: Judge, K: Keeper<P>, R: RowReader>(
     protocol: &P,
-    rows: &RowList,
-    i: usize,
+    rows: &R,
     machine: &mut Machine,
     keeper: &K,
     notes: &mut K::Notes,
 ) -> Result<(), Unlawful>
     requires suits { P.suits protocol.now machine.old.list.set }
     requires keeper { K.fits keeper.now machine.old.list.set }
-    requires within { i < length rows.now.runs }
-    requires fits { is_fitting rows.now machine.old.list ≡ true }
-    requires start { machine.old.tick ≡ ticks_before rows.now.runs i }
-    requires reached { IsReached (P.keeps protocol.now) (K.kept keeper.now protocol.now) (row_in rows.now.runs) machine.old notes.old }
+    requires within { R.at rows.now < length (R.rows rows.now).runs }
+    requires fits { is_fitting (R.rows rows.now) machine.old.list ≡ true }
+    requires most { ticks_of (R.rows rows.now).runs ≤ MOST_TICKS }
+    requires start { machine.old.tick ≡ ticks_before (R.rows rows.now).runs (R.at rows.now) }
+    requires reached { IsReached (P.keeps protocol.now) (K.kept keeper.now protocol.now) (row_in (R.rows rows.now).runs) machine.old notes.old }
     ensures list { machine.new.list ≡ machine.old.list }
-    ensures walked { GoesOn (P.keeps protocol.now) (K.kept keeper.now protocol.now) (row_in rows.now.runs)
-        (ticks_before rows.now.runs (i + 1)) machine.old machine.new notes.new result }
+    ensures walked { GoesOn (P.keeps protocol.now) (K.kept keeper.now protocol.now) (row_in (R.rows rows.now).runs)
+        (ticks_before (R.rows rows.now).runs (R.at rows.now + 1)) machine.old machine.new notes.new result }
 {
-    let mut left = run_at(rows, i).ticks;
+    let mut left = rows.run().ticks;
     while left > 0 {
-        left -= walk_stretch(protocol, rows, i, left, machine, keeper, notes)?;
+        left -= walk_stretch(protocol, rows, left, machine, keeper, notes)?;
     }
     Ok(())
 }
 
 /// Judges, keeps and takes all rows, up to the first that breaks a rule.
-fn walk_all<P: Judge, K: Keeper<P>>(
+fn walk_all<P: Judge, K: Keeper<P>, R: RowReader>(
     protocol: &P,
-    rows: &RowList,
+    rows: &mut R,
     machine: &mut Machine,
     keeper: &K,
     notes: &mut K::Notes,
 ) -> Result<(), Unlawful>
     requires suits { P.suits protocol.now machine.old.list.set }
     requires keeper { K.fits keeper.now machine.old.list.set }
-    requires fits { is_fitting rows.now machine.old.list ≡ true }
+    requires fits { is_fitting (R.rows rows.old) machine.old.list ≡ true }
+    requires most { ticks_of (R.rows rows.old).runs ≤ MOST_TICKS }
+    requires first { R.at rows.old ≡ 0 }
     requires start { machine.old.tick ≡ 0 }
-    requires reached { IsReached (P.keeps protocol.now) (K.kept keeper.now protocol.now) (row_in rows.now.runs) machine.old notes.old }
+    requires reached { IsReached (P.keeps protocol.now) (K.kept keeper.now protocol.now) (row_in (R.rows rows.old).runs) machine.old notes.old }
     ensures list { machine.new.list ≡ machine.old.list }
-    ensures walked { GoesOn (P.keeps protocol.now) (K.kept keeper.now protocol.now) (row_in rows.now.runs) (ticks_of rows.now.runs)
+    ensures walked { GoesOn (P.keeps protocol.now) (K.kept keeper.now protocol.now) (row_in (R.rows rows.old).runs) (ticks_of (R.rows rows.old).runs)
         machine.old machine.new notes.new result }
 {
-    for i in 0..count_of(rows) {
-        walk_run(protocol, rows, i, machine, keeper, notes)?;
+    'runs: while rows.is_at_run() {
+        walk_run(protocol, rows, machine, keeper, notes)?;
+        rows.step()?;
     }
     Ok(())
 }
 
 /// Judges each row by the protocol's rules, and keeps what the keeper keeps: Ok, with the machine that has taken all rows, exactly where
-/// every row keeps all five rules and there was memory; else the first row that breaks one. The notes are those of no ticks at first.
-pub fn walk<'a, P: Judge, K: Keeper<P>>(
+/// every row keeps all five rules and there was memory; else the first row that breaks one. At first the reader stands at the first run, and the notes
+/// are those of no ticks.
+pub fn walk<'a, P: Judge, K: Keeper<P>, R: RowReader>(
     alloc: Global,
     protocol: &P,
     jobs: &'a JobList<'a>,
-    rows: &RowList,
+    rows: &mut R,
     keeper: &K,
     notes: &mut K::Notes,
 ) -> Result<Machine<'a>, Unlawful>
     requires suits { P.suits protocol.now jobs.now.set }
     requires keeper { K.fits keeper.now jobs.now.set }
-    requires fits { is_fitting rows.now jobs.now ≡ true }
-    requires first { K.kept keeper.now protocol.now (trace_in jobs.now rows.now.runs) 0 notes.old }
-    ensures { Walks (P.keeps protocol.now) (K.kept keeper.now protocol.now) jobs.now rows.now.runs notes.new result }
+    requires fits { is_fitting (R.rows rows.old) jobs.now ≡ true }
+    requires start { R.at rows.old ≡ 0 }
+    requires first { K.kept keeper.now protocol.now (trace_in jobs.now (R.rows rows.old).runs) 0 notes.old }
+    ensures { Walks (P.keeps protocol.now) (K.kept keeper.now protocol.now) jobs.now (R.rows rows.old).runs notes.new result }
 {
+    rows.keeps_its_rules();
     let mut machine = Machine::new(alloc, jobs)?;
     walk_all(protocol, rows, &mut machine, keeper, notes)?;
     Ok(machine)

@@ -7,7 +7,7 @@ use Rattle.std.proofs.lemmas.Bool.{cases_lt, cases_Bool, and_from, eq-eqb, eqb-t
 use Rattle.bounded_sums.specs.Sums.{sum_below, flag, only_if}
 use Rattle.bounded_sums.specs.Tests.{count_below}
 use Rattle.bounded_sums.proofs.SumLaws.{sum_below-monotone, sum_below-swap, sum_below-term, sum_below-zero}
-use Rattle.bounded_sums.proofs.CountLaws.{count_below-split}
+use Rattle.bounded_sums.proofs.CountLaws.{count_below-split, flag-passes}
 use Rattle.sporadic_model.specs.Users.{count_of, length_of}
 use Rattle.sporadic_model.specs.Homes.{home_in}
 use Rattle.schedule_model.specs.JobDef.{job_of, number_of_requests}
@@ -27,7 +27,6 @@ use Rattle.row_laws.proofs.Brings.{only_if-parts}
 use Rattle.row_laws.proofs.JobRows.{ActiveIn, paid_in_span}
 use Rattle.window_laws.specs.Windows.{time_at, ticks_by}
 use Rattle.window_laws.proofs.OpenRequests.{Open, request_runs, is_by, by_is, RunBy}
-use Rattle.program_laws.proofs.FewRows.{flag_passes}
 
 -- The job that runs on the processor; 0 where none does.
 abbrev runner_of : Trace → ℕ → ℕ → ℕ
@@ -44,7 +43,7 @@ job_term w bound n u v j m q x y t stays a b =
       | inl some ↦
           let parts : ((runner_of w (home_of w q) t == y) ≡ true) × (0 < flag (is_by w (home_of w q) x t)) =
           only_if-parts (runner_of w (home_of w q) t == y) (flag (is_by w (home_of w q) x t)) some in
-          go (eqb-true (runner_of w (home_of w q) t) y parts.0) (flag_passes (is_by w (home_of w q) x t) parts.1)
+          go (eqb-true (runner_of w (home_of w q) t) y parts.0) (flag-passes (is_by w (home_of w q) x t) parts.1)
     ] where
       one : (c d : Bool) → only_if c (flag d) ≤ 1
       one true true = omega arith
@@ -124,7 +123,7 @@ pub higher_ticks : (w : Trace) (bound : ℕ → ℕ) (n u v j m q span x : ℕ) 
 higher_ticks w bound n u v j m q span x stays long l =
     paid_in_span w bound u span x span (time_at w.set x (home_of w q)) (λ d. runner_of w (home_of w q) (u + d))
     (λ d. flag (is_by w (home_of w q) x (u + d))) stays.lawful (stays.periods x l) stays.ended
-    (λ d b some. runs d b (flag_passes (is_by w (home_of w q) x (u + d)) some))
+    (λ d b some. runs d b (flag-passes (is_by w (home_of w q) x (u + d)) some))
     (λ y b task. job_ticks w bound n u v j m q span x y stays long b task) where
       runs : (d : ℕ) → d < span → is_by w (home_of w q) x (u + d) ≡ true
           → ActiveIn w u (u + span) x (runner_of w (home_of w q) (u + d))

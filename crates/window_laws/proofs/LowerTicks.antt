@@ -4,7 +4,7 @@ use Rattle.std.proofs.lemmas.Bool.{cases_lt, and_from, eq-eqb, lt-ltb, le-leb}
 use Rattle.bounded_sums.specs.Sums.{flag, only_if}
 use Rattle.bounded_sums.specs.Tests.{count_below}
 use Rattle.bounded_sums.proofs.SumLaws.{sum_below-none_or_some}
-use Rattle.bounded_sums.proofs.CountLaws.{count_below-monotone, count_below-split}
+use Rattle.bounded_sums.proofs.CountLaws.{count_below-monotone, count_below-split, flag-passes}
 use Rattle.sporadic_model.specs.Users.{length_of}
 use Rattle.sporadic_model.specs.Homes.{home_in}
 use Rattle.schedule_model.specs.JobDef.{job_of}
@@ -27,7 +27,6 @@ use Rattle.row_laws.proofs.SlotRow.{OneRequest}
 use Rattle.window_laws.specs.Windows.{may_hold_up, longest_lower}
 use Rattle.window_laws.proofs.Least.{greatest_below-term}
 use Rattle.window_laws.proofs.OpenRequests.{Open, open_request, open_active, request_runs, is_by_lower, lower_is, RunBy}
-use Rattle.program_laws.proofs.FewRows.{flag_passes}
 
 -- A lower job that runs there.
 record Lower (w : Trace) (t k j : ℕ) : Type 0 where
@@ -96,7 +95,7 @@ pub lower_ticks : (w : Trace) (bound : ℕ → ℕ) (n u v j m q span : ℕ) →
 unfolding executed_in
 lower_ticks w bound n u v j m q span stays long =
     sum_below-none_or_some span (longest_lower w.set (task_of w j) (home_in w.set q))
-    (λ d. flag (is_by_lower w (home_of w q) (task_of w j) (u + d))) (λ d l some. from d l (flag_passes (low d) some)) where
+    (λ d. flag (is_by_lower w (home_of w q) (task_of w j) (u + d))) (λ d l some. from d l (flag-passes (low d) some)) where
       low : ℕ → Bool
       low = λ d. is_by_lower w (home_of w q) (task_of w j) (u + d)
 

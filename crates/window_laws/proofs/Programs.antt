@@ -21,7 +21,7 @@ use Rattle.preempt_constraints.specs.Rows.{preemption_rows}
 use Rattle.program_laws.specs.Programs.{protocol_rows, rows_of}
 use Rattle.program_laws.specs.Written.{IsSmallRow, Rises}
 use Rattle.program_laws.proofs.RowKinds.{each_row, all_per_pair}
-use Rattle.program_laws.proofs.RisingLimits.{limits_rise}
+use Rattle.program_laws.proofs.RisingLimits.{jobs_rise, limits_rise}
 use Rattle.program_laws.proofs.SmallNumbers.{rows_small, requests_small, flag_small}
 use Rattle.program_laws.proofs.CoveredColumns.{covered_by, request_row_among}
 use Rattle.program_laws.proofs.ListLengths.{Few, few, pair_at_most, rows_few}
@@ -39,7 +39,8 @@ pub windowed_rises : (set : SetDef) (i : ℕ) (r s : List ℕ) → i < length se
     → HasLimitsAtMost (windowed_program set i r) (windowed_program set i s)
 windowed_rises set i r s here h =
     limits_at_most set (columns_of protocol.Dpcp set i) (windowed_rows set i) r s
-    (windowed_each (Rises r s) set i (each_row (Rises r s) protocol.Dpcp set i (limits_rise protocol.Dpcp set i r s here h))
+    (windowed_each (Rises r s) set i
+    (each_row (Rises r s) protocol.Dpcp set i (limits_rise protocol.Dpcp set i r s here (jobs_rise set r s i here h)))
     (λ x p l b. window_limit_rises set (slice_index r) (slice_index s) i x p here l h))
 
 window_small : (set : SetDef) (i x p : ℕ) (r : List ℕ) → IsAccepted set → AreWithinDeadlines set r → i < length set.tasks → x < i

@@ -12,19 +12,28 @@ pub struct EntryRow {
 /// A task, whose deadline is its period.
 #[derive(Clone, Copy, Debug)]
 pub struct TaskRow<'a> {
+    /// The processor that its jobs run on, from 1.
     pub processor: u64,
+    /// The least number of ticks between two arrivals.
     pub period: u64,
+    /// The greatest number of ticks that a job executes.
     pub cost: u64,
+    /// The greatest number of ticks that a job executes outside its requests.
     pub local: u64,
+    /// The greatest number of ticks from a job's arrival to its release.
     pub jitter: u64,
+    /// Its entries for resources.
     pub entries: &'a [EntryRow],
 }
 
 /// A set: how many processors it has, the home of each of its resources, and its tasks.
 #[derive(Clone, Copy, Debug)]
 pub struct SetRow<'a> {
+    /// How many processors it has.
     pub processors: u64,
+    /// The home of each resource, where it has one: a processor, from 1.
     pub homes: &'a [Option<u64>],
+    /// Its tasks, from the highest base priority to the lowest.
     pub tasks: &'a [TaskRow<'a>],
 }
 
@@ -36,8 +45,8 @@ macro_rules! entry_rows {
     };
 }
 
-/// The row of a task without jitter by its processor, its period, its cost, which is its local limit, and its entries, or in brackets the number
-/// of each entry's resource and the length of a job's one request.
+/// The row of a task without jitter by its processor, its period, its cost, which is its local limit, and its entries, or in
+/// brackets the number of each entry's resource and the length of a job's one request.
 #[macro_export]
 macro_rules! task_row {
     ($processor:expr, $period:expr, $cost:expr, [$(($resource:expr, $length:expr)),* $(,)?] $(,)?) => {

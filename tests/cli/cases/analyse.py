@@ -1,6 +1,6 @@
 """The command `analyse`: its verdicts, its stops, and sets that are refused."""
 from setting import Case
-from sets import FIVE, GREATEST, NAMES, PAIR, PAIR_CERTIFICATE, SIX, SIX_CERTIFICATE, WIDE, certificate, pair, resource, task, task_set, tied
+from sets import FIVE, GREATEST, HOMELESS, NAMES, PAIR, PAIR_CERTIFICATE, SIX, SIX_CERTIFICATE, WIDE, certificate, pair, resource, task, task_set, tied
 
 
 def analysed(shows, words, says, text, status=0):
@@ -43,7 +43,7 @@ VERDICTS = [
     analysed("the units that two rounds take", "analyse fmlp+ set 8", PAIR_CERTIFICATE, PAIR),
     analysed("one unit too few", "analyse fmlp+ set 7", "allowance\n", PAIR, 6),
     analysed("the greatest allowance", "analyse fmlp+ set 1000000000", PAIR_CERTIFICATE, PAIR),
-    analysed("no home is needed under MPCP", "analyse mpcp set", certificate("mpcp", [5, 5], [[2, 0, 0], [1, 0]]), pair([resource("q")])),
+    analysed("no home is needed under MPCP", "analyse mpcp set", certificate("mpcp", [5, 5], [[2, 0, 0], [1, 0]]), HOMELESS),
     # after k jobs of t1 the bound of t2 is 1500 + 999 k, so it stands still at 1,500 jobs, one or two more in each round
     analysed("more than a thousand rounds", "analyse fmlp+ set", certificate("fmlp+", [999, 1500000], [[], []]), LONG),
     # each of the first task's four requests waits for one of each of the seven other tasks that share its resources, a tick each
@@ -73,7 +73,7 @@ SETS = [
     refused("a jitter above the deadline less the cost", "jitter task 1", late(9)),
     refused("a home before a jitter", "home resource 1", pair([resource("q", 3)], {"jitter": 8})),
     refused("a jitter that is no whole number", "shape task 1", late("4")),
-    refused("no home under DPCP", "nohome resource 1", pair([resource("q")]), "dpcp"),
+    refused("no home under DPCP", "nohome resource 1", HOMELESS, "dpcp"),
 ]
 
 CASES = VERDICTS + SETS

@@ -2,7 +2,7 @@
 import json
 
 from setting import Case
-from sets import PAIR, PAIR_CERTIFICATE, PAIR_JOBS, PAIR_ROWS, certificate, pair, resource, task, task_set
+from sets import HOMELESS, PAIR, PAIR_CERTIFICATE, PAIR_JOBS, PAIR_ROWS, certificate, pair, task, task_set
 
 ALL = {"set": PAIR, "cert": PAIR_CERTIFICATE, "jobs": PAIR_JOBS, "rows": PAIR_ROWS}
 ALONE = task_set(1, [], task("t1", 1, 1, 1))
@@ -65,7 +65,7 @@ SCHEDULES = [
     Case("that it is lawful under DPCP", "conform dpcp set jobs rows", "lawful 5\nt1 1 3 0\nt2 1 5 1\n", 0, {**ALL, "rows": AT_HOME}),
     Case("a schedule of FMLP+ judged under DPCP", "conform dpcp set jobs rows", "broken 1 grant\n", 1, ALL),
     Case("jobs are read after the homes", "simulate dpcp set jobs 5", "refused jobs fields 0\n", 3, {**ALL, "jobs": "task\n"}),
-    Case("homes are asked for before jobs", "conform dpcp set jobs rows", "refused set nohome resource 1\n", 3, {**ALL, "set": pair([resource("q")]), "jobs": "task\n"}),
+    Case("homes are asked for before jobs", "conform dpcp set jobs rows", "refused set nohome resource 1\n", 3, {**ALL, "set": HOMELESS, "jobs": "task\n"}),
     Case("a release with a leading zero", "conform fmlp+ set jobs rows", "refused jobs number 1\n", 3, {**ALL, "jobs": "task,release,script\nt1,00,1\n"}),
     Case("an empty line isn't counted", "conform fmlp+ set jobs rows", "refused jobs fields 2\n", 3, {**ALL, "jobs": "task,release,script\nt1,0,1\n\nt2,0\n"}),
     Case("a holder that is no number", "conform fmlp+ set jobs rows", "refused rows number 1\n", 3, {**ALL, "rows": "ticks,P1,P2,q\n1,,,x\n"}),

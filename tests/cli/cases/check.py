@@ -1,6 +1,6 @@
 """The commands `check`, `upgrade`, and `report` with a certificate."""
 from setting import Case
-from sets import FIVE, HEADER, LATE, LATE_CERTIFICATE, PAIR, PAIR_CERTIFICATE, PAIR_FULL_TABLE, SIX, SIX_CERTIFICATE, OLD_PAIR_CERTIFICATE, certificate, digest_of, old, pair, resource, tied
+from sets import FIVE, HEADER, HOMELESS, LATE, LATE_CERTIFICATE, OLD_PAIR_CERTIFICATE, PAIR, PAIR_CERTIFICATE, PAIR_FULL_TABLE, SIX, SIX_CERTIFICATE, certificate, digest_of, old, tied
 
 
 def checked(shows, says, cert, set=PAIR, protocol="fmlp+", command="check"):
@@ -65,7 +65,7 @@ CERTIFICATES = [
     checked("a denominator of 0", "refused cert shape dual 2", changed('{"den":1,"num":[1', '{"den":0,"num":[1')),
     checked("a denominator of 2^63", "refused cert shape dual 1", certificate("fmlp+", [5, 5], [(2**63, [2, 0, 0, 0]), [1, 0, 0, 0]])),
     checked("a numerator of 2^63", "refused cert shape dual 1", changed("[2,0", "[9223372036854775808,0")),
-    checked("the set is read first", "refused set nohome resource 1", "{", pair([resource("q")]), "dpcp"),
+    checked("the set is read first", "refused set nohome resource 1", "{", HOMELESS, "dpcp"),
     checked("the table with bounds, blocking and slack", PAIR_FULL_TABLE, PAIR_CERTIFICATE, command="report"),
     checked("a slack that the jitter takes from", LATE_TABLE, LATE_CERTIFICATE, LATE, command="report"),
     checked("no table of a certificate that isn't valid", "invalid small t2", certificate("fmlp+", [5, 4], [[2, 0, 0, 0], [1, 0, 0, 0]]), command="report"),

@@ -1,11 +1,10 @@
 """The distributed FIFO protocol, in each command that takes a protocol."""
-from setting import Case
-from sets import HEADER, HOME, HOME_JOBS, HOME_ROWS, PAIR, PAIR_JOBS, PAIR_ROWS, PAIR_SIMULATED, certificate, old, pair, resource, tied
+from setting import Case, runs_on
+from sets import HEADER, HOME, HOMELESS, HOME_JOBS, HOME_ROWS, PAIR, PAIR_JOBS, PAIR_ROWS, PAIR_SIMULATED, certificate, old, pair, tied
 
 PAIR_FIFO = certificate("dflp", [5, 5], [[2, 0, 0, 0], [1, 0, 0, 0]])
 # the one request of the second task may wait for either of the first task's two, and for no more than one of them
 HOME_FIFO = certificate("dflp", [6, 5], [[2, 0, 0, 0], [0, 0, 0, 0, 1]], HOME)
-HOMELESS = pair([resource("q")])
 
 # at tick 2 the first job holds b and waits: the other request was issued before its own
 IN_TURN = HOME_ROWS.replace("1,,,2,2,", "1,,,2,2,1")
@@ -22,10 +21,7 @@ HOME_TABLE = (
     + "t2                                2         20         20          4          4          5          1         15\n"
     + "load 1 200000\nload 2 200000\nload 3 0\n"
 )
-
-
-def run(shows, command, says, status=0, set=PAIR, **files):
-    return Case(shows, f"{command} set {' '.join(files)}", says, status, {"set": set, **files})
+run = runs_on(PAIR)
 
 
 def judged(shows, says, status, rows, jobs=HOME_JOBS, set=HOME):

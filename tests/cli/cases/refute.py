@@ -1,6 +1,6 @@
 """The commands `refute` and `confirm`."""
 from setting import Case
-from sets import PAIR, PAIR_CERTIFICATE, SHORT, SHORT_REFUSAL, digest_of, pair, refusal, resource, step, task, task_set, tied
+from sets import HOMELESS, PAIR, PAIR_CERTIFICATE, SHORT, SHORT_REFUSAL, digest_of, pair, refusal, resource, step, task, task_set, tied
 
 
 BOTH_LATE = pair(second={"deadline": 4})
@@ -30,7 +30,7 @@ REFUTED = [
     refuted("tasks that request nothing", refusal("fmlp+", FULL, step(2, 60), step(3, 90), step(4, 120)), FULL, "fmlp+"),
     refuted("one unit is too few for two tasks", "allowance\n", PAIR, "fmlp+", 6, " 1"),
     refuted("an allowance of 0 has no form", "refused words\n", PAIR, "fmlp+", 2, " 0"),
-    refuted("the set is refused as for an analysis", "refused set nohome resource 1\n", pair([resource("q")]), "dpcp", 3),
+    refuted("the set is refused as for an analysis", "refused set nohome resource 1\n", HOMELESS, "dpcp", 3),
 ]
 
 CONFIRMED = [
@@ -64,7 +64,7 @@ CONFIRMED = [
     confirmed("a number of 2^63", "refused cert shape", changed("[1]", "[9223372036854775808]")),
     confirmed("a value of 2^64", "refused cert shape", changed('"value":5', '"value":18446744073709551616')),
     confirmed("a refusal for another protocol", "refused cert otherprotocol", SHORT_REFUSAL, protocol="fmlp+"),
-    confirmed("the set is read first", "refused set nohome resource 1", "{", pair([resource("q")]), "dpcp"),
+    confirmed("the set is read first", "refused set nohome resource 1", "{", HOMELESS, "dpcp"),
     Case("a refusal that isn't there", "confirm mpcp set none", "refused cert absent\n", 3, {"set": SHORT}),
     Case("no refusal is no form", "confirm mpcp set", "refused words\n", 2, {"set": SHORT}),
 ]

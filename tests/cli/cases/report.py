@@ -1,6 +1,6 @@
 """The command `report`: tables."""
 from setting import Case
-from sets import GREATEST, HEADER, NAMES, PAIR, PAIR_TABLE, pair, resource
+from sets import GREATEST, HEADER, HOMELESS, NAMES, PAIR, PAIR_TABLE, pair
 
 GREATEST_TABLE = (
     HEADER
@@ -14,7 +14,7 @@ CASES = [
     Case("the local limit and the deadline", "report mpcp set", PAIR_TABLE.replace("10          3          3", " 7          3          2"), 0,
          {"set": pair(first={"deadline": 7, "local": 2})}),
     Case("a set with as much of all as a set may have", "report fmlp+ set", GREATEST_TABLE, 0, {"set": GREATEST}),
-    Case("no home under DPCP", "report dpcp set", "refused set nohome resource 1\n", 3, {"set": pair([resource("q")])}),
+    Case("no home under DPCP", "report dpcp set", "refused set nohome resource 1\n", 3, {"set": HOMELESS}),
     Case("of a member given twice the last counts", "report fmlp+ set", PAIR_TABLE, 0,
          {"set": PAIR.replace('"processors": 2', '"processors": 9, "processors": 2')}),
     Case("an escaped name", "report fmlp+ set", PAIR_TABLE, 0, {"set": PAIR.replace('"t1"', '"\\u00741"')}),

@@ -1,6 +1,6 @@
 """Spin locks, in each command that takes a protocol."""
-from setting import TOP, Case
-from sets import FIVE, HEADER, PAIR, PAIR_JOBS, SIX, certificate, old, pair, resource, tied
+from setting import TOP, Case, runs_on
+from sets import FIVE, HEADER, HOMELESS, PAIR, PAIR_JOBS, SIX, certificate, old, tied
 
 SHIPPED = {name: (TOP / "examples" / file).read_text() for name, file in (("set", "spin.json"), ("jobs", "spin-jobs.csv"), ("rows", "spin-rows.csv"))}
 DUALS = [[2, 3, 0, 0, 0, 0], [3, 0, 0, 0], [2, 0, 0, 0]]
@@ -25,10 +25,7 @@ SIX_JOBS = "task,release,script\nt1,2,1 q1:1 1\nt2,1,1 q1:3\nt3,0,1 q1:2\n"
 SIX_BEGIN = "ticks,P1,P2,P3,q1,q2\n1,,,3,,\n1,,2,3,3,\n1,1,,3,3,\n"
 SIX_IN_TURN = SIX_BEGIN + "3,,2,,2,\n1,1,,,1,\n1,1,,,,\n"
 SIX_OUT_OF_TURN = SIX_BEGIN + "1,1,,,1,\n"
-
-
-def run(shows, command, says, status=0, set=FIVE, **files):
-    return Case(shows, f"{command} set {' '.join(files)}", says, status, {"set": set, **files})
+run = runs_on(FIVE)
 
 
 def judged(shows, says, rows, jobs=FIVE_JOBS, set=FIVE, protocol="spin"):
@@ -47,7 +44,7 @@ ANALYSES = [
     Case("one unit fewer", "analyse spin set 20", "allowance\n", 6, {"set": FIVE}),
     run("a value above its deadline", "analyse spin", "not shown t1 7 6\n", 1, FIVE.replace('"cost": 2', '"cost": 2, "deadline": 6')),
     run("the pair", "analyse spin", PAIR_CERTIFICATE, 0, PAIR),
-    run("homes aren't asked for", "analyse spin", tied(PAIR_CERTIFICATE, pair([resource("q")])), 0, pair([resource("q")])),
+    run("homes aren't asked for", "analyse spin", tied(PAIR_CERTIFICATE, HOMELESS), 0, HOMELESS),
 ]
 
 CERTIFICATES = [

@@ -1,8 +1,7 @@
 """DPCP with windows of requests, in each command that takes a protocol."""
-from setting import TOP, Case
-from sets import HOME, HOME_JOBS, HOME_ROWS, PAIR, PAIR_FULL_TABLE, PAIR_JOBS, PAIR_SIMULATED, certificate, old, pair, resource, task, task_set, tied
+from setting import TOP, Case, runs_on
+from sets import HOME, HOMELESS, HOME_JOBS, HOME_ROWS, PAIR, PAIR_FULL_TABLE, PAIR_JOBS, PAIR_SIMULATED, certificate, old, pair, resource, task, task_set, tied
 
-HOMELESS = pair([resource("q")])
 SHIPPED = (TOP / "examples" / "windows.json").read_text()
 
 
@@ -23,10 +22,7 @@ LOWEST = task_set(4, [resource("q", 4)], task("t1", 1, 10, 3, ("q", 1)), task("t
 LISTED = task_set(3, [resource("q", 3)], task("t1", 1, 10, 3, ("q", 1, 10)), task("t2", 2, 100, 20, ("q", 1)))
 
 AT_HOME = PAIR_SIMULATED.replace("1,1,,1", "1,,1,1")
-
-
-def run(shows, command, says, status=0, set=PAIR, **files):
-    return Case(shows, f"{command} set {' '.join(files)}", says, status, {"set": set, **files})
+run = runs_on(PAIR)
 
 
 def bounded(shows, dpcp, windows, set):

@@ -9,14 +9,14 @@ use Rattle.audit_figures.proofs.auditing.walked_figures.Goals as goal
 
 pub walk-requires-clause-first : goal.walk-requires-clause-first
 walk-requires-clause-first g c =
-    let w : Trace = trace_in c.args.jobs.now c.args.rows.now.runs in (
+    let w : Trace = trace_in c.args.jobs.now (g.R.RowReader.rows c.args.rows.now).runs in (
       c.in_ok-counts.ensures (g.P.BlockingProtocol.interferes c.args.protocol.now) w (sym c.len.ensures.value),
       c.new.ensures (g.P.ChargedProtocol.charges c.args.protocol.now) w (slice_index c.args.bounds.now),
     )
 
 pub figures-requires-clause-measured : goal.figures-requires-clause-measured
 figures-requires-clause-measured g c =
-    let w : Trace = trace_in c.args.jobs.now c.args.rows.now.runs in
+    let w : Trace = trace_in c.args.jobs.now (g.R.RowReader.rows c.args.rows.now).runs in
     let counts : AreCounts (g.P.BlockingProtocol.interferes c.args.protocol.now) w c.in_ok-machine.machine.tick c.deref.result.now =
     subst (λ counts. AreCounts (g.P.BlockingProtocol.interferes c.args.protocol.now) w c.in_ok-machine.machine.tick counts)
     (sym c.deref.ensures.value)
@@ -30,8 +30,8 @@ figures-requires-clause-measured g c =
 
 pub figures-requires-clause-listed : goal.figures-requires-clause-listed
 figures-requires-clause-listed g c =
-    let w : Trace = trace_in c.args.jobs.now c.args.rows.now.runs in
-    let n : ℕ = ticks_of c.args.rows.now.runs in
+    let w : Trace = trace_in c.args.jobs.now (g.R.RowReader.rows c.args.rows.now).runs in
+    let n : ℕ = ticks_of (g.R.RowReader.rows c.args.rows.now).runs in
     items_listed (g.P.ChargedProtocol.charges c.args.protocol.now) (g.P.BlockingProtocol.interferes c.args.protocol.now) w
     (slice_index c.args.bounds.now) n c.in_ok-table.table.charges.items
     (c.in_ok-table.ensures c.args.protocol.now w (slice_index c.args.bounds.now) n c.requires.suits
@@ -39,8 +39,8 @@ figures-requires-clause-listed g c =
 
 pub returns : goal.returns
 returns g c =
-    let w : Trace = trace_in c.args.jobs.now c.args.rows.now.runs in
-    let n : ℕ = ticks_of c.args.rows.now.runs in
+    let w : Trace = trace_in c.args.jobs.now (g.R.RowReader.rows c.args.rows.now).runs in
+    let n : ℕ = ticks_of (g.R.RowReader.rows c.args.rows.now).runs in
     let counts : AreCounts (g.P.BlockingProtocol.interferes c.args.protocol.now) w c.in_ok-machine.machine.tick c.deref.result.now =
     subst (λ counts. AreCounts (g.P.BlockingProtocol.interferes c.args.protocol.now) w c.in_ok-machine.machine.tick counts)
     (sym c.deref.ensures.value)

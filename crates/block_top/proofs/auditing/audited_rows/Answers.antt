@@ -9,12 +9,12 @@ use Rattle.command_inputs.specs.Halts.{reply_seen}
 use Rattle.run_plans.proofs.AuditLaws.{kept_audit}
 use Rattle.block_top.proofs.auditing.audited_rows.Goals as goal
 
-pub audit-requires-clause-fits : goal.audit-requires-clause-fits
-audit-requires-clause-fits c = made_fits c.args.rows.now c.args.jobs.now c.ticks-ticks.ensures.listed c.requires.made
+pub figured-requires-clause-fits : goal.figured-requires-clause-fits
+figured-requires-clause-fits c = made_fits c.args.rows.now c.args.jobs.now c.ticks-ticks.ensures.listed c.requires.made
 
 pub returns-in_ok-kept_reply-in-Ok : goal.returns-in_ok-kept_reply-in-Ok
 returns-in_ok-kept_reply-in-Ok c =
-    let audits = c.in-Ok.ensures.audits in
+    let audits = c.in-Ok.ensures in
     let is : reply_seen c.in_ok-kept_reply-in-Ok.field-0 ≡ record {
       status = 0;
       text = kept_text c.args.jobs.now.set (ticks_of c.args.rows.now.runs) (λ x. slice_index_or c.in-Ok.figures.items x no_figures);

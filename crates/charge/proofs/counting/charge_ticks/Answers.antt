@@ -10,7 +10,7 @@ use Rattle.charge.proofs.counting.charge_ticks.Goals as goal
 
 pub loop-x-init : goal.loop-x-init
 loop-x-init g c =
-    let w : Trace = under c.args.machine.now (row_in c.args.rows.now.runs) in
+    let w : Trace = under c.args.machine.now (row_in (g.R.RowReader.rows c.args.rows.now).runs) in
     tally_agree c.args.ticks.now
     (ticks_before (g.P.ChargedProtocol.charges c.args.protocol.now) w (slice_index c.args.bounds.now)
     c.args.machine.now.tick) _
@@ -20,7 +20,7 @@ loop-x-init g c =
 
 pub add_named-requires-clause-room : goal.add_named-requires-clause-room
 add_named-requires-clause-room g c = λ p.
-    let w : Trace = under c.args.machine.now (row_in c.args.rows.now.runs) in
+    let w : Trace = under c.args.machine.now (row_in (g.R.RowReader.rows c.args.rows.now).runs) in
     omega (
       arith,
       c.requires.early,
@@ -34,7 +34,7 @@ add_named-requires-clause-room g c = λ p.
 
 pub loop-x-preserved : goal.loop-x-preserved
 loop-x-preserved g c =
-    let w : Trace = under c.args.machine.now (row_in c.args.rows.now.runs) in
+    let w : Trace = under c.args.machine.now (row_in (g.R.RowReader.rows c.args.rows.now).runs) in
     let only : OfActive (g.P.ChargedProtocol.charges c.args.protocol.now) w c.args.machine.now.tick =
     λ k charge e. let b : Blocked (g.P.BlockingProtocol.interferes c.args.protocol.now) w c.args.machine.now.tick k =
     blocked_is (g.P.BlockingProtocol.interferes c.args.protocol.now) w c.args.machine.now.tick k
@@ -43,20 +43,20 @@ loop-x-preserved g c =
     (λ p. ap (λ o. ticks_with (g.P.ChargedProtocol.charges c.args.protocol.now) w (slice_index c.args.bounds.now)
     c.args.machine.now.tick c.args.more c.loop-x.x p
     + only_if (is_place p o) c.args.more) c.place_in.ensures
-    ∙ count_more (g.P.ChargedProtocol.charges c.args.protocol.now) c.args.machine.now (row_in c.args.rows.now.runs)
+    ∙ count_more (g.P.ChargedProtocol.charges c.args.protocol.now) c.args.machine.now (row_in (g.R.RowReader.rows c.args.rows.now).runs)
     (slice_index c.args.bounds.now) c.args.more
     c.loop-x.x p c.requires.shows only (omega (arith, c.loop-x-test.true, c.tasks_of-x-end.ensures.value)))
     (c.in_ok-add_named.ensures _ c.loop-x.invariant)
 
 pub returns : goal.returns
 returns g c =
-    let w : Trace = under c.args.machine.now (row_in c.args.rows.now.runs) in
+    let w : Trace = under c.args.machine.now (row_in (g.R.RowReader.rows c.args.rows.now).runs) in
     let only : OfActive (g.P.ChargedProtocol.charges c.args.protocol.now) w c.args.machine.now.tick =
     λ k charge e. let b : Blocked (g.P.BlockingProtocol.interferes c.args.protocol.now) w c.args.machine.now.tick k =
     blocked_is (g.P.BlockingProtocol.interferes c.args.protocol.now) w c.args.machine.now.tick k
     (g.met.P.ChargedProtocol.charges_only c.args.protocol.now w c.args.machine.now.tick k charge e) in b.active in
     tally_agree c.loop-x.ticks _ _
-    (λ p. count_all (g.P.ChargedProtocol.charges c.args.protocol.now) c.args.machine.now (row_in c.args.rows.now.runs)
+    (λ p. count_all (g.P.ChargedProtocol.charges c.args.protocol.now) c.args.machine.now (row_in (g.R.RowReader.rows c.args.rows.now).runs)
     (slice_index c.args.bounds.now) c.args.more
     c.loop-x.x p c.requires.shows only c.requires.alike (omega (arith, c.loop-x-test.false, c.tasks_of-x-end.ensures.value)))
     c.loop-x.invariant

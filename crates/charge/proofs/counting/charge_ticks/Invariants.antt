@@ -6,5 +6,5 @@ use Rattle.charge.proofs.counting.charge_ticks.Given as goal
 
 abbrev pub invariant-loop-x : goal.invariant-loop-x
 invariant-loop-x g l =
-    IsTally l.ticks (ticks_with (g.P.ChargedProtocol.charges l.protocol) (under l.machine (row_in l.rows.runs))
+    IsTally l.ticks (ticks_with (g.P.ChargedProtocol.charges l.protocol) (under l.machine (row_in (g.R.RowReader.rows l.rows).runs))
     (slice_index l.bounds) l.machine.tick l.more l.x)

@@ -14,14 +14,14 @@ use Rattle.charge.proofs.counting.place_at.Goals as goal
 
 pub charged-requires-clause-fits : goal.charged-requires-clause-fits
 charged-requires-clause-fits g c =
-    rw (ap (λ r. r.row) c.run_at.ensures.value)
-    (row_fits c.args.rows.now c.args.machine.now.list c.args.i c.requires.at.fits c.requires.at.within)
+    rw (ap (λ r. r.row) c.run.ensures)
+    (row_fits (g.R.RowReader.rows c.args.rows.now) c.args.machine.now.list (g.R.RowReader.at c.args.rows.now) c.requires.at.fits c.requires.at.within)
 
 pub returns-in-Some : goal.returns-in-Some
 returns-in-Some g c =
-    let rows : ℕ → RowDef = row_in c.args.rows.now.runs in
+    let rows : ℕ → RowDef = row_in (g.R.RowReader.rows c.args.rows.now).runs in
     let m : MachineDef = c.args.machine.now in
-    let here : rows m.tick ≡ row_seen c.run_at.result.now.row = c.requires.at.here ∙ sym (ap (λ r. r.row) c.run_at.ensures.value) in
+    let here : rows m.tick ≡ row_seen c.run.result.now.row = c.requires.at.here ∙ sym (ap (λ r. r.row) c.run.ensures) in
     let charge : Charge = record { job = c.in-Some.y.0; class = c.in-Some.class } in
     let is_it : g.P.ChargedProtocol.charges c.args.protocol.now (under m rows) m.tick c.args.j.0 ≡ Some charge =
     sym (c.charged.ensures.value rows c.requires.shows here c.requires.keeps) ∙ ap charge_seen c.in-Some.is in

@@ -2,8 +2,8 @@ use Rattle.std.proofs.Common.{length, arith}
 use Rattle.fragments.proofs.RowStretches.{stretch_of_task}
 use Rattle.fragments.proofs.single_rows.add_row_of_task.Goals as goal
 
-pub add_row_within-requires-clause-stretch : goal.add_row_within-requires-clause-stretch
-add_row_within-requires-clause-stretch g c =
+pub add_row_limited-requires-clause-stretch : goal.add_row_limited-requires-clause-stretch
+add_row_limited-requires-clause-stretch g c =
     let set = c.args.set.now in
     let i = c.args.i.0 in
     let x = c.args.x.0 in

@@ -1,19 +1,40 @@
-use Rattle.std.proofs.Common.{◌≡◌, ◌≢◌, ℕ, ◌+◌, ◌-◌, List, map, sym, ◌∙◌, refl, subst, arith, Ok, Err, true, false}
-use Rattle.std.specs.Str.{bytes_eq}
-use Rattle.std.proofs.lemmas.Slice.Eq.{bytes_eq-Decides}
+use Rattle.std.proofs.Common.{ℕ, ◌+◌, ◌-◌, List, map, sym, refl, subst, arith, Ok, Err}
+use Rattle.program_sources.specs.Bounds.{IsInRange}
 use Rattle.program_sources.specs.Recurrence.{SourceDef, source_at}
+use Rattle.program_sources.specs.Fitting.{tasks_of}
 use Rattle.refusal_laws.specs.Seen.{step_seen}
 use Rattle.refusal_laws.specs.Steps.{StepDef}
+use Rattle.response_fixpoint.specs.Solutions.{AreKept}
+use Rattle.response_fixpoint.proofs.VectorLaws.{same_vectors, other_vectors}
 use Rattle.refusal_cert.specs.Answers.{GivesRound}
 use Rattle.refusal_cert.proofs.AnswerLaws.{ended_answers, settled_answers, next_in_range, stands_more}
 use Rattle.refusal_cert.proofs.refuting.take_rounds.Goals as goal
 
--- What a test of two vectors says.
-same_vectors : (xs ys : List ℕ) → true ≡ bytes_eq xs ys → xs ≡ ys
-same_vectors xs ys e = (bytes_eq-Decides xs ys).0 (sym e)
+pub take_round-requires-clause-plan : goal.take_round-requires-clause-plan
+take_round-requires-clause-plan g c = rw c.deref.ensures.value c.loop-next.invariant.planned
 
-other_vectors : (xs ys : List ℕ) → false ≡ bytes_eq xs ys → ys ≢ xs
-other_vectors xs ys e = λ same. (let yes = (bytes_eq-Decides xs ys).1 (sym same) in let both : false ≡ true = e ∙ yes in cc)
+pub next_plan-requires-clause-range : goal.next_plan-requires-clause-range
+next_plan-requires-clause-range g c =
+    let f : SourceDef = source_at (g.P.ProgramSource.source c.args.protocol.now) c.args.set.now in
+    let steps : List StepDef = map step_seen c.loop-next.steps.items in
+    let left : ℕ = c.args.allowance - c.loop-next.spent in
+    let next = c.in-Ok.next in
+    let given : GivesRound (Ok next) f c.loop-next.bounds.items left steps = rw (c.in-Ok.is, c.deref.ensures.value) at c.take_round.ensures in
+    subst (λ (v : List ℕ). IsInRange c.args.set.now v) (sym c.deref-in-loop-next-2.ensures.value)
+    (next_in_range f c.loop-next.bounds.items left steps next given.0)
+
+pub next_plan-requires-clause-earlier : goal.next_plan-requires-clause-earlier
+next_plan-requires-clause-earlier g c =
+    subst (λ (v : List ℕ). IsInRange c.args.set.now v) (sym c.deref-in-loop-next.ensures.value) c.loop-next.invariant.range
+
+pub next_plan-requires-clause-kept : goal.next_plan-requires-clause-kept
+next_plan-requires-clause-kept g c =
+    let f : SourceDef = source_at (g.P.ProgramSource.source c.args.protocol.now) c.args.set.now in
+    let steps : List StepDef = map step_seen c.loop-next.steps.items in
+    let left : ℕ = c.args.allowance - c.loop-next.spent in
+    let next = c.in-Ok.next in
+    let given : GivesRound (Ok next) f c.loop-next.bounds.items left steps = rw (c.in-Ok.is, c.deref.ensures.value) at c.take_round.ensures in
+    subst (λ (v : List ℕ). AreKept f v (tasks_of f) next.kept.items) (sym c.deref-in-loop-next.ensures.value) given.3
 
 pub returns-in-Err : goal.returns-in-Err
 returns-in-Err g c =
@@ -51,4 +72,5 @@ loop-next-preserved g c =
           s given.0 other refl;
       range = next_in_range f c.loop-next.bounds.items left steps next given.0;
       within = omega (arith, given.1, c.loop-next.invariant.within);
+      planned = (rw c.deref-in-loop-next-2.ensures.value at (c.in_ok-plan.ensures (c.args.allowance - (c.loop-next.spent + next.used)))).planned;
     }

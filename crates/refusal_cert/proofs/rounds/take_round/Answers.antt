@@ -1,9 +1,38 @@
-use Rattle.std.proofs.Common.{List, map, arith}
+use Rattle.std.proofs.Common.{◌≡◌, ℕ, ◌+◌, List, ◌∷◌, [], length, map, refl, ◌∙◌, ap, subst, arith, length-append}
 use Rattle.program_sources.specs.Recurrence.{SourceDef, source_at}
 use Rattle.refusal_laws.specs.Seen.{step_seen}
 use Rattle.refusal_laws.specs.Steps.{StepDef}
-use Rattle.refusal_cert.proofs.AnswerLaws.{found_more, run_halts, value_halts}
+use Rattle.response_fixpoint.specs.Solutions.{IsPlanned, IsKept}
+use Rattle.response_fixpoint.specs.declared.plan.Kept.{Kept}
+use Rattle.response_fixpoint.proofs.PlaceLaws.{each_none, each_more, next_first, next_rest}
+use Rattle.response_fixpoint.proofs.SolutionLaws.{planned_ahead}
+use Rattle.refusal_cert.proofs.AnswerLaws.{found_first, found_more, run_halts, value_halts}
 use Rattle.refusal_cert.proofs.rounds.take_round.Goals as goal
+
+pub loop-i-init : goal.loop-i-init
+loop-i-init g c =
+    let f : SourceDef = source_at (g.P.ProgramSource.source c.args.protocol.now) c.args.set.now in
+    let none : length c.new-2.result.items ≡ 0 = ap length c.new-2.ensures.items in
+    record {
+      found = found_first f c.args.bounds.now c.args.left _ refl c.new.ensures.items;
+      within = omega arith;
+      least = omega arith;
+      kept = record { one_each = none; each = each_none (IsKept f c.args.bounds.now) 0 c.new-2.result.items none };
+      planned = rw c.into_iter-plan.ensures.rest c.requires.plan;
+    }
+
+pub begun_or_formed-requires-clause-begun : goal.begun_or_formed-requires-clause-begun
+begun_or_formed-requires-clause-begun g c =
+    let f : SourceDef = source_at (g.P.ProgramSource.source c.args.protocol.now) c.args.set.now in
+    next_first (IsPlanned f c.args.bounds.now c.args.left) c.loop-i.i c.loop-i.plan.rest.items c.next-begun.new.self.rest.items
+    c.next-begun.result c.next-begun.ensures.items c.loop-i.invariant.planned
+
+pub run_task-requires-clause-ahead : goal.run_task-requires-clause-ahead
+run_task-requires-clause-ahead g c =
+    let f : SourceDef = source_at (g.P.ProgramSource.source c.args.protocol.now) c.args.set.now in
+    let planned = c.in_ok-planned in
+    planned_ahead f c.args.bounds.now c.args.left c.loop-i.round.used c.loop-i.i planned.planned.program planned.planned.ahead
+    planned.ensures.program planned.ensures.ahead
 
 pub returns-in-Err : goal.returns-in-Err
 returns-in-Err g c =
@@ -16,19 +45,34 @@ pub returns-in-Err-take_run : goal.returns-in-Err-take_run
 returns-in-Err-take_run g c =
     let f : SourceDef = source_at (g.P.ProgramSource.source c.args.protocol.now) c.args.set.now in
     let earlier : List StepDef = map step_seen c.args.steps.items in
-    value_halts f c.args.bounds.now c.args.left c.loop-i.i c.latest_bound.result earlier c.loop-i.round c.in-Ok.run'
-    c.in-Err-take_run.end (omega arith) c.latest_bound.ensures.value (c.requires.range.to_latest c.loop-i.i (omega arith))
+    value_halts f c.args.bounds.now c.args.left c.loop-i.i c.latest_bound.result earlier c.loop-i.round c.in_ok-planned.planned.program
+    c.in-Ok.run' c.in-Err-take_run.end (omega arith) c.latest_bound.ensures.value (c.requires.range.to_latest c.loop-i.i (omega arith))
     c.loop-i.invariant.found c.in-Ok.ensures c.in-Err-take_run.ensures
 
 pub loop-i-preserved : goal.loop-i-preserved
 loop-i-preserved g c =
     let f : SourceDef = source_at (g.P.ProgramSource.source c.args.protocol.now) c.args.set.now in
     let earlier : List StepDef = map step_seen c.args.steps.items in
+    let i : ℕ = c.loop-i.i in
+    let planned = c.in_ok-planned in
     let ran = c.in-Ok.ensures in
     let taken = c.in-Ok-take_run.ensures in
+    let new : Kept = record { program = planned.planned.program; solution = c.in-Ok.run'.solution } in
+    let kept : IsKept f c.args.bounds.now i new = record { program = planned.ensures.program; solution = ran.4 } in
+    let place : c.loop-i.i ≡ 0 + length c.loop-i.round.kept.items = omega (arith, c.loop-i.invariant.kept.one_each) in
+    let grown : length c.in-Ok-take_run.next.kept.items ≡ length c.loop-i.round.kept.items + 1 =
+    ap length taken.4 ∙ length-append c.loop-i.round.kept.items (new ∷ []) in
     record {
-      found = found_more f c.args.bounds.now c.args.left c.loop-i.i c.latest_bound.result earlier c.loop-i.round
-          c.in-Ok-take_run.next c.in-Ok.run' c.latest_bound.ensures.value c.loop-i.invariant.found ran taken;
+      found = found_more f c.args.bounds.now c.args.left i c.latest_bound.result earlier c.loop-i.round c.in-Ok-take_run.next
+          planned.planned.program c.in-Ok.run' c.latest_bound.ensures.value c.loop-i.invariant.found ran taken;
       within = omega (arith, taken.1, ran.3, c.loop-i.invariant.within);
       least = omega (arith, taken.1, ran.2, c.loop-i.invariant.least);
+      kept = record {
+        one_each = omega (arith, grown, c.loop-i.invariant.kept.one_each);
+        each = rw taken.4 (each_more (IsKept f c.args.bounds.now) 0 c.loop-i.round.kept.items new c.loop-i.invariant.kept.each
+            (subst (λ (k : ℕ). IsKept f c.args.bounds.now k new) place kept));
+      };
+      planned = next_rest (IsPlanned f c.args.bounds.now c.args.left) i c.loop-i.plan.rest.len c.loop-i.plan.rest.items
+          c.next-begun.new.self.rest.items c.next-begun.result c.next-begun.ensures.items c.next-begun.ensures.variant
+          c.loop-i.plan.rest.ok.0 c.loop-i.invariant.planned;
     }

@@ -1,59 +1,54 @@
-use Rattle.std.proofs.Common.{◌≡◌, ℕ, ◌+◌, ◌<◌, List, length, ◌∙◌, ap, subst, arith, length-append, ◌∷◌, []}
+use Rattle.std.proofs.Common.{◌≡◌, ℕ, ◌+◌, List, length, ◌∙◌, ap, subst, arith, length-append, ◌∷◌, []}
 use Rattle.program_sources.specs.Recurrence.{SourceDef, source_at}
 use Rattle.response_fixpoint.specs.Solutions.{IsPlanned, IsKept}
 use Rattle.response_fixpoint.specs.declared.plan.Kept.{Kept}
 use Rattle.response_fixpoint.specs.declared.plan.Planned.{Planned}
-use Rattle.response_fixpoint.proofs.AnswerLaws.{within_of}
-use Rattle.response_fixpoint.proofs.PlaceLaws.{each_first, each_rest, each_more}
-use Rattle.response_fixpoint.proofs.SolutionLaws.{renewed_is_program, renewed_planned}
+use Rattle.response_fixpoint.proofs.PlaceLaws.{each_none, each_first, each_rest, each_more}
 use Rattle.response_fixpoint.proofs.plan.next_plan.Goals as goal
 
-pub renewed-requires : goal.renewed-requires
-renewed-requires g c =
+pub loop-last-init : goal.loop-last-init
+loop-last-init g c =
     let f : SourceDef = source_at (g.P.ProgramSource.source c.args.protocol.now) c.args.set.now in
-    let i : ℕ = c.len.result in
+    let none : length c.new-plan.result.items ≡ 0 = ap length c.new-plan.ensures.items in
+    let given : c.into_iter-last-iterator.result.rest.items ≡ c.args.kept.items = c.into_iter-last-iterator.ensures.into_iter_gives.0 in
+    record {
+      count = omega (arith, none, ap length given, c.requires.kept.one_each);
+      planned = λ left. each_none (IsPlanned f c.args.bounds.now left) 0 c.new-plan.result.items none;
+      kept = rw (none, given) c.requires.kept.each;
+    }
+
+pub planned_after-requires-clause-task : goal.planned_after-requires-clause-task
+planned_after-requires-clause-task g c =
     let rest : List Kept = c.next.new.self.rest.items in
     let split : c.loop-last.last-iterator.rest.items ≡ c.in-Some.last ∷ rest = c.in-Some.ensures.steps.0 in
-    let first : IsKept f (length c.loop-last.plan.items) c.in-Some.last =
-    each_first (IsKept f) (length c.loop-last.plan.items) c.loop-last.last-iterator.rest.items rest c.in-Some.last split
-    c.loop-last.invariant.kept in
-    let at : length c.loop-last.plan.items ≡ i = omega (arith, c.len.ensures) in
-    let kept : IsKept f i c.in-Some.last = subst (λ (k : ℕ). IsKept f k c.in-Some.last) at first in
     let long : length c.loop-last.last-iterator.rest.items ≡ length rest + 1 = ap length split ∙ omega arith in
-    let below : i < length c.args.set.now.tasks = omega (arith, at, long, c.loop-last.invariant.count) in
-    renewed_is_program f i c.args.bounds.now c.in_ok-limits.limits.items c.in-Some.last
-    (λ q r most. g.met.P.ProgramSource.rises c.args.protocol.now c.args.set.now i q r c.requires.serves below most) kept
-    c.in_ok-limits.ensures
-    (g.met.P.ProgramSource.is_program c.args.protocol.now c.args.set.now i c.args.bounds.now c.requires.serves
-    c.tasks-tasks.ensures.accepted below (within_of c.args.set.now c.args.bounds.now c.requires.range))
+    omega (arith, c.len.ensures, long, c.loop-last.invariant.count)
+
+pub planned_after-requires-clause-kept : goal.planned_after-requires-clause-kept
+planned_after-requires-clause-kept g c =
+    let f : SourceDef = source_at (g.P.ProgramSource.source c.args.protocol.now) c.args.set.now in
+    let at : length c.loop-last.plan.items ≡ c.len.result = omega (arith, c.len.ensures) in
+    subst (λ (k : ℕ). IsKept f c.args.earlier.now k c.in-Some.last) at
+    (each_first (IsKept f c.args.earlier.now) (length c.loop-last.plan.items) c.loop-last.last-iterator.rest.items
+    c.next.new.self.rest.items c.in-Some.last c.in-Some.ensures.steps.0 c.loop-last.invariant.kept)
 
 pub loop-last-preserved : goal.loop-last-preserved
 loop-last-preserved g c =
     let f : SourceDef = source_at (g.P.ProgramSource.source c.args.protocol.now) c.args.set.now in
-    let i : ℕ = c.len.result in
     let plan : List Planned = c.loop-last.plan.items in
+    let new : Planned = c.in_ok-planned.planned in
     let rest : List Kept = c.next.new.self.rest.items in
     let split : c.loop-last.last-iterator.rest.items ≡ c.in-Some.last ∷ rest = c.in-Some.ensures.steps.0 in
-    let first : IsKept f (length plan) c.in-Some.last =
-    each_first (IsKept f) (length plan) c.loop-last.last-iterator.rest.items rest c.in-Some.last split c.loop-last.invariant.kept in
-    let at : length plan ≡ i = omega (arith, c.len.ensures) in
-    let kept : IsKept f i c.in-Some.last = subst (λ (k : ℕ). IsKept f k c.in-Some.last) at first in
     let long : length c.loop-last.last-iterator.rest.items ≡ length rest + 1 = ap length split ∙ omega arith in
-    let below : i < length c.args.set.now.tasks = omega (arith, at, long, c.loop-last.invariant.count) in
-    let grown : length c.push.new.self.items ≡ length plan + 1 =
-    ap length c.in_ok-push.ensures.items ∙ length-append plan (c.renewed.result ∷ []) in
-    let place : i ≡ 0 + length plan = omega (arith, at) in
+    let grown : length c.push.new.self.items ≡ length plan + 1 = ap length c.in_ok-push.ensures.items ∙ length-append plan (new ∷ []) in
+    let place : c.len.result ≡ 0 + length plan = omega (arith, c.len.ensures) in
     record {
       count = omega (arith, grown, long, c.loop-last.invariant.count);
-      planned = λ left.
-          let new : IsPlanned f c.args.bounds.now left i c.renewed.result =
-          renewed_planned f i c.args.bounds.now c.in_ok-limits.limits.items c.in-Some.last c.renewed.result left
-          (λ q r most. g.met.P.ProgramSource.rises c.args.protocol.now c.args.set.now i q r c.requires.serves below most) kept
-          c.in_ok-limits.ensures c.renewed.ensures.program c.renewed.ensures.ahead in
-          rw c.in_ok-push.ensures.items (each_more (IsPlanned f c.args.bounds.now left) 0 plan c.renewed.result
-          (c.loop-last.invariant.planned left) (subst (λ (k : ℕ). IsPlanned f c.args.bounds.now left k c.renewed.result) place new));
-      kept = rw grown (each_rest (IsKept f) (length plan) c.loop-last.last-iterator.rest.items rest c.in-Some.last split
-          c.loop-last.invariant.kept);
+      planned = λ left. rw c.in_ok-push.ensures.items (each_more (IsPlanned f c.args.bounds.now left) 0 plan new
+          (c.loop-last.invariant.planned left)
+          (subst (λ (k : ℕ). IsPlanned f c.args.bounds.now left k new) place (c.in_ok-planned.ensures left)));
+      kept = rw grown (each_rest (IsKept f c.args.earlier.now) (length plan) c.loop-last.last-iterator.rest.items rest c.in-Some.last
+          split c.loop-last.invariant.kept);
     }
 
 pub returns : goal.returns

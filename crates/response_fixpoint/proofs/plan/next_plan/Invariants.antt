@@ -9,5 +9,5 @@ abbrev pub invariant-loop-last : goal.invariant-loop-last
 invariant-loop-last g l = record {
   count : length l.plan.items + length l.last-iterator.rest.items ≡ length l.set.tasks;
   planned : (left : ℕ) → AreEach (IsPlanned (source_at (g.P.ProgramSource.source l.protocol) l.set) l.bounds left) 0 l.plan.items;
-  kept : AreEach (IsKept (source_at (g.P.ProgramSource.source l.protocol) l.set)) (length l.plan.items) l.last-iterator.rest.items;
+  kept : AreEach (IsKept (source_at (g.P.ProgramSource.source l.protocol) l.set) l.earlier) (length l.plan.items) l.last-iterator.rest.items;
 }

@@ -25,7 +25,7 @@ loop-planned-init g c =
       passed = rw (c.new.ensures.items, c.new-2.ensures.items) refl;
       within = omega arith;
       least = omega (arith, none);
-      kept = record { one_each = refl; each = each_none (IsKept f) 0 c.new-2.result.items none };
+      kept = record { one_each = refl; each = each_none (IsKept f c.args.bounds.now) 0 c.new-2.result.items none };
       planned = rw (none, given) c.requires.plan.planned;
       ahead = rw (none, c.into_iter-outcomes.ensures.rest) c.in_ok-ahead.ensures;
     }
@@ -71,8 +71,7 @@ loop-planned-preserved g c =
     subst (λ (k : ℕ). TaskRuns f c.args.bounds.now k (c.args.left - c.loop-planned.round.used)
     (Valued solution.used run.value (dual_seen solution.dual))) back c.in-Ok.ensures.0 in
     let new : Kept = record { program = c.in-Some.planned.program; solution = solution } in
-    let kept : IsKept f c.len.result new = record {
-      bounds = c.args.bounds.now;
+    let kept : IsKept f c.args.bounds.now c.len.result new = record {
       program = (subst (λ (k : ℕ). IsPlanned f c.args.bounds.now c.args.left k c.in-Some.planned) (sym back) first).program;
       solution = c.in-Ok.ensures.1;
     } in
@@ -96,8 +95,8 @@ loop-planned-preserved g c =
       least = omega (arith, grown, sum, units.0, c.loop-planned.invariant.least);
       kept = record {
         one_each = refl;
-        each = rw taken.2 (each_more (IsKept f) 0 c.loop-planned.round.kept.items new c.loop-planned.invariant.kept.each
-            (subst (λ (k : ℕ). IsKept f k new) place kept));
+        each = rw taken.2 (each_more (IsKept f c.args.bounds.now) 0 c.loop-planned.round.kept.items new c.loop-planned.invariant.kept.each
+            (subst (λ (k : ℕ). IsKept f c.args.bounds.now k new) place kept));
       };
       planned = rw grown (each_rest (IsPlanned f c.args.bounds.now c.args.left) n c.loop-planned.planned-iterator.rest.items rest
           c.in-Some.planned split c.loop-planned.invariant.planned);

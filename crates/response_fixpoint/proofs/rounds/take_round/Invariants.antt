@@ -16,7 +16,7 @@ invariant-loop-planned g l = record {
       (length l.round.kept.items) (found_of l.round);
   within : l.round.used ≤ l.left;
   least : length l.round.kept.items ≤ l.round.used;
-  kept : AreKept (source_at (g.P.ProgramSource.source l.protocol) l.set) (length l.round.kept.items) l.round.kept.items;
+  kept : AreKept (source_at (g.P.ProgramSource.source l.protocol) l.set) l.bounds (length l.round.kept.items) l.round.kept.items;
   planned : AreEach (IsPlanned (source_at (g.P.ProgramSource.source l.protocol) l.set) l.bounds l.left)
       (length l.round.kept.items) l.planned-iterator.rest.items;
   ahead : AreAhead (source_at (g.P.ProgramSource.source l.protocol) l.set) l.bounds l.left

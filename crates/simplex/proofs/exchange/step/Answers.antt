@@ -1,10 +1,17 @@
-use Rattle.std.proofs.Common.{sym, ◌∙◌, arith}
+use Rattle.std.proofs.Common.{◌≡◌, ◌+◌, sym, ◌∙◌, arith}
 use Rattle.std.proofs.lemmas.Result.{err_from_is_err_and}
-use Rattle.simplex.specs.Tables.{table_of}
+use Rattle.exchange_runs.specs.Table.{variables}
+use Rattle.simplex.specs.Tables.{row_of, table_of}
 use Rattle.exchange_runs.proofs.Bounded.{has_ratio}
 use Rattle.exchange_runs.proofs.Once.{forms}
 use Rattle.simplex.proofs.Stepping.{step_stop, step_done, pivot_apart}
 use Rattle.simplex.proofs.exchange.step.Goals as goal
+
+pub read_column-requires : goal.read_column-requires
+read_column-requires c i l away =
+    let size = c.requires.size in
+    let fit : (row_of c.args.rows.now i).place + 1 ≡ variables c.args.program.now + 1 = size.fits i (omega (arith, l, size.row_each)) in
+    omega (arith, fit, c.requires.enters.within, away)
 
 pub unreachable-requires : goal.unreachable-requires
 unreachable-requires c =

@@ -2,22 +2,22 @@ use Rattle.std.proofs.Common.{length, sym, ap, ◌∙◌, arith}
 use Rattle.std.specs.Option.{option_and_then}
 use Rattle.schedule_model.specs.Seen.{row_seen}
 use Rattle.phase_machine.specs.Now.{current_now}
+use Rattle.bounded_sums.proofs.TestLaws.{found_below-first, found_below-none_from}
 use Rattle.spin_protocol.specs.SpinChargeNow.{is_spinning_task_now, spinner_now}
-use Rattle.spin_protocol.proofs.SpinNow.{found_first, found_none}
 use Rattle.spin_protocol.proofs.charging.spinner.Goals as goal
 
 pub returns-then-is_spinning_task-clause-value : goal.returns-then-is_spinning_task-clause-value
 unfolding spinner_now
 returns-then-is_spinning_task-clause-value c =
     c.current.ensures.value
-    ∙ sym (ap (option_and_then (current_now c.args.machine.now)) (found_first (length c.args.machine.now.list.set.tasks)
+    ∙ sym (ap (option_and_then (current_now c.args.machine.now)) (found_below-first (length c.args.machine.now.list.set.tasks)
     (is_spinning_task_now c.args.machine.now (row_seen c.args.row.now) c.args.processor) c.loop-x.x
-    (omega (arith, c.loop-x-test.true, c.tasks_of-x-end.ensures.value)) c.loop-x.invariant
-    (sym c.is_spinning_task.ensures ∙ c.if-is_spinning_task.true)))
+    (omega (arith, c.loop-x-test.true, c.tasks_of-x-end.ensures.value))
+    (sym c.is_spinning_task.ensures ∙ c.if-is_spinning_task.true) c.loop-x.invariant))
 
 pub returns-clause-value : goal.returns-clause-value
 unfolding spinner_now
 returns-clause-value c =
-    sym (ap (option_and_then (current_now c.args.machine.now)) (found_none (length c.args.machine.now.list.set.tasks)
+    sym (ap (option_and_then (current_now c.args.machine.now)) (found_below-none_from (length c.args.machine.now.list.set.tasks)
     (is_spinning_task_now c.args.machine.now (row_seen c.args.row.now) c.args.processor)
     (λ i l. c.loop-x.invariant i (omega (arith, l, c.loop-x-test.false, c.tasks_of-x-end.ensures.value)))))

@@ -1,9 +1,9 @@
 use Rattle.std.proofs.Common.{◌≡◌, map, take, ap, sym, ◌∙◌}
 use Rattle.std.specs.List.{slice_index_or}
+use Rattle.std.proofs.lemmas.List.{take-map}
 use Rattle.sporadic_model.specs.SetDef.{SetDef, task_at, request_at, no_task, no_request}
 use Rattle.sporadic_model.specs.Seen.{parts_seen, request_seen, task_seen}
 use Rattle.sporadic_model.specs.Refusals.{is_due, has_entry_for}
-use Rattle.sporadic_model.proofs.Mapped.{take-map}
 use Rattle.sporadic_model.proofs.judging.is_due_at_request.Goals as goal
 
 pub returns-in-TwiceRequest : goal.returns-in-TwiceRequest

@@ -1,8 +1,14 @@
-use Rattle.std.proofs.Common.{sym, ◌∙◌}
+use Rattle.std.proofs.Common.{sym, ◌∙◌, rules, tests}
 use Rattle.std.specs.Str.{bytes_eq}
+use Rattle.std.specs.Prelude.{string_bytes}
+use Rattle.std.proofs.lemmas.Iterator.{YieldsList-from_slice}
+use Rattle.std.proofs.lemmas.Iterator.Search.{any_from_yields_List}
 use Rattle.sporadic_model.specs.Seen.{task_seen}
 use Rattle.sporadic_model.proofs.Mapped.{list_any-map}
 use Rattle.sporadic_model.proofs.names.is_task_named.Goals as goal
 
 pub returns : goal.returns
-returns c = c.any_task.ensures ∙ sym (list_any-map task_seen (λ t. bytes_eq t.name c.args.name.now) c.args.tasks.now)
+returns c =
+    any_from_yields_List (λ x. bytes_eq (string_bytes x.name) c.args.name.now) _ _ _ c.any.ensures.ran
+    (YieldsList-from_slice c.args.tasks.now cc) (λ x b q k. search (rules, tests))
+    ∙ sym (list_any-map task_seen (λ x. bytes_eq x.name c.args.name.now) c.args.tasks.now)

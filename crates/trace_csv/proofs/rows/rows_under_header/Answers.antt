@@ -1,28 +1,12 @@
-use Rattle.std.proofs.Common.{◌≡◌, ◌∷◌, ◌∙◌, subst, sym, ap, refl, inl, arith}
-use Rattle.trace_csv.specs.Records.{Fields, fields_seen}
-use Rattle.trace_csv.specs.RowsFile.{HasRowsHeader, RecordsRead, rows_header}
-use Rattle.trace_csv.proofs.Headers.{under_rows, no_long_header}
+use Rattle.std.proofs.Common.{subst, sym}
+use Rattle.trace_csv.specs.RowsFile.{RecordsRead}
+use Rattle.trace_csv.proofs.Headers.{under_rows, header_refused}
 use Rattle.trace_csv.proofs.rows.rows_under_header.Goals as goal
 
-pub returns : goal.returns
-returns c =
-    let jobs = c.args.jobs.now in
-    let lines = c.next.new.self in
-    let header = fields_seen c.in-Record.header.items in
-    let first = rw c.in-Record.is at c.in_ok-header.ensures in
-    let slices = rw c.deref.ensures.value at c.in_ok-header-2.ensures in
-    let same = rw c.deref-2.ensures.value at (c.in_ok-is_rows_header.ensures.0 c.if-not-branch.false) in
-    let is : header ≡ rows_header jobs.set = sym slices ∙ same ∙ ap rows_header c.set.ensures in
-    subst (RecordsRead c.rows_of.result jobs) (sym (first ∙ ap (λ (h : Fields). h ∷ lines) is))
-    (under_rows c.rows_of.result jobs lines c.rows_of.ensures)
+pub returns-in-Ok : goal.returns-in-Ok
+returns-in-Ok c =
+    subst (RecordsRead c.rows_of.result c.args.jobs.now) (sym c.in-Ok.ensures)
+    (under_rows c.rows_of.result c.args.jobs.now c.take_header.new.records c.rows_of.ensures)
 
-pub returns-in-Long : goal.returns-in-Long
-returns-in-Long c =
-    let jobs = c.args.jobs.now in
-    let long = rw c.in-Long.is at c.in_ok-header.ensures in
-    inl (
-      refl,
-      λ here.
-          no_long_header jobs long.0 long.1 (omega (arith, long.3, c.fields_per_line.ensures))
-          (subst (HasRowsHeader jobs.set) long.2 here),
-    )
+pub returns-in-Err : goal.returns-in-Err
+returns-in-Err c = header_refused c.in-Err.refusal c.args.jobs.now c.args.records c.take_header.new.records c.in-Err.ensures

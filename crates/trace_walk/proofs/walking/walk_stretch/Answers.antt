@@ -1,6 +1,8 @@
 use Rattle.std.proofs.Common.{◌≡◌, ◌∙◌, ◌+◌, ◌<◌, ◌≤◌, ℕ, sym, ap, arith}
 use Rattle.schedule_model.specs.RowDef.{RowDef, row_in}
+use Rattle.schedule_model.specs.Fitting.{RowsDef}
 use Rattle.schedule_model.specs.Seen.{row_seen}
+use Rattle.row_readers.specs.Runs.{run_of}
 use Rattle.schedule_laws.specs.Steady.{IsSteady}
 use Rattle.phase_machine.specs.MachineDef.{MachineDef, under}
 use Rattle.phase_machine.specs.Taking.{IsRowFor}
@@ -12,26 +14,31 @@ use Rattle.trace_walk.proofs.walking.walk_stretch.Goals as goal
 
 pub steady-requires : goal.steady-requires
 steady-requires g c =
-    let rows : ℕ → RowDef = row_in c.args.rows.now.runs in
+    let all : RowsDef = g.R.RowReader.rows c.args.rows.now in
+    let i : ℕ = g.R.RowReader.at c.args.rows.now in
+    let rows : ℕ → RowDef = row_in all.runs in
+    let row : RowDef = row_seen c.run.result.now.row in
+    let is : row ≡ (run_of all.runs i).row = ap (λ r. r.row) c.run.ensures in
     let m : MachineDef = c.args.machine.now in
-    let here : rows m.tick ≡ row_seen c.run_at.result.now.row = c.requires.at.here ∙ sym (ap (λ r. r.row) c.run_at.ensures.value) in
+    let here : rows m.tick ≡ row = c.requires.at.here ∙ sym is in
+    let fits : IsRowFor m.list row = rw is (row_fits all m.list i c.requires.at.fits c.requires.at.within) in
     record {
-      row = row_can (g.P.BlockingProtocol.interferes c.args.protocol.now) rows m (row_seen c.run_at.result.now.row) here
-          c.requires.reached.shows
-          (rw (ap (λ r. r.row) c.run_at.ensures.value) (row_fits c.args.rows.now m.list c.args.i c.requires.at.fits c.requires.at.within))
+      row = row_can (g.P.BlockingProtocol.interferes c.args.protocol.now) rows m row here c.requires.reached.shows fits
           (g.P.BlockingProtocol.sound_row c.args.protocol.now (under m rows) m.tick c.requires.suits
           (c.in-Ok.ensures rows c.requires.reached.shows here));
     }
 
 pub take-requires-clause-stretch : goal.take-requires-clause-stretch
 take-requires-clause-stretch g c =
-    let rows : ℕ → RowDef = row_in c.args.rows.now.runs in
-    let row : RowDef = row_seen c.run_at.result.now.row in
+    let all : RowsDef = g.R.RowReader.rows c.args.rows.now in
+    let i : ℕ = g.R.RowReader.at c.args.rows.now in
+    let rows : ℕ → RowDef = row_in all.runs in
+    let row : RowDef = row_seen c.run.result.now.row in
+    let is : row ≡ (run_of all.runs i).row = ap (λ r. r.row) c.run.ensures in
     let m : MachineDef = c.args.machine.now in
     let n : ℕ = c.span-ticks.result in
-    let here : rows m.tick ≡ row = c.requires.at.here ∙ sym (ap (λ r. r.row) c.run_at.ensures.value) in
-    let fits : IsRowFor m.list row = rw (ap (λ r. r.row) c.run_at.ensures.value)
-    (row_fits c.args.rows.now m.list c.args.i c.requires.at.fits c.requires.at.within) in
+    let here : rows m.tick ≡ row = c.requires.at.here ∙ sym is in
+    let fits : IsRowFor m.list row = rw is (row_fits all m.list i c.requires.at.fits c.requires.at.within) in
     record {
       at = c.requires.at;
       shows = c.requires.reached.shows;
@@ -40,38 +47,43 @@ take-requires-clause-stretch g c =
           (c.in-Ok.ensures rows c.requires.reached.shows here));
       lawful = c.in-Ok.ensures rows c.requires.reached.shows here;
       steady = c.steady.ensures.steady rows n c.requires.reached.shows (omega (arith, c.span-ticks.ensures.most, c.min.ensures))
-          (λ i l. c.requires.stands i (omega (arith, l, c.span-ticks.ensures.most, c.min.ensures))
-          ∙ sym (ap (λ r. r.row) c.run_at.ensures.value));
+          (λ k l. c.requires.stands k (omega (arith, l, c.span-ticks.ensures.most, c.min.ensures)) ∙ sym is);
       some = c.span-ticks.ensures.some (omega (arith, c.min.ensures, c.steady.ensures.value.some, c.requires.some));
       early = omega (arith, c.span-ticks.ensures.most, c.min.ensures, c.requires.early);
     }
 
 pub advance_by-requires-clause-row : goal.advance_by-requires-clause-row
 advance_by-requires-clause-row g c =
-    let rows : ℕ → RowDef = row_in c.args.rows.now.runs in
+    let all : RowsDef = g.R.RowReader.rows c.args.rows.now in
+    let i : ℕ = g.R.RowReader.at c.args.rows.now in
+    let rows : ℕ → RowDef = row_in all.runs in
+    let row : RowDef = row_seen c.run.result.now.row in
+    let is : row ≡ (run_of all.runs i).row = ap (λ r. r.row) c.run.ensures in
     let m : MachineDef = c.args.machine.now in
-    let here : rows m.tick ≡ row_seen c.run_at.result.now.row = c.requires.at.here ∙ sym (ap (λ r. r.row) c.run_at.ensures.value) in
-    row_can (g.P.BlockingProtocol.interferes c.args.protocol.now) rows m (row_seen c.run_at.result.now.row) here c.requires.reached.shows
-    (rw (ap (λ r. r.row) c.run_at.ensures.value) (row_fits c.args.rows.now m.list c.args.i c.requires.at.fits c.requires.at.within))
+    let here : rows m.tick ≡ row = c.requires.at.here ∙ sym is in
+    let fits : IsRowFor m.list row = rw is (row_fits all m.list i c.requires.at.fits c.requires.at.within) in
+    row_can (g.P.BlockingProtocol.interferes c.args.protocol.now) rows m row here c.requires.reached.shows fits
     (g.P.BlockingProtocol.sound_row c.args.protocol.now (under m rows) m.tick c.requires.suits
     (c.in-Ok.ensures rows c.requires.reached.shows here))
 
 pub advance_by-requires-clause-quiet : goal.advance_by-requires-clause-quiet
 advance_by-requires-clause-quiet g c =
-    quiet_sooner c.args.machine.now (row_seen c.run_at.result.now.row) c.steady.result c.span-ticks.result
+    quiet_sooner c.args.machine.now (row_seen c.run.result.now.row) c.steady.result c.span-ticks.result
     c.steady.ensures.value.quiet (omega (arith, c.span-ticks.ensures.most, c.min.ensures))
 
 pub returns-clause-walked : goal.returns-clause-walked
 returns-clause-walked g c =
-    let rows : ℕ → RowDef = row_in c.args.rows.now.runs in
-    let row : RowDef = row_seen c.run_at.result.now.row in
+    let all : RowsDef = g.R.RowReader.rows c.args.rows.now in
+    let i : ℕ = g.R.RowReader.at c.args.rows.now in
+    let rows : ℕ → RowDef = row_in all.runs in
+    let row : RowDef = row_seen c.run.result.now.row in
+    let is : row ≡ (run_of all.runs i).row = ap (λ r. r.row) c.run.ensures in
     let m : MachineDef = c.args.machine.now in
     let n : ℕ = c.span-ticks.result in
-    let here : rows m.tick ≡ row = c.requires.at.here ∙ sym (ap (λ r. r.row) c.run_at.ensures.value) in
+    let here : rows m.tick ≡ row = c.requires.at.here ∙ sym is in
     let some : 1 ≤ n = c.span-ticks.ensures.some (omega (arith, c.min.ensures, c.steady.ensures.value.some, c.requires.some)) in
     let most : n ≤ c.args.left = omega (arith, c.span-ticks.ensures.most, c.min.ensures) in
-    let same : (i : ℕ) → i < n → rows (m.tick + i) ≡ row =
-    λ i l. c.requires.stands i (omega (arith, l, most)) ∙ sym (ap (λ r. r.row) c.run_at.ensures.value) in
+    let same : (k : ℕ) → k < n → rows (m.tick + k) ≡ row = λ k l. c.requires.stands k (omega (arith, l, most)) ∙ sym is in
     let steady : IsSteady (under m rows) m.tick n = c.steady.ensures.steady rows n c.requires.reached.shows
     (omega (arith, c.span-ticks.ensures.most, c.min.ensures)) same in (
       some,
@@ -80,7 +92,7 @@ returns-clause-walked g c =
       reached_on (g.P.BlockingProtocol.keeps c.args.protocol.now) (g.K.Keeper.kept c.args.keeper.now c.args.protocol.now) rows m
           c.advance_by.new.self n c.args.notes.now c.take.new.notes c.requires.reached
           c.advance_by.ensures.list c.advance_by.ensures.tick (c.advance_by.ensures.shows rows c.requires.reached.shows same)
-          (λ i l. (g.met.P.Judge.stays_lawful c.args.protocol.now (under m rows) m.tick n c.requires.suits
-          c.requires.reached.shows.machine.lawful steady (c.in-Ok.ensures rows c.requires.reached.shows here) i l).lawful)
+          (λ k l. (g.met.P.Judge.stays_lawful c.args.protocol.now (under m rows) m.tick n c.requires.suits
+          c.requires.reached.shows.machine.lawful steady (c.in-Ok.ensures rows c.requires.reached.shows here) k l).lawful)
           c.in_ok-take.ensures,
     )

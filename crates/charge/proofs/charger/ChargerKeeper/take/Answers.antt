@@ -12,7 +12,7 @@ use Rattle.charge.proofs.charger.ChargerKeeper.take.Goals as goal
 
 pub charge_ticks-requires-clause-alike : goal.charge_ticks-requires-clause-alike
 charge_ticks-requires-clause-alike g c =
-    let rows : ℕ → RowDef = row_in c.args.rows.now.runs in
+    let rows : ℕ → RowDef = row_in (g.R.RowReader.rows c.args.rows.now).runs in
     let m : MachineDef = c.args.machine.now in
     let w : Trace = under m rows in
     let only : OfActive (g.P.ChargedProtocol.charges c.args.protocol.now) w m.tick =
@@ -27,7 +27,7 @@ charge_ticks-requires-clause-alike g c =
 
 pub returns : goal.returns
 returns g c =
-    let rows : ℕ → RowDef = row_in c.args.rows.now.runs in
+    let rows : ℕ → RowDef = row_in (g.R.RowReader.rows c.args.rows.now).runs in
     let m : MachineDef = c.args.machine.now in
     let w : Trace = under m rows in
     let passed : place_seen c.first_of_due-notes.result

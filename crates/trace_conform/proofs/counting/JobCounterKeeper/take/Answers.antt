@@ -9,7 +9,7 @@ use Rattle.trace_conform.proofs.counting.JobCounterKeeper.take.Goals as goal
 
 pub count_ticks-requires-clause-room : goal.count_ticks-requires-clause-room
 count_ticks-requires-clause-room g c = λ j l.
-    let w : Trace = under c.args.machine.now (row_in c.args.rows.now.runs) in
+    let w : Trace = under c.args.machine.now (row_in (g.R.RowReader.rows c.args.rows.now).runs) in
     let counts : AreCounts (g.P.BlockingProtocol.interferes c.args.protocol.now) w c.args.machine.now.tick c.deref_mut.result.now =
     subst (λ counts. AreCounts (g.P.BlockingProtocol.interferes c.args.protocol.now) w c.args.machine.now.tick counts)
     (sym c.deref_mut.ensures.value) c.requires.kept in
@@ -18,7 +18,7 @@ count_ticks-requires-clause-room g c = λ j l.
 
 pub returns : goal.returns
 returns g c =
-    let w : Trace = under c.args.machine.now (row_in c.args.rows.now.runs) in
+    let w : Trace = under c.args.machine.now (row_in (g.R.RowReader.rows c.args.rows.now).runs) in
     let counts : AreCounts (g.P.BlockingProtocol.interferes c.args.protocol.now) w c.args.machine.now.tick c.deref_mut.result.now =
     subst (λ counts. AreCounts (g.P.BlockingProtocol.interferes c.args.protocol.now) w c.args.machine.now.tick counts)
     (sym c.deref_mut.ensures.value) c.requires.kept in

@@ -35,4 +35,5 @@ returns-in-Long c =
 pub returns-in-End : goal.returns-in-End
 returns-in-End c =
     let read = rw c.in-End.is at c.in_ok-fields.ensures in
-    sym c.self.view_is ∙ left_none (place_seen c.self.inside.place) c.self.inside.rest.now read
+    let none = sym c.self.view_is ∙ left_none (place_seen c.self.inside.place) c.self.inside.rest.now read in
+    (none, none)

@@ -1,0 +1,27 @@
+ghost use Rattle.std.specs.Prelude.{◌≡◌, ◌<◌, ◌↔◌, length, IsTrue};
+ghost use Rattle.sporadic_model.specs.declared.ids.Protocol.{Protocol};
+ghost use Rattle.program_sources.specs.Bounds.{AreWithinDeadlines};
+ghost use Rattle.program_laws.specs.Programs.{program_of};
+ghost use Rattle.program_laws.specs.Written.{KeepsJobs};
+
+use fragments::jobs;
+use sporadic_model::{TaskId, TaskSet};
+
+/// Can just as many jobs of each task run within task `i`'s bound at these bounds as at the earlier ones? Then the limits of `i`'s
+/// program are the same under every protocol that is written down here.
+pub fn keeps_jobs(set: &TaskSet, i: TaskId, earlier: &[u64], bounds: &[u64]) -> bool
+    requires task { i.0 < length set.now.tasks }
+    requires earlier { AreWithinDeadlines set.now earlier.now }
+    requires within { AreWithinDeadlines set.now bounds.now }
+    ensures jobs { IsTrue result ↔ KeepsJobs set.now i.0 earlier.now bounds.now }
+    ensures limits { (p : Protocol) → IsTrue result
+        → (program_of p set.now i.0 earlier.now).limits ≡ (program_of p set.now i.0 bounds.now).limits }
+{
+    for x in 0..set.tasks() {
+        let task = TaskId(x);
+        if jobs(set, i, task, earlier) != jobs(set, i, task, bounds) {
+            return false;
+        }
+    }
+    true
+}

@@ -1,0 +1,10 @@
+use Rattle.trace_conform.proofs.conforming.conform_rows.Goals as goal
+
+pub returns-in-Mpcp : goal.returns-in-Mpcp
+returns-in-Mpcp g c = rw c.in-Mpcp.is c.conform_rows_with.ensures
+
+pub returns-in-FmlpPlus : goal.returns-in-FmlpPlus
+returns-in-FmlpPlus g c = rw c.in-FmlpPlus.is c.conform_rows_with-in-FmlpPlus.ensures
+
+pub returns-in-Dpcp : goal.returns-in-Dpcp
+returns-in-Dpcp g c = rw c.in-Dpcp.is c.conform_rows_with-in-Dpcp.ensures
