@@ -19,25 +19,23 @@ import tempfile
 import time
 from pathlib import Path
 
-from commands import BUILT, built
+from commands import BUILT, TOP, built
+
+sys.path.append(str(TOP / "tests" / "cli"))
+
+from sets import resource, set_of, task  # noqa: E402
 
 MIB = 1 << 20
 
-SET = {
-    "processors": 1,
-    "resources": [{"name": "a"}],
-    "tasks": [{"name": "t", "processor": 1, "period": 10, "cost": 5, "requests": [{"resource": "a", "count": 2, "length": 1}]}],
-}
-LONG = {
-    "processors": 1,
-    "resources": [{"name": "a"}],
-    "tasks": [{"name": "t", "processor": 1, "period": 10**9, "cost": 10**9, "requests": [{"resource": "a", "count": 1000, "length": 1}]}],
-}
-OFTEN = {
-    "processors": 1,
-    "resources": [{"name": "a"}],
-    "tasks": [{"name": "t", "processor": 1, "period": 10**4, "cost": 10**3, "requests": [{"resource": "a", "count": 10, "length": 1}]}],
-}
+
+def of_one_task(period, cost, count):
+    """A set of one task, whose jobs make so many requests of one tick."""
+    return set_of(1, [resource("a")], task("t", 1, period, cost, ("a", 1, count)))
+
+
+SET = of_one_task(10, 5, 2)
+LONG = of_one_task(10**9, 10**9, 1000)
+OFTEN = of_one_task(10**4, 10**3, 10)
 JOBS = b"task,release,script\n"
 ROWS = b"ticks,P1,a\n"
 

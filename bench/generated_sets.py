@@ -1,5 +1,11 @@
 """Task sets for the benchmarks, made from a number."""
 import random
+import sys
+from pathlib import Path
+
+sys.path.append(str(Path(__file__).resolve().parent.parent / "tests" / "cli"))
+
+from sets import resource, set_of, task  # noqa: E402
 
 PERIODS = (10000, 20000, 25000, 40000, 50000, 100000, 200000, 1000000)
 
@@ -9,11 +15,9 @@ def assembled(processors, homes, tasks):
     each the number of a resource from 0 on, a count and a length. Tasks with shorter periods stand first."""
     listed = []
     for number, (processor, period, cost, requests) in enumerate(tasks, 1):
-        written = [{"resource": f"q{q + 1}", "count": count, "length": length} for q, count, length in requests]
-        listed.append({"name": f"t{number}", "processor": processor, "period": period, "cost": cost, "requests": written})
-    listed.sort(key=lambda task: task["period"])
-    resources = [{"name": f"q{q}", "home": home} for q, home in enumerate(homes, 1)]
-    return {"processors": processors, "resources": resources, "tasks": listed}
+        listed.append(task(f"t{number}", processor, period, cost, *((f"q{q + 1}", length, count) for q, count, length in requests)))
+    listed.sort(key=lambda one: one["period"])
+    return set_of(processors, [resource(f"q{q}", home) for q, home in enumerate(homes, 1)], *listed)
 
 
 def in_turn(count, processors):

@@ -1,5 +1,5 @@
 #!/usr/bin/env python3
-"""Times `simplex::solve` on the programs of a file beside other solvers, compares the optima, and prints the ratios of the times.
+"""Times `simplex::solve_sparse` on the programs of a file beside other solvers, compares the optima, and prints the ratios of the times.
 
     python3 bench/solver.py [FILE]
 

@@ -14,8 +14,13 @@ def task(name, processor, period, cost, *requests, **more):
     return {"name": name, "processor": processor, "period": period, "cost": cost, "requests": listed, **more}
 
 
+def set_of(processors, resources, *tasks):
+    return {"processors": processors, "resources": resources, "tasks": list(tasks)}
+
+
 def task_set(processors, resources, *tasks):
-    return json.dumps({"processors": processors, "resources": resources, "tasks": list(tasks)}) + "\n"
+    """The text of the set."""
+    return json.dumps(set_of(processors, resources, *tasks)) + "\n"
 
 
 def digest_of(text):

@@ -5,7 +5,7 @@ use Rattle.std.specs.List.{Contains}
 use Rattle.std.specs.List.Sorted.{IsStrictlySortedBy}
 use Rattle.std.specs.Ordering.{nat_cmp}
 use Rattle.std.specs.declared.cmp.Ordering.TheVariants.{Less, Equal}
-use Rattle.std.proofs.lemmas.Bool.{cases_Bool, cases_order, and_parts, eq-eqb, eqb-true}
+use Rattle.std.proofs.lemmas.Bool.{cases_Bool, cases_order, and_parts, eq-eqb, eqb-true, and_right}
 use Rattle.std.proofs.lemmas.Cmp.{nat_cmp_total, tied_itself}
 use Rattle.std.proofs.lemmas.List.{get_or_default}
 use Rattle.std.proofs.lemmas.Map.Keys.{Less-from_sorted}
@@ -119,7 +119,4 @@ pub counts_nowhere : (items : List ItemDef) (j : ℕ) (c : Class)
     → count_below (length items) (λ k. counts_for j c None (item_at items k)) ≡ 0
 counts_nowhere items j c =
     count_below-none (length items) (λ k. counts_for j c None (item_at items k))
-    (λ k l. nothing (((item_at items k).blocked == j) && is_same_class c (item_at items k).class)) where
-      nothing : (b : Bool) → (b && false) ≡ false
-      nothing true = refl
-      nothing false = refl
+    (λ k l. and_right (((item_at items k).blocked == j) && is_same_class c (item_at items k).class) false refl)

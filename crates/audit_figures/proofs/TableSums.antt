@@ -7,6 +7,7 @@ use Rattle.std.proofs.lemmas.List.{get_or-map, length-map}
 use Rattle.bounded_sums.specs.Sums.{sum_below, flag, only_if}
 use Rattle.bounded_sums.specs.Tests.{count_below}
 use Rattle.bounded_sums.proofs.SumLaws.{sum_below-agree, sum_below-swap, sum_below-one}
+use Rattle.bounded_sums.proofs.OnlyIfLaws.{only_if-nothing}
 use Rattle.bounded_sums.proofs.SumLaws.{sum_below-list_by, only_if-true, only_if-false, sum_below-only_if}
 use Rattle.bounded_sums.proofs.CountLaws.{count_below-none}
 use Rattle.schedule_model.specs.RowDef.{Trace}
@@ -94,10 +95,6 @@ job_sum charges interferes w bound n items c j only table listed =
 only_if-both : (b c : Bool) (m : ℕ) → only_if b (only_if c m) ≡ only_if (b && c) m
 only_if-both true c m = refl
 only_if-both false c m = refl
-
-only_if-nothing : (b : Bool) → only_if b 0 ≡ 0
-only_if-nothing true = refl
-only_if-nothing false = refl
 
 -- An item counts for the task of its blocked job: once, over all jobs.
 item_by_jobs : (w : Trace) (x : ℕ) (c : Class) (item : ItemDef) → item.blocked < length w.jobs

@@ -1,5 +1,5 @@
-//! Audits a schedule against a certificate: judges both, and sets what the schedule did to each task beside what the certificate
-//! proves of it, and beside the ticks at which its jobs were charged.
+//! Audits a schedule against a certificate: judges both, and sets what the schedule did to each task beside what the
+//! certificate proves of it. Beside that stand the blocked ticks of its jobs, by the way in which a request blocked them.
 #![tactic(auto)]
 
 mod auditing;

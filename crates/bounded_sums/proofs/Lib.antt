@@ -4,3 +4,4 @@ pub mod ListCounts
 pub mod SlotLaws
 pub mod TestLaws
 pub mod TotalLaws
+pub mod OnlyIfLaws

@@ -5,13 +5,14 @@ use Rattle.std.specs.List.{All, AllByRecursion, Contains}
 use Rattle.std.specs.List.Sorted.{IsStrictlySortedBy}
 use Rattle.std.specs.declared.cmp.Ordering.{Ordering}
 use Rattle.std.specs.declared.cmp.Ordering.TheVariants.{Less, Equal, Greater}
-use Rattle.std.proofs.lemmas.Bool.{cases_Bool, cases_eq, and_parts, and_from, eq-eqb, eqb-true, ne_eqb, false_from_ne_true}
+use Rattle.std.proofs.lemmas.Bool.{cases_Bool, cases_eq, and_parts, and_from, eq-eqb, eqb-true, ne_eqb, false_from_ne_true, and_right}
 use Rattle.std.proofs.lemmas.Cmp.{nat_cmp_total, tied_itself}
 use Rattle.std.proofs.lemmas.List.Elements.{All-head, All-tail, All-weaker}
 use Rattle.std.proofs.lemmas.List.Sums.{sum_by-cons}
 use Rattle.bounded_sums.specs.Sums.{sum_below, flag, only_if}
 use Rattle.bounded_sums.specs.Tests.{count_below}
 use Rattle.bounded_sums.proofs.SumLaws.{sum_below-agree, sum_below-zero, sum_below-one}
+use Rattle.bounded_sums.proofs.OnlyIfLaws.{only_if-nothing}
 use Rattle.bounded_sums.proofs.CountLaws.{flag-at_most, flag-of_true}
 use Rattle.schedule_model.specs.RowDef.{Trace}
 use Rattle.schedule_model.specs.BlockedTicks.{is_blocked}
@@ -126,10 +127,7 @@ tick_once charges interferes w bound n items t j table only listed l = elim (cas
 ] where
   uncounted : (i : ItemDef) (o : Option Charge) → charges w t j ≡ o → is_blocked interferes w t j ≡ false
       → flag (counts charges w t j i) ≡ 0
-  uncounted i None e free = rw e (nothing (i.blocked == j)) where
-    nothing : (b : Bool) → flag (b && false) ≡ 0
-    nothing true = refl
-    nothing false = refl
+  uncounted i None e free = rw (e, and_right (i.blocked == j) false refl) refl
   uncounted i (Some c) e free = let on : is_blocked interferes w t j ≡ true = only t j c e in absurd (cc)
 
 -- So a job's items have its blocked ticks.
@@ -185,10 +183,7 @@ table_sum charges interferes w bound n items those table only =
             absent : (i : ItemDef) (k : ℕ) → (k ≡ i.blocked → ⊥) → part i k ≡ 0
             absent i k other =
                 let t : (i.blocked == k) ≡ false = ne_eqb _ _ (λ s. other (sym s)) in
-                rw t (nothing (those k)) where
-                  nothing : (b : Bool) → only_if b 0 ≡ 0
-                  nothing true = refl
-                  nothing false = refl
+                rw t (only_if-nothing (those k))
 
       of_job : (j : ℕ) → j < length w.jobs → sum_by (λ i. part i j) items
           ≡ only_if (those j) (count_below (window_end w bound n j) (λ t. is_blocked interferes w t j))

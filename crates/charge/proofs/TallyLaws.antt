@@ -1,10 +1,10 @@
 -- Counting ticks as the first of them: for the active job of each task in turn.
-use Rattle.std.proofs.Common.{◌≡◌, ℕ, zero, suc, ◌+◌, ◌<◌, ◌≤◌, ◌==◌, ◌&&◌, Bool, true, false, length, refl, sym, ap, ◌∙◌}
+use Rattle.std.proofs.Common.{◌≡◌, ℕ, ◌+◌, ◌<◌, ◌≤◌, ◌==◌, ◌&&◌, Bool, true, false, length, refl, sym, ap, ◌∙◌}
 use Rattle.std.proofs.Common.{arith, inl, inr, Option, Some, None}
 use Rattle.std.specs.Prelude.{nat_lt, unwrap_or, option_map, cond}
 use Rattle.std.specs.Ordering.{is_eq}
 use Rattle.std.specs.Option.{option_and_then}
-use Rattle.std.proofs.lemmas.Bool.{cases_lt, cases_order, cases_Bool, cases_eq, lt-ltb, le-ltb, eq-eqb, eqb-true, ne_eqb, and_left}
+use Rattle.std.proofs.lemmas.Bool.{cases_lt, cases_order, cases_Bool, cases_eq, lt-ltb, le-ltb, eq-eqb, eqb-true, ne_eqb, and_left, and_right}
 use Rattle.std.specs.BTreeMap.{BTreeMap, get}
 use Rattle.bounded_sums.specs.Sums.{only_if}
 use Rattle.bounded_sums.proofs.CountLaws.{count_below-at_most, count_below-split, count_below-same}
@@ -137,8 +137,7 @@ pub counted_there : (ticks new : BTreeMap ChargePlace ℕ) (place : ChargePlace)
 counted_there ticks new place before more count p some is tally updated = elim (cases_Bool (is_eq (place_cmp place p))) [
   | inl here ↦
       let same : place ≡ p = same_by_order place p here in
-      let counted : before ≡ count p =
-      is ∙ ap (λ o. unwrap_or o 0) (tally place) ∙ as_counted (count place) ∙ ap count same in
+      let counted : before ≡ count p = is ∙ count_is ticks count place tally ∙ ap count same in
       let now : get place_cmp new p ≡ Some (count p + more) = updated ∙ rw (here, counted) refl in
       now ∙ there (count p + more) (omega (arith, some)) ∙ rw (← same_place place p, here) refl
   | inr elsewhere ↦
@@ -148,10 +147,6 @@ counted_there ticks new place before more count p some is tally updated = elim (
 ] where
   some_there : (n : ℕ) → 0 < n → (n == 0) ≡ false
   some_there n l = ne_eqb n 0 (λ e. absurd (omega (arith, e, l)))
-
-  as_counted : (n : ℕ) → unwrap_or (positive n) 0 ≡ n
-  as_counted zero = refl
-  as_counted (suc n) = rw (some_there (suc n) (omega arith)) refl
 
   there : (n : ℕ) → 0 < n → Some n ≡ positive n
   there n l = rw (some_there n l) refl
@@ -216,11 +211,8 @@ count_all charges m rows bound n x p shows only alike l =
             let none : place_at charges (under m rows) bound m.tick p.blocked ≡ None =
             inactive_nowhere charges (under m rows) bound m.tick p.blocked only
             (λ h. absurd (omega (arith, past, active_listed (under m rows) m.tick p.blocked h))) in
-            rw none (and_false (nat_lt (task_of (under m rows) p.blocked) x))
-      ] where
-        and_false : (b : Bool) → (b && false) ≡ false
-        and_false true = refl
-        and_false false = refl
+            rw none (and_right (nat_lt (task_of (under m rows) p.blocked) x) false refl)
+      ]
 
 -- And it is no more than the ticks so far.
 pub count_most : (charges : Charges) (w : Trace) (bound : ℕ → ℕ) (t n x : ℕ) (p : ChargePlace) → ticks_with charges w bound t n x p ≤ t + n

@@ -38,7 +38,7 @@ fn least_of(first: Option<JobId>, second: Option<JobId>) -> Option<JobId>
     ensures { place_seen result ≡ least_of (place_seen first) (place_seen second) }
 {
     match (first, second) {
-        (Some(i), Some(j)) => { if i.0 <= j.0 { Some(i) } else { Some(j) } }
+        (Some(i), Some(j)) => Some(i.min(j)),
         (Some(i), None) => Some(i),
         (None, other) => other,
     }

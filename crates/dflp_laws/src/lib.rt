@@ -1,8 +1,8 @@
-//! The distributed FIFO protocol as definitions (`specs/`), and its laws: how each blocked tick is charged, that what is charged
-//! meets the rows of the blocking programs, and that a lawful row stays one through a steady stretch.
+//! The distributed FIFO protocol as definitions (`specs/`), and its laws. They say how each blocked tick is charged, and that
+//! what is charged meets the rows of the blocking programs. And a lawful row stays lawful through a steady stretch.
 //!
-//! Each function here does nothing: its contract is a law, and the lemmas that prove it stand in `proofs/`, one file a
-//! subject, for the crate of the protocol's type.
+//! Each function here does nothing: its contract is a law. The lemmas that prove it stand in `proofs/`, one file a subject,
+//! for the crate of the protocol's type.
 #![tactic(auto)]
 
 ghost use Rattle.std.specs.Prelude.{◌≡◌, ℕ, ◌<◌, true, List, [], ◌∷◌, length, slice_index};

@@ -1,5 +1,5 @@
 -- After any rows that can be taken there is a chosen row.
-use Rattle.std.proofs.Common.{◌≡◌, ℕ, ◌<◌, ◌≤◌, zero, suc, true, List, length, sym, ◌∙◌, arith, refl, Option, Some, None}
+use Rattle.std.proofs.Common.{◌≡◌, ℕ, ◌<◌, ◌≤◌, suc, true, List, [], length, sym, ◌∙◌, arith, Option, Some}
 use Rattle.sporadic_model.specs.Homes.{EachHasHome}
 use Rattle.sporadic_model.specs.Accepted.{IsAccepted}
 use Rattle.sporadic_model.proofs.Laws.{numbers_of_accepted}
@@ -23,7 +23,7 @@ use Rattle.phase_machine.proofs.Facts.{reads_before, active_shown}
 use Rattle.shared_choosing.specs.Scene.{place_in, running_in}
 use Rattle.shared_choosing.specs.Choosing.{Granted, Placed}
 use Rattle.shared_choosing.specs.NextRow.{with_row}
-use Rattle.shared_choosing.proofs.NextRow.{places_of, place_of_list, places_length, same_before, row_there}
+use Rattle.shared_choosing.proofs.NextRow.{places_of, place_of_list, running_placed, places_length, same_before, row_there}
 use Rattle.shared_choosing.proofs.Scenes.{scene_shown, active_job_in, active_job_now}
 use Rattle.shared_choosing.proofs.Walks.{held_at, running_at, granted_at, granted_same, placed_at, placed_same}
 use Rattle.shared_choosing.proofs.Chosen.{requests_shown}
@@ -91,17 +91,9 @@ row_of m rows shows accepted homes = record {
   placed = placed_at (runs_at m) (place_in holders) (current_now m) (length m.list.set.tasks)
       (λ x l. active_job_in m (column_now m) (issue_now m) (issue_now m) x shows.machine l)
 
-  within : (k r : ℕ) → runs k ≡ Some r → (1 ≤ k) × (k ≤ m.list.set.processors)
-  within k r e = processor_within m rows (place_in holders) runs k r shows accepted homes placed e
-
-  at_zero : (p : Option ℕ) → runs 0 ≡ p → None ≡ runs 0
-  at_zero None e = sym e
-  at_zero (Some r) e = let b : (1 ≤ 0) × (0 ≤ m.list.set.processors) = within 0 r e in absurd (omega (arith, b.0))
-
   there : (k : ℕ) → running_in (places_of (λ c. runs (suc c)) m.list.set.processors) k ≡ runs k
-  there zero = at_zero (runs 0) refl
-  there (suc c) = place_of_list (λ y. runs (suc y)) m.list.set.processors c
-      (λ r e. let b : (1 ≤ suc c) × (suc c ≤ m.list.set.processors) = within (suc c) r e in omega (arith, b.1))
+  there = running_placed runs m.list.set.processors []
+      (λ k r e. processor_within m rows (place_in holders) runs k r shows accepted homes placed e)
 
 choice_at : (m : MachineDef) (rows : ℕ → RowDef) → Shows m rows → IsAccepted m.list.set → EachHasHome m.list.set
     → HasChoice (under m rows) m.tick

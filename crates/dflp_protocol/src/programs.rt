@@ -8,7 +8,7 @@ ghost use Rattle.fragments.specs.ColumnDef.{column_seen, AreKnown};
 ghost use Rattle.fragments.specs.Asked.{AreAskedBeside};
 ghost use Rattle.fragments.specs.Constraints.{block_of};
 ghost use Rattle.fragments.specs.Stretches.{AreInOrder};
-ghost use Rattle.dflp_laws.specs.Programs.{is_dflp_column, dflp_rows, dflp_program, dflp_source};
+ghost use Rattle.dflp_laws.specs.Programs.{is_dflp_column, dflp_columns, dflp_rows, dflp_program, dflp_source};
 ghost use Rattle.dflp_laws.proofs.Programs.{dflp_covered, dflp_rises, dflp_is_program};
 
 use crate::Dflp;
@@ -19,9 +19,9 @@ use fragments::{
     passing_stand_in_order, uses,
 };
 use preempt_constraints::add_interval_rows;
-use program_form::{Program, RowBlock};
+use program_form::{Program, RowBlock, SparseProgram, SparseRows};
 use program_sources::ProgramSource;
-use protocol_programs::{interference, keeps_jobs, program_over};
+use protocol_programs::{interference, keeps_jobs, program_over, sparse_program_over};
 use sporadic_model::{Protocol, TaskId, TaskSet};
 use std::alloc::{AllocError, Global};
 
@@ -109,21 +109,60 @@ fn program(alloc: Global, set: &TaskSet, i: TaskId, bounds: &[u64]) -> Result<Pr
     program_over(alloc, set, &columns, block)
 }
 
-/// The limits of that program, where these are the bounds, without its coefficients. It refuses for want of memory alone.
-fn limits(alloc: Global, set: &TaskSet, i: TaskId, bounds: &[u64]) -> Result<Vec<u64>, AllocError>
+/// Gives the taker all rows of that program, and answers its columns.
+fn take_rows<T: RowTaker>(
+    alloc: Global,
+    taker: &mut T,
+    set: &TaskSet,
+    i: TaskId,
+    bounds: &[u64],
+) -> Result<Vec<Fragment>, AllocError>
     requires task { i.0 < length set.now.tasks }
     requires within { AreWithinDeadlines set.now bounds.now }
-    ensures { IfOk result (λ v. v.items ≡ (dflp_program set.now i.0 bounds.now).limits) }
+    ensures columns { IfOk result (λ v. map column_seen v.items ≡ dflp_columns set.now i.0) }
+    ensures known { IfOk result (λ v. AreKnown (length set.now.tasks) (length set.now.resources) v.items) }
+    ensures rows { IfOk result (λ v. T.takes taker.old (map column_seen v.items) (dflp_rows set.now i.0) bounds.now taker.new) }
 {
     let test = DflpColumns {
         beside: asked_beside(alloc, set, i)?,
     };
     let columns = fragments_where(alloc, &test, set, i)?;
     passing_stand_in_order(set, &test, i, &columns);
+    add_rows(alloc, taker, set, i, bounds, &columns)?;
+    Ok(columns)
+}
+
+/// The same program as that of [`program`], kept by its coefficients that aren't zero. It refuses for want of memory alone.
+fn sparse_program(
+    alloc: Global,
+    set: &TaskSet,
+    i: TaskId,
+    bounds: &[u64],
+) -> Result<SparseProgram, AllocError>
+    requires task { i.0 < length set.now.tasks }
+    requires within { AreWithinDeadlines set.now bounds.now }
+    ensures { IfOk result (λ p. p ≡ dflp_program set.now i.0 bounds.now) }
+{
+    // every set is lawful, so its columns and rows make a program
+    let _tasks = set.tasks();
+    let mut taken = SparseRows {
+        rows: Vec::new(alloc),
+        limits: Vec::new(alloc),
+    };
+    let columns = take_rows(alloc, &mut taken, set, i, bounds)?;
+    sparse_program_over(alloc, set, &columns, taken)
+}
+
+/// The limits of that program, where these are the bounds, without its coefficients. It refuses for want of memory alone.
+fn limits(alloc: Global, set: &TaskSet, i: TaskId, bounds: &[u64]) -> Result<Vec<u64>, AllocError>
+    requires task { i.0 < length set.now.tasks }
+    requires within { AreWithinDeadlines set.now bounds.now }
+    ensures { IfOk result (λ v. v.items ≡ (dflp_program set.now i.0 bounds.now).limits) }
+{
     let mut taken = RowLimits {
         limits: Vec::new(alloc),
     };
-    add_rows(alloc, &mut taken, set, i, bounds, &columns)?;
+    take_rows(alloc, &mut taken, set, i, bounds)?;
     Ok(taken.limits)
 }
 
@@ -150,6 +189,16 @@ impl ProgramSource for Dflp {
         bounds: &[u64],
     ) -> Result<Program, AllocError> {
         program(alloc, set, i, bounds)
+    }
+
+    fn sparse_program(
+        &self,
+        alloc: Global,
+        set: &TaskSet,
+        i: TaskId,
+        bounds: &[u64],
+    ) -> Result<SparseProgram, AllocError> {
+        sparse_program(alloc, set, i, bounds)
     }
 
     fn limits(

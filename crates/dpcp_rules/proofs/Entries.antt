@@ -6,7 +6,7 @@ use Rattle.std.specs.Option.{option_map_or}
 use Rattle.std.proofs.Math.Bool.{and_assoc}
 use Rattle.std.proofs.lemmas.Bool.{cases_Bool, cases_lt, and_parts, and_from, false_from_ne_true, eq-eqb, eqb-true}
 use Rattle.std.proofs.lemmas.Bool.{ne_eqb, leb-true, le-leb, leb-false, lt-ltb, ltb-true, not-true, or_left, or_right}
-use Rattle.std.proofs.lemmas.Bool.{not_from_false}
+use Rattle.std.proofs.lemmas.Bool.{not_from_false, and_right}
 use Rattle.bounded_sums.specs.Tests.{all_below, any_below}
 use Rattle.bounded_sums.proofs.TestLaws.{all_below-each, all_below-from, any_below-from, any_below-some, any_below-agree}
 use Rattle.sporadic_model.specs.Homes.{EachHasHome}
@@ -38,18 +38,12 @@ placed true c k l = go (c == k) where
   go : (x : Bool) → x ≡ (x && true)
   go true = refl
   go false = refl
-placed false c k l = ne_eqb 0 k (λ e. absurd (omega arith)) ∙ go (c == k) where
-  go : (x : Bool) → false ≡ (x && false)
-  go true = refl
-  go false = refl
+placed false c k l = ne_eqb 0 k (λ e. absurd (omega arith)) ∙ sym (and_right (c == k) false refl)
 
 -- Whether a job waits at a processor, by what its phase is.
 waits_in : (m : MachineDef) (rows : ℕ → RowDef) (held : ℕ → Option ℕ) (j k : ℕ) (p : Phase) → 1 ≤ k → (p ≡ Finished → ⊥)
     → (cond (not (is_local p || holds_by held j p)) (column_in m j p) 0 == k) ≡ (is_at (under m rows) k p && not (holds_by held j p))
-waits_in m rows held j k Local l unended = placed false (column_in m j Local) k l ∙ go (column_in m j Local == k) where
-  go : (x : Bool) → (x && false) ≡ false
-  go true = refl
-  go false = refl
+waits_in m rows held j k Local l unended = placed false (column_in m j Local) k l ∙ and_right (column_in m j Local == k) false refl
 waits_in m rows held j k Finished l unended = absurd (unended refl)
 waits_in m rows held j k (Asking n q) l unended = placed (not (is_job j (held q))) (home_now m q) k l
 

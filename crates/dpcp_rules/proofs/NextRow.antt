@@ -1,5 +1,5 @@
 -- After any rows that can be taken there is a chosen row.
-use Rattle.std.proofs.Common.{◌≡◌, ◌⊎◌, ℕ, ◌<◌, ◌≤◌, zero, suc, true, List, length, refl, sym, ◌∙◌, arith, inl, inr}
+use Rattle.std.proofs.Common.{◌≡◌, ◌⊎◌, ℕ, ◌<◌, ◌≤◌, zero, suc, true, List, length, refl, ◌∙◌, arith, inl, inr, []}
 use Rattle.std.proofs.Common.{Option, Some, None, subst, add-one, min, replicate}
 use Rattle.std.proofs.Math.ListN.{set}
 use Rattle.std.proofs.lemmas.Bool.{cases_lt}
@@ -29,7 +29,7 @@ use Rattle.phase_machine.specs.Now.{is_local_now, holds_now}
 use Rattle.shared_choosing.specs.Scene.{stays, place_in, running_in}
 use Rattle.shared_choosing.specs.NextRow.{with_row}
 use Rattle.shared_rules.proofs.HolderTests.{held_within}
-use Rattle.shared_choosing.proofs.NextRow.{places_of, place_of_list, places_length, same_before, row_there}
+use Rattle.shared_choosing.proofs.NextRow.{places_of, place_of_list, running_placed, places_length, same_before, row_there}
 use Rattle.dpcp_rules.specs.Homes.{ceiling_now, column_now, waiting_place, kept_place, entry_at, IsLeast}
 use Rattle.dpcp_rules.specs.declared.tables.TheConstants.{PLACES}
 use Rattle.dpcp_rules.specs.Choosing.{grant_claim, holder_claim, local_claim, AreHolders, IsRunning}
@@ -140,21 +140,9 @@ row_of m rows first bars shows accepted homes = record {
     locals = all_filled m (local_claim m) before (length m.list.set.tasks) shows.machine (omega arith);
   }
 
-  at_zero : (p : Option ℕ) → runs 0 ≡ p → None ≡ runs 0
-  at_zero None e = sym e
-  at_zero (Some r) e =
-      let b : (1 ≤ 0) × (0 ≤ m.list.set.processors) =
-      processor_within m rows (place_in holders) runs 0 r shows accepted homes all_running e in
-      absurd (omega (arith, b.0))
-
   there : (k : ℕ) → running_in (places_of (λ c. runs (suc c)) m.list.set.processors) k ≡ runs k
-  there zero = at_zero (runs 0) refl
-  there (suc c) = place_of_list (λ y. runs (suc y)) m.list.set.processors c (λ r e. below r e) where
-    below : (r : ℕ) → runs (suc c) ≡ Some r → c < m.list.set.processors
-    below r e =
-        let b : (1 ≤ suc c) × (suc c ≤ m.list.set.processors) =
-        processor_within m rows (place_in holders) runs (suc c) r shows accepted homes all_running e in
-        omega (arith, b.1)
+  there = running_placed runs m.list.set.processors []
+      (λ k r e. processor_within m rows (place_in holders) runs k r shows accepted homes all_running e)
 
 choice_at : (m : MachineDef) (rows : ℕ → RowDef) → Shows m rows → IsAccepted m.list.set → EachHasHome m.list.set
     → HasChoice (under m rows) m.tick

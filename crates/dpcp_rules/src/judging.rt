@@ -125,7 +125,7 @@ fn goes_first<O: Order>(
         return is_local(machine, j);
     };
     if is_local(machine, j) {
-        return !is_local(machine, r) || task_of(machine, r).0 <= task_of(machine, j).0;
+        return !is_local(machine, r) || task_of(machine, r) <= task_of(machine, j);
     }
     holds(machine, &row.holders, r)
         && (!holds(machine, &row.holders, j)

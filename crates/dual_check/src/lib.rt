@@ -1,8 +1,9 @@
-//! Judging certificates: whether bounds and duals prove that a task set meets every deadline, without trust in what made them.
+//! Judging certificates: whether bounds and duals prove that a task set meets every deadline, without trust in what made
+//! them.
 //!
-//! A certificate is valid where each bound and its task's jitter together are within the deadline, each dual holds every column of
-//! its program, and the response time with the dual's value as blocking is within the bound. Of `schedule_answers`
-//! `specs/Tests.antt` has these tests, `specs/Failures.antt` their order.
+//! A certificate is valid where each bound and its task's jitter together are within the deadline, and each dual covers every
+//! column of its program. The response time with the dual's value as blocking is to be within the bound too. Of
+//! `schedule_answers` `specs/Tests.antt` has these tests, `specs/Failures.antt` their order.
 #![tactic(auto)]
 
 mod duals;

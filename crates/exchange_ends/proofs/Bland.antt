@@ -2,12 +2,12 @@
 use Rattle.std.proofs.Common.{◌≡◌, ◌⊎◌, inl, inr, ℕ, ◌<◌, ◌≤◌, ℤ, pos, ◌+ℤ◌, ◌-ℤ◌, ◌*ℤ◌, neg_ℤ, ◌≤ℤ◌, ◌<ℤ◌, ap, ◌∙◌, sym, subst, arith}
 use Rattle.std.proofs.lemmas.Int.{ints, by_lt_z}
 use Rattle.std.proofs.lemmas.Bool.{cases_eq, cases_lt}
-use Rattle.number_laws.proofs.Ring.{as_diff, diffs, same_diff, mul-comm}
-use Rattle.number_laws.proofs.Order.{times_nonneg, times_positive, times_le, cancel_lt}
+use Rattle.number_laws.proofs.Ring.{as_diff, diffs, same_diff, mul-comm, mul-zero}
+use Rattle.number_laws.proofs.Order.{times_nonneg, times_positive, times_le, cancel_lt, weaker}
 use Rattle.bounded_sums.proofs.TotalLaws.{total_below-nonneg}
 use Rattle.program_form.specs.Program.{ProgramDef, height}
 use Rattle.exchange_runs.specs.Table.{variables}
-use Rattle.exchange_runs.proofs.Signs.{weaker, turned}
+use Rattle.exchange_runs.proofs.Signs.{turned}
 use Rattle.exchange_runs.proofs.Invariants.{exchanged-here, exchanged-away}
 use Rattle.fraction128.proofs.Unique.{apart_of_positive}
 use Rattle.exchange_ends.proofs.States.{State, IsGood, Enters, Leaves, IsStep, IsBasic, objective_read, basic_zero, apart, above_same}
@@ -105,10 +105,7 @@ limit_after q x b y h = rw h (less_none q x b)
         drop a c b e = omega (arith, ints)
 
 zero_scaled : (d x : ℤ) → x ≡ pos 0 → d *ℤ x ≡ pos 0
-zero_scaled d x h = rw h (none d)
-  where
-    none : (a : ℤ) → a *ℤ pos 0 ≡ pos 0
-    none a = omega (arith, ints)
+zero_scaled d x h = rw h (mul-zero d)
 
 limit_cell : (p : ProgramDef) (s u : State) (e r i : ℕ) → IsStep p s e r u → s.z r (variables p) ≡ pos 0 → (i ≡ r → ⊥)
     → u.z i (variables p) ≡ s.z i (variables p) *ℤ s.z r e

@@ -2,7 +2,7 @@
 use Rattle.std.proofs.Common.{◌≡◌, inl, inr, ℕ, ◌+◌, ◌<◌, ◌≤◌, ℤ, pos, ◌+ℤ◌, ◌*ℤ◌, ◌≤ℤ◌, ◌<ℤ◌, ap, ◌∙◌, sym, subst, arith}
 use Rattle.std.proofs.lemmas.Int.{ints}
 use Rattle.std.proofs.lemmas.Bool.{cases_eq}
-use Rattle.number_laws.proofs.Ring.{as_diff, diffs, same_diff, by_two, mul-comm}
+use Rattle.number_laws.proofs.Ring.{as_diff, diffs, same_diff, by_two, mul-comm, mul-left_comm}
 use Rattle.bounded_sums.specs.WholeSums.{total_below, only_at}
 use Rattle.bounded_sums.proofs.TotalLaws.{total_below-agree, total_below-plus, total_below-times}
 use Rattle.bounded_sums.proofs.TotalLaws.{total_below-times_right, total_below-swap, total_below-only, only_at-here}
@@ -68,7 +68,7 @@ mixed_rows : (m : ℕ) (d : ℤ) (y : ℕ → ℤ) (f z : ℕ → ℕ → ℤ) (
 mixed_rows m d y f z basic v h =
     sym (total_below-times m d (λ r. y r *ℤ f r v))
     ∙ (total_below-agree m (λ r. d *ℤ (y r *ℤ f r v)) (λ r. total_below m (λ i. y r *ℤ (f r (basic i) *ℤ z i v)))
-    (λ r l. turn d (y r) (f r v) ∙ (ap (λ x. y r *ℤ x) (h r l) ∙ sym (total_below-times m (y r) (λ i. f r (basic i) *ℤ z i v))))
+    (λ r l. mul-left_comm d (y r) (f r v) ∙ (ap (λ x. y r *ℤ x) (h r l) ∙ sym (total_below-times m (y r) (λ i. f r (basic i) *ℤ z i v))))
     ∙ (total_below-swap m m (λ r i. y r *ℤ (f r (basic i) *ℤ z i v))
     ∙ total_below-agree m (λ i. total_below m (λ r. y r *ℤ (f r (basic i) *ℤ z i v)))
     (λ i. total_below m (λ r. y r *ℤ f r (basic i)) *ℤ z i v)
@@ -76,9 +76,6 @@ mixed_rows m d y f z basic v h =
     (λ r k. grouped (y r) (f r (basic i)) (z i v))
     ∙ total_below-times_right m (z i v) (λ r. y r *ℤ f r (basic i)))))
   where
-    turn : (a b c : ℤ) → a *ℤ (b *ℤ c) ≡ b *ℤ (a *ℤ c)
-    turn a b c = rw (as_diff a, as_diff b, as_diff c) (simp diffs (same_diff _ _ _ _ (omega arith)))
-
     grouped : (a b c : ℤ) → a *ℤ (b *ℤ c) ≡ (a *ℤ b) *ℤ c
     grouped a b c = rw (as_diff a, as_diff b, as_diff c) (simp diffs (same_diff _ _ _ _ (omega arith)))
 

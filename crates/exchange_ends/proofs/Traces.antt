@@ -3,15 +3,15 @@ use Rattle.std.proofs.Common.{◌≡◌, ◌⊎◌, inl, inr, ℕ, zero, suc, �
 use Rattle.std.proofs.Common.{◌*ℤ◌, ◌≤ℤ◌, ◌<ℤ◌, refl, ap, ◌∙◌, sym, subst, arith, nat_eq}
 use Rattle.std.proofs.lemmas.Int.{ints, by_lt_z}
 use Rattle.std.proofs.lemmas.Bool.{cases_eq, cases_lt, eq-eqb, eqb-true}
-use Rattle.number_laws.proofs.Ring.{as_diff, diffs, same_diff, mul-comm}
-use Rattle.number_laws.proofs.Order.{times_nonneg, times_positive}
+use lib.Signed.{≤ℤ_refl}
+use Rattle.number_laws.proofs.Ring.{as_diff, diffs, same_diff, mul-comm, zero-mul}
+use Rattle.number_laws.proofs.Order.{times_nonneg, times_positive, weaker}
 use Rattle.number_laws.proofs.Comparison.{chained_le}
 use Rattle.bounded_sums.specs.Tests.{any_below}
 use Rattle.bounded_sums.proofs.TotalLaws.{total_below-zero}
 use Rattle.bounded_sums.proofs.TestLaws.{any_below-from, any_below-some}
 use Rattle.program_form.specs.Program.{ProgramDef, height}
 use Rattle.exchange_runs.specs.Table.{variables}
-use Rattle.exchange_runs.proofs.Signs.{weaker}
 use Rattle.exchange_runs.proofs.Invariants.{exchanged-away}
 use Rattle.exchange_ends.proofs.States.{State, IsGood, Enters, IsStep, IsBasic, objective_read, basic_zero, entering_not_basic, apart}
 use Rattle.exchange_ends.proofs.Bland.{IsFirm, no_return, firm_on, firm_back}
@@ -27,10 +27,7 @@ abbrev IsNoMore : ProgramDef → State → State → Type 0
 IsNoMore p s u = (s.z (height p) (variables p) *ℤ u.d) ≤ℤ (u.z (height p) (variables p) *ℤ s.d)
 
 no_more_itself : (p : ProgramDef) (s : State) → IsNoMore p s s
-no_more_itself p s = itself _
-  where
-    itself : (x : ℤ) → x ≤ℤ x
-    itself x = omega (arith, ints)
+no_more_itself p s = ≤ℤ_refl _
 
 no_more_through : (p : ProgramDef) (s u v : State) → IsGood p s → IsGood p u → IsGood p v → IsNoMore p s u → IsNoMore p u v
     → IsNoMore p s v
@@ -90,10 +87,7 @@ one_value p s g hs hg basic =
     (mul-comm g.d (s.z (height p) (variables p))) (mul-comm s.d (g.z (height p) (variables p)))
   where
     zero_times : (a b : ℤ) → a ≡ pos 0 → a *ℤ b ≡ pos 0
-    zero_times a b h = rw h (none b)
-      where
-        none : (x : ℤ) → pos 0 *ℤ x ≡ pos 0
-        none x = omega (arith, ints)
+    zero_times a b h = rw h (zero-mul b)
 
     same_value : (x y t u v : ℤ) → x ≡ y +ℤ t → t ≡ pos 0 → x ≡ u → y ≡ v → u ≤ℤ v
     same_value x y t u v q h k n = omega (arith, ints)

@@ -2,9 +2,9 @@
 use Rattle.std.proofs.Common.{◌≡◌, ℕ, ◌*◌, ◌<◌, ◌≤◌, List, slice_index, ℤ, pos, ◌*ℤ◌, neg_ℤ, ◌≤ℤ◌, ◌<ℤ◌, unsigned_abs}
 use Rattle.std.proofs.Common.{inl, inr, ap, ap₂, ◌∙◌, sym, subst, arith}
 use Rattle.std.proofs.lemmas.Int.{ints, unsigned_abs-mul}
-use Rattle.std.proofs.Math.Nat.{mul_comm, mul-le-mul_left, le_of_mul-le-mul_right}
+use Rattle.std.proofs.Math.Nat.{mul_comm, mul-le-mul_left, le_of_mul-le-mul_right, eq_of_mul-eq-mul_right}
 use Rattle.number_laws.proofs.Ring.{mul-swap_last}
-use Rattle.number_laws.proofs.Order.{cancel}
+use Rattle.number_laws.proofs.Order.{cancel, weaker, not_negative}
 use Rattle.bounded_sums.specs.Sums.{sum_below}
 use Rattle.bounded_sums.specs.WholeSums.{total_below}
 use Rattle.bounded_sums.proofs.SumLaws.{sum_below-agree, sum_below-times_right}
@@ -22,7 +22,7 @@ use Rattle.exchange_runs.specs.Table.{Table, variables, slack, objective}
 use Rattle.exchange_runs.specs.Exchange.{IsLast}
 use Rattle.exchange_runs.specs.Readings.{value_of, dual_at, IsValueOf, IsPrimal, IsWrittenDual}
 use Rattle.exchange_runs.specs.Feasible.{IsOptimumValue, IsPointWorth}
-use Rattle.exchange_runs.proofs.Signs.{weaker, turned, same_natural}
+use Rattle.exchange_runs.proofs.Signs.{turned, same_natural}
 use Rattle.exchange_runs.proofs.Shown.{Shows, shows_minus, shows_at_most_zero, at_least_zero_shown}
 use Rattle.exchange_runs.proofs.Ends.{end_covers, end_value, end_row, end_objective, at_variable, at_variable-nonneg}
 use Rattle.exchange_runs.proofs.Ends.{at_variable-basic, at_variable-none}
@@ -82,9 +82,6 @@ is_point p t d z h = record {
       = ap₂ ◌*ℤ◌ (sym (size_is d (weaker h.positive))) (ap pos (number_at_limit p r l)) in
       at_most_natural _ _ (rw (← left, ← right) rows);
 }
-  where
-    not_negative : (n : ℕ) → pos 0 ≤ℤ pos n
-    not_negative n = omega (arith, ints)
 
 -- It is worth minus the objective's number at the limit.
 pub worth_of : (p : ProgramDef) (t : Table) (d : ℤ) (z : ℕ → ℕ → ℤ) → IsShadow p t d z
@@ -142,14 +139,8 @@ optimum_at p a b x y py same h =
       not_passed = λ s ys point. passed_in b (worth p ys) a s x y h.positive same (h.not_passed s ys point);
     }
   where
-    same_factor : (u v k : ℕ) → 0 < k → u * k ≡ v * k → u ≡ v
-    same_factor u v k pk q =
-        let up : u ≤ v = le_of_mul-le-mul_right {k = k} (omega (arith, q)) pk in
-        let back : v ≤ u = le_of_mul-le-mul_right {k = k} (omega (arith, q)) pk in
-        omega arith
-
     attained_in : (e w c s n k : ℕ) → 0 < e → c * k ≡ n * e → w * e ≡ c * s → w * k ≡ n * s
-    attained_in e w c s n k pe p q = same_factor (w * k) (n * s) e pe (omega (arith, ap (λ m. m * s) p, ap (λ m. m * k) q))
+    attained_in e w c s n k pe p q = eq_of_mul-eq-mul_right e pe (w * k) (n * s) (omega (arith, ap (λ m. m * s) p, ap (λ m. m * k) q))
 
     passed_in : (e w c s n k : ℕ) → 0 < e → c * k ≡ n * e → w * e ≤ c * s → w * k ≤ n * s
     passed_in e w c s n k pe p q = le_of_mul-le-mul_right {k = e} (omega (arith, ap (λ m. m * s) p, mul-le-mul_left k q)) pe

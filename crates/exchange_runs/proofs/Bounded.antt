@@ -2,6 +2,7 @@
 use Rattle.std.proofs.Common.{◌≡◌, ◌⊎◌, inl, inr, ℕ, zero, suc, ◌+◌, ◌-◌, ◌<◌, ℤ, pos, ◌≤ℤ◌, ◌<ℤ◌, ◌∙◌, sym, subst, arith}
 use Rattle.std.proofs.lemmas.Int.{ints, by_lt_z}
 use Rattle.std.proofs.lemmas.Bool.{cases_lt}
+use Rattle.number_laws.proofs.Order.{above_zero, not_negative}
 use Rattle.bounded_sums.proofs.TotalLaws.{only_at-here}
 use Rattle.program_form.specs.Program.{ProgramDef, IsProgram, IsCovered, columns, height}
 use Rattle.exchange_runs.specs.Table.{Table, variables}
@@ -42,9 +43,6 @@ first_above p e covered l = elim (cases_lt e (columns p)) [
             (sym (has_slacks p k k (omega arith) within ∙ only_at-here k (pos 1))) (omega (arith, ints))),
       )
 ]
-  where
-    above_zero : (n : ℕ) → 0 < n → pos 0 <ℤ pos n
-    above_zero n h = omega (arith, ints)
 
 pub shadow_has_ratio : (p : ProgramDef) (t : Table) (e : ℕ) (d : ℤ) (z : ℕ → ℕ → ℤ)
     → ((c : ℕ) → c < columns p → IsCovered p c) → IsShadow p t d z
@@ -56,9 +54,6 @@ shadow_has_ratio p t e d z covered h l = elim (some_ratio (height p) t e) [
       absurd (never_unbounded (height p) e d (first_z p row.0) z t.basic h.positive (λ v. not_negative _) row.2 (h.reads row.0 row.1)
       (λ i k. shows_at_most_zero d (z i e) (t.cell i e) h.positive (h.shows i e (omega arith)) (none i k)))
 ]
-  where
-    not_negative : (n : ℕ) → pos 0 ≤ℤ pos n
-    not_negative n = omega (arith, ints)
 
 pub has_ratio : (p : ProgramDef) (k : ℕ) (t : Table) (e : ℕ) → IsProgram p → Reached p k t → e < variables p
     → (i : ℕ) × (i < height p) × HasRatio t e i

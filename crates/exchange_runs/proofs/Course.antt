@@ -6,8 +6,9 @@ use Rattle.std.specs.Int.{◌∣◌}
 use Rattle.std.proofs.lemmas.Int.{by_lt_z}
 use Rattle.std.proofs.lemmas.Bool.{cases_lt, cases_eq, eq-eqb, ne_eqb}
 use Rattle.std.proofs.lemmas.List.Elements.{All-from_get_or}
+use lib.Signed.{clash_ℤ}
 use Rattle.fraction128.specs.Fraction.{Fraction, IsForm, IsQuotient, whole}
-use Rattle.fraction128.specs.Gives.{HasNoForm}
+use Rattle.fraction128.specs.Gives.{HasNoForm, IsWideLess}
 use Rattle.fraction128.specs.Scaling.{IsLeastCommon, IsScaled, fraction_at}
 use Rattle.fraction128.proofs.Forms.{form_of_negated, form_of_zero}
 use Rattle.fraction128.proofs.Unique.{one_quotient, apart_of_positive}
@@ -17,7 +18,7 @@ use Rattle.program_form.specs.Certificate.{DualDef}
 use Rattle.exchange_runs.specs.Table.{Table, variables, slack, objective, first_entries, first_limit, first_number}
 use Rattle.exchange_runs.specs.Exchange.{IsEntering, IsLast, HasRatio, IsRatio, IsLeaving, IsLess, IsExchange}
 use Rattle.exchange_runs.specs.Run.{Reached, IsExchangeRun}
-use Rattle.exchange_runs.specs.WideExchange.{IsWideLess, IsWideRatio, IsWideQuotient, IsWideTaking, IsWideExchange}
+use Rattle.exchange_runs.specs.WideExchange.{IsWideRatio, IsWideQuotient, IsWideTaking, IsWideExchange}
 use Rattle.exchange_runs.specs.Readings.{value_of, dual_at, IsValueOf, IsPrimal, AreDuals, IsWrittenDual, IsWideEnd}
 use Rattle.exchange_runs.specs.Outcomes.{HasOutcome}
 use Rattle.exchange_runs.proofs.FirstTable.{first_of-past}
@@ -26,7 +27,6 @@ use Rattle.exchange_runs.proofs.Once.{forms, one_less}
 use Rattle.exchange_runs.proofs.Leasts.{least_among}
 use Rattle.exchange_runs.proofs.Loops.{reached_next, less_at_zero, quotient_of_zero, value_none, value_here, value_more, duals_not_below}
 use Rattle.exchange_runs.proofs.Found.{quotient_found, less_found, all_or_some, listed}
-use Rattle.exchange_runs.proofs.Signs.{not_back}
 
 -- Past the place of the limit every cell of a run is zero.
 pub zero_past_run : (p : ProgramDef) (k : ℕ) (t : Table) → IsProgram p → Reached p k t → (i v : ℕ) → i ≤ height p
@@ -86,7 +86,7 @@ ratio_found w t e i form =
       | inl there ↦ inl (λ has. (there.0, record { form = there.1; quotient = there.2 }))
       | inr none ↦ inr (record { above = above }, none)
     ])
-    (λ below. inl (λ has. absurd (not_back (pos 0) (t.cell i e).num has.above below)))
+    (λ below. inl (λ has. clash_ℤ has.above below))
 
 -- The leaving row, or a ratio without a form.
 leaving_or_wide : (p : ProgramDef) (k : ℕ) (t : Table) (e : ℕ) → IsProgram p → Reached p k t → e < variables p

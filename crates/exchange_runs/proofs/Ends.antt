@@ -3,21 +3,17 @@
 use Rattle.std.proofs.Common.{◌≡◌, ℕ, ◌+◌, ◌<◌, ◌≤◌, ℤ, pos, ◌+ℤ◌, ◌*ℤ◌, neg_ℤ, ◌≤ℤ◌, inl, inr, refl, ap, ◌∙◌, sym, arith}
 use Rattle.std.proofs.lemmas.Int.{ints}
 use Rattle.std.proofs.lemmas.Bool.{cases_eq}
-use Rattle.number_laws.proofs.Ring.{mul-neg_left, mul-zero}
+use Rattle.number_laws.proofs.Ring.{mul-neg_left, mul-zero, zero-mul, one-mul}
 use Rattle.number_laws.proofs.Order.{times_nonneg}
 use Rattle.bounded_sums.specs.WholeSums.{total_below, only_at}
 use Rattle.bounded_sums.proofs.TotalLaws.{total_below-agree, total_below-zero, total_below-times, total_below-nonneg}
 use Rattle.bounded_sums.proofs.TotalLaws.{total_below-only, total_below-swap, total_below-split, only_at-here}
 use Rattle.bounded_sums.proofs.TotalLaws.{only_at-away}
 use Rattle.exchange_runs.proofs.Invariants.{IsMix, IsRead}
-use Rattle.exchange_runs.proofs.Signs.{zero_times}
 
 -- A slack stands with one in its own first row and with zero in each other, the objective row among them.
 abbrev pub HasSlacks : ℕ → ℕ → (ℕ → ℕ → ℤ) → Type 0
 HasSlacks m n first = (r k : ℕ) → r ≤ m → k < m → first r (n + k) ≡ only_at k (pos 1) r
-
-one_times : (a : ℤ) → pos 1 *ℤ a ≡ a
-one_times a = omega (arith, ints)
 
 zero_plus : (a b : ℤ) → b ≡ (pos 0 *ℤ a) +ℤ b
 zero_plus a b = omega (arith, ints)
@@ -28,8 +24,8 @@ one_alone a s h = omega (arith, ints)
 -- one row, picked out by its slack's numbers
 picked : (j i : ℕ) (x : ℕ → ℤ) → only_at i (pos 1) j *ℤ x i ≡ only_at j (x j) i
 picked j i x = elim (cases_eq i j) [
-  | inl here ↦ rw (here, only_at-here j (pos 1), only_at-here j (x j)) (one_times (x j))
-  | inr away ↦ rw (only_at-away i (pos 1) j (λ e. away (sym e)), only_at-away j (x j) i away) (zero_times (x i))
+  | inl here ↦ rw (here, only_at-here j (pos 1), only_at-here j (x j)) (one-mul (x j))
+  | inr away ↦ rw (only_at-away i (pos 1) j (λ e. away (sym e)), only_at-away j (x j) i away) (zero-mul (x i))
 ]
 
 picked_sum : (m j : ℕ) (by x : ℕ → ℤ) → j < m → ((i : ℕ) → i < m → by i ≡ only_at i (pos 1) j) → total_below m (λ i. by i *ℤ x i) ≡ x j
@@ -40,7 +36,7 @@ picked_sum m j by x l h =
 none_sum : (m : ℕ) (by x : ℕ → ℤ) → ((i : ℕ) → i < m → by i ≡ only_at i (pos 1) m) → total_below m (λ i. by i *ℤ x i) ≡ pos 0
 none_sum m by x h =
     total_below-zero m (λ i. by i *ℤ x i)
-    (λ i k. ap (λ c. c *ℤ x i) (h i k ∙ only_at-away i (pos 1) m (λ e. omega arith)) ∙ zero_times (x i))
+    (λ i k. ap (λ c. c *ℤ x i) (h i k ∙ only_at-away i (pos 1) m (λ e. omega arith)) ∙ zero-mul (x i))
 
 pub start_mix : (m n : ℕ) (first : ℕ → ℕ → ℤ) (i : ℕ) → HasSlacks m n first → i < m → IsMix m n first (pos 0) (first i)
 start_mix m n first i slacks l = record {
@@ -59,7 +55,7 @@ pub start_read : (m n : ℕ) (first : ℕ → ℕ → ℤ) (basic : ℕ → ℕ)
     → IsRead m (pos 1) (pos 0) (first j) first basic
 start_read m n first basic j slacks is l = record {
   read = λ v.
-      one_times (first j v)
+      one-mul (first j v)
       ∙ (sym (picked_sum m j (λ i. first j (basic i)) (λ i. first i v) l (λ i k. ap (first j) (is i k) ∙ slacks j i (omega arith) k))
       ∙ zero_plus (first m v) (total_below m (λ i. first j (basic i) *ℤ first i v)));
 }
@@ -68,7 +64,7 @@ pub start_read_objective : (m n : ℕ) (first : ℕ → ℕ → ℤ) (basic : �
     → IsRead m (pos 1) (pos 1) (first m) first basic
 start_read_objective m n first basic slacks is = record {
   read = λ v.
-      one_times (first m v)
+      one-mul (first m v)
       ∙ one_alone (first m v) (total_below m (λ i. first m (basic i) *ℤ first i v)) (none_sum m (λ i. first m (basic i))
       (λ i. first i v) (λ i k. ap (first m) (is i k) ∙ slacks m i (omega arith) k));
 }
@@ -169,7 +165,7 @@ end_objective m n w d g z basic h within none slacks =
     let split = total_below-split n m (λ v. g v *ℤ values v) in
     let rest : total_below m (λ k. g (n + k) *ℤ values (n + k)) ≡ pos 0
     = total_below-zero m (λ k. g (n + k) *ℤ values (n + k))
-    (λ k l. ap (λ c. c *ℤ values (n + k)) (slacks k l) ∙ zero_times (values (n + k))) in
+    (λ k l. ap (λ c. c *ℤ values (n + k)) (slacks k l) ∙ zero-mul (values (n + k))) in
     worth_is d (z m w) _ _ _ _ (sym (ap (λ c. d *ℤ c) none) ∙ h.read w) all split rest
   where
     worth_is : (d o s t a b : ℤ) → d *ℤ pos 0 ≡ (pos 1 *ℤ o) +ℤ s → s ≡ t → t ≡ a +ℤ b → b ≡ pos 0 → a ≡ neg_ℤ o

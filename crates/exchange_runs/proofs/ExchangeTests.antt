@@ -9,6 +9,7 @@ use Rattle.std.specs.Int.{◌∣◌}
 use Rattle.std.specs.Ordering.{int_eq}
 use Rattle.std.proofs.Math.Nat.{eq-one_of_dvd-one, dvd-add_iff_right, div-add-mod', dvd-mul_left_of_dvd, dvd_of_mod-eq-zero, dvd_trans}
 use lib.Signed.{le_z, lt_z}
+use Rattle.number_laws.proofs.Order.{above_zero}
 use Rattle.number_laws.specs.Divisors.{IsCoprime}
 use Rattle.fraction128.specs.Fraction.{Fraction, IsForm, IsQuotient, IsAtMost, over, whole}
 use Rattle.fraction128.specs.LowestTerms.{signed}
@@ -46,14 +47,11 @@ form_of_test n (pos d) h =
     let small = and_parts (nat_lt (unsigned_abs n) 9223372036854775808) _ above.1 in
     let rest = and_parts (nat_lt d 9223372036854775808) _ small.1 in
     record {
-      positive = positive_of d (ltb-true 0 d above.0);
+      positive = above_zero d (ltb-true 0 d above.0);
       small_num = ltb-true (unsigned_abs n) 9223372036854775808 small.0;
       small_den = ltb-true d 9223372036854775808 rest.0;
       lowest = no_divisor (unsigned_abs n) d rest.1;
     }
-  where
-    positive_of : (m : ℕ) → 0 < m → pos 0 <ℤ pos m
-    positive_of m k = omega (arith, ints)
 form_of_test n (negsuc d) h = cc
 
 abbrev pub form_test : Fraction → Bool

@@ -6,14 +6,14 @@ use Rattle.std.specs.Int.{IsGcd}
 use Rattle.std.proofs.lemmas.Int.{ints}
 use Rattle.std.proofs.lemmas.Bool.{cases_lt}
 use Rattle.std.proofs.lemmas.List.{get_or_push, get_or_append_left, length_push}
+use Rattle.fraction128.proofs.Unique.{size_positive}
 use Rattle.number_laws.proofs.Order.{times_positive}
 use Rattle.number_laws.proofs.Divisors.{gcd_exists}
 use Rattle.fraction128.specs.Fraction.{Fraction, IsForm, IsSame, IsQuotient, IsProduct, IsDifference, over}
-use Rattle.fraction128.specs.Gives.{HasNoForm}
+use Rattle.fraction128.specs.Gives.{HasNoForm, IsWideLess}
 use Rattle.fraction128.specs.LowestTerms.{IsLowest, signed}
 use Rattle.fraction128.proofs.Reduced.{reduced, value_kept, form_of_lowest, no_form}
 use Rattle.exchange_runs.specs.Exchange.{IsLess}
-use Rattle.exchange_runs.specs.WideExchange.{IsWideLess}
 
 -- Has the value that is asked for a form, or none?
 abbrev pub IsFound : (Fraction → Type 0) → Type 0
@@ -25,7 +25,7 @@ value_found n d above =
     let top : ℕ = unsigned_abs n / g.0 in
     let bottom : ℕ = unsigned_abs d / g.0 in
     let lowest : IsLowest (unsigned_abs n) (unsigned_abs d) top bottom =
-    reduced (unsigned_abs n) (unsigned_abs d) g.0 (size_above d above) g.1 in
+    reduced (unsigned_abs n) (unsigned_abs d) g.0 (size_positive d above) g.1 in
     elim (cases_lt top (2 ^ 63)) [
       | inl small_top ↦ elim (cases_lt bottom (2 ^ 63)) [
         | inl small_bottom ↦
@@ -39,9 +39,6 @@ value_found n d above =
       | inr wide ↦ inr (no_form n d top bottom (from_one d above) lowest (λ both. too_large top (2 ^ 63) both.0 wide))
     ]
   where
-    size_above : (x : ℤ) → pos 0 <ℤ x → 0 < unsigned_abs x
-    size_above x h = omega (arith, ints)
-
     from_one : (x : ℤ) → pos 0 <ℤ x → pos 1 ≤ℤ x
     from_one x h = omega (arith, ints)
 

@@ -1,19 +1,17 @@
 -- The least of the ratios of a table's first rows, row by row, whatever else a ratio must be: its denominator is above zero.
-use Rattle.std.proofs.Common.{◌≡◌, ◌⊎◌, inl, inr, ℕ, zero, suc, ◌+◌, ◌<◌, ◌≤◌, add-one, ℤ, pos, ◌*ℤ◌, ◌≤ℤ◌, ◌<ℤ◌, subst, arith}
-use Rattle.std.proofs.lemmas.Int.{ints, by_lt_z}
+use Rattle.std.proofs.Common.{◌≡◌, ◌⊎◌, inl, inr, ℕ, zero, suc, ◌+◌, ◌<◌, ◌≤◌, add-one, pos, ◌*ℤ◌, ◌<ℤ◌, subst, arith}
+use Rattle.std.proofs.lemmas.Int.{by_lt_z}
 use Rattle.std.proofs.lemmas.Bool.{cases_lt}
+use lib.Signed.{≤ℤ_refl, clash_ℤ}
+use Rattle.number_laws.proofs.Order.{weaker}
 use Rattle.number_laws.proofs.Comparison.{chained_le}
 use Rattle.fraction128.specs.Fraction.{Fraction, IsAtMost}
 use Rattle.exchange_runs.specs.Table.{Table}
 use Rattle.exchange_runs.specs.Exchange.{HasRatio, IsRatioOver, IsLeastOver}
-use Rattle.exchange_runs.proofs.Signs.{weaker, not_back}
 
 -- Has each such value a denominator above zero?
 abbrev pub AreFractions : (Fraction → Type 0) → Type 0
 AreFractions IsCell = (f : Fraction) → IsCell f → pos 0 <ℤ f.den
-
-at_most_itself : (x : ℤ) → x ≤ℤ x
-at_most_itself x = omega (arith, ints)
 
 at_most_through : (IsCell : Fraction → Type 0) (a b c : Fraction) → AreFractions IsCell → IsCell a → IsCell b → IsCell c
     → IsAtMost a b → IsAtMost b c → IsAtMost a c
@@ -30,7 +28,7 @@ first_has_least IsCell w t e k f none has is = record {
   ratio = is;
   least = λ i l h. elim (cases_lt i k) [
     | inl earlier ↦ absurd (none i earlier h)
-    | inr here ↦ let same : i ≡ k = omega arith in rw same (f, is, record { le = at_most_itself _ }, λ back. omega arith)
+    | inr here ↦ let same : i ≡ k = omega arith in rw same (f, is, record { le = ≤ℤ_refl _ }, λ back. omega arith)
   ];
 }
 
@@ -82,7 +80,7 @@ least_replaced IsCell w t e k r f g are h has_k is at_most tie = record {
               let i_back : IsAtMost of_i.0 f = at_most_through IsCell of_i.0 g f are of_i.1.form is.form h.ratio.form back at_most in
               omega (arith, tie f_back, of_i.3 i_back),
         )
-    | inr here ↦ let same : i ≡ k = omega arith in rw same (g, is, record { le = at_most_itself _ }, λ back. omega arith)
+    | inr here ↦ let same : i ≡ k = omega arith in rw same (g, is, record { le = ≤ℤ_refl _ }, λ back. omega arith)
   ];
 }
 
@@ -92,13 +90,13 @@ least_more : (IsCell : Fraction → Type 0) (w : ℕ) (t : Table) (e k r : ℕ) 
     → IsRatioOver IsCell w t e k g → (s : ℕ) × (m : Fraction) × IsLeastOver IsCell w t e (k + 1) s m
 least_more IsCell w t e k r f g are h has is =
     by_lt_z (f.num *ℤ g.den) (g.num *ℤ f.den)
-    (λ below. (r, f, least_kept IsCell w t e k r f g h is (record { le = weaker below }) (λ back. absurd (not_back _ _ below back.le))))
+    (λ below. (r, f, least_kept IsCell w t e k r f g h is (record { le = weaker below }) (λ back. clash_ℤ below back.le)))
     (λ at_most. by_lt_z (g.num *ℤ f.den) (f.num *ℤ g.den)
     (λ below. (
       k,
       g,
       least_replaced IsCell w t e k r f g are h has is (record { le = at_most })
-          (λ back. absurd (not_back _ _ below back.le)),
+          (λ back. clash_ℤ below back.le),
     ))
     (λ equal. elim (cases_lt (t.basic k) (t.basic r)) [
       | inl first ↦ (k, g, least_replaced IsCell w t e k r f g are h has is (record { le = at_most }) (λ back. omega (arith, first)))
@@ -127,7 +125,7 @@ least_among IsCell w t e (suc k) are ratios =
           inr (more.0, more.1, subst (λ (n : ℕ). IsLeastOver IsCell w t e n more.0 more.1) (add-one k) more.2)
     ])
     (λ below.
-    let none_here : HasRatio t e k → ⊥ = λ has. not_back (pos 0) (t.cell k e).num has.above below in
+    let none_here : HasRatio t e k → ⊥ = λ has. clash_ℤ has.above below in
     elim (least_among IsCell w t e k are (λ i l. ratios i (omega arith))) [
       | inl none ↦ inl (λ i l has. elim (cases_lt i k) [
         | inl earlier ↦ none i earlier has

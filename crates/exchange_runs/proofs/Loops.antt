@@ -4,7 +4,7 @@ use Rattle.std.proofs.Common.{◌∙◌, sym, subst, arith}
 use Rattle.std.proofs.lemmas.Int.{ints}
 use Rattle.std.proofs.lemmas.Bool.{cases_lt}
 use Rattle.std.proofs.lemmas.List.Elements.{All-from_get_or}
-use Rattle.number_laws.proofs.Ring.{mul-one}
+use Rattle.number_laws.proofs.Ring.{mul-one, zero-mul, mul-zero}
 use Rattle.fraction128.specs.Fraction.{Fraction, IsForm, IsQuotient, IsProduct, IsDifference, IsAtMost, whole}
 use Rattle.fraction128.proofs.Forms.{form_of_zero}
 use Rattle.program_form.specs.Program.{ProgramDef, height}
@@ -54,26 +54,20 @@ pub less_of_zero : (a f y : Fraction) → f.num ≡ pos 0 → IsForm a → IsLes
 less_of_zero a f y zero_f form = record {
   product = whole (pos 0);
   product_form = form_of_zero;
-  is_product = no_product f y (ap (λ x. x *ℤ y.num) zero_f ∙ none y.num);
+  is_product = no_product f y (ap (λ x. x *ℤ y.num) zero_f ∙ zero-mul y.num);
   form = form;
   is_difference = less_nothing a;
 }
-  where
-    none : (x : ℤ) → pos 0 *ℤ x ≡ pos 0
-    none x = omega (arith, ints)
 
 -- nor where the cell of the leaving row is zero
 pub less_at_zero : (a f y : Fraction) → y.num ≡ pos 0 → IsForm a → IsLess a f y a
 less_at_zero a f y zero_y form = record {
   product = whole (pos 0);
   product_form = form_of_zero;
-  is_product = no_product f y (ap (λ x. f.num *ℤ x) zero_y ∙ none f.num);
+  is_product = no_product f y (ap (λ x. f.num *ℤ x) zero_y ∙ mul-zero f.num);
   form = form;
   is_difference = less_nothing a;
 }
-  where
-    none : (x : ℤ) → x *ℤ pos 0 ≡ pos 0
-    none x = omega (arith, ints)
 
 -- Zero divided is zero.
 pub quotient_of_zero : (a b : Fraction) → a.num ≡ pos 0 → IsQuotient a b (whole (pos 0))

@@ -1,9 +1,9 @@
 -- A program has one run: each table has one entering variable, one leaving row and one next table, and a run that ends or is wide
 -- goes no further.
-use Rattle.std.proofs.Common.{◌≡◌, ◌⊎◌, inl, inr, ℕ, zero, suc, ◌+◌, ◌-◌, ◌^◌, ◌<◌, ◌≤◌, slice_index, ℤ, pos, ◌≤ℤ◌}
-use Rattle.std.proofs.Common.{◌<ℤ◌, ◌∙◌, sym, subst, arith}
-use Rattle.std.proofs.lemmas.Int.{ints}
+use Rattle.std.proofs.Common.{◌≡◌, ◌⊎◌, inl, inr, ℕ, zero, suc, ◌+◌, ◌-◌, ◌^◌, ◌<◌, ◌≤◌, slice_index, ℤ}
+use Rattle.std.proofs.Common.{◌∙◌, sym, subst, arith}
 use Rattle.std.proofs.lemmas.Bool.{cases_lt, cases_eq, lt-ltb, le-ltb}
+use lib.Signed.{clash_ℤ}
 use Rattle.fraction128.specs.Fraction.{Fraction, IsForm, IsAtMost}
 use Rattle.fraction128.proofs.Unique.{one_difference, one_product, one_quotient, apart_of_positive}
 use Rattle.fraction128.proofs.Forms.{form_of_whole}
@@ -11,7 +11,8 @@ use Rattle.program_form.specs.Program.{ProgramDef, IsProgram, columns, height}
 use Rattle.exchange_runs.specs.Table.{Table, variables, slack, objective, first_entries, first_limit, first_number}
 use Rattle.exchange_runs.specs.Exchange.{IsEntering, IsLast, HasRatio, IsRatio, IsLeaving, IsLess, IsExchange}
 use Rattle.exchange_runs.specs.Run.{Reached, IsSameTable}
-use Rattle.exchange_runs.specs.WideExchange.{IsWideLess, IsWideRatio, IsWideQuotient, IsWideTaking, IsWideStep, IsWideExchange}
+use Rattle.fraction128.specs.Gives.{IsWideLess}
+use Rattle.exchange_runs.specs.WideExchange.{IsWideRatio, IsWideQuotient, IsWideTaking, IsWideStep, IsWideExchange}
 use Rattle.exchange_runs.proofs.FirstTable.{first_of-column, first_of-own, first_of-other, first_of-limit, first_of-past}
 use Rattle.exchange_runs.proofs.Shadows.{IsShadow, shadow_reached}
 use Rattle.exchange_runs.proofs.Best.{basics_apart}
@@ -69,13 +70,10 @@ forms p (suc k) t accepted h i v l = elim (cases_eq i h.2) [
 pub same_back : (p : ProgramDef) (t u : Table) → IsSameTable p t u → IsSameTable p u t
 same_back p t u same = record { cells = λ i v l. sym (same.cells i v l); basis = λ i l. sym (same.basis i l) }
 
-not_both : (x : ℤ) → pos 0 <ℤ x → x ≤ℤ pos 0 → ⊥
-not_both x h k = omega (arith, ints)
-
 -- What enters one of two same tables is not passed over in the other.
 not_earlier : (p : ProgramDef) (t u : Table) (e f : ℕ) → IsSameTable p t u → IsEntering p t e → IsEntering p u f → e < f → ⊥
 not_earlier p t u e f same h k l =
-    not_both (objective p t e).num h.above (rw (same.cells (height p) e (omega arith)) (k.least e l))
+    clash_ℤ h.above (rw (same.cells (height p) e (omega arith)) (k.least e l))
 
 pub one_entering : (p : ProgramDef) (t u : Table) (e f : ℕ) → IsSameTable p t u → IsEntering p t e → IsEntering p u f → e ≡ f
 one_entering p t u e f same h k = elim (cases_lt e f) [
@@ -185,7 +183,7 @@ one_run p (suc k) t u accepted h j =
 
 -- A table with an exchange is not the last.
 pub not_last : (p : ProgramDef) (t u : Table) (e : ℕ) → IsSameTable p t u → IsEntering p t e → IsLast p u → ⊥
-not_last p t u e same h last = not_both (objective p t e).num h.above (rw (same.cells (height p) e (omega arith)) (last.none e h.within))
+not_last p t u e same h last = clash_ℤ h.above (rw (same.cells (height p) e (omega arith)) (last.none e h.within))
 
 -- nor is its exchange wide
 wide_ratio : (p : ProgramDef) (t u s : Table) (e r : ℕ) → IsSameTable p t u → IsExchange p t s e r

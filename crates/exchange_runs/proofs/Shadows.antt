@@ -2,8 +2,8 @@
 use Rattle.std.proofs.Common.{◌≡◌, ℕ, zero, suc, ◌<◌, ◌≤◌, ℤ, pos, ◌-ℤ◌, ◌*ℤ◌, ◌≤ℤ◌, ◌<ℤ◌, inl, inr, refl, sym, arith}
 use Rattle.std.proofs.lemmas.Int.{ints}
 use Rattle.std.proofs.lemmas.Bool.{cases_eq}
-use Rattle.number_laws.proofs.Ring.{mul-comm}
-use Rattle.number_laws.proofs.Order.{times_positive}
+use Rattle.number_laws.proofs.Ring.{mul-comm, mul-zero}
+use Rattle.number_laws.proofs.Order.{times_positive, not_negative}
 use Rattle.fraction128.specs.Fraction.{Fraction, IsForm}
 use Rattle.bounded_sums.specs.WholeSums.{only_at}
 use Rattle.program_form.specs.Program.{ProgramDef, columns, height}
@@ -45,9 +45,6 @@ shadow_start p t start = record {
   basics = λ i l. rw (start.basis i l) (omega arith);
   limits = λ i l. not_negative (first_number p i (variables p));
 }
-  where
-    not_negative : (n : ℕ) → pos 0 ≤ℤ pos n
-    not_negative n = omega (arith, ints)
 
 -- The ratio of a row is its limit's number over that of its cell at e.
 pub ratio_shows : (IsCell : Fraction → Type 0) (p : ProgramDef) (t : Table) (d : ℤ) (z : ℕ → ℕ → ℤ) (e i : ℕ)
@@ -93,7 +90,7 @@ shadow_after IsCell p t u e r d z are x h =
         | inl here ↦ rw here (mix_after_itself (height p) (columns p) (first_z p) d z r e (h.mixes r within))
         | inr away ↦
             mix_agree (height p) (columns p) (first_z p) (z r e *ℤ pos 0) (pos 0) (exchanged r e d z i)
-            (exchanged r e d z i) (none (z r e)) (λ v. refl)
+            (exchanged r e d z i) (mul-zero (z r e)) (λ v. refl)
             (mix_after (height p) (columns p) (first_z p) d (pos 0) z r e i away (h.mixes r within) (h.mixes i l))
       ];
       mixes_objective =
@@ -116,9 +113,6 @@ shadow_after IsCell p t u e r d z are x h =
           (ratio_shows IsCell p t d z e i other.0 are h (omega arith) other.1)
           other.2);
     }
-  where
-    none : (a : ℤ) → a *ℤ pos 0 ≡ pos 0
-    none a = omega (arith, ints)
 
 -- Each table that a run reaches has such numbers.
 pub shadow_over : (IsCell : Fraction → Type 0) (p : ProgramDef) (k : ℕ) (t : Table) → AreFractions IsCell → ReachedOver IsCell p k t

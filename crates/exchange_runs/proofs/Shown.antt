@@ -1,10 +1,9 @@
 -- Fractions as whole numbers over one denominator, with no division: what each operation on fractions makes of those numbers.
 use Rattle.std.proofs.Common.{◌≡◌, ℤ, pos, ◌-ℤ◌, ◌*ℤ◌, neg_ℤ, ◌≤ℤ◌, ◌<ℤ◌, ap, ◌∙◌, sym, arith}
 use Rattle.std.proofs.lemmas.Int.{ints}
-use Rattle.number_laws.proofs.Ring.{as_diff, diffs, same_diff, by_one, by_three, mul-neg_left}
-use Rattle.number_laws.proofs.Order.{times_positive, times_le, times_lt, cancel, cancel_le, cancel_lt}
+use Rattle.number_laws.proofs.Ring.{as_diff, diffs, same_diff, by_one, by_three, mul-neg_left, zero-mul}
+use Rattle.number_laws.proofs.Order.{times_positive, times_le, times_lt, cancel, cancel_le, cancel_lt, weaker}
 use Rattle.fraction128.specs.Fraction.{Fraction, IsQuotient, IsProduct, IsDifference, IsAtMost, over, whole}
-use Rattle.exchange_runs.proofs.Signs.{zero_times, weaker}
 
 -- Is f the value x / d, over a denominator above zero?
 pub record Shows (d x : ℤ) (f : Fraction) : Type 0 where
@@ -89,22 +88,22 @@ at_most_of x y u v p q h = omega (arith, ints)
 pub shows_above : (d x : ℤ) (f : Fraction) → pos 0 <ℤ d → Shows d x f → pos 0 <ℤ f.num → pos 0 <ℤ x
 shows_above d x f pd h above =
     cancel_lt (pos 0) x f.den h.positive
-    (below_of _ _ _ _ (zero_times d ∙ sym (zero_times f.den)) h.same (times_lt (pos 0) f.num d pd above))
+    (below_of _ _ _ _ (zero-mul d ∙ sym (zero-mul f.den)) h.same (times_lt (pos 0) f.num d pd above))
 
 pub above_shown : (d x : ℤ) (f : Fraction) → pos 0 <ℤ d → Shows d x f → pos 0 <ℤ x → pos 0 <ℤ f.num
 above_shown d x f pd h above =
     cancel_lt (pos 0) f.num d pd
-    (below_of _ _ _ _ (zero_times f.den ∙ sym (zero_times d)) (sym h.same) (times_lt (pos 0) x f.den h.positive above))
+    (below_of _ _ _ _ (zero-mul f.den ∙ sym (zero-mul d)) (sym h.same) (times_lt (pos 0) x f.den h.positive above))
 
 pub shows_at_most_zero : (d x : ℤ) (f : Fraction) → pos 0 <ℤ d → Shows d x f → f.num ≤ℤ pos 0 → x ≤ℤ pos 0
 shows_at_most_zero d x f pd h below =
     cancel_le x (pos 0) f.den h.positive
-    (at_most_of _ _ _ _ h.same (zero_times d ∙ sym (zero_times f.den)) (times_le f.num (pos 0) d (weaker pd) below))
+    (at_most_of _ _ _ _ h.same (zero-mul d ∙ sym (zero-mul f.den)) (times_le f.num (pos 0) d (weaker pd) below))
 
 pub at_least_zero_shown : (d x : ℤ) (f : Fraction) → pos 0 <ℤ d → Shows d x f → pos 0 ≤ℤ x → pos 0 ≤ℤ f.num
 at_least_zero_shown d x f pd h above =
     cancel_le (pos 0) f.num d pd
-    (at_most_of _ _ _ _ (zero_times f.den ∙ sym (zero_times d)) (sym h.same)
+    (at_most_of _ _ _ _ (zero-mul f.den ∙ sym (zero-mul d)) (sym h.same)
     (times_le (pos 0) x f.den (weaker h.positive) above))
 
 at_most_left : (fn fd gd d x b : ℤ) → fn *ℤ d ≡ x *ℤ fd → (fn *ℤ gd) *ℤ (d *ℤ b) ≡ (x *ℤ b) *ℤ (fd *ℤ gd)

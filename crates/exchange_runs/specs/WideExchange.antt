@@ -1,15 +1,10 @@
 -- The exchange that cannot be made: it is begun, and forms a value that no `Frac` holds.
 use Rattle.std.specs.Prelude.{◌≢◌, ◌⊎◌, ℕ, ◌<◌, ◌≤◌}
-use Rattle.fraction128.specs.Fraction.{Fraction, IsForm, IsQuotient, IsProduct, IsDifference}
-use Rattle.fraction128.specs.Gives.{HasNoForm}
+use Rattle.fraction128.specs.Fraction.{Fraction, IsForm, IsQuotient}
+use Rattle.fraction128.specs.Gives.{HasNoForm, IsWideLess}
 use Rattle.program_form.specs.Program.{ProgramDef, height}
 use Rattle.exchange_runs.specs.Table.{Table, variables}
 use Rattle.exchange_runs.specs.Exchange.{IsEntering, HasRatio, IsLeaving}
-
--- Has f times y no form, or what is left of a when it is taken away?
-abbrev pub IsWideLess : Fraction → Fraction → Fraction → Type 0
-IsWideLess a f y =
-    HasNoForm (IsProduct f y) ⊎ ((product : Fraction) × (IsForm product) × (IsProduct f y product) × HasNoForm (IsDifference a product))
 
 -- Has the ratio of some row below k no form, where e enters? The limits stand at the given place.
 pub record IsWideRatio (place k : ℕ) (t : Table) (e : ℕ) : Type 0 where

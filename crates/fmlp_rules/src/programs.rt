@@ -7,9 +7,9 @@ ghost use Rattle.program_laws.proofs.WrittenPrograms.{written_program, programs_
 ghost use Rattle.program_laws.proofs.CoveredColumns.{covered};
 
 use crate::FmlpPlus;
-use program_form::Program;
+use program_form::{Program, SparseProgram};
 use program_sources::ProgramSource;
-use protocol_programs::{interference, keeps_jobs, limits, program};
+use protocol_programs::{interference, keeps_jobs, limits, program, sparse_program};
 use sporadic_model::{Protocol, TaskId, TaskSet};
 use std::alloc::{AllocError, Global};
 
@@ -36,6 +36,16 @@ impl ProgramSource for FmlpPlus {
         bounds: &[u64],
     ) -> Result<Program, AllocError> {
         program(alloc, set, Protocol::FmlpPlus, i, bounds)
+    }
+
+    fn sparse_program(
+        &self,
+        alloc: Global,
+        set: &TaskSet,
+        i: TaskId,
+        bounds: &[u64],
+    ) -> Result<SparseProgram, AllocError> {
+        sparse_program(alloc, set, Protocol::FmlpPlus, i, bounds)
     }
 
     fn limits(

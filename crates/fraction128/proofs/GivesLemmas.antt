@@ -1,7 +1,7 @@
 -- From what `ratio` gives of an unreduced value to what the operation gives.
 use Rattle.std.proofs.Common.{◌≡◌, ℤ, pos, subst, ◌+ℤ◌, ◌-ℤ◌, ◌*ℤ◌, neg_ℤ, Result, Ok, Err, ap, ◌∙◌, sym, arith}
 use Rattle.std.proofs.lemmas.Int.{ints}
-use Rattle.number_laws.proofs.Ring.{as_diff, diffs, same_diff, mul-comm}
+use Rattle.number_laws.proofs.Ring.{mul-comm, mul-neg_left, mul-neg_right, mul-one, one-mul}
 use Rattle.fraction128.specs.Fraction.{Fraction, IsSame, IsSum, IsDifference, IsProduct, IsQuotient, over}
 use Rattle.fraction128.specs.Gives.{Gives}
 use Rattle.fraction128.specs.declared.Wide.{Wide}
@@ -28,25 +28,13 @@ gives_quotient (Err w) a b h = λ f form is. h f form (record { same = ap (λ z.
 
 -- both signs turned round
 turned : (x n d y : ℤ) → x *ℤ neg_ℤ d ≡ neg_ℤ n *ℤ y → x *ℤ d ≡ n *ℤ y
-turned x n d y h = both_less _ _ (sym (mul_neg x d) ∙ (h ∙ neg_mul n y))
+turned x n d y h = both_less _ _ (sym (mul-neg_right x d) ∙ (h ∙ mul-neg_left n y))
   where
-    mul_neg : (a b : ℤ) → a *ℤ neg_ℤ b ≡ neg_ℤ (a *ℤ b)
-    mul_neg a b = rw (as_diff a, as_diff b) (simp diffs (same_diff _ _ _ _ (omega arith)))
-
-    neg_mul : (a b : ℤ) → neg_ℤ a *ℤ b ≡ neg_ℤ (a *ℤ b)
-    neg_mul a b = rw (as_diff a, as_diff b) (simp diffs (same_diff _ _ _ _ (omega arith)))
-
     both_less : (a b : ℤ) → neg_ℤ a ≡ neg_ℤ b → a ≡ b
     both_less a b p = omega (arith, ints)
 
 turned_back : (x n d y : ℤ) → x *ℤ d ≡ n *ℤ y → x *ℤ neg_ℤ d ≡ neg_ℤ n *ℤ y
-turned_back x n d y h = mul_neg x d ∙ (ap neg_ℤ h ∙ sym (neg_mul n y))
-  where
-    mul_neg : (a b : ℤ) → a *ℤ neg_ℤ b ≡ neg_ℤ (a *ℤ b)
-    mul_neg a b = rw (as_diff a, as_diff b) (simp diffs (same_diff _ _ _ _ (omega arith)))
-
-    neg_mul : (a b : ℤ) → neg_ℤ a *ℤ b ≡ neg_ℤ (a *ℤ b)
-    neg_mul a b = rw (as_diff a, as_diff b) (simp diffs (same_diff _ _ _ _ (omega arith)))
+turned_back x n d y h = mul-neg_right x d ∙ (ap neg_ℤ h ∙ sym (mul-neg_left n y))
 
 pub gives_turned : (r : Result Fraction Wide) (n d : ℤ) → Gives r (IsSame (over (neg_ℤ n) (neg_ℤ d))) → Gives r (IsSame (over n d))
 gives_turned (Ok f) n d h = (h.0, record { same = turned f.num n d f.den h.1.same })
@@ -54,13 +42,7 @@ gives_turned (Err w) n d h = λ f form is. h f form (record { same = turned_back
 
 -- a denominator times one
 pub gives_over_whole : (r : Result Fraction Wide) (n d e : ℤ) → e ≡ pos 1 → Gives r (IsSame (over n d)) → Gives r (IsSame (over n (d *ℤ e)))
-gives_over_whole r n d e one h = subst (λ (z : ℤ). Gives r (IsSame (over n z))) (sym (ap (λ z. d *ℤ z) one ∙ once d)) h
-  where
-    once : (z : ℤ) → z *ℤ pos 1 ≡ z
-    once z = omega (arith, ints)
+gives_over_whole r n d e one h = subst (λ (z : ℤ). Gives r (IsSame (over n z))) (sym (ap (λ z. d *ℤ z) one ∙ mul-one d)) h
 
 pub gives_whole_over : (r : Result Fraction Wide) (n d e : ℤ) → e ≡ pos 1 → Gives r (IsSame (over n d)) → Gives r (IsSame (over n (e *ℤ d)))
-gives_whole_over r n d e one h = subst (λ (z : ℤ). Gives r (IsSame (over n z))) (sym (ap (λ z. z *ℤ d) one ∙ once d)) h
-  where
-    once : (z : ℤ) → pos 1 *ℤ z ≡ z
-    once z = omega (arith, ints)
+gives_whole_over r n d e one h = subst (λ (z : ℤ). Gives r (IsSame (over n z))) (sym (ap (λ z. z *ℤ d) one ∙ one-mul d)) h

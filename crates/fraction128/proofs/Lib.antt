@@ -6,3 +6,4 @@ pub mod OrderLemmas
 pub mod Forms
 pub mod ScalingLemmas
 pub mod OddParts
+pub mod Less

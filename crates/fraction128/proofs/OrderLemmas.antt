@@ -8,7 +8,8 @@ use Rattle.std.specs.declared.cmp.Ordering.TheVariants.{Less, Equal, Greater}
 use Rattle.std.specs.Ordering.{MatchOrdering, int_cmp, ordering_then}
 use Rattle.std.proofs.lemmas.Int.{ints}
 use Rattle.std.proofs.lemmas.Cmp.{int_ranked, by_ranked, tied_itself}
-use Rattle.number_laws.proofs.Comparison.{chained_le, le_either, same_of_both}
+use Rattle.number_laws.proofs.Order.{same_of_both}
+use Rattle.number_laws.proofs.Comparison.{chained_le, le_either}
 use Rattle.fraction128.specs.Fraction.{Fraction, IsForm, IsAtMost, IsBelow}
 use Rattle.fraction128.specs.Order.{weight_of, cross_cmp, parts_cmp, value_cmp}
 use Rattle.fraction128.specs.OrderLaws.{parts_are_total}

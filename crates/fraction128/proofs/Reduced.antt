@@ -1,12 +1,13 @@
 -- What dividing by the greatest common divisor makes of a fraction.
-use Rattle.std.proofs.Common.{◌≡◌, ℕ, zero, suc, ◌*◌, ◌/◌, ◌<◌, ◌≤◌, ◌^◌, ℤ, pos, negsuc, ◌*ℤ◌, ◌≤ℤ◌, ◌<ℤ◌}
+use Rattle.std.proofs.Common.{◌≡◌, ℕ, zero, suc, ◌*◌, ◌/◌, ◌<◌, ◌^◌, ℤ, pos, negsuc, ◌*ℤ◌, ◌≤ℤ◌, ◌<ℤ◌}
 use Rattle.std.proofs.Common.{inl, inr, ◌⊎◌, ◌+◌, ◌-◌, ◌+ℤ◌, ◌-ℤ◌, unsigned_abs, ap, ◌∙◌, sym, subst, refl, arith}
 use Rattle.std.proofs.lemmas.Bool.{cases_lt}
-use Rattle.std.proofs.Math.Nat.{dvd-add, dvd-sub, dvd-mul_left}
+use Rattle.std.proofs.Math.Nat.{dvd-add, dvd-sub, dvd-mul_left, eq_of_mul-eq-mul_right}
 use Rattle.std.proofs.lemmas.Nat.Gcd.{dvd_trans}
 use Rattle.std.specs.Int.{IsGcd, ◌∣◌}
 use Rattle.std.proofs.lemmas.Int.{ints, unsigned_abs-mul}
-use Rattle.std.proofs.Math.Nat.{eq-one_of_dvd-one, div-mul_cancel, pos_of_dvd_of_pos, dvd-mul_right, le_of_mul-le-mul_right}
+use Rattle.std.proofs.Math.Nat.{eq-one_of_dvd-one, div-mul_cancel, pos_of_dvd_of_pos, dvd-mul_right}
+use Rattle.number_laws.proofs.Order.{above_zero}
 use Rattle.number_laws.specs.Divisors.{IsCoprime}
 use Rattle.number_laws.proofs.Divisors.{parts_apart, coprime_of_gcd, lowest_terms_once}
 use Rattle.number_laws.proofs.Ring.{mul-one}
@@ -46,14 +47,11 @@ pub form_of_lowest : (n d : ℤ) (top bottom : ℕ) → IsLowest (unsigned_abs n
 form_of_lowest n d top bottom l small_top small_bottom =
     let size : unsigned_abs (signed n top) ≡ top = size-signed n top in
     record {
-      positive = positive_of bottom l.positive;
+      positive = above_zero bottom l.positive;
       small_num = omega arith;
       small_den = small_bottom;
       lowest = subst (λ (m : ℕ). IsCoprime m bottom) (sym size) l.lowest;
     }
-  where
-    positive_of : (m : ℕ) → 0 < m → pos 0 <ℤ pos m
-    positive_of m h = omega (arith, ints)
 
 -- the sizes of a value: lowest terms that don't fit leave no form
 pub no_form : (n d : ℤ) (top bottom : ℕ) → pos 1 ≤ℤ d → IsLowest (unsigned_abs n) (unsigned_abs d) top bottom
@@ -71,14 +69,8 @@ no_form n d top bottom above l wide f form is =
     positive_of : (z : ℤ) → pos 1 ≤ℤ z → pos 0 <ℤ z
     positive_of z h = omega (arith, ints)
 
-    same_factor : (x y z : ℕ) → 0 < z → x * z ≡ y * z → x ≡ y
-    same_factor x y z pz q =
-        let up : x ≤ y = le_of_mul-le-mul_right {k = z} (omega (arith, q)) pz in
-        let back : y ≤ x = le_of_mul-le-mul_right {k = z} (omega (arith, q)) pz in
-        omega arith
-
     crossed : (fn fd n d top bottom : ℕ) → 0 < d → fn * d ≡ n * fd → top * d ≡ n * bottom → top * fd ≡ fn * bottom
-    crossed fn fd n d top bottom pd p q = same_factor _ _ d pd (omega (arith, ap (λ m. m * bottom) p, ap (λ m. m * fd) q))
+    crossed fn fd n d top bottom pd p q = eq_of_mul-eq-mul_right d pd (top * fd) (fn * bottom) (omega (arith, ap (λ m. m * bottom) p, ap (λ m. m * fd) q))
 
 pub reduced_by_one : (a b g : ℕ) → 0 < b → g ≡ 1 → IsGcd a b g → IsLowest a b a b
 reduced_by_one a b g pb one h =

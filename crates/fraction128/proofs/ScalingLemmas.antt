@@ -7,8 +7,8 @@ use Rattle.std.proofs.lemmas.List.{take_more}
 use Rattle.std.proofs.lemmas.Int.{ints, unsigned_abs-mul}
 use Rattle.std.proofs.lemmas.List.Elements.{All-nil, All-push, All-weaker, All-contains, All-contains_itself}
 use Rattle.std.proofs.lemmas.List.Elements.{Contains-append_left, Contains-push}
-use Rattle.std.proofs.Math.Nat.{dvd_antisymm, one-dvd, dvd_trans, le_of_dvd, pos_of_dvd_of_pos, dvd-mul_right}
-use Rattle.std.proofs.Math.Nat.{div-mul_cancel, mul-lt-mul_of_pos_right, le_of_mul-le-mul_right, mul-le-mul_left}
+use Rattle.std.proofs.Math.Nat.{dvd_antisymm, one-dvd, dvd_trans, le_of_dvd, pos_of_dvd_of_pos, dvd-mul_right, mul-pos}
+use Rattle.std.proofs.Math.Nat.{div-mul_cancel, le_of_mul-le-mul_right, mul-le-mul_left}
 use Rattle.number_laws.proofs.Divisors.{gcd_exists, common_least, common_left, common_right}
 use Rattle.fraction128.specs.Fraction.{Fraction, IsForm, whole}
 use Rattle.fraction128.specs.Scaling.{IsCommon, IsLeastCommon, IsScaled, IsWideOver, Serves, GivesCommon, fraction_at}
@@ -44,15 +44,12 @@ least_more fs f l g pd gcd h =
     let part : l / g ∣ l = subst (λ (n : ℕ). l / g ∣ n) (div-mul_cancel g gcd.0) (dvd-mul_right (l / g) g) in
     let part_above : 0 < l / g = pos_of_dvd_of_pos part h.positive in
     record {
-      positive = product_above (l / g) d part_above above;
+      positive = mul-pos part_above above;
       common = All-push (λ e. unsigned_abs e.den ∣ l / g * d) fs f
           (All-weaker (λ e. unsigned_abs e.den ∣ l) (λ e. unsigned_abs e.den ∣ l / g * d)
           (λ e q. dvd_trans (unsigned_abs e.den) q (common_left l d g gcd)) fs h.common) (common_right l d g);
       least = λ k q. common_least l d g k common_above gcd (h.least k (common_front fs f k q)) (common_last fs f k q);
     }
-  where
-    product_above : (a b : ℕ) → 0 < a → 0 < b → 0 < a * b
-    product_above a b p q = let grown : 0 * b < a * b = mul-lt-mul_of_pos_right p q in omega arith
 
 -- it never falls
 pub least_grows : (fs : List Fraction) (f : Fraction) (l : ℕ) → pos 0 <ℤ f.den → IsLeastCommon fs l

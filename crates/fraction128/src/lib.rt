@@ -53,7 +53,7 @@ pub(crate) const MOST: u128 = i64::MAX as u128;
 impl Frac {
     ghost use Rattle.fraction128.specs.Fraction.{over, whole, IsSame, IsSum, IsDifference, IsProduct, IsQuotient};
     ghost use Rattle.fraction128.specs.Fraction.{IsAtMost, IsBelow, IsFloor};
-    ghost use Rattle.fraction128.specs.Gives.{Gives};
+    ghost use Rattle.fraction128.specs.Gives.{Gives, GivesLess};
     ghost use Rattle.fraction128.specs.Order.{value_cmp};
 
     /// num / den; Wide where its lowest terms don't fit.
@@ -147,6 +147,32 @@ impl Frac {
             return Frac::over_same(top, other);
         }
         Frac::ratio(top, dens(self, other))
+    }
+
+    /// What is left when the product of `f` and `y` is taken away; Wide where the lowest terms of the product or of the difference don't
+    /// fit.
+    pub fn less_product(self, f: Frac, y: Frac) -> Result<Frac, Wide>
+        ensures { GivesLess result self f y }
+    {
+        // terms of the product that fit as they stand needn't be made the lowest ones; those of whole numbers are
+        if !are_whole(f, y) && fit_as_they_stand(f, y) {
+            return self.less(nums(f, y), dens(f, y));
+        }
+        let product = f.mul(y)?;
+        self.sub(product)
+    }
+
+    // What is left when top / bottom is taken away; Wide where its lowest terms don't fit.
+    fn less(self, top: i128, bottom: i128) -> Result<Frac, Wide>
+        requires positive { pos 1 ≤ℤ bottom }
+        requires top { unsigned_abs top < 2 ^ 63 }
+        requires bottom { unsigned_abs bottom < 2 ^ 63 }
+        ensures { Gives result (IsDifference self (over top bottom)) }
+    {
+        Frac::ratio(
+            times(self.num, bottom) - times(self.den, top),
+            times(self.den, bottom),
+        )
     }
 
     /// The quotient by a fraction that isn't 0; Wide where its lowest terms don't fit.
@@ -275,6 +301,14 @@ fn are_whole(a: Frac, b: Frac) -> bool
     a.den == 1 && b.den == 1
 }
 
+// Whether the terms of the product fit before they are made the lowest ones.
+fn fit_as_they_stand(f: Frac, y: Frac) -> bool
+    ensures num { IsTrue result → unsigned_abs (f.num *ℤ y.num) < 2 ^ 63 }
+    ensures den { IsTrue result → unsigned_abs (f.den *ℤ y.den) < 2 ^ 63 }
+{
+    nums(f, y).unsigned_abs() <= MOST && dens(f, y).unsigned_abs() <= MOST
+}
+
 // The products that the operations are made of. Each part is below 2^63 in size, so 128 bits hold them, and a sum of two.
 
 fn cross(a: Frac, b: Frac) -> i128
@@ -284,6 +318,15 @@ fn cross(a: Frac, b: Frac) -> i128
     ensures small { unsigned_abs result < 2 ^ 126 }
 {
     a.num as i128 * b.den as i128
+}
+
+fn times(part: i64, n: i128) -> i128
+    requires part { unsigned_abs part < 2 ^ 63 }
+    requires number { unsigned_abs n < 2 ^ 63 }
+    ensures value { result ≡ part *ℤ n }
+    ensures small { unsigned_abs result < 2 ^ 126 }
+{
+    part as i128 * n
 }
 
 fn nums(a: Frac, b: Frac) -> i128

@@ -5,6 +5,8 @@ pub mod Columns
 pub mod Windows
 pub mod Constraints
 pub mod Taking
+pub mod NonzeroCoefficients
+pub mod SparseTaking
 pub mod Stretches
 pub mod Links
 pub mod ClassOrder

@@ -1,13 +1,11 @@
-ghost use Rattle.std.specs.Prelude.{◌≡◌, ◌<◌, ◌++◌, map, length, OnOk, IfOk, [], ◌∷◌, not, ◌==◌, ◌&&◌, nat_lt, nat_le, ◌||◌, if◌then◌else◌};
-ghost use Rattle.std.specs.List.{All, filter, list_any};
+ghost use Rattle.std.specs.Prelude.{◌≡◌, ◌<◌, ◌++◌, map, length, OnOk, IfOk, not, ◌==◌, ◌&&◌};
+ghost use Rattle.std.specs.List.{filter};
 ghost use Rattle.bounded_sums.specs.Sums.{collect_below};
 ghost use Rattle.sporadic_model.specs.SetDef.{task_at};
-ghost use Rattle.sporadic_model.specs.Users.{is_user};
-ghost use Rattle.sporadic_model.specs.Homes.{HasHomesFor, home_in};
+ghost use Rattle.sporadic_model.specs.Homes.{HasHomesFor};
 ghost use Rattle.fragments.specs.Ceilings.{may_precede};
 ghost use Rattle.fragments.specs.ColumnDef.{column_seen, classes_of, is_direct, is_indirect, is_preemption};
-ghost use Rattle.fragments.specs.Columns.{have_one_processor, may_run_before, has_path, requests_beside};
-ghost use Rattle.fragments.specs.Columns.{blocks_by_sharing, blocks_at_home, may_block, is_column, columns_of};
+ghost use Rattle.fragments.specs.Columns.{has_path, blocks_by_sharing, may_block, is_column, columns_of};
 ghost use Rattle.fragments.specs.Links.{AreLinks, AreSeenFrom, AreRivals, AreKnownRivals};
 
 use crate::homes::{HomeTest, asked_beside};
@@ -75,19 +73,7 @@ pub struct Fragment {
 fn stands_behind(protocol: Protocol, q: ResourceId, place: u32, link: Rival) -> bool
     ensures { result ≡ (not (link.resource.0 == q.0) && may_precede protocol place link.place) }
 {
-    link.resource.0 != q.0 && may_precede(protocol, place, link.place)
-}
-
-// Is it so of one of the links?
-fn leads(protocol: Protocol, q: ResourceId, place: u32, links: &[Rival]) -> bool
-    ensures { result ≡ list_any (λ e. not (e.resource.0 == q.0) && may_precede protocol place e.place) links.now }
-{
-    for link in links {
-        if stands_behind(protocol, q, place, *link) {
-            return true;
-        }
-    }
-    false
+    link.resource != q && may_precede(protocol, place, link.place)
 }
 
 // Is there a path from `i` to the requests?
@@ -100,7 +86,9 @@ fn reaches(set: &TaskSet, protocol: Protocol, i: TaskId, c: Fragment, links: &[R
     ensures { result ≡ has_path protocol set.now i.0 c.task.0 c.resource.0 }
 {
     let place = place_seen(set, protocol, set.processor(c.task), c.resource);
-    leads(protocol, c.resource, place, links)
+    links
+        .iter()
+        .any(|link| stands_behind(protocol, c.resource, place, *link))
 }
 
 // Under MPCP and FMLP+, may the requests block `i` in this way?
@@ -147,7 +135,7 @@ fn is_fragment(set: &TaskSet, protocol: Protocol, i: TaskId, c: Fragment, links:
     requires seen { AreSeenFrom protocol set.now (task_at set.now c.task.0).processor links.now }
     ensures { result ≡ is_column protocol set.now i.0 (column_seen c) }
 {
-    c.task.0 != i.0 && uses(set, c.task, c.resource) && blocks(set, protocol, i, c, links)
+    c.task != i && uses(set, c.task, c.resource) && blocks(set, protocol, i, c, links)
 }
 
 // Under MPCP and FMLP+, the columns that are requests of one task: a test that has the resources by which they can block indirectly.

@@ -1,7 +1,7 @@
 //! The test of columns where requests run on their resource's home.
 
-ghost use Rattle.std.specs.Prelude.{◌≡◌, ◌<◌, not, ◌==◌, ◌&&◌, ◌||◌, nat_lt, nat_le, false, length, slice_index_or, IfOk};
-ghost use Rattle.std.specs.List.{All, list_any};
+ghost use Rattle.std.specs.Prelude.{◌≡◌, ◌<◌, not, ◌==◌, ◌&&◌, ◌||◌, nat_lt, nat_le, false, length, IfOk};
+ghost use Rattle.std.specs.List.{All};
 ghost use Rattle.sporadic_model.specs.Homes.{home_in};
 ghost use Rattle.sporadic_model.specs.declared.ids.Protocol.TheVariants as protocol;
 ghost use Rattle.fragments.specs.Ceilings.{ceiling_rank};
@@ -22,22 +22,7 @@ fn stands_at(set: &TaskSet, q: ResourceId, k: u32, r: ResourceId) -> bool
     requires other { r.0 < length set.now.resources }
     ensures { result ≡ (not (r.0 == q.0) && (home_in set.now r.0 == k)) }
 {
-    r.0 != q.0 && home(set, r) == k
-}
-
-// Does one of the resources share the home of another one?
-fn has_one_beside(set: &TaskSet, q: ResourceId, links: &[ResourceId]) -> bool
-    requires resource { q.0 < length set.now.resources }
-    requires known { All (λ r. r.0 < length set.now.resources) links.now }
-    ensures { result ≡ list_any (λ r. not (r.0 == q.0) && (home_in set.now r.0 == home_in set.now q.0)) links.now }
-{
-    let there = home(set, q);
-    for r in links {
-        if stands_at(set, q, there, *r) {
-            return true;
-        }
-    }
-    false
+    r != q && home(set, r) == k
 }
 
 // Does `i` request another resource of the same home?
@@ -48,7 +33,13 @@ fn asks_beside(set: &TaskSet, i: TaskId, q: ResourceId, links: &[ResourceId]) ->
     requires known { All (λ r. r.0 < length set.now.resources) links.now }
     ensures { result ≡ requests_beside set.now i.0 q.0 }
 {
-    has_one_beside(set, q, links)
+    let there = home(set, q);
+    for r in links {
+        if stands_at(set, q, there, *r) {
+            return true;
+        }
+    }
+    false
 }
 
 /// By resource, whether `i` requests another one of its home.
@@ -83,7 +74,11 @@ fn reaches_up(set: &TaskSet, i: TaskId, c: Fragment) -> bool
     requires resource { c.resource.0 < length set.now.resources }
     ensures { result ≡ (not (is_indirect c.class && nat_lt i.0 c.task.0) || nat_le (ceiling_rank set.now c.resource.0) i.0) }
 {
-    !(c.class.is_indirect() && i.0 < c.task.0) || ceiling_place(set, c.resource) <= i.0
+    if c.class.is_indirect() && i < c.task {
+        ceiling_place(set, c.resource) <= i.0
+    } else {
+        true
+    }
 }
 
 // Is it a column of `i`'s program under DPCP?
@@ -94,7 +89,7 @@ fn is_fragment(set: &TaskSet, i: TaskId, c: Fragment, beside: &[bool]) -> bool
     requires beside { AreAskedBeside set.now i.0 beside.now }
     ensures { result ≡ is_column protocol.Dpcp set.now i.0 (column_seen c) }
 {
-    c.task.0 != i.0
+    c.task != i
         && uses(set, c.task, c.resource)
         && reaches_up(set, i, c)
         && blocks_at_home(set, i, c, beside)

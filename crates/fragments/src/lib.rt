@@ -9,6 +9,7 @@ mod linking;
 mod passing;
 mod places;
 mod single_rows;
+mod sparse_rows;
 mod stretches;
 mod taking;
 mod walks;

@@ -70,7 +70,7 @@ fn add_rival(
     ensures { OnOk result (rivals.new.items ≡ rivals.old.items
         ++ (if not (y.0 == i.0) && is_user set.now r.0 y.0 then rival_at protocol set.now y r ∷ [] else [])) }
 {
-    if y.0 != i.0 && uses(set, y, r) {
+    if y != i && uses(set, y, r) {
         let processor = set.processor(y);
         rivals.push(Rival {
             task: y,
@@ -146,7 +146,7 @@ pub(crate) fn rivals_of(
 fn add_link(links: &mut Vec<Rival>, k: u32, x: TaskId, rival: Rival) -> Result<(), AllocError>
     ensures { OnOk result (links.new.items ≡ links.old.items ++ (if is_at k x.0 rival then rival ∷ [] else [])) }
 {
-    if rival.processor == k && rival.task.0 != x.0 {
+    if rival.processor == k && rival.task != x {
         links.push(rival)?;
     }
     Ok(())

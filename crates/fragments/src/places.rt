@@ -1,4 +1,4 @@
-ghost use Rattle.std.specs.Prelude.{◌≡◌, ◌<◌, ◌≤◌, length};
+ghost use Rattle.std.specs.Prelude.{◌≡◌, ◌<◌, length, option_map, unwrap_or};
 ghost use Rattle.sporadic_model.specs.Users.{is_user};
 ghost use Rattle.sporadic_model.specs.Homes.{home_in};
 ghost use Rattle.fragments.specs.Ceilings.{ceiling_rank, remote_ceiling_rank, place_in, may_precede};
@@ -30,7 +30,7 @@ pub fn lower_local(set: &TaskSet, i: TaskId, x: TaskId) -> bool
     requires other { x.0 < length set.now.tasks }
     ensures { result ≡ is_lower_local set.now i.0 x.0 }
 {
-    i.0 < x.0 && share_processor(set, x, i)
+    i < x && share_processor(set, x, i)
 }
 
 /// The processor at which the resource's requests run; 0, which is no processor, where it has no home.
@@ -44,15 +44,22 @@ pub fn home(set: &TaskSet, q: ResourceId) -> u32
     }
 }
 
+// The position of the task; the number of tasks where there is none.
+fn place_of(set: &TaskSet, task: Option<TaskId>) -> u32
+    ensures { result ≡ unwrap_or (option_map (λ x. x.0) task) (length set.now.tasks) }
+{
+    match task {
+        Some(task) => task.0,
+        None => set.tasks(),
+    }
+}
+
 /// The position of the resource's highest user; the number of tasks where it has none.
 pub fn ceiling_place(set: &TaskSet, q: ResourceId) -> u32
     requires { q.0 < length set.now.resources }
     ensures { result ≡ ceiling_rank set.now q.0 }
 {
-    match set.ceiling(q) {
-        Some(task) => task.0,
-        None => set.tasks(),
-    }
+    place_of(set, set.ceiling(q))
 }
 
 // The position of the resource's ceiling as processor `k` sees it; the number of tasks where it has no user.
@@ -66,10 +73,7 @@ fn boost_place(set: &TaskSet, q: ResourceId, k: u32) -> u32
             return highest.0;
         }
     }
-    match set.boost(q, k) {
-        Some(task) => task.0,
-        None => set.tasks(),
-    }
+    place_of(set, set.boost(q, k))
 }
 
 /// The place of the resource by which it is told whether a holder of it may run before another one's on processor `k`.

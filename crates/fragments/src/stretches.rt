@@ -43,7 +43,7 @@ pub fn task_end(set: &TaskSet, columns: &[Fragment], from: usize, x: TaskId) -> 
     // a set has at most 32 resources, so the slots of a task end before those of the next one
     let _resources = set.resources();
     let mut place = from;
-    while place < columns.len() && columns[place].task.0 == x.0 {
+    while place < columns.len() && columns[place].task == x {
         place += 1;
     }
     place
@@ -67,10 +67,7 @@ pub fn requests_end(
     // a set has at most 32 resources, so the slots of a task end before those of the next one
     let _resources = set.resources();
     let mut place = from;
-    while place < columns.len()
-        && columns[place].task.0 == x.0
-        && columns[place].resource.0 == q.0
-    {
+    while place < columns.len() && columns[place].task == x && columns[place].resource == q {
         place += 1;
     }
     place

@@ -125,7 +125,7 @@ fn requested_at(set: &TaskSet, columns: &[Fragment], place: usize, x: TaskId) ->
 {
     // a set has at most 32 resources, so the slots of a task end before those of the next one
     let _resources = set.resources();
-    if place >= columns.len() || columns[place].task.0 != x.0 {
+    if place >= columns.len() || columns[place].task != x {
         return None;
     }
     Some(columns[place].resource)

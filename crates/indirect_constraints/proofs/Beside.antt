@@ -1,12 +1,13 @@
 -- Sums over the tasks beside a task, and tables that grow by one number after the other.
-use Rattle.std.proofs.Common.{◌≡◌, ℕ, zero, suc, ◌+◌, ◌<◌, ◌≤◌, ◌==◌, ◌&&◌, not, Bool, true, false, nat_lt, List, length, set}
+use Rattle.std.proofs.Common.{◌≡◌, ℕ, zero, suc, ◌+◌, ◌<◌, ◌≤◌, ◌==◌, ◌&&◌, Bool, true, false, nat_lt, List, length, set}
 use Rattle.std.proofs.Common.{refl, sym, ap, ◌∙◌, add-one, arith, inl, inr}
 use Rattle.std.specs.Prelude.{slice_index}
 use Rattle.std.proofs.lemmas.List.{get_or-set_same, get_or-set_other}
 use Rattle.std.proofs.lemmas.Bool.{cases_Bool, cases_eq, eq-eqb, ne_eqb, lt-ltb, le-ltb, ltb-true, ltb-false}
 use Rattle.bounded_sums.specs.Sums.{sum_below, only_if, flag}
 use Rattle.bounded_sums.specs.Tests.{any_below, count_below}
-use Rattle.bounded_sums.proofs.SumLaws.{sum_below-agree, only_if-true, only_if-false}
+use Rattle.bounded_sums.proofs.SumLaws.{sum_below-agree}
+use Rattle.bounded_sums.proofs.OnlyIfLaws.{only_if-rises}
 use Rattle.bounded_sums.proofs.CountLaws.{count_below-from, count_below-none}
 use Rattle.bounded_sums.proofs.TestLaws.{any_below-some, any_below-none}
 use Rattle.sporadic_model.specs.SetDef.{SetDef, task_at}
@@ -89,10 +90,6 @@ pub beside_same : (set : SetDef) (numbers : List ℕ) (x n : ℕ) (f : ℕ → �
 beside_same set numbers x n f size each = rw size (sum_below-agree n (λ y. only_if (is_beside set x y) (slice_index numbers y))
     (λ y. only_if (is_beside set x y) (f y)) (λ y l. ap (only_if (is_beside set x y)) (each y l)))
 
-only_if_rises : (b : Bool) (m n : ℕ) → m ≤ n → only_if b m ≤ only_if b n
-only_if_rises true m n h = h
-only_if_rises false m n h = omega arith
-
 -- A table to which f's numbers are added place by place, where they are at most so many.
 pub next_at : (table : ℕ → ℕ) (k y start number : ℕ) (f : ℕ → ℕ) → table k ≡ start + only_if (nat_lt k y) (f k) → number ≡ f y
     → table k + only_if (y == k) number ≡ start + only_if (nat_lt k (y + 1)) (f k)
@@ -102,7 +99,7 @@ next_at table k y start number f before now =
 pub next_room : (table : ℕ → ℕ) (k y start number most : ℕ) → table k ≤ start + only_if (nat_lt k y) most → number ≤ most
     → table k + only_if (y == k) number ≤ start + only_if (nat_lt k (y + 1)) most
 next_room table k y start number most before now =
-    omega (arith, before, only_if_rises (y == k) number most now, next_added k y (λ k. most))
+    omega (arith, before, only_if-rises (y == k) number most (λ _. now), next_added k y (λ k. most))
 
 -- What a processor's sum is but for the number of one of its tasks.
 pub own_left : (set : SetDef) (numbers sums : List ℕ) (x p : ℕ) → AreSums set numbers sums → p ≡ (task_at set x).processor

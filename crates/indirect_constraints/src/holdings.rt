@@ -103,7 +103,7 @@ fn lower_user(set: &TaskSet, i: TaskId, q: ResourceId, y: TaskId) -> u64
     requires by { y.0 < length set.now.tasks }
     ensures { result ≡ flag (nat_lt i.0 y.0 && is_user set.now q.0 y.0) }
 {
-    if i.0 < y.0 && uses(set, y, q) { 1 } else { 0 }
+    if i < y && uses(set, y, q) { 1 } else { 0 }
 }
 
 // The same of each task.

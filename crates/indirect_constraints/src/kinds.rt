@@ -83,7 +83,7 @@ impl RowKind for HomeRow {
 
     fn coefficient(&self, set: &TaskSet, i: TaskId, column: Fragment) -> u64 {
         if !column.class.is_preemption()
-            && i.0 < column.task.0
+            && i < column.task
             && home(set, column.resource) == self.processor
         {
             1

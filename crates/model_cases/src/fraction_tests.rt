@@ -21,22 +21,42 @@ fn parts(outcome: Result<Frac, Wide>) -> Option<(i64, i64)> {
     }
 }
 
+/// A numerator and a denominator, and the fraction in lowest terms.
+type Ratio = (i128, i128, Option<(i64, i64)>);
+
+const RATIOS: &[Ratio] = &[
+    (2, 4, Some((1, 2))),
+    (0, 7, Some((0, 1))),
+    (-6, 4, Some((-3, 2))),
+    (-MOST, 1, Some((-9223372036854775807, 1))),
+    (-MOST - 1, 1, None),
+    (MOST + 1, 1, None),
+    (1, MOST + 1, None),
+    (MOST + 1, 2, Some((4611686018427387904, 1))),
+    (i128::MIN, i128::MAX, None),
+    (i128::MIN, 1 << 126, Some((-2, 1))),
+];
+
 #[test]
 fn ratio_takes_lowest_terms(rt: HostRuntime) {
-    for (num, den, want) in [
-        (2, 4, Some((1, 2))),
-        (0, 7, Some((0, 1))),
-        (-6, 4, Some((-3, 2))),
-        (-MOST, 1, Some((-9223372036854775807, 1))),
-        (-MOST - 1, 1, None),
-        (MOST + 1, 1, None),
-        (1, MOST + 1, None),
-        (MOST + 1, 2, Some((4611686018427387904, 1))),
-        (i128::MIN, i128::MAX, None),
-        (i128::MIN, 1 << 126, Some((-2, 1))),
+    for (num, den, want) in RATIOS {
+        assert!(rt; *den > 0);
+        assert_eq!(rt; parts(Frac::ratio(*num, *den)), *want, "{num}/{den}");
+    }
+}
+
+#[test]
+fn a_product_is_taken_away_where_it_and_the_difference_fit(rt: HostRuntime) {
+    for (a, f, y, want) in [
+        ((1, 2), (1, 3), (3, 4), Some((1, 4))),
+        ((1, 2), (2, 1), (3, 4), Some((-1, 1))),
+        ((5, 6), (1, 1), (1, 2), Some((1, 3))),
+        ((MOST, 1), (1 << 62, 1), (2, 1), None),
+        ((-MOST, 1), (1, 1), (1, 1), None),
+        ((1, MOST), (1, 2), (1, 3), None),
     ] {
-        assert!(rt; den > 0);
-        assert_eq!(rt; parts(Frac::ratio(num, den)), want, "{num}/{den}");
+        let [a, f, y] = [a, f, y].map(|(num, den)| make(&rt, num, den));
+        assert_eq!(rt; parts(a.less_product(f, y)), want, "{a} {f} {y}");
     }
 }
 
@@ -51,17 +71,19 @@ fn results(rt: &impl Abort, a: Frac, b: Frac) -> [Option<(i64, i64)>; 4] {
     ]
 }
 
-// Two fractions, and what their sum, difference, product and quotient are.
-const OPERATIONS: [((i128, i128), (i128, i128), [Option<(i64, i64)>; 4]); 14] = [
+/// Two fractions, and what their sum, difference, product and quotient are.
+type Operation = ((i128, i128), (i128, i128), &'static [Option<(i64, i64)>]);
+
+const OPERATIONS: &[Operation] = &[
     (
         (1, 3),
         (1, 6),
-        [Some((1, 2)), Some((1, 6)), Some((1, 18)), Some((2, 1))],
+        &[Some((1, 2)), Some((1, 6)), Some((1, 18)), Some((2, 1))],
     ),
     (
         (1 << 62, 1),
         (2, 1),
-        [
+        &[
             Some((4611686018427387906, 1)),
             Some((4611686018427387902, 1)),
             None,
@@ -71,7 +93,7 @@ const OPERATIONS: [((i128, i128), (i128, i128), [Option<(i64, i64)>; 4]); 14] = 
     (
         (1 << 62, 1),
         (2, 4),
-        [
+        &[
             None,
             Some((9223372036854775807, 2)),
             Some((2305843009213693952, 1)),
@@ -81,27 +103,27 @@ const OPERATIONS: [((i128, i128), (i128, i128), [Option<(i64, i64)>; 4]); 14] = 
     (
         (1, 2),
         (-3, 4),
-        [Some((-1, 4)), Some((5, 4)), Some((-3, 8)), Some((-2, 3))],
+        &[Some((-1, 4)), Some((5, 4)), Some((-3, 8)), Some((-2, 3))],
     ),
     (
         (0, 7),
         (-5, 9),
-        [Some((-5, 9)), Some((5, 9)), Some((0, 1)), Some((0, 1))],
+        &[Some((-5, 9)), Some((5, 9)), Some((0, 1)), Some((0, 1))],
     ),
     (
         (MOST, 1),
         (-MOST, 1),
-        [Some((0, 1)), None, None, Some((-1, 1))],
+        &[Some((0, 1)), None, None, Some((-1, 1))],
     ),
     (
         (-MOST, 1),
         (-MOST, 1),
-        [None, Some((0, 1)), None, Some((1, 1))],
+        &[None, Some((0, 1)), None, Some((1, 1))],
     ),
     (
         (MOST, 1),
         (2, 1),
-        [
+        &[
             None,
             Some((9223372036854775805, 1)),
             None,
@@ -111,7 +133,7 @@ const OPERATIONS: [((i128, i128), (i128, i128), [Option<(i64, i64)>; 4]); 14] = 
     (
         (MOST - 1, MOST),
         (1, MOST),
-        [
+        &[
             Some((1, 1)),
             Some((9223372036854775805, 9223372036854775807)),
             None,
@@ -121,19 +143,19 @@ const OPERATIONS: [((i128, i128), (i128, i128), [Option<(i64, i64)>; 4]); 14] = 
     (
         (1, MOST),
         (1, MOST),
-        [
+        &[
             Some((2, 9223372036854775807)),
             Some((0, 1)),
             None,
             Some((1, 1)),
         ],
     ),
-    ((1, MOST), (-MOST, 1), [None, None, Some((-1, 1)), None]),
-    ((-MOST, 1), (1, MOST), [None, None, Some((-1, 1)), None]),
+    ((1, MOST), (-MOST, 1), &[None, None, Some((-1, 1)), None]),
+    ((-MOST, 1), (1, MOST), &[None, None, Some((-1, 1)), None]),
     (
         (1, MOST),
         (1, MOST - 1),
-        [
+        &[
             None,
             None,
             None,
@@ -143,15 +165,15 @@ const OPERATIONS: [((i128, i128), (i128, i128), [Option<(i64, i64)>; 4]); 14] = 
     (
         (MOST, MOST - 1),
         (MOST - 1, MOST),
-        [None, None, Some((1, 1)), None],
+        &[None, None, Some((1, 1)), None],
     ),
 ];
 
 #[test]
 fn operations_are_exact_or_wide(rt: HostRuntime) {
     for ((an, ad), (bn, bd), want) in OPERATIONS {
-        let got = results(&rt, make(&rt, an, ad), make(&rt, bn, bd));
-        assert_eq!(rt; got, want, "{an}/{ad} and {bn}/{bd}");
+        let got = results(&rt, make(&rt, *an, *ad), make(&rt, *bn, *bd));
+        assert_eq!(rt; got.as_slice(), *want, "{an}/{ad} and {bn}/{bd}");
     }
 }
 
@@ -165,37 +187,44 @@ fn single_fractions(rt: HostRuntime) {
     assert!(rt; make(&rt, 1, 2).is_above_zero());
 }
 
+/// Two fractions, and their order.
+type Pair = ((i128, i128), (i128, i128), Ordering);
+
+const ORDERS: &[Pair] = &[
+    ((1, 2), (1, 3), Ordering::Greater),
+    ((-1, 3), (1, 2), Ordering::Less),
+    ((1, 2), (3, 6), Ordering::Equal),
+    ((MOST - 1, 1), (MOST, 1), Ordering::Less),
+    ((MOST - 1, MOST), (MOST - 2, MOST - 1), Ordering::Greater),
+    ((-1, MOST), (0, 1), Ordering::Less),
+];
+
 #[test]
 fn order_is_by_value(rt: HostRuntime) {
-    for ((an, ad), (bn, bd), want) in [
-        ((1, 2), (1, 3), Ordering::Greater),
-        ((-1, 3), (1, 2), Ordering::Less),
-        ((1, 2), (3, 6), Ordering::Equal),
-        ((MOST - 1, 1), (MOST, 1), Ordering::Less),
-        ((MOST - 1, MOST), (MOST - 2, MOST - 1), Ordering::Greater),
-        ((-1, MOST), (0, 1), Ordering::Less),
-    ] {
-        let a = make(&rt, an, ad);
-        let b = make(&rt, bn, bd);
-        assert_eq!(rt; a.cmp(b), want, "{an}/{ad} and {bn}/{bd}");
-        assert_eq!(rt; Ord::cmp(&a, &b), want);
-        assert_eq!(rt; a == b, want == Ordering::Equal);
-        assert_eq!(rt; a.at_most(b), want != Ordering::Greater);
+    for ((an, ad), (bn, bd), want) in ORDERS {
+        let a = make(&rt, *an, *ad);
+        let b = make(&rt, *bn, *bd);
+        assert_eq!(rt; a.cmp(b), *want, "{an}/{ad} and {bn}/{bd}");
+        assert_eq!(rt; Ord::cmp(&a, &b), *want);
+        assert_eq!(rt; (a == b), (*want == Ordering::Equal));
+        assert_eq!(rt; a.at_most(b), (*want != Ordering::Greater));
     }
 }
 
+const FLOORS: &[(i128, i128, i64)] = &[
+    (-7, 2, -4),
+    (7, 2, 3),
+    (-4, 2, -2),
+    (0, 1, 0),
+    (-1, MOST, -1),
+    (-MOST, 1, -9223372036854775807),
+    (MOST, 2, 4611686018427387903),
+];
+
 #[test]
 fn floor_rounds_down(rt: HostRuntime) {
-    for (num, den, want) in [
-        (-7, 2, -4),
-        (7, 2, 3),
-        (-4, 2, -2),
-        (0, 1, 0),
-        (-1, MOST, -1),
-        (-MOST, 1, -9223372036854775807),
-        (MOST, 2, 4611686018427387903),
-    ] {
-        assert_eq!(rt; make(&rt, num, den).floor(), want, "{num}/{den}");
+    for (num, den, want) in FLOORS {
+        assert_eq!(rt; make(&rt, *num, *den).floor(), *want, "{num}/{den}");
     }
 }
 

@@ -10,8 +10,6 @@ mod form_tests;
 #[cfg(test)]
 mod fraction_tests;
 #[cfg(test)]
-mod meeting;
-#[cfg(test)]
 mod protocol_rows;
 #[cfg(test)]
 mod protocol_tests;
@@ -24,6 +22,12 @@ mod set_tests;
 #[cfg(test)]
 mod simplex_tests;
 #[cfg(test)]
+mod sums_tests;
+#[cfg(test)]
+mod texts_tests;
+#[cfg(test)]
 mod threads;
+#[cfg(test)]
+mod watched;
 #[cfg(test)]
 mod window_tests;

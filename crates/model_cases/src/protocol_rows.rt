@@ -1,6 +1,6 @@
 use fragments::Class;
 use sporadic_model::Protocol;
-use worked_sets::{EntryRow, SetRow, TaskRow, task_row};
+use worked_sets::{BESIDE, EntryRow, SetRow, THREE, TaskRow, task_row};
 
 /// A task's program: the set, the protocol, the task and the bounds, and what is wanted: the columns with their costs, and
 /// the rows with their limits.
@@ -13,17 +13,6 @@ pub(crate) struct Case {
     pub rows: &'static [&'static [u64]],
     pub limits: &'static [u64],
 }
-
-/// Three processors, a task on each. The first requests both resources, the second too, the third the first.
-pub(crate) const THREE: SetRow = SetRow {
-    processors: 3,
-    homes: &[None, None],
-    tasks: &[
-        task_row!(1, 100, 4, [(0, 1), (1, 1)]),
-        task_row!(2, 100, 4, [(0, 3), (1, 2)]),
-        task_row!(3, 100, 3, [(0, 2)]),
-    ],
-};
 
 /// Two tasks with their requests on the third processor.
 pub(crate) const HOMES: SetRow = SetRow {
@@ -40,17 +29,6 @@ pub(crate) const APART: SetRow = SetRow {
     processors: 3,
     homes: &[Some(3), Some(3)],
     tasks: &[task_row!(1, 20, 4, [(0, 1)]), task_row!(2, 20, 4, [(1, 2)])],
-};
-
-/// A higher task without requests beside a task that requests what a third does elsewhere.
-pub(crate) const BESIDE: SetRow = SetRow {
-    processors: 2,
-    homes: &[None],
-    tasks: &[
-        task_row!(1, 10, 2, []),
-        task_row!(1, 20, 4, [(0, 2)]),
-        task_row!(2, 20, 5, [(0, 3)]),
-    ],
 };
 
 /// Paths: the fourth task requests the first resource, as two higher tasks and a lower one of the second processor do. The

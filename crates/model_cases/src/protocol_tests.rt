@@ -1,16 +1,16 @@
 ghost use Rattle.std.specs.Prelude.{◌<◌, length, map, IsTrue};
 ghost use Rattle.program_sources.specs.Bounds.{AreWithinDeadlines};
 
-use crate::protocol_rows::{BESIDE, CASES, Case, LOCAL, PATHS};
+use crate::protocol_rows::{CASES, Case, LOCAL, PATHS};
 use crate::threads::may_cross_threads;
 use fragments::{Class, Fragment, cnt};
-use program_form::{Program, RowBlock};
+use program_form::{Coefficient, Program, RowBlock, SparseProgram};
 use protocol_programs::{ProgramSource, Written};
 use request_windows::DpcpWindows;
 use sporadic_model::{Protocol, ResourceId, TaskId, TaskSet};
 use std::alloc::{AllocError, Global};
 use std::test::Fail;
-use worked_sets::{SetRow, set_of, suits};
+use worked_sets::{BESIDE, SetRow, set_of, suits};
 
 pub(crate) fn are_within(set: &TaskSet, bounds: &[u64]) -> bool
     ensures { IsTrue result → AreWithinDeadlines set.now bounds.now }
@@ -100,6 +100,49 @@ fn gives_the_rows(rt: HostRuntime) -> Result<(), Fail> {
         for r in 0..program.rows() {
             let row = row_of(alloc, &program, r)?;
             assert_eq!(rt; Some(row.as_slice()), case.rows.get(r as usize).copied());
+        }
+    }
+    Ok(())
+}
+
+/// The same program by its nonzero coefficients.
+fn formed_sparse(alloc: Global, set: &TaskSet, case: &Case) -> Result<SparseProgram, Fail> {
+    let task = TaskId(case.task);
+    if case.task < set.tasks() && suits(set, case.protocol) && are_within(set, case.bounds) {
+        return Ok(Written(case.protocol).sparse_program(alloc, set, task, case.bounds)?);
+    }
+    Err("out of range".into())
+}
+
+/// The coefficients of a row that aren't zero.
+fn nonzero_of(alloc: Global, program: &Program, r: u32) -> Result<Vec<Coefficient>, AllocError>
+    requires { r < length program.now.rows }
+{
+    let mut row = Vec::new(alloc);
+    for column in 0..program.columns() {
+        let number = program.entry(r, column);
+        if number != 0 {
+            row.push(Coefficient { column, number })?;
+        }
+    }
+    Ok(row)
+}
+
+#[test]
+fn gives_the_same_programs_by_their_nonzero_coefficients(rt: HostRuntime) -> Result<(), Fail> {
+    let alloc = rt.alloc();
+    for case in CASES {
+        let set = set_of(alloc, case.set)?;
+        let program = formed(alloc, &set, case)?;
+        let sparse = formed_sparse(alloc, &set, case)?;
+        assert!(rt; sparse.columns() == program.columns() && sparse.rows() == program.rows());
+        for c in 0..program.columns() {
+            assert_eq!(rt; sparse.cost(c), program.cost(c));
+        }
+        assert_eq!(rt; sparse.limits(), program.limits());
+        for r in 0..program.rows() {
+            let row = nonzero_of(alloc, &program, r)?;
+            assert_eq!(rt; sparse.coefficients(r as usize), row.as_slice());
         }
     }
     Ok(())

@@ -8,19 +8,6 @@ use worked_sets::suits;
 
 const MOST: u64 = 1_000_000;
 
-/// Two tasks on two processors that share `q`, of which the first has a deadline of 4 ticks.
-const SHORT_PAIR: &str = r#"{"processors":2,"resources":[{"name":"q"}],"tasks":[
-{"name":"t1","processor":1,"period":10,"deadline":4,"cost":3,"requests":[{"resource":"q","count":1,"length":1}]},
-{"name":"t2","processor":2,"period":10,"cost":4,"requests":[{"resource":"q","count":1,"length":2}]}]}
-"#;
-
-/// Two tasks on one processor, of which the lower has a deadline of 10 ticks, and a third on another; the lower two share `q`.
-const SHORT_FIVE: &str = r#"{"processors":2,"resources":[{"name":"q"}],"tasks":[
-{"name":"t1","processor":1,"period":10,"cost":2},
-{"name":"t2","processor":1,"period":20,"deadline":10,"cost":4,"requests":[{"resource":"q","count":1,"length":2}]},
-{"name":"t3","processor":2,"period":20,"cost":5,"requests":[{"resource":"q","count":1,"length":3}]}]}
-"#;
-
 /// Three tasks, each on a processor of its own, of which the first has a deadline of 7 ticks. The first two request both resources, the
 /// third the first one.
 const SHORT_THREE: &str = r#"{"processors":3,"resources":[{"name":"q"},{"name":"r"}],"tasks":[
@@ -58,28 +45,6 @@ fn has_steps(answer: &Result<Answer, RefuteStop>, wanted: &[Step<'_>]) -> bool {
                 && step.point.den == *den
                 && step.point.num.as_slice() == *num
         })
-}
-
-// The first task's request waits for one of 2 ticks, and 3 + 2 is more than 4.
-#[test]
-fn refuses_a_pair(rt: HostRuntime) -> Result<(), Fail> {
-    let answer = answered(rt.alloc(), SHORT_PAIR, Protocol::Mpcp, MOST)?;
-    assert!(rt; has_steps(&answer, &[(1, 5, 1, &[1])]));
-    Ok(())
-}
-
-// First 2 + 2, 4 + 3 + 2 and 5 + 2 ticks; then the first task keeps its 4, and two of its jobs count for the second: 4 + 3 + 4.
-#[test]
-fn refuses_in_the_second_round(rt: HostRuntime) -> Result<(), Fail> {
-    let answer = answered(rt.alloc(), SHORT_FIVE, Protocol::FmlpPlus, MOST)?;
-    let steps: &[Step] = &[
-        (1, 4, 1, &[1]),
-        (2, 9, 1, &[1]),
-        (3, 7, 1, &[1]),
-        (2, 11, 1, &[1]),
-    ];
-    assert!(rt; has_steps(&answer, steps));
-    Ok(())
 }
 
 // The best point is 2/3, 1 and 1/3: two rows ask that 3 times the first column and 2 times the second are at most 4, and the first and

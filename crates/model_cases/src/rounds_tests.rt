@@ -1,5 +1,5 @@
-use crate::meeting::{Later, Meeting, Side};
 use crate::protocol_tests::are_within;
+use crate::watched::{Flags, Watch, Watched};
 use program_form::{Certificate, Dual};
 use program_sources::ProgramSource;
 use protocol_programs::Written;
@@ -9,19 +9,10 @@ use sporadic_model::{Protocol, TaskId, TaskSet};
 use std::alloc::Global;
 use std::sync::atomic::{AtomicBool, Ordering};
 use std::test::Fail;
-use worked_sets::{EntryRow, SetRow, entry_rows, set_of, suits, task_row};
+use std::thread::Threads;
+use worked_sets::{FOUR, PAIR, SetRow, set_of, suits, task_row};
 
 const MOST: u64 = 1_000_000;
-
-/// Two tasks that share a resource, each on a processor of its own.
-const PAIR: SetRow = SetRow {
-    processors: 2,
-    homes: &[Some(2)],
-    tasks: &[task_row!(1, 10, 3, [(0, 1)]), task_row!(2, 10, 4, [(0, 2)])],
-};
-
-/// One request of each of four resources.
-const FOUR: &[EntryRow] = entry_rows![(0, 1), (1, 1), (2, 1), (3, 1)];
 
 fn has_bounds(verdict: &Result<Verdict, Stop>, bounds: &[u64]) -> bool {
     match verdict {
@@ -33,24 +24,58 @@ fn has_bounds(verdict: &Result<Verdict, Stop>, bounds: &[u64]) -> bool {
 // The first round of any set in which two tasks have columns is solved by two threads.
 #[test]
 fn two_tasks_are_at_work_at_the_same_time(rt: HostRuntime) -> Result<(), Fail> {
-    let (first_came, first_saw) = (AtomicBool::new(false), AtomicBool::new(false));
-    let (others_came, others_saw) = (AtomicBool::new(false), AtomicBool::new(false));
-    let meeting = Meeting {
-        first: Side {
-            came: &first_came,
-            saw: &first_saw,
-        },
-        others: Side {
-            came: &others_came,
-            saw: &others_saw,
-        },
-        written: Written(Protocol::FmlpPlus),
-    };
     let set = set_of(rt.alloc(), PAIR)?;
-    let verdict = analyse_with(&rt, rt.alloc(), &set, &meeting, MOST);
+    let flags = Flags::new();
+    let source = Watched {
+        written: Written(Protocol::FmlpPlus),
+        watch: Watch::Programs(flags.meeting()),
+    };
+    let verdict = analyse_with(&rt, rt.alloc(), &set, &source, MOST);
     assert!(rt; has_bounds(&verdict, &[5, 5]));
-    assert!(rt; first_saw.load(Ordering::SeqCst));
-    assert!(rt; others_saw.load(Ordering::SeqCst));
+    assert!(rt; flags.have_met());
+    Ok(())
+}
+
+/// Three tasks that share a resource, each on a processor of its own. The first one's cost is given.
+fn three(alloc: Global, cost: u64) -> Result<TaskSet, Fail> {
+    let set = SetRow {
+        processors: 3,
+        homes: &[None],
+        tasks: &[
+            task_row!(1, 10, cost, [(0, 1)]),
+            task_row!(2, 10, 4, [(0, 2)]),
+            task_row!(3, 10, 4, [(0, 2)]),
+        ],
+    };
+    Ok(set_of(alloc, set)?)
+}
+
+/// With this cost of the first task: is it late with 11 ticks, and is the recurrence of the third one taken?
+fn first_and_third<R: Threads + Sync>(
+    rt: &R,
+    alloc: Global,
+    cost: u64,
+) -> Result<(bool, bool), Fail> {
+    let set = three(alloc, cost)?;
+    let taken = AtomicBool::new(false);
+    let source = Watched {
+        written: Written(Protocol::FmlpPlus),
+        watch: Watch::Taken(TaskId(2), &taken),
+    };
+    let is_late = match analyse_with(rt, alloc, &set, &source, MOST) {
+        Ok(Verdict::NotShown { task, bound }) => task.0 == 0 && bound == 11,
+        Ok(Verdict::Schedulable(_)) => false,
+        Err(_) => return Err("no verdict".into()),
+    };
+    Ok((is_late, taken.load(Ordering::SeqCst)))
+}
+
+// So small a set gets two threads, and the third task is one of the first one's thread. The first task waits for two requests of 2 ticks,
+// so with a cost of 7 it is late: 7 + 4.
+#[test]
+fn a_thread_solves_no_program_behind_a_task_that_is_late(rt: HostRuntime) -> Result<(), Fail> {
+    assert_eq!(rt; first_and_third(&rt, rt.alloc(), 3)?, (false, true));
+    assert_eq!(rt; first_and_third(&rt, rt.alloc(), 7)?, (true, false));
     Ok(())
 }
 
@@ -106,32 +131,20 @@ fn are_duals_alone(alloc: Global, set: &TaskSet, found: &Certificate) -> Result<
 #[test]
 fn two_programs_of_a_later_round_are_solved_at_the_same_time(rt: HostRuntime) -> Result<(), Fail> {
     let alloc = rt.alloc();
-    let (first_came, first_saw) = (AtomicBool::new(false), AtomicBool::new(false));
-    let (others_came, others_saw) = (AtomicBool::new(false), AtomicBool::new(false));
     let set = twelve(alloc)?;
     let costs = costs(alloc, &set)?;
-    let later = Later {
-        meeting: Meeting {
-            first: Side {
-                came: &first_came,
-                saw: &first_saw,
-            },
-            others: Side {
-                came: &others_came,
-                saw: &others_saw,
-            },
-            written: Written(Protocol::FmlpPlus),
-        },
-        begun: &costs,
+    let flags = Flags::new();
+    let source = Watched {
+        written: Written(Protocol::FmlpPlus),
+        watch: Watch::Later(flags.meeting(), &costs),
     };
-    match analyse_with(&rt, alloc, &set, &later, MOST) {
+    match analyse_with(&rt, alloc, &set, &source, MOST) {
         Ok(Verdict::Schedulable(found)) => {
             assert_eq!(rt; found.bounds.as_slice(), [64; 12].as_slice());
             assert!(rt; are_duals_alone(alloc, &set, &found)?);
         }
         _ => return Err("not shown".into()),
     }
-    assert!(rt; first_saw.load(Ordering::SeqCst));
-    assert!(rt; others_saw.load(Ordering::SeqCst));
+    assert!(rt; flags.have_met());
     Ok(())
 }

@@ -5,17 +5,15 @@ use Rattle.std.specs.Ordering.{int_cmp}
 use Rattle.std.specs.Cmp.{IsTotalOrder}
 use Rattle.std.proofs.lemmas.Int.{ints, by_lt_z}
 use Rattle.std.proofs.lemmas.Cmp.{int_ranked, by_ranked, int_cmp_total, tied_itself}
+use lib.Signed.{clash_ℤ}
 use Rattle.number_laws.proofs.Ring.{mul-swap_last}
-use Rattle.number_laws.proofs.Order.{times_le, times_lt, cancel_le, cancel_lt}
+use Rattle.number_laws.proofs.Order.{weaker, times_le, times_lt, cancel_le, cancel_lt}
 
 pub below_of_less : (x y : ℤ) → int_cmp x y ≡ Less → x <ℤ y
 below_of_less x y h = int_ranked x y Less (sym h)
 
 pub same_of_equal : (x y : ℤ) → int_cmp x y ≡ Equal → x ≡ y
 same_of_equal x y h = int_ranked x y Equal (sym h)
-
-not_both : (x y : ℤ) → x <ℤ y → y <ℤ x → ⊥
-not_both x y p q = omega (arith, ints)
 
 not_same : (x y : ℤ) → x <ℤ y → x ≡ y → ⊥
 not_same x y p q = omega (arith, ints)
@@ -25,12 +23,12 @@ less_of_below x y h =
     by_ranked _ _ _ (int_cmp x y) (int_ranked x y (int_cmp x y) refl)
     (λ is lt. is)
     (λ is e. absurd (not_same x y h e))
-    (λ is gt. absurd (not_both x y h gt))
+    (λ is gt. clash_ℤ h (weaker gt))
 
 pub greater_of_above : (x y : ℤ) → y <ℤ x → int_cmp x y ≡ Greater
 greater_of_above x y h =
     by_ranked _ _ _ (int_cmp x y) (int_ranked x y (int_cmp x y) refl)
-    (λ is lt. absurd (not_both x y lt h))
+    (λ is lt. clash_ℤ lt (weaker h))
     (λ is e. absurd (not_same y x h (sym e)))
     (λ is gt. is)
 
@@ -77,21 +75,12 @@ cross_total num weight positive = record {
 pub chained_le : (x y z u v w : ℤ) → pos 0 <ℤ u → pos 0 <ℤ v → pos 0 <ℤ w → (x *ℤ v) ≤ℤ (y *ℤ u) → (y *ℤ w) ≤ℤ (z *ℤ v)
     → (x *ℤ w) ≤ℤ (z *ℤ u)
 chained_le x y z u v w pu pv pw h k =
-    let first : ((x *ℤ v) *ℤ w) ≤ℤ ((y *ℤ u) *ℤ w) = times_le (x *ℤ v) (y *ℤ u) w (not_below w pw) h in
-    let second : ((y *ℤ w) *ℤ u) ≤ℤ ((z *ℤ v) *ℤ u) = times_le (y *ℤ w) (z *ℤ v) u (not_below u pu) k in
+    let first : ((x *ℤ v) *ℤ w) ≤ℤ ((y *ℤ u) *ℤ w) = times_le (x *ℤ v) (y *ℤ u) w (weaker pw) h in
+    let second : ((y *ℤ w) *ℤ u) ≤ℤ ((z *ℤ v) *ℤ u) = times_le (y *ℤ w) (z *ℤ v) u (weaker pu) k in
     cancel_le (x *ℤ w) (z *ℤ u) v pv (joined _ _ _ _ _ _ (mul-swap_last x v w) (mul-swap_last y u w) (mul-swap_last z v u) first second)
   where
-    not_below : (a : ℤ) → pos 0 <ℤ a → pos 0 ≤ℤ a
-    not_below a p = omega (arith, ints)
-
     joined : (a b c d e f : ℤ) → a ≡ b → c ≡ d → e ≡ f → a ≤ℤ c → d ≤ℤ e → b ≤ℤ f
     joined a b c d e f p q r s t = omega (arith, ints)
 
 pub le_either : (x y : ℤ) → (x ≤ℤ y) ⊎ (y ≤ℤ x)
-le_either x y = by_lt_z x y (λ lt. inl (weaker x y lt)) (λ le. inr le)
-  where
-    weaker : (a b : ℤ) → a <ℤ b → a ≤ℤ b
-    weaker a b p = omega (arith, ints)
-
-pub same_of_both : (x y : ℤ) → x ≤ℤ y → y ≤ℤ x → x ≡ y
-same_of_both x y p q = omega (arith, ints)
+le_either x y = by_lt_z x y (λ lt. inl (weaker lt)) (λ le. inr le)

@@ -1,7 +1,7 @@
 -- Common divisors and common multiples of naturals: Euclid's lemma, and the least common multiple.
 use Rattle.std.proofs.Common.{◌≡◌, ℕ, zero, suc, ◌+◌, ◌*◌, ◌/◌, ◌%◌, ◌<◌, ◌≤◌, ap, ◌∙◌, sym, subst, refl, arith}
 use Rattle.std.proofs.lemmas.Nat.Gcd.{IsGcd-swap, IsGcd-from_zero, IsGcd-from_mod, same_from_IsGcd}
-use Rattle.std.proofs.Math.Nat.{dvd_refl, eq-one_of_dvd-one, dvd_antisymm, le_of_mul-le-mul_right, div-add-mod'}
+use Rattle.std.proofs.Math.Nat.{dvd_refl, eq-one_of_dvd-one, dvd_antisymm, div-add-mod', eq_of_mul-eq-mul_right}
 use Rattle.std.proofs.Math.Nat.{mul-add-mod_self_right, mul-lt-mul_of_pos_right, mod-eq_of_lt, mod-lt, one-mul}
 use Rattle.std.proofs.Math.Nat.{dvd-mul_right, dvd-mul_left, div-mul_cancel, dvd_of_mul-dvd-mul_right}
 use Rattle.std.proofs.Math.Nat.{mul-dvd-mul_right, one-dvd, dvd-zero}
@@ -95,10 +95,4 @@ lowest_terms_once a b c d pb pd h k e =
     let db : d ∣ b = euclid d c b (IsGcd-swap c d 1 (gcd_of_coprime c d k)) (rw (sym e) (dvd-mul_left d a)) in
     let same : b ≡ d = dvd_antisymm bd db in
     let over : a * d ≡ c * d = e ∙ ap (λ n. c * n) same in
-    (same_factor a c d pd over, same)
-  where
-    same_factor : (x y z : ℕ) → 0 < z → x * z ≡ y * z → x ≡ y
-    same_factor x y z pz q =
-        let up : x ≤ y = le_of_mul-le-mul_right {k = z} (omega (arith, q)) pz in
-        let back : y ≤ x = le_of_mul-le-mul_right {k = z} (omega (arith, q)) pz in
-        omega arith
+    (eq_of_mul-eq-mul_right d pd a c over, same)

@@ -1,8 +1,22 @@
 -- The order of ℤ and its products.
-use Rattle.std.proofs.Common.{◌≡◌, ◌*◌, ◌<◌, ℤ, pos, negsuc, ◌-ℤ◌, ◌*ℤ◌, neg_ℤ, ◌≤ℤ◌, ◌<ℤ◌, ap, ◌∙◌, sym, subst, arith}
+use Rattle.std.proofs.Common.{◌≡◌, ◌*◌, ◌<◌, ℕ, ℤ, pos, negsuc, ◌-ℤ◌, ◌*ℤ◌, neg_ℤ, ◌≤ℤ◌, ◌<ℤ◌, ap, ◌∙◌, sym, subst, arith}
 use Rattle.std.proofs.lemmas.Int.{ints, by_lt_z}
 use Rattle.std.proofs.Math.Nat.{mul-lt-mul_of_pos_left}
-use Rattle.number_laws.proofs.Ring.{as_diff, diffs, same_diff, mul-sub_right}
+use lib.Signed.{clash_ℤ}
+use Rattle.number_laws.proofs.Ring.{mul-sub_right, mul-neg_right, zero-mul}
+
+pub weaker : {x y : ℤ} → x <ℤ y → x ≤ℤ y
+weaker h = omega (arith, ints)
+
+pub same_of_both : (x y : ℤ) → x ≤ℤ y → y ≤ℤ x → x ≡ y
+same_of_both x y h k = omega (arith, ints)
+
+-- naturals as whole numbers
+pub not_negative : (n : ℕ) → pos 0 ≤ℤ pos n
+not_negative n = omega (arith, ints)
+
+pub above_zero : (n : ℕ) → 0 < n → pos 0 <ℤ pos n
+above_zero n h = omega (arith, ints)
 
 pub times_nonneg : (a b : ℤ) → pos 0 ≤ℤ a → pos 0 ≤ℤ b → pos 0 ≤ℤ (a *ℤ b)
 times_nonneg (pos a) (pos b) h k = omega (arith, ints)
@@ -42,33 +56,24 @@ times_lt a b c h k =
 -- a common positive factor is taken off
 pub cancel_le : (a b c : ℤ) → pos 0 <ℤ c → (a *ℤ c) ≤ℤ (b *ℤ c) → a ≤ℤ b
 cancel_le a b c h k =
-    by_lt_z b a (λ lt. let over : (b *ℤ c) <ℤ (a *ℤ c) = times_lt b a c h lt in absurd (clash _ _ k over)) (λ le. le)
-  where
-    clash : (x y : ℤ) → x ≤ℤ y → y <ℤ x → ⊥
-    clash x y p q = omega (arith, ints)
+    by_lt_z b a (λ lt. clash_ℤ (times_lt b a c h lt) k) (λ le. le)
 
 pub cancel_lt : (a b c : ℤ) → pos 0 <ℤ c → (a *ℤ c) <ℤ (b *ℤ c) → a <ℤ b
 cancel_lt a b c h k =
-    by_lt_z a b (λ lt. lt) (λ le. let over : (b *ℤ c) ≤ℤ (a *ℤ c) = times_le b a c (omega (arith, ints)) le in absurd (clash _ _ over k))
-  where
-    clash : (x y : ℤ) → x ≤ℤ y → y <ℤ x → ⊥
-    clash x y p q = omega (arith, ints)
+    by_lt_z a b (λ lt. lt) (λ le. clash_ℤ k (times_le b a c (weaker h) le))
 
 pub cancel : (a b c : ℤ) → pos 0 <ℤ c → a *ℤ c ≡ b *ℤ c → a ≡ b
 cancel a b c h e =
-    both_ways _ _ (cancel_le a b c h (le_of_same _ _ e)) (cancel_le b a c h (le_of_same _ _ (sym e)))
+    same_of_both _ _ (cancel_le a b c h (le_of_same _ _ e)) (cancel_le b a c h (le_of_same _ _ (sym e)))
   where
     le_of_same : (x y : ℤ) → x ≡ y → x ≤ℤ y
     le_of_same x y p = omega (arith, ints)
-
-    both_ways : (x y : ℤ) → x ≤ℤ y → y ≤ℤ x → x ≡ y
-    both_ways x y p q = omega (arith, ints)
 
 -- a common factor that isn't 0 is taken off
 pub cancel_apart : (a b c : ℤ) → (c ≡ pos 0 → ⊥) → a *ℤ c ≡ b *ℤ c → a ≡ b
 cancel_apart a b c apart e =
     by_lt_z c (pos 0)
-    (λ below. cancel a b (neg_ℤ c) (other_sign c below) (turned a c ∙ (ap neg_ℤ e ∙ sym (turned b c))))
+    (λ below. cancel a b (neg_ℤ c) (other_sign c below) (mul-neg_right a c ∙ (ap neg_ℤ e ∙ sym (mul-neg_right b c))))
     (λ above. cancel a b c (strict c apart above) e)
   where
     other_sign : (z : ℤ) → z <ℤ pos 0 → pos 0 <ℤ neg_ℤ z
@@ -77,12 +82,6 @@ cancel_apart a b c apart e =
     strict : (z : ℤ) → (z ≡ pos 0 → ⊥) → pos 0 ≤ℤ z → pos 0 <ℤ z
     strict z p q = omega (arith, ints)
 
-    turned : (x z : ℤ) → x *ℤ neg_ℤ z ≡ neg_ℤ (x *ℤ z)
-    turned x z = rw (as_diff x, as_diff z) (simp diffs (same_diff _ _ _ _ (omega arith)))
-
 -- a product of two numbers that aren't 0 isn't 0
 pub times_apart : (a b : ℤ) → (a ≡ pos 0 → ⊥) → (b ≡ pos 0 → ⊥) → a *ℤ b ≡ pos 0 → ⊥
-times_apart a b p q e = p (cancel_apart a (pos 0) b q (e ∙ sym (none b)))
-  where
-    none : (z : ℤ) → pos 0 *ℤ z ≡ pos 0
-    none z = omega (arith, ints)
+times_apart a b p q e = p (cancel_apart a (pos 0) b q (e ∙ sym (zero-mul b)))

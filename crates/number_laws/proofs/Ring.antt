@@ -92,8 +92,20 @@ mul-add_right a b c = rw (as_diff a, as_diff b, as_diff c) (simp diffs (same_dif
 pub mul-neg_left : (a b : ℤ) → neg_ℤ a *ℤ b ≡ neg_ℤ (a *ℤ b)
 mul-neg_left a b = rw (as_diff a, as_diff b) (simp diffs (same_diff _ _ _ _ (omega arith)))
 
+pub mul-neg_right : (a b : ℤ) → a *ℤ neg_ℤ b ≡ neg_ℤ (a *ℤ b)
+mul-neg_right a b = rw (as_diff a, as_diff b) (simp diffs (same_diff _ _ _ _ (omega arith)))
+
+pub mul-left_comm : (a b c : ℤ) → a *ℤ (b *ℤ c) ≡ b *ℤ (a *ℤ c)
+mul-left_comm a b c = rw (as_diff a, as_diff b, as_diff c) (simp diffs (same_diff _ _ _ _ (omega arith)))
+
 pub mul-one : (a : ℤ) → a *ℤ pos 1 ≡ a
 mul-one a = omega (arith, ints)
 
 pub mul-zero : (a : ℤ) → a *ℤ pos 0 ≡ pos 0
 mul-zero a = omega (arith, ints)
+
+pub one-mul : (a : ℤ) → pos 1 *ℤ a ≡ a
+one-mul a = omega (arith, ints)
+
+pub zero-mul : (a : ℤ) → pos 0 *ℤ a ≡ pos 0
+zero-mul a = omega (arith, ints)

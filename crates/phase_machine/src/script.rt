@@ -77,7 +77,7 @@ pub(crate) fn next_of(jobs: &JobList, x: u32, from: u32) -> u32
     ensures { IsNext jobs.now.jobs x from result }
 {
     for j in from..jobs.len() {
-        if task_of(jobs, j).0 == x {
+        if task_of(jobs, j) == TaskId(x) {
             return j;
         }
     }

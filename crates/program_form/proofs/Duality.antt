@@ -1,6 +1,6 @@
 -- Weak duality, and what follows where a point and a dual have equal values.
 use Rattle.std.proofs.Common.{◌≡◌, ℕ, ◌*◌, ◌/◌, ◌<◌, ◌≤◌, sym, ap, ◌∙◌, arith}
-use Rattle.std.proofs.Math.Nat.{mul_comm, mul-le-mul_left, le_of_mul-le-mul_right}
+use Rattle.std.proofs.Math.Nat.{mul_comm, mul-le-mul_left, le_of_mul-le-mul_right, mul_assoc, mul_left_comm}
 use Rattle.std.proofs.lemmas.Nat.{le-div, div-add-mod'}
 use Rattle.bounded_sums.specs.Sums.{sum_below}
 use Rattle.bounded_sums.proofs.SumLaws.{sum_below-agree, sum_below-monotone, sum_below-times, sum_below-times_right, sum_below-swap}
@@ -30,11 +30,8 @@ by_rows m n a ys num =
     (λ k l. sym (sum_below-times_right m (ys k) (λ r. num r * a r k)))
     ∙ (sum_below-swap n m (λ k r. num r * a r k * ys k)
     ∙ sum_below-agree m (λ r. sum_below n (λ k. num r * a r k * ys k)) (λ r. num r * sum_below n (λ k. a r k * ys k))
-    (λ r l. sum_below-agree n (λ k. num r * a r k * ys k) (λ k. num r * (a r k * ys k)) (λ k j. group (num r) (a r k) (ys k))
+    (λ r l. sum_below-agree n (λ k. num r * a r k * ys k) (λ k. num r * (a r k * ys k)) (λ k j. mul_assoc (num r) (a r k) (ys k))
     ∙ sum_below-times n (num r) (λ k. a r k * ys k)))
-  where
-    group : (x y z : ℕ) → x * y * z ≡ x * (y * z)
-    group x y z = omega arith
 
 -- A point that keeps the rows, at the multipliers num.
 kept_limits : (m : ℕ) (s : ℕ) (left limit num : ℕ → ℕ) → ((r : ℕ) → r < m → left r ≤ s * limit r)
@@ -42,10 +39,7 @@ kept_limits : (m : ℕ) (s : ℕ) (left limit num : ℕ → ℕ) → ((r : ℕ) 
 kept_limits m s left limit num h =
     rw (← sum_below-times m s (λ r. num r * limit r))
     (sum_below-monotone m (λ r. num r * left r) (λ r. s * (num r * limit r))
-    (λ r l. rw (turn_left s (num r) (limit r)) (mul-le-mul_left (num r) (h r l))))
-  where
-    turn_left : (x y z : ℕ) → x * (y * z) ≡ y * (x * z)
-    turn_left x y z = omega arith
+    (λ r l. rw (mul_left_comm s (num r) (limit r)) (mul-le-mul_left (num r) (h r l))))
 
 -- No scaled point is worth more than a feasible dual's total over its denominator.
 pub weak_duality : (p : ProgramDef) (s : ℕ) (ys : ℕ → ℕ) (den : ℕ) (num : ℕ → ℕ)

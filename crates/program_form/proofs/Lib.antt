@@ -1,5 +1,7 @@
 pub mod Accepted
+pub mod Coefficients
 pub mod Duality
+mod Listings
 mod Lists
 pub mod Points
 mod SevenRowsWorked

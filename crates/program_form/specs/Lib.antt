@@ -1,8 +1,11 @@
 pub mod Certificate
 pub mod Program
 pub mod RowBlock
+pub mod SparseRows
+pub mod Listings
 pub mod Refusals
 pub mod ProgramView
+pub mod SparseView
 pub mod Points
 pub mod Optimum
 pub mod Duals

@@ -9,6 +9,8 @@ mod certificate;
 mod laws;
 mod program;
 mod row_block;
+mod sparse_program;
+mod sparse_rows;
 
 pub use certificate::{Certificate, Dual};
 pub use laws::{
@@ -18,6 +20,8 @@ pub use laws::{
 };
 pub use program::{Program, ProgramRefusal};
 pub use row_block::RowBlock;
+pub use sparse_program::SparseProgram;
+pub use sparse_rows::{Coefficient, SparseRows};
 
 /// The greatest number that a program may hold.
 pub const MOST_NUMBER: u64 = 9_223_372_036_854_775_807;

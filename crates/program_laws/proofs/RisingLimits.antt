@@ -1,10 +1,10 @@
 -- No limit of a row falls where as many jobs of each task can run or more, as where bounds rise.
-use Rattle.std.proofs.Common.{ℕ, ◌+◌, ◌<◌, ◌≤◌, Bool, true, false, List, length, arith}
+use Rattle.std.proofs.Common.{ℕ, ◌+◌, ◌<◌, ◌≤◌, List, length, arith}
 use Rattle.std.specs.Prelude.{slice_index}
 use Rattle.std.specs.List.{All}
 use Rattle.std.proofs.Math.Nat.{mul-le-mul_left}
-use Rattle.bounded_sums.specs.Sums.{only_if}
 use Rattle.bounded_sums.proofs.SumLaws.{sum_below-monotone}
+use Rattle.bounded_sums.proofs.OnlyIfLaws.{only_if-rises}
 use Rattle.sporadic_model.specs.SetDef.{SetDef, task_at}
 use Rattle.sporadic_model.specs.Users.{count_of, is_user}
 use Rattle.sporadic_model.specs.declared.ids.Protocol.{Protocol}
@@ -30,17 +30,15 @@ pub requests_rise : (set : SetDef) (r s : List ℕ) (i x q : ℕ) → jobs_in se
     → requests_in set (slice_index r) i x q ≤ requests_in set (slice_index s) i x q
 requests_rise set r s i x q jobs = mul-le-mul_left (count_of set x q) jobs
 
-pub only_if_rises : (b : Bool) (m n : ℕ) → m ≤ n → only_if b m ≤ only_if b n
-only_if_rises true m n h = h
-only_if_rises false m n h = omega arith
-
 pub holdings_rise : (set : SetDef) (r s : List ℕ) (i x : ℕ) → i < length set.tasks → HasJobsAtMost set i r s
     → holdings set (slice_index r) i x ≤ holdings set (slice_index s) i x
 holdings_rise set r s i x here h = sum_below-monotone (length set.resources) _ _ (λ q l.
     let higher : higher_holdings set (slice_index r) i x q ≤ higher_holdings set (slice_index s) i x q =
-    sum_below-monotone i _ _ (λ y a. only_if_rises (is_beside set x y) _ _ (requests_rise set r s i y q (h y (omega arith)))) in
-    only_if_rises (is_user set q i) (higher_holdings set (slice_index r) i x q + lower_holdings set i x q)
-    (higher_holdings set (slice_index s) i x q + lower_holdings set i x q) (omega arith))
+    sum_below-monotone i _ _ (λ y a.
+    only_if-rises (is_beside set x y) (requests_in set (slice_index r) i y q) (requests_in set (slice_index s) i y q)
+    (λ counts. requests_rise set r s i y q (h y (omega arith)))) in
+    only_if-rises (is_user set q i) (higher_holdings set (slice_index r) i x q + lower_holdings set i x q)
+    (higher_holdings set (slice_index s) i x q + lower_holdings set i x q) (λ counts. omega (arith, higher)))
 
 pub time_rises : (set : SetDef) (r s : List ℕ) (i x : ℕ) → jobs_in set (slice_index r) i x ≤ jobs_in set (slice_index s) i x
     → Rises r s (time_row set i x)

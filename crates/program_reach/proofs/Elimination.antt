@@ -4,8 +4,10 @@ use Rattle.std.proofs.Common.{◌≡◌, ◌⊎◌, inl, inr, ℕ, zero, suc, �
 use Rattle.std.proofs.Common.{unsigned_abs, refl, ap, ap₂, ◌∙◌, sym, subst, arith, if◌then◌else◌, nat_eq}
 use Rattle.std.proofs.lemmas.Int.{ints, by_lt_z}
 use Rattle.std.proofs.lemmas.Bool.{cases_eq, cases_lt, eq-eqb, ne_eqb}
-use Rattle.number_laws.proofs.Ring.{as_diff, diffs, same_diff, mul-neg_left}
-use Rattle.number_laws.proofs.Order.{times_nonneg, times_positive, times_le}
+use lib.Signed.{≤ℤ_refl, clash_ℤ}
+use Rattle.std.proofs.Math.Nat.{mul-pos}
+use Rattle.number_laws.proofs.Ring.{as_diff, diffs, same_diff, mul-neg_left, mul-left_comm}
+use Rattle.number_laws.proofs.Order.{times_nonneg, times_positive, times_le, not_negative, weaker, above_zero}
 use Rattle.number_laws.proofs.Comparison.{chained_le, le_either}
 use Rattle.bounded_sums.specs.WholeSums.{total_below}
 use Rattle.bounded_sums.proofs.TotalLaws.{total_below-agree, total_below-mix, total_below-times}
@@ -45,11 +47,8 @@ at_minus (suc n) x ys = minus_more _ _ _ _ (at_minus n x ys) (mul-neg_left (x n)
 
 at_scaled : (n c : ℕ) (x : ℕ → ℤ) (ys : ℕ → ℕ) → at_naturals n x (λ k. c * ys k) ≡ pos c *ℤ at_naturals n x ys
 at_scaled n c x ys =
-    total_below-agree n (λ k. x k *ℤ pos (c * ys k)) (λ k. pos c *ℤ (x k *ℤ pos (ys k))) (λ k l. turn (x k) (pos c) (pos (ys k)))
+    total_below-agree n (λ k. x k *ℤ pos (c * ys k)) (λ k. pos c *ℤ (x k *ℤ pos (ys k))) (λ k l. mul-left_comm (x k) (pos c) (pos (ys k)))
     ∙ total_below-times n (pos c) (λ k. x k *ℤ pos (ys k))
-  where
-    turn : (x c y : ℤ) → x *ℤ (c *ℤ y) ≡ c *ℤ (x *ℤ y)
-    turn x c y = rw (as_diff x, as_diff c, as_diff y) (simp diffs (same_diff _ _ _ _ (omega arith)))
 
 -- ys with y at place e
 abbrev with_last : ℕ → ℕ → (ℕ → ℕ) → ℕ → ℕ
@@ -123,7 +122,7 @@ back_solved m n a i within below h =
     ∙ ap₂ ◌+ℤ◌ (at_scaled (suc n) size (a j) ys ∙ ap (λ c. c *ℤ at_naturals (suc n) (a j) ys) size_is) (ap (λ c. a j e *ℤ c) rest_is) in (
       with_last e (unsigned_abs rest) (λ k. size * ys k),
       record {
-        scale = with_last-scale n (unsigned_abs rest) (λ k. size * ys k) (product_above size (ys 0) (above_size (a i e) below) h.1.scale);
+        scale = with_last-scale n (unsigned_abs rest) (λ k. size * ys k) (mul-pos (above_size (a i e) below) h.1.scale);
         kept = λ j l. elim (cases_eq j i) [
           | inl here ↦ at_most_same _ _ (comes_to j
               ∙ ap (λ (v : ℕ). (neg_ℤ (a i e) *ℤ at_naturals (suc n) (a v) ys) +ℤ (a v e *ℤ rest)) here) (nothing (a i e) rest)
@@ -141,11 +140,6 @@ back_solved m n a i within below h =
     size_above : (x s : ℤ) → s ≡ neg_ℤ x → s ≤ℤ pos 0 → pos (unsigned_abs x) ≡ x
     size_above x s p q = omega (arith, ints)
 
-    product_above : (x y : ℕ) → 0 < x → 0 < y → 0 < x * y
-    product_above (suc x) (suc y) p q = omega arith
-    product_above zero y p q = absurd (omega arith)
-    product_above (suc x) zero p q = absurd (omega arith)
-
     nothing : (c r : ℤ) → ((neg_ℤ c *ℤ r) +ℤ (c *ℤ r)) ≤ℤ pos 0
     nothing c r = over _ _ (mul-neg_left c r)
       where
@@ -162,22 +156,13 @@ record IsSteepest (m : ℕ) (rest cell : ℕ → ℤ) (i : ℕ) : Type 0 where
 turned : (x : ℤ) → x <ℤ pos 0 → pos 0 <ℤ neg_ℤ x
 turned x h = omega (arith, ints)
 
-not_above : (x : ℤ) → x <ℤ pos 0 → pos 0 ≤ℤ x → ⊥
-not_above x h k = omega (arith, ints)
-
 -- a rest that is not above zero is no steeper than one that is
 flat : (x y u v : ℤ) → x ≤ℤ pos 0 → pos 0 <ℤ y → u <ℤ pos 0 → v <ℤ pos 0 → (x *ℤ neg_ℤ v) ≤ℤ (y *ℤ neg_ℤ u)
 flat x y u v h k p q =
-    between _ _ (neg_ℤ v) (times_le x (pos 0) (neg_ℤ v) (weaker _ (turned v q)) h) (times_positive y (neg_ℤ u) k (turned u p))
+    between _ _ (neg_ℤ v) (times_le x (pos 0) (neg_ℤ v) (weaker (turned v q)) h) (times_positive y (neg_ℤ u) k (turned u p))
   where
-    weaker : (a : ℤ) → pos 0 <ℤ a → pos 0 ≤ℤ a
-    weaker a l = omega (arith, ints)
-
     between : (a b c : ℤ) → a ≤ℤ (pos 0 *ℤ c) → pos 0 <ℤ b → a ≤ℤ b
     between a b c l g = omega (arith, ints)
-
-itself : (x : ℤ) → x ≤ℤ x
-itself x = omega (arith, ints)
 
 -- For each row below the next bound where there is a fact for the rows below m and for row m.
 to_next : (m : ℕ) (A : ℕ → Type 0) → ((j : ℕ) → j < m → A j) → A m → (j : ℕ) → j < suc m → A j
@@ -208,7 +193,7 @@ steeper m rest cell i h below above = elim (le_either (rest m *ℤ neg_ℤ (cell
       steepest = to_next m (λ j. cell j <ℤ pos 0 → (rest j *ℤ neg_ℤ (cell m)) ≤ℤ (rest m *ℤ neg_ℤ (cell j)))
           (λ j l b. chained_le (rest j) (rest i) (rest m) (neg_ℤ (cell j)) (neg_ℤ (cell i)) (neg_ℤ (cell m)) (turned _ b)
           (turned _ h.below) (turned _ below) (h.steepest j l b) take)
-          (λ b. itself _);
+          (λ b. ≤ℤ_refl _);
     },
   )
 ]
@@ -228,7 +213,7 @@ steepest (suc m) rest cell =
           below = below;
           above = above;
           steepest = to_next m (λ j. cell j <ℤ pos 0 → (rest j *ℤ neg_ℤ (cell m)) ≤ℤ (rest m *ℤ neg_ℤ (cell j)))
-              (λ j l b. flat (rest j) (rest m) (cell j) (cell m) (none j l b) above b below) (λ b. itself _);
+              (λ j l b. flat (rest j) (rest m) (cell j) (cell m) (none j l b) above b below) (λ b. ≤ℤ_refl _);
         },
       )
     ])
@@ -238,8 +223,8 @@ steepest (suc m) rest cell =
       | inr none ↦ inr (to_next m (λ j. cell j <ℤ pos 0 → rest j ≤ℤ pos 0) none (λ b. least))
     ]))
     (λ other. elim (steepest m rest cell) [
-      | inl there ↦ inl (keep there.0 there.1 (λ b. absurd (not_above _ b other)))
-      | inr none ↦ inr (to_next m (λ j. cell j <ℤ pos 0 → rest j ≤ℤ pos 0) none (λ b. absurd (not_above _ b other)))
+      | inl there ↦ inl (keep there.0 there.1 (λ b. clash_ℤ b other))
+      | inr none ↦ inr (to_next m (λ j. cell j <ℤ pos 0 → rest j ≤ℤ pos 0) none (λ b. clash_ℤ b other))
     ])
   where
     keep : (i : ℕ) → IsSteepest m rest cell i → (cell m <ℤ pos 0 → (rest m *ℤ neg_ℤ (cell i)) ≤ℤ (rest i *ℤ neg_ℤ (cell m))) → (i : ℕ)
@@ -253,9 +238,6 @@ steepest (suc m) rest cell =
         steepest = to_next m (λ j. cell j <ℤ pos 0 → (rest j *ℤ neg_ℤ (cell i)) ≤ℤ (rest i *ℤ neg_ℤ (cell j))) h.steepest last;
       },
     )
-
-not_negative : (n : ℕ) → pos 0 ≤ℤ pos n
-not_negative n = omega (arith, ints)
 
 -- a row whose last cell is not below zero is not above zero without it
 rest_below : (r c : ℤ) (y : ℕ) → pos 0 ≤ℤ c → (r +ℤ (c *ℤ pos y)) ≤ℤ pos 0 → r ≤ℤ pos 0
@@ -281,12 +263,9 @@ by_steepness ri ci rj cj h = over _ _ _ _ (swap rj ci) (out ri cj) h
 by_both : (ri ci rj cj y : ℤ) → ci <ℤ pos 0 → pos 0 ≤ℤ cj → (ri +ℤ (ci *ℤ y)) ≤ℤ pos 0 → (rj +ℤ (cj *ℤ y)) ≤ℤ pos 0
     → ((neg_ℤ ci *ℤ rj) +ℤ (cj *ℤ ri)) ≤ℤ pos 0
 by_both ri ci rj cj y below above hi hj =
-    over _ _ _ ci cj (both ri ci rj cj y) (times_le (rj +ℤ (cj *ℤ y)) (pos 0) (neg_ℤ ci) (weaker ci below) hj)
+    over _ _ _ ci cj (both ri ci rj cj y) (times_le (rj +ℤ (cj *ℤ y)) (pos 0) (neg_ℤ ci) (weaker (turned ci below)) hj)
     (times_le (ri +ℤ (ci *ℤ y)) (pos 0) cj above hi)
   where
-    weaker : (a : ℤ) → a <ℤ pos 0 → pos 0 ≤ℤ neg_ℤ a
-    weaker a l = omega (arith, ints)
-
     both : (ri ci rj cj y : ℤ) → (neg_ℤ ci *ℤ rj) +ℤ (cj *ℤ ri) ≡ ((rj +ℤ (cj *ℤ y)) *ℤ neg_ℤ ci) +ℤ ((ri +ℤ (ci *ℤ y)) *ℤ cj)
     both ri ci rj cj y = rw (as_diff ri, as_diff ci, as_diff rj, as_diff cj, as_diff y) (simp diffs (same_diff _ _ _ _ (omega arith)))
 
@@ -350,8 +329,8 @@ some_below P found (suc m) = elim (some_below P found m) [
 -- With no column the scale alone decides.
 solvable_scale : (m : ℕ) (a : ℕ → ℕ → ℤ) → IsSolvable m 0 a ⊎ (IsSolvable m 0 a → ⊥)
 solvable_scale m a = elim (some_below (λ i. pos 0 <ℤ a i 0)
-    (λ i. by_lt_z (pos 0) (a i 0) (λ above. inl above) (λ least. inr (λ above. not_both _ above least))) m) [
-      | inl there ↦ inr (λ h. too_great _ (times_positive (a there.0 0) (pos (h.0 0)) there.2 (above_natural (h.0 0) h.1.scale))
+    (λ i. by_lt_z (pos 0) (a i 0) (λ above. inl above) (λ least. inr (λ above. clash_ℤ above least))) m) [
+      | inl there ↦ inr (λ h. too_great _ (times_positive (a there.0 0) (pos (h.0 0)) there.2 (above_zero (h.0 0) h.1.scale))
           (h.1.kept there.0 there.1))
       | inr none ↦ inl (
         (λ k. 1),
@@ -362,12 +341,6 @@ solvable_scale m a = elim (some_below (λ i. pos 0 <ℤ a i 0)
       )
     ]
   where
-    not_both : (x : ℤ) → pos 0 <ℤ x → x ≤ℤ pos 0 → ⊥
-    not_both x p q = omega (arith, ints)
-
-    above_natural : (y : ℕ) → 0 < y → pos 0 <ℤ pos y
-    above_natural y h = omega (arith, ints)
-
     too_great : (x : ℤ) → pos 0 <ℤ x → (pos 0 +ℤ x) ≤ℤ pos 0 → ⊥
     too_great x p q = omega (arith, ints)
 
@@ -386,7 +359,7 @@ by_row m n a i found =
       | inl there ↦ inl (below, there)
       | inr none ↦ inr (λ h. none h.1)
     ])
-    (λ above. inr (λ h. not_above _ h.0 above))
+    (λ above. inr (λ h. clash_ℤ h.0 above))
 
 -- It can be found out whether rows have a solution.
 pub solvable : (m n : ℕ) (a : ℕ → ℕ → ℤ) → IsSolvable m n a ⊎ (IsSolvable m n a → ⊥)

@@ -1,8 +1,10 @@
-//! What a program reaches: whether it reaches a number is decided, and a covered program has a greatest number that it reaches.
+//! What a program reaches: whether it reaches a number is decided, and a covered program has a greatest number that it
+//! reaches.
 //!
-//! Both are shown without tables, by elimination: rows with a scale and columns have a solution where they have one with zero in
-//! the last column, or where one row is met exactly and solved for it. There is no code here. The functions state what holds of
-//! every program.
+//! Both are shown without tables, by elimination. Rows with a scale and columns have a solution in one of two cases. Either
+//! they have one with zero in the last column. Or one row is met exactly, and is solved for that column.
+//!
+//! There is no code here. The functions state what holds of every program.
 #![tactic(auto)]
 
 ghost use Rattle.std.specs.Prelude.{ℕ, ◌<◌, ◌⊎◌};

@@ -1,12 +1,12 @@
 -- How the recurrence of a source follows its bounds: interference and what programs reach never fall where bounds rise.
-use Rattle.std.proofs.Common.{◌≡◌, ℕ, zero, suc, ◌+◌, ◌-◌, ◌*◌, ◌<◌, ◌≤◌, Bool, true, false, List, length, refl, arith, inl, inr}
+use Rattle.std.proofs.Common.{◌≡◌, ℕ, zero, suc, ◌+◌, ◌-◌, ◌*◌, ◌<◌, ◌≤◌, List, length, refl, arith, inl, inr}
 use Rattle.std.proofs.Math.Nat.{div-zero, mod-zero, mul-le-mul_right}
 use Rattle.std.proofs.lemmas.Bool.{cases_lt}
 use Rattle.std.proofs.lemmas.Grind.{div_ceil_times}
 use Rattle.std.specs.Int.{div_ceil}
 use Rattle.std.specs.Prelude.{slice_index}
-use Rattle.bounded_sums.specs.Sums.{only_if}
 use Rattle.bounded_sums.proofs.SumLaws.{sum_below-monotone}
+use Rattle.bounded_sums.proofs.OnlyIfLaws.{only_if-rises}
 use Rattle.program_form.specs.Certificate.{CertificateDef}
 use Rattle.program_form.specs.Limits.{HasLimitsAtMost}
 use Rattle.program_form.proofs.Points.{zero_reached, greater_limits_reach, greater_limits_greatest}
@@ -30,10 +30,6 @@ div_ceil_rises a b (suc n) h =
       | inr least ↦ least
     ]
 
-only_if_rises : (b : Bool) (m n : ℕ) → m ≤ n → only_if b m ≤ only_if b n
-only_if_rises true m n h = h
-only_if_rises false m n h = omega arith
-
 interference_by_rises : (g : ℕ → ℕ) (set : SetDef) (r s : List ℕ) (i h : ℕ) → slice_index r i ≤ slice_index s i
     → slice_index r h ≤ slice_index s h → interference_by g set r i h ≤ interference_by g set s i h
 interference_by_rises g set r s i h own other =
@@ -46,7 +42,8 @@ interference_by_rises g set r s i h own other =
 pub interference_rises : (g : ℕ → ℕ) (set : SetDef) (r s : List ℕ) (i : ℕ) → i < length set.tasks
     → AtMost (length set.tasks) r s → interference_of g set r i ≤ interference_of g set s i
 interference_rises g set r s i here h = sum_below-monotone i _ _ (λ k below.
-    only_if_rises (is_higher_local set i k) _ _ (interference_by_rises g set r s i k (h i here) (h k (omega arith))))
+    only_if-rises (is_higher_local set i k) (interference_by g set r i k) (interference_by g set s i k)
+    (λ counts. interference_by_rises g set r s i k (h i here) (h k (omega arith))))
 
 -- The law of sources that their recurrences rest on: bounds are in the limits alone, and no limit falls where bounds rise.
 abbrev pub LimitsRise : SourceDef → Type 0

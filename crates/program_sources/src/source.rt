@@ -6,7 +6,7 @@ ghost use Rattle.sporadic_model.specs.Accepted.{IsAccepted, TaskNumbers};
 ghost use Rattle.program_sources.specs.Bounds.{AtMost, AreWithinDeadlines, AreFromCostsAbove, most_of_one_task};
 ghost use Rattle.program_sources.specs.Recurrence.{SourceDef, interference_of};
 
-use program_form::Program;
+use program_form::{Program, SparseProgram};
 use sporadic_model::{TaskId, TaskSet};
 use std::alloc::{AllocError, Global};
 
@@ -32,6 +32,24 @@ pub trait ProgramSource {
         requires task { i.0 < length set.now.tasks }
         requires within { AreWithinDeadlines set.now bounds.now }
         ensures { IfOk result (λ p. p ≡ (source self.now set.now).program i.0 bounds.now) };
+
+    /// The same program, kept by its nonzero coefficients. It refuses for want of memory alone.
+    fn sparse_program(
+        &self,
+        alloc: Global,
+        set: &TaskSet,
+        i: TaskId,
+        bounds: &[u64],
+    ) -> Result<SparseProgram, AllocError>
+        requires serves { serves self.now set.now }
+        requires task { i.0 < length set.now.tasks }
+        requires within { AreWithinDeadlines set.now bounds.now }
+        ensures { IfOk result (λ p. p ≡ (source self.now set.now).program i.0 bounds.now) }
+    {
+        // a source that can form it so at once does so
+        let program = self.program(alloc, set, i, bounds)?;
+        SparseProgram::new(alloc, &program)
+    }
 
     /// The limits of the rows of task `i`'s program at these bounds. A caller that has formed the program at other bounds renews its
     /// limits by this, since its columns and coefficients don't depend on the bounds. It refuses for want of memory alone.

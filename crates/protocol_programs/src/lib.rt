@@ -9,5 +9,8 @@ mod written;
 pub use counting::interference;
 pub use keeping::keeps_jobs;
 pub use program_sources::ProgramSource;
-pub use programs::{accepted, add_rows, costs, limits, program, program_over, rows};
+pub use programs::{
+    accepted, add_rows, costs, limits, program, program_over, rows, sparse_program,
+    sparse_program_over,
+};
 pub use written::Written;

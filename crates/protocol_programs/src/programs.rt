@@ -1,5 +1,6 @@
 ghost use Rattle.std.specs.Prelude.{◌≡◌, ◌<◌, map, length, IfOk, OnOk};
 ghost use Rattle.program_form.specs.RowBlock.{block_seen};
+ghost use Rattle.program_form.specs.SparseRows.{AreListed, sparse_rows_seen};
 ghost use Rattle.program_form.specs.Program.{IsProgram};
 ghost use Rattle.sporadic_model.specs.Homes.{HasHomesFor};
 ghost use Rattle.program_sources.specs.Bounds.{AreWithinDeadlines};
@@ -12,7 +13,7 @@ ghost use Rattle.protocol_programs.specs.Lists.{lists_of};
 use direct_constraints::{add_common, add_own};
 use fragments::{Fragment, RowLimits, RowTaker, columns_stand_in_order};
 use preempt_constraints::add_interval_rows;
-use program_form::{Program, RowBlock, refusals_are_exact};
+use program_form::{Program, RowBlock, SparseProgram, SparseRows, refusals_are_exact};
 use sporadic_model::{Protocol, TaskId, TaskSet};
 use std::alloc::{AllocError, Global};
 
@@ -101,6 +102,25 @@ pub fn program_over(
     Ok(accepted(costs, block))
 }
 
+/// The program over these columns and rows, which are one, kept by its coefficients that aren't zero. It refuses for want of memory
+/// alone.
+pub fn sparse_program_over(
+    alloc: Global,
+    set: &TaskSet,
+    columns: &[Fragment],
+    rows: SparseRows,
+) -> Result<SparseProgram, AllocError>
+    requires known { AreKnown (length set.now.tasks) (length set.now.resources) columns.now }
+    requires listed { AreListed (length (map column_seen columns.now)) rows.rows.items }
+    requires program { IsProgram (lists_of (map (cost_of set.now) (map column_seen columns.now))
+        (sparse_rows_seen (length (map column_seen columns.now)) rows)) }
+    ensures { IfOk result (λ p. p ≡ lists_of (map (cost_of set.now) (map column_seen columns.now))
+        (sparse_rows_seen (length (map column_seen columns.now)) rows)) }
+{
+    let costs = costs(alloc, set, columns)?;
+    Ok(SparseProgram::over(costs, rows))
+}
+
 /// The blocking program of task `i` under the protocol, where these are the bounds, in ticks. It refuses for want of memory
 /// alone.
 pub fn program(
@@ -123,6 +143,51 @@ pub fn program(
     program_over(alloc, set, &columns, block)
 }
 
+/// Gives the taker all rows of that program, and answers its columns.
+fn take_rows<T: RowTaker>(
+    alloc: Global,
+    taker: &mut T,
+    set: &TaskSet,
+    protocol: Protocol,
+    i: TaskId,
+    bounds: &[u64],
+) -> Result<Vec<Fragment>, AllocError>
+    requires task { i.0 < length set.now.tasks }
+    requires suits { HasHomesFor protocol set.now }
+    requires within { AreWithinDeadlines set.now bounds.now }
+    ensures columns { IfOk result (λ v. map column_seen v.items ≡ columns_of protocol set.now i.0) }
+    ensures known { IfOk result (λ v. AreKnown (length set.now.tasks) (length set.now.resources) v.items) }
+    ensures rows { IfOk result (λ v. T.takes taker.old (map column_seen v.items) (rows_of protocol set.now i.0) bounds.now taker.new) }
+{
+    let columns = fragments::fragments(alloc, set, protocol, i)?;
+    columns_stand_in_order(set, protocol, i, &columns);
+    add_rows(alloc, taker, set, protocol, i, bounds, &columns)?;
+    Ok(columns)
+}
+
+/// The same program as [`program`], kept by its coefficients that aren't zero. It refuses for want of memory alone.
+pub fn sparse_program(
+    alloc: Global,
+    set: &TaskSet,
+    protocol: Protocol,
+    i: TaskId,
+    bounds: &[u64],
+) -> Result<SparseProgram, AllocError>
+    requires task { i.0 < length set.now.tasks }
+    requires suits { HasHomesFor protocol set.now }
+    requires within { AreWithinDeadlines set.now bounds.now }
+    ensures { IfOk result (λ p. p ≡ program_of protocol set.now i.0 bounds.now) }
+{
+    // every set is lawful, so its columns and rows make a program
+    let _tasks = set.tasks();
+    let mut taken = SparseRows {
+        rows: Vec::new(alloc),
+        limits: Vec::new(alloc),
+    };
+    let columns = take_rows(alloc, &mut taken, set, protocol, i, bounds)?;
+    sparse_program_over(alloc, set, &columns, taken)
+}
+
 /// The limits of that program, where these are the bounds, without its coefficients. It refuses for want of memory alone.
 pub fn limits(
     alloc: Global,
@@ -136,10 +201,9 @@ pub fn limits(
     requires within { AreWithinDeadlines set.now bounds.now }
     ensures { IfOk result (λ v. v.items ≡ (program_of protocol set.now i.0 bounds.now).limits) }
 {
-    let columns = fragments::fragments(alloc, set, protocol, i)?;
     let mut taken = RowLimits {
         limits: Vec::new(alloc),
     };
-    add_rows(alloc, &mut taken, set, protocol, i, bounds, &columns)?;
+    take_rows(alloc, &mut taken, set, protocol, i, bounds)?;
     Ok(taken.limits)
 }

@@ -1,5 +1,5 @@
-use crate::{interference, keeps_jobs, limits, program};
-use program_form::Program;
+use crate::{interference, keeps_jobs, limits, program, sparse_program};
+use program_form::{Program, SparseProgram};
 use program_sources::ProgramSource;
 use sporadic_model::{Protocol, TaskId, TaskSet};
 use std::alloc::{AllocError, Global};
@@ -36,6 +36,16 @@ impl ProgramSource for Written {
         bounds: &[u64],
     ) -> Result<Program, AllocError> {
         program(alloc, set, self.0, i, bounds)
+    }
+
+    fn sparse_program(
+        &self,
+        alloc: Global,
+        set: &TaskSet,
+        i: TaskId,
+        bounds: &[u64],
+    ) -> Result<SparseProgram, AllocError> {
+        sparse_program(alloc, set, self.0, i, bounds)
     }
 
     fn limits(

@@ -2,11 +2,11 @@
 use Rattle.std.proofs.Common.{◌≡◌, inl, inr, ℕ, ◌*◌, ◌<◌, ◌≤◌, List, length, slice_index, ℤ, pos, ◌*ℤ◌, ◌≤ℤ◌, ◌<ℤ◌, unsigned_abs}
 use Rattle.std.proofs.Common.{refl, sym, ap, subst, ◌∙◌, arith}
 use Rattle.std.specs.Prelude.{All}
-use Rattle.std.proofs.Math.Nat.{mul-le-mul_left, le_of_mul-le-mul_right}
+use Rattle.std.proofs.Math.Nat.{mul-le-mul_left, le_of_mul-le-mul_right, mul_assoc}
 use Rattle.std.proofs.lemmas.Int.{ints, unsigned_abs-mul}
 use Rattle.std.proofs.lemmas.List.{get_or_default}
 use Rattle.std.proofs.lemmas.Grind.{same_number_lists}
-use Rattle.number_laws.proofs.Order.{times_nonneg, cancel_le}
+use Rattle.number_laws.proofs.Order.{times_nonneg, cancel_le, weaker, above_zero, not_negative}
 use Rattle.bounded_sums.specs.Sums.{sum_below}
 use Rattle.bounded_sums.proofs.SumLaws.{sum_below-agree, sum_below-times_right}
 use Rattle.fraction128.specs.Fraction.{Fraction, IsForm, whole}
@@ -26,12 +26,9 @@ use Rattle.exchange_runs.proofs.Best.{optimum_at, scaled_shown, shown_scaled}
 use Rattle.exchange_runs.proofs.Finals.{ends_at_optimum, ends_at_point, one_number}
 use Rattle.exchange_runs.proofs.Once.{forms}
 use Rattle.exchange_runs.proofs.Shown.{Shows}
-use Rattle.exchange_runs.proofs.Signs.{weaker, same_natural}
+use Rattle.exchange_runs.proofs.Signs.{same_natural}
 use Rattle.refusal_laws.specs.Steps.{whole_worth}
 use Rattle.refusal_cert.specs.Refuting.{IsWritten, IsUnwritable}
-
-above_zero : (n : ℕ) → 0 < n → pos 0 <ℤ pos n
-above_zero n h = omega (arith, ints)
 
 -- Each number of the best point is a fraction in lowest terms.
 best_form : (p : ProgramDef) (units k : ℕ) (value : Fraction) (best : List Fraction) (d : DualDef) → IsProgram p
@@ -53,13 +50,10 @@ best_forms p units k value best d is ends = λ c x here.
 -- A number over a scale above zero isn't below zero.
 not_below : (s y : ℕ) (f : Fraction) → 0 < s → pos 0 <ℤ f.den → IsScaled s f y → pos 0 ≤ℤ f.num
 not_below s y f above positive scaled =
-    let product : pos 0 ≤ℤ (pos y *ℤ f.den) = times_nonneg (pos y) f.den (natural y) (weaker positive) in
+    let product : pos 0 ≤ℤ (pos y *ℤ f.den) = times_nonneg (pos y) f.den (not_negative y) (weaker positive) in
     let there : pos 0 ≤ℤ (f.num *ℤ pos s) = subst (λ (z : ℤ). pos 0 ≤ℤ z) scaled.same product in
     cancel_le (pos 0) f.num (pos s) (above_zero s above) (from_zero s (f.num *ℤ pos s) there)
   where
-    natural : (n : ℕ) → pos 0 ≤ℤ pos n
-    natural n = omega (arith, ints)
-
     from_zero : (n : ℕ) (z : ℤ) → pos 0 ≤ℤ z → (pos 0 *ℤ pos n) ≤ℤ z
     from_zero n z h = omega (arith, ints)
 
@@ -90,11 +84,8 @@ scaled_sums : (n s d : ℕ) (a ys zs : ℕ → ℕ) → ((c : ℕ) → c < n →
 scaled_sums n s d a ys zs same =
     sym (sum_below-times_right n s (λ c. a c * zs c))
     ∙ (sum_below-agree n (λ c. a c * zs c * s) (λ c. a c * ys c * d)
-    (λ c l. group (a c) (zs c) s ∙ (ap (λ m. a c * m) (same c l) ∙ sym (group (a c) (ys c) d)))
+    (λ c l. mul_assoc (a c) (zs c) s ∙ (ap (λ m. a c * m) (same c l) ∙ sym (mul_assoc (a c) (ys c) d)))
     ∙ sum_below-times_right n d (λ c. a c * ys c))
-  where
-    group : (x y z : ℕ) → x * y * z ≡ x * (y * z)
-    group x y z = omega arith
 
 -- A point over another scale meets the same rows.
 point_over : (p : ProgramDef) (s d : ℕ) (ys zs : ℕ → ℕ) → 0 < d → IsScaledPoint p s ys

@@ -1,7 +1,8 @@
 //! Certificates of refusal: what they are, and that a set for which one holds has no fitting bounds.
 //!
-//! A refusal begins with the costs and raises one task's bound at a time, each by a point of that task's program at the bounds
-//! so far, until a bound passes the latest one with which its task meets each deadline. The definitions stand in `specs/`.
+//! A refusal begins with the costs. It raises one task's bound at a time, each by a point of that task's program at the
+//! bounds so far. It ends where a bound passes the latest one with which its task meets each deadline. The definitions stand
+//! in `specs/`.
 #![tactic(auto)]
 
 mod laws;

@@ -21,12 +21,12 @@ ghost use Rattle.window_laws.specs.WindowRows.{windowed_source};
 ghost use Rattle.window_laws.proofs.Points.{windowed_point};
 ghost use Rattle.window_laws.proofs.Programs.{windowed_covered, windowed_rises, windowed_is_program};
 
-use crate::programs::{limits, program};
+use crate::programs::{limits, program, sparse_program};
 use charged_protocols::ChargedProtocol;
 use dpcp_rules::Dpcp;
 use fragments::Class;
 use phase_machine::{Judge, Machine};
-use program_form::Program;
+use program_form::{Program, SparseProgram};
 use program_sources::ProgramSource;
 use protocol_programs::interference;
 use schedule_model::{BlockingProtocol, JobId, Row, Rule};
@@ -98,6 +98,16 @@ impl ProgramSource for DpcpWindows {
         bounds: &[u64],
     ) -> Result<Program, AllocError> {
         program(alloc, set, i, bounds)
+    }
+
+    fn sparse_program(
+        &self,
+        alloc: Global,
+        set: &TaskSet,
+        i: TaskId,
+        bounds: &[u64],
+    ) -> Result<SparseProgram, AllocError> {
+        sparse_program(alloc, set, i, bounds)
     }
 
     fn limits(

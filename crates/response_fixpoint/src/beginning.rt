@@ -11,7 +11,6 @@ use crate::plan::Planned;
 use crate::sharing::{Share, first_threads, goes_on, is_in};
 use crate::task_run::solve_program;
 use program_sources::ProgramSource;
-use simplex::SparseProgram;
 use sporadic_model::{TaskId, TaskSet};
 use std::alloc::{AllocError, Global};
 use std::thread::{Threads, map_indices};
@@ -31,8 +30,7 @@ fn begin_task<P: ProgramSource>(
     requires task { i.0 < length set.now.tasks }
     ensures { IfOk result (λ p. IsPlanned (source_at (P.source protocol.now) set.now) bounds.now left i.0 p) }
 {
-    let formed = protocol.program(alloc, set, i, bounds)?;
-    let program = SparseProgram::new(alloc, &formed)?;
+    let program = protocol.sparse_program(alloc, set, i, bounds)?;
     let ahead = if is_solved {
         Some(solve_program(alloc, &program, left))
     } else {

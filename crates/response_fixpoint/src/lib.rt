@@ -25,6 +25,3 @@ pub use laws::{
 pub use plan::{Kept, Planned, next_plan};
 pub use task_run::{Solution, TaskRun, run_task};
 pub use verdict::{Stop, Verdict};
-
-#[cfg(test)]
-mod tests;

@@ -1,9 +1,9 @@
 -- From ticks to fractions: where the ticks of a window meet each row, the fractions are a scaled point of the program.
 use Rattle.std.proofs.Common.{◌≡◌, ℕ, zero, suc, ◌*◌, ◌/◌, ◌<◌, ◌≤◌, Bool, true, List, [], ◌∷◌, length, get_or, map}
-use Rattle.std.proofs.Common.{refl, sym, ap, ◌∙◌, arith, suc-mul, Some, sum_by}
+use Rattle.std.proofs.Common.{refl, sym, ap, ◌∙◌, arith, Some, sum_by}
 use Rattle.std.specs.Prelude.{slice_index}
 use Rattle.std.specs.List.{All, Contains}
-use Rattle.std.proofs.Math.Nat.{mul_comm, mul_assoc, mul-div_cancel_left, div-mul-le_self, mul-le-mul_right}
+use Rattle.std.proofs.Math.Nat.{mul-div_cancel_left, div-mul-le_self, mul-le-mul_right, mul-pos, mul_left_comm}
 use Rattle.std.proofs.lemmas.List.{get_or-map, length-map}
 use Rattle.std.proofs.lemmas.List.Elements.{All-filter, All-get_or, All-from_get_or, All-head, All-tail}
 use Rattle.bounded_sums.specs.Sums.{sum_below}
@@ -30,17 +30,11 @@ use Rattle.row_laws.proofs.ColumnSums.{columns_bring, columns_hold}
 abbrev pub HaveLengths : SetDef → List ColumnDef → Type 0
 HaveLengths set cs = All (λ c. 0 < length_of set c.task c.resource) cs
 
-product_some : (a b : ℕ) → 0 < a → 0 < b → 0 < a * b
-product_some zero b x y = absurd (omega arith)
-product_some (suc a) zero x y = absurd (omega arith)
-product_some (suc a) (suc b) x y = omega (arith, suc-mul a (suc b))
-
 -- The product of positive lengths is positive.
 pub product_positive : (set : SetDef) (cs : List ColumnDef) → HaveLengths set cs → 0 < product_of_lengths set cs
 product_positive set [] h = omega arith
 product_positive set (c ∷ cs) h =
-    product_some (length_of set c.task c.resource) (product_of_lengths set cs)
-    (All-head (λ (d : ColumnDef). 0 < length_of set d.task d.resource) c cs h)
+    mul-pos (All-head (λ (d : ColumnDef). 0 < length_of set d.task d.resource) c cs h)
     (product_positive set cs (All-tail (λ (d : ColumnDef). 0 < length_of set d.task d.resource) c cs h))
 
 -- Each of the lengths is a factor of it.
@@ -52,11 +46,9 @@ factor_of set (c ∷ cs) (suc k) d l =
     let back : (m : ℕ) × (product_of_lengths set cs ≡ length_of set (get_or cs k d).task (get_or cs k d).resource * m) =
     factor_of set cs k d (omega arith) in (
       length_of set c.task c.resource * back.0,
-      turned (length_of set c.task c.resource) (product_of_lengths set cs)
-          (length_of set (get_or cs k d).task (get_or cs k d).resource) back.0 back.1,
-    ) where
-      turned : (a s l m : ℕ) → s ≡ l * m → a * s ≡ l * (a * m)
-      turned a s l m e = ap (λ z. a * z) e ∙ sym (mul_assoc a l m) ∙ ap (λ z. z * m) (mul_comm a l) ∙ mul_assoc l a m
+      ap (λ z. length_of set c.task c.resource * z) back.1
+          ∙ mul_left_comm (length_of set c.task c.resource) (length_of set (get_or cs k d).task (get_or cs k d).resource) back.0,
+    )
 
 -- And where the product is positive, so is each length.
 pub lengths_positive : (set : SetDef) (cs : List ColumnDef) → 0 < product_of_lengths set cs → HaveLengths set cs
@@ -78,9 +70,6 @@ record WholeShare (set : SetDef) (s ticks : ℕ) (c : ColumnDef) : Type 0 where
   fraction : (ticks * s) / length_of set c.task c.resource ≡ ticks * share_of set s c.task c.resource
   whole : length_of set c.task c.resource * share_of set s c.task c.resource ≡ s
 
-turned : (t l m : ℕ) → t * (l * m) ≡ l * (t * m)
-turned t l m = sym (mul_assoc t l m) ∙ ap (λ z. z * m) (mul_comm t l) ∙ mul_assoc l t m
-
 quotient : (l s m : ℕ) → 0 < l → s ≡ l * m → s / l ≡ m
 quotient l s m some e = ap (λ z. z / l) e ∙ mul-div_cancel_left m some
 
@@ -90,7 +79,7 @@ whole_share set s ticks c m some e =
     record { fraction = fraction (length_of set c.task c.resource) some e; whole = whole (length_of set c.task c.resource) some e } where
       fraction : (l : ℕ) → 0 < l → s ≡ l * m → (ticks * s) / l ≡ ticks * (s / l)
       fraction l b f =
-          ap (λ z. (ticks * z) / l) f ∙ ap (λ z. z / l) (turned ticks l m) ∙ mul-div_cancel_left (ticks * m) b
+          ap (λ z. (ticks * z) / l) f ∙ ap (λ z. z / l) (mul_left_comm ticks l m) ∙ mul-div_cancel_left (ticks * m) b
           ∙ ap (λ z. ticks * z) (sym (quotient l s m b f))
 
       whole : (l : ℕ) → 0 < l → s ≡ l * m → l * (s / l) ≡ s
@@ -149,7 +138,7 @@ row_ticks charges test w bound n j k have =
       of_column c l =
           let d : ColumnDef = get_or cs c no_column in
           let a : WholeShare w.set (scale_of test w.set) (ticks d) d = whole_in w.set cs c (ticks d) have l in
-          ap (λ z. k.coefficient d * z) a.fraction ∙ turned (k.coefficient d) (ticks d) (share d)
+          ap (λ z. k.coefficient d * z) a.fraction ∙ mul_left_comm (k.coefficient d) (ticks d) (share d)
 
 -- So where the ticks meet each row of a list, the fractions are a scaled point of the program over these rows and the columns that
 -- pass a test.
@@ -256,4 +245,4 @@ columns_worth charges w bound n j program cs counts costs have placed =
           ap (λ (xs : List ℕ). slice_index xs c) costs ∙ get_or-map (cost_of w.set) cs c no_column 0 l in
           ap (λ z. z * fractions_of charges w bound n j cs c) cost_is
           ∙ ap (λ z. length_of w.set d.task d.resource * z) a.fraction
-          ∙ turned (length_of w.set d.task d.resource) (ticks d) (share_of w.set scale d.task d.resource) ∙ ap (λ z. ticks d * z) a.whole
+          ∙ mul_left_comm (length_of w.set d.task d.resource) (ticks d) (share_of w.set scale d.task d.resource) ∙ ap (λ z. ticks d * z) a.whole

@@ -81,7 +81,7 @@ const BEHIND_ROWS: &str =
 /// A schedule under a protocol, bounds, and the items of its table.
 type Case = (Protocol, [&'static str; 3], &'static [u64], &'static [Item]);
 
-const CASES: [Case; 8] = [
+const CASES: &[Case] = &[
     (
         Protocol::FmlpPlus,
         [PAIR, PAIR_JOBS, PAIR_LOWER_FIRST],
@@ -145,7 +145,7 @@ const CASES: [Case; 8] = [
 #[test]
 fn blocked_ticks_are_charged(rt: HostRuntime) -> Result<(), Fail> {
     for (protocol, schedule, bounds, wanted) in CASES {
-        let Ok(table) = charges_of(rt.alloc(), protocol, schedule, bounds)? else {
+        let Ok(table) = charges_of(rt.alloc(), *protocol, *schedule, bounds)? else {
             return Err("no table".into());
         };
         let charges = items_of(rt.alloc(), wanted)?;
@@ -157,7 +157,7 @@ fn blocked_ticks_are_charged(rt: HostRuntime) -> Result<(), Fail> {
 /// A schedule under a protocol, bounds, and what stops it.
 type Stop = (Protocol, [&'static str; 3], &'static [u64], ChargeStop);
 
-const STOPS: [Stop; 4] = [
+const STOPS: &[Stop] = &[
     (
         Protocol::FmlpPlus,
         [PAIR, PAIR_JOBS, PAIR_LOWER_FIRST],
@@ -194,10 +194,10 @@ const STOPS: [Stop; 4] = [
 #[test]
 fn unlawful_rows_and_passed_bounds_stop_it(rt: HostRuntime) -> Result<(), Fail> {
     for (protocol, schedule, bounds, wanted) in STOPS {
-        let Err(stop) = charges_of(rt.alloc(), protocol, schedule, bounds)? else {
+        let Err(stop) = charges_of(rt.alloc(), *protocol, *schedule, bounds)? else {
             return Err("a table".into());
         };
-        assert_eq!(rt; stop, wanted, "at {}", schedule[2]);
+        assert_eq!(rt; stop, *wanted, "at {}", schedule[2]);
     }
     Ok(())
 }

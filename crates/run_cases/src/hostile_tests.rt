@@ -1,10 +1,13 @@
-use crate::tests::PAIR_CERTIFICATE;
-use block_top::run;
+use block_top::{Status, run};
 use outside_ports::{MemShelf, MemSink};
 use std::alloc::{AllocError, Global};
 use std::test::Fail;
 use std::thread::Threads;
 use worked_files::{PAIR, PAIR_JOBS, PAIR_LOWER_FIRST};
+
+/// The least bounds of `PAIR` under FMLP+.
+const PAIR_CERTIFICATE: &str =
+    "{\"bounds\":[5,5],\"duals\":[{\"den\":1,\"num\":[2,0,0,0]},{\"den\":1,\"num\":[1,0,0,0]}],\"protocol\":\"fmlp+\",\"set\":\"5fb1c51fbdd430c6971fec1191669488e3ef2ae73b0ba959313a10ecc2bab6dc\",\"verdict\":\"schedulable\",\"version\":2}\n";
 
 const AUDITED: &str = "kept 5\nt1 5 5 2 2 2 0 0\nt2 4 5 0 1 0 0 0\n";
 
@@ -52,6 +55,14 @@ const WHOLE: Out = Out {
     failing: 0,
 };
 
+fn words_of(alloc: Global, words: &[&str]) -> Result<Vec<String>, AllocError> {
+    let mut list = Vec::new(alloc);
+    for word in words {
+        list.push(String::from_str(alloc, word)?)?;
+    }
+    Ok(list)
+}
+
 /// Runs the words over a shelf and a sink.
 fn ran_into<R: Threads + Sync>(
     rt: &R,
@@ -60,13 +71,10 @@ fn ran_into<R: Threads + Sync>(
     shelf: &mut MemShelf,
     out: Out,
 ) -> Result<Given, AllocError> {
-    let mut given = Vec::new(alloc);
-    for word in words {
-        given.push(String::from_str(alloc, word)?)?;
-    }
+    let words = words_of(alloc, words)?;
     let failing = Vec::from_slice(alloc, &[out.failing])?;
     let mut sink = MemSink::new(alloc, out.room, out.piece.max(1), failing)?;
-    let status = run(rt, alloc, &given, shelf, &mut sink).number();
+    let status = run(rt, alloc, &words, shelf, &mut sink).number();
     answer(alloc, status, sink.written())
 }
 
@@ -117,6 +125,46 @@ fn a_failing_read_is_a_fault_of_its_input(rt: HostRuntime) -> Result<(), Fail> {
             "call {call}"
         );
     }
+    Ok(())
+}
+
+/// The call that fails, the set and the jobs of a judgement, and the status and text of its answer.
+const ORDER: [(u64, &str, &str, u8, &str); 5] = [
+    (3, PAIR, PAIR_JOBS, 4, "fault read set\n"),
+    (4, PAIR, PAIR_JOBS, 4, "fault read jobs\n"),
+    (9, PAIR, PAIR_JOBS, 4, "fault read rows\n"),
+    (7, PAIR, "task,release\n", 3, "refused jobs fields 0\n"),
+    (3, "", PAIR_JOBS, 3, "refused set notjson\n"),
+];
+
+// An input that is refused is answered before the next one is read.
+#[test]
+fn each_input_is_read_after_the_one_before_it(rt: HostRuntime) -> Result<(), Fail> {
+    let alloc = rt.alloc();
+    let words = ["conform", "fmlp+", "set", "jobs", "rows"];
+    for (call, set, jobs, status, text) in ORDER {
+        let files = [
+            ("set", set.as_bytes()),
+            ("jobs", jobs.as_bytes()),
+            ("rows", PAIR_LOWER_FIRST.as_bytes()),
+        ];
+        let mut shelf = shelf_of(alloc, &files, &[call])?;
+        let given = ran_into(&rt, alloc, &words, &mut shelf, WHOLE)?;
+        assert_eq!(rt; given, answer(alloc, status, text.as_bytes())?);
+    }
+    Ok(())
+}
+
+#[test]
+fn one_shelf_and_one_sink_serve_two_runs(rt: HostRuntime) -> Result<(), Fail> {
+    let alloc = rt.alloc();
+    let words = words_of(alloc, &["analyse", "fmlp+", "set"])?;
+    let mut shelf = shelf_of(alloc, &[("set", PAIR.as_bytes())], &[])?;
+    let mut sink = MemSink::new(alloc, 1000, 4096, Vec::new(alloc))?;
+    let first = run(&rt, alloc, &words, &mut shelf, &mut sink);
+    let second = run(&rt, alloc, &words, &mut shelf, &mut sink);
+    assert!(rt; (first, second) == (Status::Done, Status::Done));
+    assert!(rt; sink.written().len() == 2 * PAIR_CERTIFICATE.len());
     Ok(())
 }
 

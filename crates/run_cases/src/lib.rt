@@ -5,8 +5,6 @@
 #[cfg(test)]
 mod audit_tests;
 #[cfg(test)]
-mod cert_tests;
-#[cfg(test)]
 mod charge_tests;
 #[cfg(test)]
 mod check_tests;
@@ -17,10 +15,6 @@ mod port_tests;
 #[cfg(test)]
 mod protocol_tests;
 #[cfg(test)]
-mod size_tests;
-#[cfg(test)]
 mod study_tests;
 #[cfg(test)]
 mod table_tests;
-#[cfg(test)]
-mod tests;

@@ -2,7 +2,7 @@
 use Rattle.std.proofs.Common.{◌≡◌, ℕ, ◌<◌, ◌++◌, refl, ◌∙◌, ap, inl}
 use Rattle.std.specs.Prelude.{List, length, codes, decimal, slice_index, slice_index_or}
 use Rattle.program_form.specs.Certificate.{CertificateDef}
-use Rattle.sporadic_model.specs.SetDef.{SetDef, task_at}
+use Rattle.sporadic_model.specs.SetDef.{SetDef}
 use Rattle.protocol_names.specs.declared.ProtocolName.{ProtocolName}
 use Rattle.schedule_model.specs.JobDef.{JobsDef}
 use Rattle.schedule_model.specs.RowDef.{Trace, trace_in, ticks_of}
@@ -17,11 +17,10 @@ use Rattle.schedule_answers.specs.declared.audited.TaskFigures.{TaskFigures}
 use Rattle.schedule_answers.specs.TaskAnswers.{no_figures}
 use Rattle.figure_laws.specs.Figures.{figures_of, AreFigures}
 use Rattle.command_inputs.specs.Known.{Answer}
-use Rattle.reply_texts.specs.Texts.{figures_line, figures_lines, kept_text}
+use Rattle.reply_texts.specs.Texts.{figures_line, kept_text}
 use Rattle.run_plans.specs.Commands.{invalid_answer, IsKept, kept_answer, IsAudit, IsAuditOf, audit_of}
 use Rattle.cert_json.specs.FileDef.{FileDef}
-use Rattle.text_pieces.proofs.Lines.{lines_same}
-use Rattle.run_plans.proofs.ConformLaws.{kept_lawful}
+use Rattle.run_plans.proofs.ConformLaws.{kept_lawful, task_lines_same}
 use Rattle.run_plans.proofs.PlanLaws.{IsLawfulWork}
 use Rattle.run_plans.proofs.WorkLaws.{always, judged_lawful, tied_lawful}
 
@@ -43,11 +42,7 @@ audit_lawful p digest file jobs rows =
 -- The text with the figures that are listed is that with the figures of the schedule.
 kept_same : (set : SetDef) (n : ℕ) (f g : ℕ → TaskFigures) → ((x : ℕ) → x < length set.tasks → f x ≡ g x)
     → kept_text set n f ≡ kept_text set n g
-kept_same set n f g same =
-    let lines : figures_lines set f ≡ figures_lines set g =
-    lines_same (λ x. figures_line (task_at set x).name (f x)) (λ x. figures_line (task_at set x).name (g x)) (length set.tasks)
-    (λ x below. ap (λ m. figures_line (task_at set x).name m) (same x below)) in
-    ap (λ t. codes "kept " ++ (decimal n ++ (codes "\n" ++ t))) lines
+kept_same set n f g same = ap (λ t. codes "kept " ++ (decimal n ++ (codes "\n" ++ t))) (task_lines_same set figures_line f g same)
 
 pub kept_audit : (p : ProtocolName) (c : CertificateDef) (w : Trace) (n : ℕ) (figures : List TaskFigures) (a : Answer)
     → IsValid (source_of p w.set) c

@@ -1,5 +1,5 @@
 -- The bytes of a certificate are read in one way.
-use Rattle.std.proofs.Common.{◌≡◌, ℕ, List, refl, sym, ◌∙◌, ap, inl, inr, ◌⊎◌, Ok, Err, Some, None}
+use Rattle.std.proofs.Common.{◌≡◌, ℕ, List, refl, ap, inl, inr, Ok, Err, Some, None}
 use Rattle.std.specs.Prelude.{Option, Result}
 use Rattle.serde_json.specs.Data.{Data}
 use Rattle.program_form.specs.Certificate.{certificate_seen}
@@ -18,6 +18,7 @@ use Rattle.cert_json.specs.declared.version.Version.{Version}
 use Rattle.cert_json.specs.declared.version.Version.TheVariants as version
 use Rattle.cert_json.proofs.FormLaws.{none_from_form}
 use Rattle.command_inputs.specs.Inputs.{ReadsCert, cert_input, old_cert_input}
+use Rattle.run_plans.proofs.OneReading.{IsOfValue, Says, one_saying}
 use Rattle.run_plans.proofs.PlanLaws.{ReadsOnce}
 
 -- What reading says of a value, as a function of the value.
@@ -28,23 +29,14 @@ judge (Some r) c = Err r
 judgement : {A : Type 0} → Version → (Data → A) → ProtocolName → Data → Result A CertRefusal
 judgement v writes p d = judge (first_refusal v (word_of p) d) (writes d)
 
--- Either the bytes have no value, or the answer is the judgement on their value.
-record IsOfValue {A : Type 0} (v : Version) (writes : Data → A) (p : ProtocolName) (r : Result A CertRefusal) (bytes : List ℕ) : Type 0 where
-  value : Data
-  is_value : IsValue bytes value
-  is : r ≡ judgement v writes p value
-
-record IsOfNone {A : Type 0} (r : Result A CertRefusal) (bytes : List ℕ) : Type 0 where
-  none : (d : Data) → IsValue bytes d → ⊥
-  is : r ≡ Err cert.NotJson
-
 refused_value : {A : Type 0} (v : Version) (writes : Data → A) (p : ProtocolName) (r : CertRefusal) (bytes : List ℕ) (d : Data)
-    → IsValue bytes d → first_refusal v (word_of p) d ≡ Some r → IsOfValue v writes p (Err r) bytes
+    → IsValue bytes d → first_refusal v (word_of p) d ≡ Some r → IsOfValue (judgement v writes p) (Err r) bytes
 unfolding judgement judge
 refused_value v writes p r bytes d is due = record { value = d; is_value = is; is = rw due refl }
 
+-- Either the bytes have no value, or the answer is the judgement on their value.
 says : {A : Type 0} (v : Version) (writes : Data → A) (p : ProtocolName) (r : Result A CertRefusal) (bytes : List ℕ)
-    → ReadsCert v writes p bytes r → IsOfNone r bytes ⊎ IsOfValue v writes p r bytes
+    → ReadsCert v writes p bytes r → Says cert.NotJson (judgement v writes p) r bytes
 unfolding judgement judge
 says v writes p (Ok c) bytes (d, is, form, same) =
     inr (record { value = d; is_value = is; is = rw (none_from_form v (word_of p) d form) (ap (λ x. Ok x) same) })
@@ -54,22 +46,12 @@ says v writes p (Err (cert.Shape place)) bytes (d, is, due) = inr (refused_value
 says v writes p (Err cert.Version) bytes (d, is, due) = inr (refused_value v writes p cert.Version bytes d is due)
 says v writes p (Err cert.OtherProtocol) bytes (d, is, due) = inr (refused_value v writes p cert.OtherProtocol bytes d is due)
 
-one_saying : {A : Type 0} (v : Version) (writes : Data → A) (p : ProtocolName) (r s : Result A CertRefusal) (bytes : List ℕ)
-    → (IsOfNone r bytes ⊎ IsOfValue v writes p r bytes) → (IsOfNone s bytes ⊎ IsOfValue v writes p s bytes) → r ≡ s
-one_saying v writes p r s bytes (inl x) (inl y) = x.is ∙ sym y.is
-one_saying v writes p r s bytes (inl x) (inr y) = absurd (x.none y.value y.is_value)
-one_saying v writes p r s bytes (inr x) (inl y) = absurd (y.none x.value x.is_value)
-one_saying v writes p r s bytes (inr x) (inr y) =
-    let some : Some x.value ≡ Some y.value = sym x.is_value.1 ∙ y.is_value.1 in
-    let same : x.value ≡ y.value = cc in
-    x.is ∙ ap (judgement v writes p) same ∙ sym y.is
-
 pub cert_reads_once : (protocol : ProtocolName) → ReadsOnce (cert_input protocol)
-cert_reads_once protocol bytes r s p q = one_saying version.Second file_written protocol r s bytes
+cert_reads_once protocol bytes r s p q = one_saying cert.NotJson (judgement version.Second file_written protocol) r s bytes
     (says version.Second file_written protocol r bytes p) (says version.Second file_written protocol s bytes q)
 
 pub old_cert_reads_once : (protocol : ProtocolName) → ReadsOnce (old_cert_input protocol)
-old_cert_reads_once protocol bytes r s p q = one_saying version.First certificate_written protocol r s bytes
+old_cert_reads_once protocol bytes r s p q = one_saying cert.NotJson (judgement version.First certificate_written protocol) r s bytes
     (says version.First certificate_written protocol r bytes p) (says version.First certificate_written protocol s bytes q)
 
 -- What the reader says of bytes, in the words of the input: a certificate, or the refusal.

@@ -1,6 +1,7 @@
 -- What `refute` writes is found confirmed, and no set is both accepted and refused.
 use Rattle.std.proofs.Common.{◌≡◌, ℕ, ◌≤◌, List, length, refl, sym, ◌∙◌, subst, inl, inr, Some, Ok}
 use Rattle.std.specs.Prelude.{Option}
+use Rattle.std.proofs.lemmas.Option.{same_Some}
 use Rattle.outside_ports.specs.Names.{Inputs, bytes_of, IsNamed}
 use Rattle.outside_ports.specs.declared.whole.TheConstants.{GREATEST_INPUT_BYTES}
 use Rattle.sha2.specs.Sha256.{sha256}
@@ -17,20 +18,18 @@ use Rattle.command_inputs.specs.Known.{Answer, told}
 use Rattle.run_plans.specs.Plans.{IsOutcomeOf}
 use Rattle.command_inputs.specs.RefusalDef.{RefusalDef}
 use Rattle.run_plans.specs.Refuting.{confirmed_answer}
-use Rattle.run_plans.specs.Commands.{plan_of}
-use Rattle.command_inputs.specs.Inputs.{ReadsSet, IsRefusalText}
+use Rattle.run_plans.specs.Commands.{confirmation_of, plan_of}
+use Rattle.command_inputs.specs.Inputs.{ReadsSet, IsRefusalText, refusal_input}
 use Rattle.run_plans.specs.Headline.{Call, IsSetText, ReadsSome}
 use Rattle.run_plans.specs.Run.{IsRun}
 use Rattle.run_plans.specs.Confirmed.{ConfirmsWhatWasWritten, FindsConfirmed, ChecksAndConfirms}
 use Rattle.run_plans.proofs.InputLaws.{set_reads_once}
 use Rattle.run_plans.proofs.SetTextLaws.{reads_text}
-use Rattle.run_plans.proofs.PlanLaws.{same_bytes}
-use Rattle.run_plans.proofs.RunLaws.{of_form}
 use Rattle.run_plans.proofs.SoundLaws.{accepted_of}
 use Rattle.run_plans.proofs.RefusalInputLaws.{text_is_read}
 use Rattle.run_plans.proofs.RefusedLaws.{WroteRefusal, wrote_refusal}
 use Rattle.run_plans.proofs.WritableRefusal.{refusal_writable}
-use Rattle.run_plans.proofs.CheckedLaws.{one_text, gave_zero, has_form, finds}
+use Rattle.run_plans.proofs.CheckedLaws.{outcome_of_both, gave_text, has_form, finds}
 
 -- Bytes are the text of one set.
 one_set : (p : ProtocolName) (bytes others : List ℕ) (set other : SetDef) → bytes ≡ others → IsSetText p bytes set
@@ -53,7 +52,7 @@ never_both first second run again c =
     let other : bytes_of c.later c.same_set ≡ Some holds.read.bytes =
     told_bytes second c.later c.protocol c.same_set holds.set c.told_later holds.read in
     let bytes : valid.read.bytes ≡ holds.read.bytes =
-    same_bytes (bytes_of c.inputs c.set) valid.read.bytes holds.read.bytes mine (sym c.set_again ∙ other) in
+    same_Some valid.read.bytes holds.read.bytes (sym mine ∙ (sym c.set_again ∙ other)) in
     let same : valid.set ≡ holds.set =
     one_set c.protocol valid.read.bytes holds.read.bytes valid.set holds.set bytes valid.read.text holds.read.text in
     named_none_valid c.protocol holds.set holds.steps valid.certificate holds.holds
@@ -82,19 +81,10 @@ confirm_outcome : (inputs later : Inputs) (p : ProtocolName) (name again cert te
     → length text ≤ GREATEST_INPUT_BYTES → bytes_of later again ≡ bytes_of inputs name → bytes_of later cert ≡ Some text
     → IsOutcomeOf (told later) (plan_of (Confirm p again cert)) confirmed_answer
 unfolding file_of
-confirm_outcome inputs later p name again cert text n a w same short set_again text_again = inr (
-  w.bytes,
-  w.set,
-  ((set_again ∙ w.read.0.0, w.read.0.1), w.read.1),
-  (λ works. tt),
-  inr (
-    text,
-    file_of inputs p name n a w,
-    ((text_again, short), reads_written inputs p name text n a w same),
-    (λ works. tt),
-    inr (refl, inl (w.so.holds, refl)),
-  ),
-)
+confirm_outcome inputs later p name again cert text n a w same short set_again text_again =
+    outcome_of_both later p again cert w.bytes text w.set (refusal_input p) (file_of inputs p name n a w) (confirmation_of p)
+    confirmed_answer ((set_again ∙ w.read.0.0, w.read.0.1), w.read.1)
+    ((text_again, short), reads_written inputs p name text n a w same) (inr (refl, inl (w.so.holds, refl)))
 
 -- What a call that refutes a set wrote, with status 0.
 record WroteText (inputs : Inputs) (p : ProtocolName) (name text : List ℕ) : Type 0 where
@@ -105,14 +95,13 @@ record WroteText (inputs : Inputs) (p : ProtocolName) (name text : List ℕ) : T
 
 wrote_text : (first second : Call) → IsRun first → (c : ConfirmsWhatWasWritten first second) → WroteText c.inputs c.protocol c.set c.text
 wrote_text first second run c =
-    let gave = gave_zero first c.inputs run c.told c.refused in
     let form = refute_has_form first.words c.protocol c.set c.more c.refutes (has_form first run c.refused) in
-    let plan = of_form c.inputs first.words (Refute c.protocol c.set form.0) gave.reply form.1 gave.outcome in
+    let gave = gave_text first c.inputs (Refute c.protocol c.set form.0) c.text run form.1 c.told c.tells c.refused c.wrote in
     record {
       allowance = form.0;
       reply = gave.reply;
-      wrote = wrote_refusal (told c.inputs) c.protocol c.set form.0 gave.reply plan gave.zero;
-      same = one_text first.sink_before.written first.sink_now.written gave.reply.text c.text c.tells gave.out c.wrote;
+      wrote = wrote_refusal (told c.inputs) c.protocol c.set form.0 gave.reply gave.outcome gave.zero;
+      same = gave.same;
     }
 
 pub finds_confirmed : (first second : Call) → IsRun first → IsRun second → ConfirmsWhatWasWritten first second → FindsConfirmed second

@@ -1,7 +1,9 @@
 -- Laws of judging a schedule: there is one answer, with status 0 or 1.
-use Rattle.std.proofs.Common.{◌≡◌, ℕ, ◌<◌, ◌++◌, ◌==◌, refl, sym, ◌∙◌, ap, subst, arith, inl, inr, ◌⊎◌}
-use Rattle.std.proofs.lemmas.Bool.{cases_lt}
-use Rattle.std.specs.Prelude.{Bool, length, codes, decimal, if◌then◌else◌, slice_index_or}
+use Rattle.std.proofs.Common.{◌≡◌, ℕ, ◌<◌, ◌++◌, ◌==◌, refl, sym, ◌∙◌, ap, subst, inl, inr, ◌⊎◌}
+use Rattle.std.proofs.lemmas.Bool.{cases_order}
+use Rattle.std.specs.Prelude.{Bool, List, length, codes, decimal, if◌then◌else◌, slice_index_or}
+use Rattle.bounded_sums.specs.Sums.{collect_below}
+use Rattle.bounded_sums.proofs.SumLaws.{collect_below-agree}
 use Rattle.sporadic_model.specs.SetDef.{SetDef, task_at}
 use Rattle.protocol_names.specs.declared.ProtocolName.{ProtocolName}
 use Rattle.schedule_model.specs.JobDef.{JobsDef}
@@ -16,9 +18,8 @@ use Rattle.schedule_answers.specs.TaskAnswers.{measure_seen, no_measure}
 use Rattle.schedule_answers.specs.Conforming.{AreMeasures}
 use Rattle.schedule_answers.specs.declared.judged.Measured.{Measured}
 use Rattle.command_inputs.specs.Known.{Answer}
-use Rattle.reply_texts.specs.Texts.{measures_line, measures_lines, lawful_text}
+use Rattle.reply_texts.specs.Texts.{measures_line, lawful_text}
 use Rattle.run_plans.specs.Commands.{IsKept, broken_answer, lawful_answer, IsConformance, conformance_of}
-use Rattle.text_pieces.proofs.Lines.{lines_same}
 use Rattle.run_plans.proofs.PlanLaws.{IsLawfulWork}
 use Rattle.run_plans.proofs.WorkLaws.{always, always_lawful}
 
@@ -49,19 +50,18 @@ no_earlier_rule keeps w n t r s p q less = p.breaks.broken (q.breaks.earlier r l
 
 one_tick : (keeps : Rule → Trace → ℕ → Type 0) (w : Trace) (n t u : ℕ) (r s : Rule) → IsFirstUnlawful keeps w n t r
     → IsFirstUnlawful keeps w n u s → t ≡ u
-one_tick keeps w n t u r s p q = elim (cases_lt t u) [
-  | inl less ↦ absurd (no_later keeps w n t u r s p q less)
-  | inr most ↦ elim (cases_lt u t) [ inl less ↦ absurd (no_later keeps w n u t s r q p less) | inr least ↦ omega arith ]
+one_tick keeps w n t u r s p q = elim (cases_order t u) [
+  | inl same ↦ same
+  | inr (inl less) ↦ absurd (no_later keeps w n t u r s p q less)
+  | inr (inr more) ↦ absurd (no_later keeps w n u t s r q p more)
 ]
 
 one_rule : (keeps : Rule → Trace → ℕ → Type 0) (w : Trace) (n t : ℕ) (r s : Rule) → IsFirstUnlawful keeps w n t r
     → IsFirstUnlawful keeps w n t s → r ≡ s
-one_rule keeps w n t r s p q = elim (cases_lt (rule_number r) (rule_number s)) [
-  | inl less ↦ absurd (no_earlier_rule keeps w n t r s p q less)
-  | inr most ↦ elim (cases_lt (rule_number s) (rule_number r)) [
-    | inl less ↦ absurd (no_earlier_rule keeps w n t s r q p less)
-    | inr least ↦ same_rule r s (omega arith)
-  ]
+one_rule keeps w n t r s p q = elim (cases_order (rule_number r) (rule_number s)) [
+  | inl same ↦ same_rule r s same
+  | inr (inl less) ↦ absurd (no_earlier_rule keeps w n t r s p q less)
+  | inr (inr more) ↦ absurd (no_earlier_rule keeps w n t s r q p more)
 ]
 
 one_broken : (keeps : Rule → Trace → ℕ → Type 0) (w : Trace) (n t u : ℕ) (r s : Rule)
@@ -99,14 +99,20 @@ conformance_lawful protocol jobs rows =
     let n = ticks_of rows.runs in
     kept_lawful (rules_of protocol) w n (lawful_answer (interference_of protocol) w n) refl
 
--- The text with the measures that were taken is that with the measures of the schedule.
+-- Lines of tasks are the same where they say the same of each task.
+pub task_lines_same : {F : Type 0} (set : SetDef) (line : List ℕ → F → List ℕ) (f g : ℕ → F)
+    → ((x : ℕ) → x < length set.tasks → f x ≡ g x)
+    → collect_below (length set.tasks) (λ x. line (task_at set x).name (f x))
+    ≡ collect_below (length set.tasks) (λ x. line (task_at set x).name (g x))
+task_lines_same set line f g same =
+    collect_below-agree (length set.tasks) (λ x. line (task_at set x).name (f x)) (λ x. line (task_at set x).name (g x))
+    (λ x below. ap (line (task_at set x).name) (same x below))
+
+-- So the text with the measures that were taken is that with the measures of the schedule.
 lawful_same : (set : SetDef) (n : ℕ) (f g : ℕ → MeasuresDef) → ((x : ℕ) → x < length set.tasks → f x ≡ g x)
     → lawful_text set n f ≡ lawful_text set n g
 lawful_same set n f g same =
-    let lines : measures_lines set f ≡ measures_lines set g =
-    lines_same (λ x. measures_line (task_at set x).name (f x)) (λ x. measures_line (task_at set x).name (g x)) (length set.tasks)
-    (λ x below. ap (λ m. measures_line (task_at set x).name m) (same x below)) in
-    ap (λ t. codes "lawful " ++ (decimal n ++ (codes "\n" ++ t))) lines
+    ap (λ t. codes "lawful " ++ (decimal n ++ (codes "\n" ++ t))) (task_lines_same set measures_line f g same)
 
 pub measured_conformance : (keeps : Rule → Trace → ℕ → Type 0) (interferes : Trace → ℕ → ℕ → Bool) (w : Trace) (n : ℕ)
     (m : Measured) (a : Answer) → KeepsBefore keeps w n × AreMeasures interferes w n m

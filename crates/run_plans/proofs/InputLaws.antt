@@ -1,5 +1,5 @@
 -- The bytes of a set are read in one way.
-use Rattle.std.proofs.Common.{◌≡◌, ℕ, List, refl, sym, ◌∙◌, ap, inl, inr, ◌⊎◌, Ok, Err, Some, None}
+use Rattle.std.proofs.Common.{◌≡◌, ℕ, List, refl, sym, ◌∙◌, ap, inl, inr, Ok, Err, Some, None}
 use Rattle.std.specs.Prelude.{Option, Result}
 use Rattle.serde_json.specs.Data.{Data}
 use Rattle.sporadic_model.specs.SetDef.{SetDef}
@@ -10,13 +10,14 @@ use Rattle.protocol_names.specs.declared.ProtocolName.{ProtocolName}
 use Rattle.sporadic_model.specs.declared.refusal.Place.{Place}
 use Rattle.sporadic_model.specs.declared.refusal.ModelRefusal.{ModelRefusal}
 use Rattle.sporadic_model.specs.declared.refusal.ModelRefusal.TheVariants as model
-use Rattle.taskset_json.specs.Answers.{Reads, IsValue, JudgesValue, first_homeless}
+use Rattle.taskset_json.specs.Answers.{Reads, JudgesValue, first_homeless}
 use Rattle.taskset_json.specs.FormFaults.{first_misshapen}
 use Rattle.taskset_json.proofs.FormRelation.{none_from_form}
 use Rattle.taskset_json.specs.Written.{set_written}
 use Rattle.taskset_json.specs.declared.refusal.SetRefusal.{SetRefusal}
 use Rattle.taskset_json.specs.declared.refusal.SetRefusal.TheVariants as refusal
 use Rattle.command_inputs.specs.Inputs.{ReadsSet, set_input}
+use Rattle.run_plans.proofs.OneReading.{Says, one_saying}
 use Rattle.run_plans.proofs.PlanLaws.{ReadsOnce}
 
 -- Is the answer of reading one that says something of the bytes?
@@ -55,16 +56,7 @@ judged (Err (refusal.NoHome q)) d j tells = absurd j
 judged (Err refusal.Memory) d j tells = absurd tells
 
 -- Either the bytes have no value, or the answer is the judgement on their value.
-record IsOfValue (r : Result SetDef SetRefusal) (bytes : List ℕ) : Type 0 where
-  value : Data
-  is_value : IsValue bytes value
-  is : r ≡ judgement value
-
-record IsOfNone (r : Result SetDef SetRefusal) (bytes : List ℕ) : Type 0 where
-  none : (d : Data) → IsValue bytes d → ⊥
-  is : r ≡ Err refusal.NotJson
-
-says : (r : Result SetDef SetRefusal) (bytes : List ℕ) → Reads r bytes → Tells r → IsOfNone r bytes ⊎ IsOfValue r bytes
+says : (r : Result SetDef SetRefusal) (bytes : List ℕ) → Reads r bytes → Tells r → Says refusal.NotJson judgement r bytes
 says (Ok set) bytes reads tells = inr (record { value = reads.0; is_value = reads.1; is = judged (Ok set) reads.0 reads.2 tells })
 says (Err refusal.NotJson) bytes reads tells = inl (record { none = reads; is = refl })
 says (Err (refusal.Shape place)) bytes reads tells =
@@ -74,19 +66,9 @@ says (Err (refusal.Model m)) bytes reads tells =
 says (Err (refusal.NoHome q)) bytes reads tells = absurd reads.2
 says (Err refusal.Memory) bytes reads tells = absurd tells
 
-one_saying : (r s : Result SetDef SetRefusal) (bytes : List ℕ) → (IsOfNone r bytes ⊎ IsOfValue r bytes)
-    → (IsOfNone s bytes ⊎ IsOfValue s bytes) → r ≡ s
-one_saying r s bytes (inl x) (inl y) = x.is ∙ sym y.is
-one_saying r s bytes (inl x) (inr y) = absurd (x.none y.value y.is_value)
-one_saying r s bytes (inr x) (inl y) = absurd (y.none x.value x.is_value)
-one_saying r s bytes (inr x) (inr y) =
-    let some : Some x.value ≡ Some y.value = sym x.is_value.1 ∙ y.is_value.1 in
-    let same : x.value ≡ y.value = cc in
-    x.is ∙ ap judgement same ∙ sym y.is
-
 -- Bytes are read in one way.
 pub one_reading : (r s : Result SetDef SetRefusal) (bytes : List ℕ) → Reads r bytes → Reads s bytes → Tells r → Tells s → r ≡ s
-one_reading r s bytes p q a b = one_saying r s bytes (says r bytes p a) (says s bytes q b)
+one_reading r s bytes p q a b = one_saying refusal.NotJson judgement r s bytes (says r bytes p a) (says s bytes q b)
 
 -- What reading for a protocol makes of what reading says: the first resource without a home refuses a set.
 abbrev pub with_homes : Option ℕ → SetDef → Result SetDef SetRefusal

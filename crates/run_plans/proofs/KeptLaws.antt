@@ -1,5 +1,5 @@
 -- What status 0 of `audit` says, whatever is known of the inputs.
-use Rattle.std.proofs.Common.{◌≡◌, ℕ, List, ap, subst, sym, arith, inl, inr}
+use Rattle.std.proofs.Common.{◌≡◌, ℕ, List, refl, subst, sym, arith, inl, inr}
 use Rattle.std.specs.Io.KnownBytes.{Appends}
 use Rattle.program_form.specs.Certificate.{CertificateDef}
 use Rattle.program_sources.specs.Valid.{IsValid}
@@ -23,7 +23,7 @@ use Rattle.run_plans.specs.Commands.{kept_answer, IsAudit, IsAuditOf, plan_of}
 use Rattle.run_plans.specs.Headline.{Call}
 use Rattle.run_plans.specs.Auditing.{IsProvedAudit}
 use Rattle.run_plans.specs.Run.{shelf_of, Gives}
-use Rattle.run_plans.proofs.PlanLaws.{stopped_not_zero}
+use Rattle.run_plans.proofs.PlanLaws.{stopped_not_zero, not_zero}
 use Rattle.run_plans.proofs.JobsLaws.{read_lawful}
 use Rattle.run_plans.proofs.SoundLaws.{accepted_of}
 use Rattle.run_plans.proofs.ShownLaws.{reads_valid}
@@ -56,10 +56,8 @@ record KeptAtZero (p : ProtocolName) (c : CertificateDef) (w : Trace) (n : ℕ) 
 kept_at_zero : (p : ProtocolName) (c : CertificateDef) (w : Trace) (n : ℕ) (a : Answer) → IsAudit p c w n a → a.status ≡ 0
     → KeptAtZero p c w n a
 kept_at_zero p c w n a (inl (valid, inl (keeps, is))) zero = record { valid = valid; keeps = keeps; is = is }
-kept_at_zero p c w n a (inl (valid, inr (t, r, first, is))) zero =
-    let one : a.status ≡ 1 = ap (λ x. x.status) is in absurd (omega (arith, one, zero))
-kept_at_zero p c w n a (inr (e, fails, is)) zero =
-    let one : a.status ≡ 1 = ap (λ x. x.status) is in absurd (omega (arith, one, zero))
+kept_at_zero p c w n a (inl (valid, inr (t, r, first, is))) zero = absurd (not_zero 0 is refl zero)
+kept_at_zero p c w n a (inr (e, fails, is)) zero = absurd (not_zero 0 is refl zero)
 
 found_kept : (known : Known) (p : ProtocolName) (name cert jobs rows : List ℕ) (a : Answer)
     → IsOutcomeOf known (plan_of (Audit p name cert jobs rows)) a → a.status ≡ 0 → FoundKept known p name cert jobs rows a

@@ -1,5 +1,6 @@
 pub mod PlanLaws
 pub mod WorkLaws
+mod OneReading
 pub mod InputLaws
 pub mod TraceLaws
 pub mod ConformLaws

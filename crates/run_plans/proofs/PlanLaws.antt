@@ -1,6 +1,9 @@
 -- Laws of plans, for any command.
-use Rattle.std.proofs.Common.{◌≡◌, ◌≢◌, ℕ, ◌<◌, ◌≤◌, List, length, refl, sym, ◌∙◌, ap, subst, arith, inl, inr, ◌⊎◌, Ok, Err, Some, None}
+use Rattle.std.proofs.Common.{Bool, true, not, ◌&&◌, ◌==◌, nat_le}
+use Rattle.std.proofs.Common.{◌≡◌, ◌≢◌, ℕ, suc, ◌<◌, ◌≤◌, List, length, refl, sym, ◌∙◌, ap, subst, arith, inl, inr, ◌⊎◌, Ok, Err, Some, None}
 use Rattle.std.specs.Prelude.{Option, Result, IsSomeAnd, codes}
+use Rattle.std.proofs.lemmas.Bool.{and_parts, eqb-false, leb-true, not-true}
+use Rattle.std.proofs.lemmas.Option.{none-some, same_Some}
 use Rattle.outside_ports.specs.Counts.{Rose}
 use Rattle.outside_ports.specs.Names.{Inputs, bytes_of, IsNamed, IsLonger, IsAbsent}
 use Rattle.outside_ports.specs.declared.whole.TheConstants.{GREATEST_INPUT_BYTES}
@@ -81,31 +84,26 @@ pub record IsPlain (a : Answer) : Type 0 where
   pub fault : a.status ≢ 4
   pub most : a.status ≤ 6
 
-pub plain_is : (a : Answer) (n : ℕ) → a.status ≡ n → (n ≤ 1) ⊎ ((n ≡ 3) ⊎ ((n ≡ 5) ⊎ (n ≡ 6))) → IsPlain a
-plain_is a n is (inl e) = record {
-  words = λ h. absurd (omega (arith, is, e, h));
-  fault = λ h. absurd (omega (arith, is, e, h));
-  most = omega (arith, is, e);
-}
-plain_is a n is (inr (inl e)) = record {
-  words = λ h. absurd (omega (arith, is, e, h));
-  fault = λ h. absurd (omega (arith, is, e, h));
-  most = omega (arith, is, e);
-}
-plain_is a n is (inr (inr (inl e))) = record {
-  words = λ h. absurd (omega (arith, is, e, h));
-  fault = λ h. absurd (omega (arith, is, e, h));
-  most = omega (arith, is, e);
-}
-plain_is a n is (inr (inr (inr e))) = record {
-  words = λ h. absurd (omega (arith, is, e, h));
-  fault = λ h. absurd (omega (arith, is, e, h));
-  most = omega (arith, is, e);
-}
+abbrev is_plain : ℕ → Bool
+is_plain n = nat_le n 6 && (not (n == 2) && not (n == 4))
+
+pub plain_is : (a : Answer) (n : ℕ) → a.status ≡ n → is_plain n ≡ true → IsPlain a
+plain_is a n is plain =
+    let parts = and_parts (nat_le n 6) (not (n == 2) && not (n == 4)) plain in
+    let others = and_parts (not (n == 2)) (not (n == 4)) parts.1 in
+    record {
+      words = λ h. eqb-false n 2 (not-true (n == 2) others.0) (sym is ∙ h);
+      fault = λ h. eqb-false n 4 (not-true (n == 4) others.1) (sym is ∙ h);
+      most = omega (arith, is, leb-true n 6 parts.0);
+    }
 
 pub plain_of_status : (a : Answer) → (a.status ≡ 0) ⊎ (a.status ≡ 1) → IsPlain a
-plain_of_status a (inl zero) = plain_is a 0 zero (inl (omega arith))
-plain_of_status a (inr one) = plain_is a 1 one (inl (omega arith))
+plain_of_status a (inl zero) = plain_is a 0 zero refl
+plain_of_status a (inr one) = plain_is a 1 one refl
+
+-- An answer of another status doesn't have status 0.
+pub not_zero : {a b : Answer} (n : ℕ) → a ≡ b → b.status ≡ suc n → a.status ≡ 0 → ⊥
+not_zero n is other zero = let same = ap (λ (x : Answer). x.status) is in absurd (omega (arith, same, other, zero))
 
 pub at_most_one : (a : Answer) → (a.status ≡ 0) ⊎ (a.status ≡ 1) → a.status ≤ 1
 at_most_one a (inl zero) = omega (arith, zero)
@@ -125,10 +123,7 @@ abbrev pub IsLawful : Plan → Type 0
 IsLawful (Working work) = IsLawfulWork work
 IsLawful (Reading input name next) = ReadsOnce input × ((bytes : List ℕ) (value : input.Value) → IsLawful (next bytes value))
 
--- Named bytes are neither absent nor too long, and they are the same bytes.
-not_absent : (o : Option (List ℕ)) (bytes : List ℕ) → o ≡ Some bytes → o ≡ None → ⊥
-not_absent o bytes some none = let both : Some bytes ≡ None = sym some ∙ none in cc
-
+-- Named bytes are not too long.
 not_longer : (o : Option (List ℕ)) (bytes : List ℕ) → o ≡ Some bytes → length bytes ≤ GREATEST_INPUT_BYTES
     → IsSomeAnd o (λ b. GREATEST_INPUT_BYTES < length b) → ⊥
 not_longer o bytes some short longer =
@@ -138,9 +133,6 @@ not_longer o bytes some short longer =
 
 absent_not_longer : (o : Option (List ℕ)) → o ≡ None → IsSomeAnd o (λ b. GREATEST_INPUT_BYTES < length b) → ⊥
 absent_not_longer o none longer = subst (λ (x : Option (List ℕ)). IsSomeAnd x (λ b. GREATEST_INPUT_BYTES < length b)) none longer
-
-pub same_bytes : (o : Option (List ℕ)) (bytes other : List ℕ) → o ≡ Some bytes → o ≡ Some other → bytes ≡ other
-same_bytes o bytes other p q = let both : Some bytes ≡ Some other = sym p ∙ q in cc
 
 -- Two readings of the same bytes are one.
 same_reading : (input : Input) → ReadsOnce input → (bytes other : List ℕ) (r s : Result input.Value input.Refusal)
@@ -161,13 +153,13 @@ same_err a b x y p q same = cc
 not_stopped : (inputs : Inputs) (input : Input) (name bytes : List ℕ) (value : input.Value) (a : Answer)
     → ReadsOnce input → IsRead (told inputs) input name bytes value
     → IsStopped (told inputs) input name a → ⊥
-not_stopped inputs input name bytes value a once read (inl (absent, is)) = not_absent (bytes_of inputs name) bytes read.0.0 absent
+not_stopped inputs input name bytes value a once read (inl (absent, is)) = none-some bytes (sym absent ∙ read.0.0)
 not_stopped inputs input name bytes value a once read (inr (inl (longer, is))) =
     not_longer (bytes_of inputs name) bytes read.0.0 read.0.1 longer
 not_stopped inputs input name bytes value a once read (inr (inr (other, refusal, has, last, reads, is))) =
     ok_not_err value refusal (Err refusal)
     (same_reading input once bytes other (Ok value) (Err refusal)
-    (same_bytes (bytes_of inputs name) bytes other read.0.0 has.0) read.1 reads) refl
+    (same_Some bytes other (sym read.0.0 ∙ has.0)) read.1 reads) refl
 
 -- Where an input is read, the outcome is that of what comes then.
 pub rest_of : (inputs : Inputs) (input : Input) (name : List ℕ) (next : List ℕ → input.Value → Plan) (bytes : List ℕ)
@@ -177,7 +169,7 @@ pub rest_of : (inputs : Inputs) (input : Input) (name : List ℕ) (next : List �
 rest_of inputs input name next bytes value a once read (inl stopped) =
     absurd (not_stopped inputs input name bytes value a once read stopped)
 rest_of inputs input name next bytes value a once read (inr (other, found, has, last, out)) =
-    let same : other ≡ bytes = same_bytes (bytes_of inputs name) other bytes has.0.0 read.0.0 in
+    let same : other ≡ bytes = same_Some other bytes (sym has.0.0 ∙ read.0.0) in
     let both : Ok found ≡ Ok value = same_reading input once other bytes (Ok found) (Ok value) same has.1 read.1 in
     let values : found ≡ value = same_ok found value (Ok found) (Ok value) refl refl both in
     subst (λ (x : input.Value). IsOutcomeOf (told inputs) (next bytes x) a) values
@@ -189,19 +181,19 @@ stopped_once inputs input name a b once (inl (absent, is)) (inl (absent', is')) 
 stopped_once inputs input name a b once (inl (absent, is)) (inr (inl (longer, is'))) =
     absurd (absent_not_longer (bytes_of inputs name) absent longer)
 stopped_once inputs input name a b once (inl (absent, is)) (inr (inr (bytes, refusal, has, last, reads, is'))) =
-    absurd (not_absent (bytes_of inputs name) bytes has.0 absent)
+    absurd (none-some bytes (sym absent ∙ has.0))
 stopped_once inputs input name a b once (inr (inl (longer, is))) (inl (absent, is')) =
     absurd (absent_not_longer (bytes_of inputs name) absent longer)
 stopped_once inputs input name a b once (inr (inl (longer, is))) (inr (inl (longer', is'))) = is ∙ sym is'
 stopped_once inputs input name a b once (inr (inl (longer, is))) (inr (inr (bytes, refusal, has, last, reads, is'))) =
     absurd (not_longer (bytes_of inputs name) bytes has.0 has.1 longer)
 stopped_once inputs input name a b once (inr (inr (bytes, refusal, has, last, reads, is))) (inl (absent, is')) =
-    absurd (not_absent (bytes_of inputs name) bytes has.0 absent)
+    absurd (none-some bytes (sym absent ∙ has.0))
 stopped_once inputs input name a b once (inr (inr (bytes, refusal, has, last, reads, is))) (inr (inl (longer, is'))) =
     absurd (not_longer (bytes_of inputs name) bytes has.0 has.1 longer)
 stopped_once inputs input name a b once (inr (inr (bytes, refusal, has, last, reads, is)))
     (inr (inr (other, found, has', last', reads', is'))) =
-    let same : bytes ≡ other = same_bytes (bytes_of inputs name) bytes other has.0 has'.0 in
+    let same : bytes ≡ other = same_Some bytes other (sym has.0 ∙ has'.0) in
     let both : Err refusal ≡ Err found = same_reading input once bytes other (Err refusal) (Err found) same reads reads' in
     is ∙ ap (λ r. refused input.word (input.reason r)) (same_err refusal found (Err refusal) (Err found) refl refl both) ∙ sym is'
 
@@ -232,7 +224,7 @@ stopped_not_zero k input name a stopped zero = absurd (omega (arith, stopped_sta
 pub plan_plain : (k : Known) (p : Plan) → IsLawful p → (a : Answer) → IsOutcomeOf k p a → IsPlain a
 plan_plain k (Working work) lawful a out = lawful.plain a out
 plan_plain k (Reading input name next) lawful a (inl stopped) =
-    plain_is a 3 (stopped_status k input name a stopped) (inr (inl refl))
+    plain_is a 3 (stopped_status k input name a stopped) refl
 plan_plain k (Reading input name next) lawful a (inr (bytes, value, read, last, out)) =
     plan_plain k (next bytes value) (lawful.1 bytes value) a out
 

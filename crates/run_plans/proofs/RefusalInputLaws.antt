@@ -1,12 +1,11 @@
 -- The bytes of a refusal are read in one way, and what was written is read again.
-use Rattle.std.proofs.Common.{◌≡◌, ℕ, Bool, true, false, List, refl, sym, ◌∙◌, ap, ap₂, inl, inr, ◌⊎◌, Ok, Err, Some}
+use Rattle.std.proofs.Common.{◌≡◌, ℕ, Bool, true, false, List, refl, sym, ap, ap₂, inl, inr, Ok, Err}
 use Rattle.std.specs.Prelude.{Result}
 use Rattle.serde_json.specs.Data.{Data}
 use Rattle.sha2.specs.Sha256.{sha256}
 use Rattle.set_digests.proofs.Bytes.{is_digest}
 use Rattle.protocol_names.specs.Names.{word_of}
 use Rattle.protocol_names.specs.declared.ProtocolName.{ProtocolName}
-use Rattle.taskset_json.specs.Answers.{IsValue}
 use Rattle.cert_json.specs.FormParts.{is_for}
 use Rattle.cert_json.specs.Written.{digest_written}
 use Rattle.cert_json.proofs.ReadBack.{same_word}
@@ -25,6 +24,7 @@ use Rattle.refusal_json.proofs.ReadBack.{is_value, formed, steps-written, digest
 use Rattle.named_laws.proofs.EachName.{named_word_is_text}
 use Rattle.command_inputs.specs.RefusalDef.{RefusalDef}
 use Rattle.command_inputs.specs.Inputs.{IsRefusalText, ReadsRefusal, refusal_input}
+use Rattle.run_plans.proofs.OneReading.{Says, one_saying}
 use Rattle.run_plans.proofs.PlanLaws.{ReadsOnce}
 
 -- What reading says of a value, as a function of the value.
@@ -37,17 +37,8 @@ judgement : ProtocolName → Data → Result RefusalDef ReadFault
 judgement p d = judge (is_refusal d) (is_for (word_of p) d) (record { steps = steps_written d; digest = digest_written d })
 
 -- Either the bytes have no value, or the answer is the judgement on their value.
-record IsOfValue (p : ProtocolName) (r : Result RefusalDef ReadFault) (bytes : List ℕ) : Type 0 where
-  value : Data
-  is_value : IsValue bytes value
-  is : r ≡ judgement p value
-
-record IsOfNone (r : Result RefusalDef ReadFault) (bytes : List ℕ) : Type 0 where
-  none : (d : Data) → IsValue bytes d → ⊥
-  is : r ≡ Err fault.NotJson
-
 says : (p : ProtocolName) (r : Result RefusalDef ReadFault) (bytes : List ℕ) → ReadsRefusal p bytes r
-    → IsOfNone r bytes ⊎ IsOfValue p r bytes
+    → Says fault.NotJson (judgement p) r bytes
 unfolding judgement judge
 says p (Ok file) bytes (d, is, form, mine, same) =
     inr (record { value = d; is_value = is; is = rw (form, mine) (ap (λ x. Ok x) same) })
@@ -57,18 +48,8 @@ says p (Err fault.OtherProtocol) bytes (d, is, form, other) =
     inr (record { value = d; is_value = is; is = rw (form, other) refl })
 says p (Err fault.Memory) bytes reads = absurd reads
 
-one_saying : (p : ProtocolName) (r s : Result RefusalDef ReadFault) (bytes : List ℕ)
-    → (IsOfNone r bytes ⊎ IsOfValue p r bytes) → (IsOfNone s bytes ⊎ IsOfValue p s bytes) → r ≡ s
-one_saying p r s bytes (inl x) (inl y) = x.is ∙ sym y.is
-one_saying p r s bytes (inl x) (inr y) = absurd (x.none y.value y.is_value)
-one_saying p r s bytes (inr x) (inl y) = absurd (y.none x.value x.is_value)
-one_saying p r s bytes (inr x) (inr y) =
-    let some : Some x.value ≡ Some y.value = sym x.is_value.1 ∙ y.is_value.1 in
-    let same : x.value ≡ y.value = cc in
-    x.is ∙ ap (judgement p) same ∙ sym y.is
-
 pub refusal_reads_once : (p : ProtocolName) → ReadsOnce (refusal_input p)
-refusal_reads_once p bytes r s a b = one_saying p r s bytes (says p r bytes a) (says p s bytes b)
+refusal_reads_once p bytes r s a b = one_saying fault.NotJson (judgement p) r s bytes (says p r bytes a) (says p s bytes b)
 
 -- What the reader says of bytes, in the words of the input: a refusal, or why it is refused.
 pub read_refusal_file : (p : ProtocolName) (bytes : List ℕ) (given : Refusal × List ℕ) → Reads (Ok given) (word_of p) bytes

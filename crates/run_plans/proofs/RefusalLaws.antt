@@ -1,5 +1,5 @@
 -- Laws of the works on refusals: each has one answer, with a status that is its own, and what status 0 says.
-use Rattle.std.proofs.Common.{◌≡◌, ℕ, List, refl, sym, ◌∙◌, ap, subst, arith, inl, inr}
+use Rattle.std.proofs.Common.{◌≡◌, ℕ, List, refl, sym, ◌∙◌, ap, subst, inl, inr}
 use Rattle.sporadic_model.specs.SetDef.{SetDef}
 use Rattle.sporadic_model.specs.Accepted.{IsAccepted}
 use Rattle.protocol_names.specs.Names.{word_of}
@@ -19,7 +19,7 @@ use Rattle.command_inputs.specs.Known.{Answer}
 use Rattle.command_inputs.specs.RefusalDef.{RefusalDef}
 use Rattle.run_plans.specs.Refuting.{refuting_answer, IsRefutation, refutation_of, IsConfirmation, confirmed_answer, unconfirmed_answer}
 use Rattle.run_plans.specs.Commands.{IsTiedConfirmation, confirmation_of}
-use Rattle.run_plans.proofs.PlanLaws.{IsLawfulWork}
+use Rattle.run_plans.proofs.PlanLaws.{IsLawfulWork, not_zero}
 use Rattle.run_plans.proofs.WorkLaws.{always, fixed_lawful, judged_lawful, tied_lawful, tied_at_zero, TellsEnding, told_plain, told_well}
 
 -- ---- the rounds that refuse
@@ -82,8 +82,7 @@ pub record RefusedSo (p : ProtocolName) (digest : List ℕ) (set : SetDef) (n : 
 refused_ending : (p : ProtocolName) (digest : List ℕ) (set : SetDef) (n : ℕ) (e : Ending) (ends : EndsIn (refuting (source_of p set)) n e)
     (a : Answer) → IsAccepted set → a ≡ refuting_answer p digest set e (refusal_of (refuting (source_of p set)) n e ends) → a.status ≡ 0
     → RefusedSo p digest set n a
-refused_ending p digest set n (Schedulable bounds points) ends a accepted is zero =
-    let s : a.status ≡ 1 = ap (λ x. x.status) is in absurd (omega (arith, s, zero))
+refused_ending p digest set n (Schedulable bounds points) ends a accepted is zero = absurd (not_zero 0 is refl zero)
 refused_ending p digest set n (NotShown i v) ends a accepted is zero = record {
   task = i;
   value = v;
@@ -93,10 +92,8 @@ refused_ending p digest set n (NotShown i v) ends a accepted is zero = record {
   text = ap (λ x. x.text) is;
   holds = named_holds p set n i v accepted ends;
 }
-refused_ending p digest set n (Wide i) ends a accepted is zero =
-    let s : a.status ≡ 5 = ap (λ x. x.status) is in absurd (omega (arith, s, zero))
-refused_ending p digest set n Allowance ends a accepted is zero =
-    let s : a.status ≡ 6 = ap (λ x. x.status) is in absurd (omega (arith, s, zero))
+refused_ending p digest set n (Wide i) ends a accepted is zero = absurd (not_zero 4 is refl zero)
+refused_ending p digest set n Allowance ends a accepted is zero = absurd (not_zero 5 is refl zero)
 
 pub refused_at_zero : (p : ProtocolName) (digest : List ℕ) (set : SetDef) (n : ℕ) (a : Answer) → IsAccepted set
     → IsRefutation p digest set n a → a.status ≡ 0 → RefusedSo p digest set n a
@@ -120,7 +117,7 @@ confirmation_lawful p digest set file =
 holds_at_zero : (p : ProtocolName) (set : SetDef) (steps : List StepDef) (a : Answer) → IsConfirmation p set steps a → a.status ≡ 0
     → Holds (source_of p set) steps
 holds_at_zero p set steps a (inl (holds, is)) zero = holds
-holds_at_zero p set steps a (inr (e, fault, is)) zero = let one : a.status ≡ 1 = ap (λ x. x.status) is in absurd (omega (arith, one, zero))
+holds_at_zero p set steps a (inr (e, fault, is)) zero = absurd (not_zero 0 is refl zero)
 
 pub confirmed_at_zero : (p : ProtocolName) (digest : List ℕ) (set : SetDef) (file : RefusalDef) (a : Answer)
     → IsTiedConfirmation p digest set file a → a.status ≡ 0 → (file.digest ≡ digest) × Holds (source_of p set) file.steps

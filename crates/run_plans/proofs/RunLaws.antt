@@ -1,6 +1,7 @@
 -- What is true of a call, from what was replied and what was written.
 use Rattle.std.proofs.Common.{◌≡◌, ◌≢◌, ℕ, ◌+◌, ◌<◌, ◌≤◌, ◌↔◌, List, length, refl, sym, ◌∙◌, ap, subst, arith, inl, inr, ◌⊎◌, Some, None}
 use Rattle.std.specs.Prelude.{Option, MatchOption, codes}
+use Rattle.std.proofs.lemmas.Option.{none-some, same_Some}
 use Rattle.outside_ports.specs.Counts.{Rose}
 use Rattle.outside_ports.specs.Names.{Inputs}
 use Rattle.outside_ports.specs.declared.whole.TheConstants.{GREATEST_INPUT_BYTES}
@@ -27,7 +28,7 @@ use Rattle.run_plans.specs.Commands.{ending_answer, IsAnalysis, analysis_of, pla
 use Rattle.run_plans.specs.Outcome.{refused_words, IsOutcome, IsReplyOf, IsReply}
 use Rattle.run_plans.specs.Headline.{Call, RanOut, WritesSchedulable, Analyses, IsHeadline, IsProvedAnalysis, IsProvedCheck}
 use Rattle.run_plans.specs.Run.{shelf_of, Gives, FailsToWrite, Replies, GivesOutcome, IsRun, RoundsEnd, IsWideEnding, IsAllowanceEnding}
-use Rattle.run_plans.proofs.PlanLaws.{told_implied, outcome_implied, rest_of, one_of_plan, plan_plain, plan_well, plan_longer, fault_status}
+use Rattle.run_plans.proofs.PlanLaws.{not_zero, told_implied, outcome_implied, rest_of, one_of_plan, plan_plain, plan_well, plan_longer, fault_status}
 use Rattle.run_plans.proofs.InputLaws.{set_reads_once}
 use Rattle.run_plans.proofs.CommandLaws.{lawful, ending_tells, only_wide, only_short}
 use Rattle.run_plans.proofs.WorkLaws.{told_wide}
@@ -54,12 +55,6 @@ pub record Replied (shelf : Shown) (o : Option Form) (a : Answer) : Type 0 where
       → (MatchOption o (a ≡ refused_words) (λ form. IsOutcomeOf (told inputs) (plan_of form) a))
       ⊎ (Rose shelf.before shelf.now × (a.status ≡ 4))
 
-not_none : (form : Form) (o : Option Form) → o ≡ Some form → o ≡ None → ⊥
-not_none form o some none = let both : Some form ≡ None = sym some ∙ none in cc
-
-same_form : (form other : Form) → Some form ≡ Some other → form ≡ other
-same_form form other e = cc
-
 pub replied : (shelf : Shown) (o : Option Form) (a : Answer)
     → MatchOption o (a ≡ refused_words) (λ form. IsReplyOf shelf (plan_of form) a) → Replied shelf o a
 replied shelf None a is =
@@ -71,15 +66,15 @@ replied shelf None a is =
       five = λ e. absurd (omega (arith, two, e));
       six = λ e. absurd (omega (arith, two, e));
       most = omega (arith, two);
-      long = λ form some more long. absurd (not_none form None some refl);
-      shows = λ form some zero. absurd (not_none form None some refl);
+      long = λ form some more long. absurd (none-some form some);
+      shows = λ form some zero. absurd (none-some form some);
       outcome = λ inputs tells. inl is;
     }
 replied shelf (Some form) a (inl (rose, small, fault)) =
     let four : a.status ≡ 4 = fault_status (shown_by shelf) (plan_of form) a fault in
     record {
       two = λ e. absurd (omega (arith, four, e));
-      none = λ e. absurd (not_none form (Some form) refl e);
+      none = λ e. absurd (none-some form (sym e));
       four = λ e. rose;
       five = λ e. absurd (omega (arith, four, e));
       six = λ e. absurd (omega (arith, four, e));
@@ -92,15 +87,15 @@ replied shelf (Some form) a (inr out) =
     let plain = plan_plain (shown_by shelf) (plan_of form) (lawful form) a out in
     record {
       two = λ e. absurd (plain.words e);
-      none = λ e. absurd (not_none form (Some form) refl e);
+      none = λ e. absurd (none-some form (sym e));
       four = λ e. absurd (plain.fault e);
       five = λ e. (form, refl, only_wide (shown_by shelf) form a out e);
       six = λ e. (form, refl, only_short (shown_by shelf) form a out e);
       most = plain.most;
       long = λ other some more long. (
-          let same : form ≡ other = same_form form other some in
+          let same : form ≡ other = same_Some form other some in
           plan_longer shelf (plan_of form) (λ w. more (subst (λ (x : Form). IsWorking (plan_of x)) same w)) a out long);
-      shows = λ other some zero. subst (λ (x : Form). IsOutcomeOf (shown_by shelf) (plan_of x) a) (same_form form other some) out;
+      shows = λ other some zero. subst (λ (x : Form). IsOutcomeOf (shown_by shelf) (plan_of x) a) (same_Some form other some) out;
       outcome = λ inputs tells. inl (outcome_implied (shown_by shelf) (told inputs) (told_implied shelf inputs tells) (plan_of form) a out);
     }
 
@@ -150,11 +145,9 @@ least_of : (call : Call) (protocol : ProtocolName) (digest : List ℕ) (set : Se
     → IsAccepted set → EndsIn (rounds_of (source_of protocol set)) n e → a ≡ ending_answer protocol digest set e → Gives call a → call.status ≡ 0
     → WritesSchedulable call protocol digest set
 least_of call protocol digest set n (Schedulable bounds duals) a accepted ends is gives zero = writes call protocol digest set n bounds duals a accepted ends is gives
-least_of call protocol digest set n (NotShown i value) a accepted ends is gives zero =
-    let s : a.status ≡ 1 = ap (λ x. x.status) is in absurd (omega (arith, gives.0))
-least_of call protocol digest set n (Wide i) a accepted ends is gives zero = let s : a.status ≡ 5 = ap (λ x. x.status) is in absurd (omega (arith, gives.0))
-least_of call protocol digest set n Allowance a accepted ends is gives zero =
-    let s : a.status ≡ 6 = ap (λ x. x.status) is in absurd (omega (arith, gives.0))
+least_of call protocol digest set n (NotShown i value) a accepted ends is gives zero = absurd (not_zero 0 is refl (sym gives.0 ∙ zero))
+least_of call protocol digest set n (Wide i) a accepted ends is gives zero = absurd (not_zero 4 is refl (sym gives.0 ∙ zero))
+least_of call protocol digest set n Allowance a accepted ends is gives zero = absurd (not_zero 5 is refl (sym gives.0 ∙ zero))
 
 none_of : (call : Call) (protocol : ProtocolName) (digest : List ℕ) (set : SetDef) (n : ℕ) (e : Ending) (a : Answer)
     → EndsIn (rounds_of (source_of protocol set)) n e → a ≡ ending_answer protocol digest set e → Gives call a → call.status ≡ 1

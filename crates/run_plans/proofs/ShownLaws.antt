@@ -24,7 +24,7 @@ use Rattle.command_inputs.specs.Known.{shown_by}
 use Rattle.run_plans.specs.Headline.{Call, WritesSchedulable, ReadsSome, ReadsValid, IsProvedAnalysis, IsProvedCheck}
 use Rattle.run_plans.specs.Bounding.{ListsBounds}
 use Rattle.run_plans.specs.Run.{shelf_of, Gives}
-use Rattle.run_plans.proofs.PlanLaws.{stopped_not_zero}
+use Rattle.run_plans.proofs.PlanLaws.{stopped_not_zero, not_zero}
 use Rattle.run_plans.proofs.SoundLaws.{accepted_of, valid_at_zero}
 use Rattle.run_plans.proofs.WorkLaws.{tied_at_zero}
 use Rattle.run_plans.proofs.SetTextLaws.{is_text}
@@ -39,10 +39,9 @@ record IsSchedulableEnding (e : Ending) : Type 0 where
 schedulable_ending : (protocol : ProtocolName) (digest : List ℕ) (set : SetDef) (e : Ending) (a : Answer) → a ≡ ending_answer protocol digest set e
     → a.status ≡ 0 → IsSchedulableEnding e
 schedulable_ending protocol digest set (Schedulable bounds duals) a is zero = record { bounds = bounds; duals = duals; is = refl }
-schedulable_ending protocol digest set (NotShown i value) a is zero =
-    let s : a.status ≡ 1 = ap (λ x. x.status) is in absurd (omega (arith, s, zero))
-schedulable_ending protocol digest set (Wide i) a is zero = let s : a.status ≡ 5 = ap (λ x. x.status) is in absurd (omega (arith, s, zero))
-schedulable_ending protocol digest set Allowance a is zero = let s : a.status ≡ 6 = ap (λ x. x.status) is in absurd (omega (arith, s, zero))
+schedulable_ending protocol digest set (NotShown i value) a is zero = absurd (not_zero 0 is refl zero)
+schedulable_ending protocol digest set (Wide i) a is zero = absurd (not_zero 4 is refl zero)
+schedulable_ending protocol digest set Allowance a is zero = absurd (not_zero 5 is refl zero)
 
 -- What the outcome of an analysis with status 0 is: the text of the best certificate of the set.
 pub record WroteBest (known : Known) (protocol : ProtocolName) (name : List ℕ) (a : Answer) : Type 0 where

@@ -1,5 +1,5 @@
 -- What `check` accepts is sound.
-use Rattle.std.proofs.Common.{◌≡◌, ℕ, List, sym, ap, subst, arith, inl, inr, Ok}
+use Rattle.std.proofs.Common.{◌≡◌, ℕ, List, refl, sym, subst, inl, inr, Ok}
 use Rattle.program_form.specs.Certificate.{CertificateDef}
 use Rattle.program_sources.specs.Valid.{IsValid}
 use Rattle.sporadic_model.specs.SetDef.{SetDef}
@@ -15,7 +15,7 @@ use Rattle.command_inputs.specs.Inputs.{ReadsSet, set_input, cert_input}
 use Rattle.run_plans.specs.Commands.{IsJudgement, IfTied, IsCheck, checked_answer, check_of, with_certificate, plan_of}
 use Rattle.command_inputs.specs.Known.{told}
 use Rattle.run_plans.specs.Headline.{Call, Checks}
-use Rattle.run_plans.proofs.PlanLaws.{rest_of}
+use Rattle.run_plans.proofs.PlanLaws.{rest_of, not_zero}
 use Rattle.run_plans.proofs.InputLaws.{set_reads_once}
 use Rattle.run_plans.proofs.CertInputLaws.{cert_reads_once}
 use Rattle.run_plans.proofs.WorkLaws.{tied_at_zero}
@@ -30,7 +30,7 @@ accepted_of protocol bytes set (reads, homes) = subst IsAccepted (sym reads.2.2)
 pub valid_at_zero : (p : ProtocolName) (set : SetDef) (c : CertificateDef) (a : Answer) → IsJudgement p set c checked_answer a
     → a.status ≡ 0 → IsValid (source_of p set) c
 valid_at_zero p set c a (inl (valid, is)) zero = valid
-valid_at_zero p set c a (inr (e, fails, is)) zero = let one : a.status ≡ 1 = ap (λ x. x.status) is in absurd (omega (arith, one, zero))
+valid_at_zero p set c a (inr (e, fails, is)) zero = absurd (not_zero 0 is refl zero)
 
 -- Where the outcome of a call that checks a certificate has status 0, the certificate is sound.
 pub sound_outcome : (call : Call) (p : ProtocolName) (set : SetDef) (c : CertificateDef) (checks : Checks call p set c) (a : Answer)

@@ -2,11 +2,11 @@
 use Rattle.std.proofs.Common.{◌≡◌, ℕ, List, [], ◌++◌, codes, decimal, refl, sym, ◌∙◌, ap, inl}
 use Rattle.std.specs.Prelude.{slice_index, slice_index_or}
 use Rattle.bounded_sums.specs.Sums.{collect_below}
+use Rattle.bounded_sums.proofs.SumLaws.{collect_below-agree}
 use Rattle.study_gen.specs.Counts.{IsStudy}
 use Rattle.study_gen.specs.declared.counting.StudyCounts.{StudyCounts}
 use Rattle.study_gen.proofs.OneStudy.{step_once, stopped_is_one}
 use Rattle.reply_texts.specs.Texts.{step_line, study_text}
-use Rattle.text_pieces.proofs.Lines.{lines_same}
 use Rattle.command_inputs.specs.Known.{Answer}
 use Rattle.run_plans.specs.Commands.{IsStudyAnswer, study_of}
 use Rattle.run_plans.proofs.PlanLaws.{IsLawfulWork}
@@ -21,7 +21,7 @@ same_text : (seed sets : ℕ) (c d : StudyCounts) → IsStudy seed sets c → Is
 same_text seed sets c d p q =
     let f : ℕ → List ℕ = λ i. step_line i (slice_index_or c.counts.items i []) in
     let g : ℕ → List ℕ = λ i. step_line i (slice_index_or d.counts.items i []) in
-    let lines : collect_below 8 f ≡ collect_below 8 g = lines_same f g 8 (λ i here.
+    let lines : collect_below 8 f ≡ collect_below 8 g = collect_below-agree 8 f g (λ i here.
     let same = step_once seed sets c d p q i here in
     same_line i (slice_index_or c.counts.items i []) (slice_index_or d.counts.items i []) same.0 same.1 same.2) in
     ap (λ l. codes "step mpcp fmlp+ dpcp\n" ++ (l ++ (codes "stopped " ++ (decimal c.stopped ++ codes "\n")))) lines

@@ -5,7 +5,7 @@ use Rattle.command_inputs.specs.Known.{Answer}
 use Rattle.run_plans.specs.Plans.{Work}
 use Rattle.run_plans.specs.Commands.{IfOfSet}
 use Rattle.run_plans.specs.Run.{IsWideEnding, IsAllowanceEnding}
-use Rattle.run_plans.proofs.PlanLaws.{IsPlain, IsLawfulWork, plain_is, plain_of_status, at_most_one}
+use Rattle.run_plans.proofs.PlanLaws.{IsPlain, IsLawfulWork, plain_is, plain_of_status, not_zero, at_most_one}
 
 -- A work that ends with status 0 or 1 whatever it works on.
 abbrev pub always : (Answer → Type 0) → Work
@@ -72,8 +72,7 @@ tied_lawful digest named says own =
 -- With status 0 it is of the set, and the answer is that on what it holds.
 pub tied_at_zero : (digest named : List ℕ) (says : Answer → Type 0) (a : Answer) → IfOfSet digest named says a → a.status ≡ 0
     → (named ≡ digest) × says a
-tied_at_zero digest named says a (inl (other, is)) zero =
-    let one : a.status ≡ 1 = ap (λ (x : Answer). x.status) is in absurd (omega (arith, one, zero))
+tied_at_zero digest named says a (inl (other, is)) zero = absurd (not_zero 0 is refl zero)
 tied_at_zero digest named says a (inr own) zero = own
 
 -- ---- how rounds ended
@@ -88,8 +87,8 @@ TellsEnding Allowance a = a.status ≡ 6
 pub told_plain : (e : Ending) (a : Answer) → TellsEnding e a → IsPlain a
 told_plain (Schedulable bounds duals) a verdict = plain_of_status a verdict
 told_plain (NotShown i value) a verdict = plain_of_status a verdict
-told_plain (Wide i) a five = plain_is a 5 five (inr (inr (inl refl)))
-told_plain Allowance a six = plain_is a 6 six (inr (inr (inr refl)))
+told_plain (Wide i) a five = plain_is a 5 five refl
+told_plain Allowance a six = plain_is a 6 six refl
 
 -- Where rounds of this kind come to no other end, it is a verdict.
 pub told_well : (ends : Ending → Type 0) (e : Ending) (a : Answer) → TellsEnding e a → ends e → ((i : ℕ) → ends (Wide i) → ⊥)

@@ -26,7 +26,7 @@ fn judged_of(alloc: Global, protocol: Protocol, schedule: [&str; 3]) -> Result<S
 /// A schedule, and the lines that are told of it.
 type Told = ([&'static str; 3], &'static str);
 
-const TOLD: [Told; 10] = [
+const TOLD: &[Told] = &[
     (
         [PAIR, PAIR_JOBS, PAIR_LOWER_FIRST],
         "local/ar local/ar | 1 2 | -
@@ -131,8 +131,8 @@ ended/ ended/ | - - | - -
 #[test]
 fn the_machine_tells_what_stands_at_each_tick(rt: HostRuntime) -> Result<(), Fail> {
     for (schedule, wanted) in TOLD {
-        let text = told_of(rt.alloc(), schedule)?;
-        assert_eq!(rt; text.as_str(), wanted);
+        let text = told_of(rt.alloc(), *schedule)?;
+        assert_eq!(rt; text.as_str(), *wanted);
     }
     Ok(())
 }
@@ -140,7 +140,7 @@ fn the_machine_tells_what_stands_at_each_tick(rt: HostRuntime) -> Result<(), Fai
 /// A schedule, and how it is judged.
 type Judged = ([&'static str; 3], &'static str);
 
-const BY_FMLP_PLUS: [Judged; 20] = [
+const BY_FMLP_PLUS: &[Judged] = &[
     ([PAIR, PAIR_JOBS, PAIR_LOWER_FIRST], "- 1 1 - - lawful"),
     ([PAIR, PAIR_JOBS, PAIR_HIGHER_FIRST], "- 2 - - - chosen"),
     ([PAIR, PAIR_JOBS, PAIR_TAKEN_AWAY], "- 1 keep"),
@@ -169,7 +169,7 @@ const BY_FMLP_PLUS: [Judged; 20] = [
     ),
 ];
 
-const BY_MPCP: [Judged; 15] = [
+const BY_MPCP: &[Judged] = &[
     ([PAIR, PAIR_JOBS, PAIR_LOWER_FIRST], "- grant"),
     ([PAIR, PAIR_JOBS, PAIR_HIGHER_FIRST], "- 2 - - - chosen"),
     ([PAIR, PAIR_JOBS, PAIR_UNSERVED], "- grant"),
@@ -190,7 +190,7 @@ const BY_MPCP: [Judged; 15] = [
     ([HOME, HOME_JOBS, HOME_ROWS], "- run"),
 ];
 
-const BY_DPCP: [Judged; 11] = [
+const BY_DPCP: &[Judged] = &[
     ([PAIR, PAIR_JOBS, PAIR_LOWER_FIRST], "- grant"),
     ([PAIR, PAIR_JOBS, PAIR_HIGHER_FIRST], "- run"),
     ([HOME, HOME_JOBS, HOME_ROWS], "- - 1 - - chosen"),
@@ -210,8 +210,8 @@ const BY_DPCP: [Judged; 11] = [
 #[test]
 fn fmlp_plus_judges_chooses_and_tells_blocked_jobs(rt: HostRuntime) -> Result<(), Fail> {
     for (schedule, wanted) in BY_FMLP_PLUS {
-        let text = judged_of(rt.alloc(), Protocol::FmlpPlus, schedule)?;
-        assert_eq!(rt; text.as_str(), wanted, "at {}", schedule[2]);
+        let text = judged_of(rt.alloc(), Protocol::FmlpPlus, *schedule)?;
+        assert_eq!(rt; text.as_str(), *wanted, "at {}", schedule[2]);
     }
     Ok(())
 }
@@ -219,8 +219,8 @@ fn fmlp_plus_judges_chooses_and_tells_blocked_jobs(rt: HostRuntime) -> Result<()
 #[test]
 fn mpcp_judges_chooses_and_tells_blocked_jobs(rt: HostRuntime) -> Result<(), Fail> {
     for (schedule, wanted) in BY_MPCP {
-        let text = judged_of(rt.alloc(), Protocol::Mpcp, schedule)?;
-        assert_eq!(rt; text.as_str(), wanted, "at {}", schedule[2]);
+        let text = judged_of(rt.alloc(), Protocol::Mpcp, *schedule)?;
+        assert_eq!(rt; text.as_str(), *wanted, "at {}", schedule[2]);
     }
     Ok(())
 }
@@ -228,8 +228,8 @@ fn mpcp_judges_chooses_and_tells_blocked_jobs(rt: HostRuntime) -> Result<(), Fai
 #[test]
 fn dpcp_judges_chooses_and_tells_blocked_jobs(rt: HostRuntime) -> Result<(), Fail> {
     for (schedule, wanted) in BY_DPCP {
-        let text = judged_of(rt.alloc(), Protocol::Dpcp, schedule)?;
-        assert_eq!(rt; text.as_str(), wanted, "at {}", schedule[2]);
+        let text = judged_of(rt.alloc(), Protocol::Dpcp, *schedule)?;
+        assert_eq!(rt; text.as_str(), *wanted, "at {}", schedule[2]);
     }
     Ok(())
 }

@@ -2,8 +2,6 @@
 #![tactic(auto)]
 
 #[cfg(test)]
-mod conform_tests;
-#[cfg(test)]
 mod judge_tests;
 #[cfg(test)]
 mod judged;

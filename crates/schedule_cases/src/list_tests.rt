@@ -52,7 +52,7 @@ const BUSY: SetRow = SetRow {
     )],
 };
 
-const CASES: [Case; 22] = [
+const CASES: &[Case] = &[
     (0, 0, &[], Some(JobRefusal::Script)),
     (0, 0, &[(0, None)], Some(JobRefusal::Script)),
     (0, 0, &[(1_000_000_001, None)], Some(JobRefusal::Script)),
@@ -93,10 +93,10 @@ fn takes_jobs_or_names_the_first_refusal(rt: HostRuntime) -> Result<(), Fail> {
     let mut jobs = JobList::new(rt.alloc(), &set);
     for (task, release, script, refusal) in CASES {
         let before = jobs.len();
-        let job = job_of(rt.alloc(), task, release, script)?;
+        let job = job_of(rt.alloc(), *task, *release, script)?;
         let answer = pushed(&mut jobs, job);
         let wanted = match refusal {
-            Some(refusal) => Err(refusal),
+            Some(refusal) => Err(*refusal),
             None => Ok(()),
         };
         assert!(rt; answer == Some(wanted), "at {task}, {release}");
@@ -130,7 +130,7 @@ const JITTERY: SetRow = SetRow {
 /// The arrival, the release and the local ticks of a job, and the refusal that is wanted.
 type Held = (u64, u64, u64, Option<JobRefusal>);
 
-const HELD: [Held; 19] = [
+const HELD: &[Held] = &[
     (0, 5, 2, Some(JobRefusal::Late)),
     (1, 0, 2, Some(JobRefusal::Late)),
     (18_446_744_073_709_551_615, 0, 2, Some(JobRefusal::Late)),
@@ -157,9 +157,9 @@ fn spaces_jobs_by_arrivals_and_holds_them_by_the_jitter(rt: HostRuntime) -> Resu
     let set = set_of(rt.alloc(), JITTERY)?;
     let mut jobs = JobList::new(rt.alloc(), &set);
     for (arrival, release, local, refusal) in HELD {
-        let job = held_job(rt.alloc(), 0, (arrival, release), &[(local, None)])?;
+        let job = held_job(rt.alloc(), 0, (*arrival, *release), &[(*local, None)])?;
         let wanted = match refusal {
-            Some(refusal) => Err(refusal),
+            Some(refusal) => Err(*refusal),
             None => Ok(()),
         };
         let answer = pushed(&mut jobs, job);

@@ -6,7 +6,7 @@ use schedule_model::{JobId, JobList, Row};
 use sporadic_model::{ResourceId, TaskId, TaskSet};
 use std::alloc::{AllocError, Global};
 use std::test::Fail;
-use worked_sets::{SetRow, set_of, task_row};
+use worked_sets::{PAIR, SetRow, set_of, task_row};
 
 /// A job by its task, its release and its script.
 type Work = (u32, u64, &'static [Part]);
@@ -147,19 +147,13 @@ fn first_other_stretch(
     Ok(None)
 }
 
-const PAIR: SetRow = SetRow {
-    processors: 2,
-    homes: &[None],
-    tasks: &[task_row!(1, 10, 3, [(0, 1)]), task_row!(2, 10, 4, [(0, 2)])],
-};
-
-const PAIR_JOBS: [Work; 2] = [
+const PAIR_JOBS: &[Work] = &[
     (0, 0, &[(1, Some(1)), (1, None)]),
     (1, 0, &[(1, Some(2)), (1, None)]),
 ];
 
 /// Both requests are issued at tick 1, and the lower task's is served first.
-const LOWER_FIRST: [Tick; 6] = [
+const LOWER_FIRST: &[Tick] = &[
     (
         &[RUNS, RUNS],
         [Some(0), Some(1)],
@@ -199,7 +193,7 @@ const LOWER_FIRST: [Tick; 6] = [
 ];
 
 /// The same where the higher task's is served first.
-const HIGHER_FIRST: [Tick; 6] = [
+const HIGHER_FIRST: &[Tick] = &[
     (
         &[RUNS, RUNS],
         [Some(0), Some(1)],
@@ -244,7 +238,7 @@ const ONE_PROCESSOR: SetRow = SetRow {
     tasks: &[task_row!(1, 10, 3, [(0, 1)]), task_row!(1, 2, 2, [])],
 };
 
-const IN_TURN: [Work; 3] = [
+const IN_TURN: &[Work] = &[
     (0, 0, &[(1, Some(1))]),
     (1, 0, &[(2, None)]),
     (1, 2, &[(1, None)]),
@@ -252,7 +246,7 @@ const IN_TURN: [Work; 3] = [
 
 /// The first job's script ends with its request; the last job is released at tick 2, and active once the one before it of
 /// its task is finished.
-const ONE_AT_A_TIME: [Tick; 6] = [
+const ONE_AT_A_TIME: &[Tick] = &[
     (
         &[RUNS, RUNS, COMES],
         [Some(0), Some(1)],
@@ -297,7 +291,7 @@ const LONG: SetRow = SetRow {
     tasks: &[task_row!(1, 100, 30, [(0, 10)]), task_row!(1, 100, 20, [])],
 };
 
-const LONG_JOBS: [Work; 2] = [(0, 0, &[(12, Some(8)), (5, None)]), (1, 5, &[(10, None)])];
+const LONG_JOBS: &[Work] = &[(0, 0, &[(12, Some(8)), (5, None)]), (1, 5, &[(10, None)])];
 
 const ASKS: Answers = (Phase::Asking(0, Q), true, false, true, Some(12));
 
@@ -305,7 +299,7 @@ const KEEPS: Answers = (Phase::Asking(0, Q), true, true, false, Some(12));
 
 /// A stretch ends where a job is released, where local ticks end, where a request ends and where a job ends; one of them is
 /// taken in two parts, and the last lasts for ever.
-const BY_STRETCHES: [Stretch; 7] = [
+const BY_STRETCHES: &[Stretch] = &[
     (
         (&[RUNS, COMES], [Some(0), None], None, &[Some(0)], None),
         5,
@@ -352,27 +346,24 @@ const BY_STRETCHES: [Stretch; 7] = [
 #[test]
 fn takes_rows_by_stretches(rt: HostRuntime) -> Result<(), Fail> {
     let set = set_of(rt.alloc(), LONG)?;
-    let jobs = list_of(rt.alloc(), &set, &LONG_JOBS)?;
-    assert_eq!(rt;
-        first_other_stretch(rt.alloc(), &jobs, &BY_STRETCHES)?,
-        None
-    );
+    let jobs = list_of(rt.alloc(), &set, LONG_JOBS)?;
+    assert_eq!(rt; first_other_stretch(rt.alloc(), &jobs, BY_STRETCHES)?, None);
     Ok(())
 }
 
 #[test]
 fn answers_of_the_rows_that_it_took(rt: HostRuntime) -> Result<(), Fail> {
     let set = set_of(rt.alloc(), PAIR)?;
-    let jobs = list_of(rt.alloc(), &set, &PAIR_JOBS)?;
-    assert_eq!(rt; first_other(rt.alloc(), &jobs, &LOWER_FIRST)?, None);
-    assert_eq!(rt; first_other(rt.alloc(), &jobs, &HIGHER_FIRST)?, None);
+    let jobs = list_of(rt.alloc(), &set, PAIR_JOBS)?;
+    assert_eq!(rt; first_other(rt.alloc(), &jobs, LOWER_FIRST)?, None);
+    assert_eq!(rt; first_other(rt.alloc(), &jobs, HIGHER_FIRST)?, None);
     Ok(())
 }
 
 #[test]
 fn carries_one_job_of_a_task_after_the_other(rt: HostRuntime) -> Result<(), Fail> {
     let set = set_of(rt.alloc(), ONE_PROCESSOR)?;
-    let jobs = list_of(rt.alloc(), &set, &IN_TURN)?;
-    assert_eq!(rt; first_other(rt.alloc(), &jobs, &ONE_AT_A_TIME)?, None);
+    let jobs = list_of(rt.alloc(), &set, IN_TURN)?;
+    assert_eq!(rt; first_other(rt.alloc(), &jobs, ONE_AT_A_TIME)?, None);
     Ok(())
 }

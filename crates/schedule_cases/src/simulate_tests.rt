@@ -33,14 +33,12 @@ fn jobs_of<'a>(alloc: Global, set: &'a TaskSet, text: &str) -> Result<JobList<'a
     }
 }
 
-/// The rows that the protocol chooses for the jobs in so many ticks.
-fn rows_of(alloc: Global, protocol: Protocol, jobs: &JobList, ticks: u64) -> Result<RowList, Fail>
+/// The rows that the protocol chooses for the jobs in ten ticks.
+fn rows_of(alloc: Global, protocol: Protocol, jobs: &JobList) -> Result<RowList, Fail>
     requires suits { HasHomesFor protocol jobs.now.set }
-    requires some { 1 ≤ ticks }
-    requires most { ticks ≤ 1000000000 }
     ensures { IfOk result (λ rows. is_fitting rows jobs.now ≡ true) }
 {
-    Ok(simulate(alloc, protocol, jobs, ticks)?)
+    Ok(simulate(alloc, protocol, jobs, 10)?)
 }
 
 fn written(alloc: Global, jobs: &JobList, rows: &RowList) -> Result<Vec<u8>, AllocError>
@@ -53,15 +51,7 @@ fn written(alloc: Global, jobs: &JobList, rows: &RowList) -> Result<Vec<u8>, All
 fn text_of(alloc: Global, protocol: Protocol, set: &str, jobs: &str) -> Result<Vec<u8>, Fail> {
     let set = set_of(alloc, protocol, set)?;
     let jobs = jobs_of(alloc, &set, jobs)?;
-    let rows = rows_of(alloc, protocol, &jobs, 10)?;
-    Ok(written(alloc, &jobs, &rows)?)
-}
-
-/// Their text over 10^9 ticks.
-fn long_text_of(alloc: Global, protocol: Protocol, set: &str, jobs: &str) -> Result<Vec<u8>, Fail> {
-    let set = set_of(alloc, protocol, set)?;
-    let jobs = jobs_of(alloc, &set, jobs)?;
-    let rows = rows_of(alloc, protocol, &jobs, 1_000_000_000)?;
+    let rows = rows_of(alloc, protocol, &jobs)?;
     Ok(written(alloc, &jobs, &rows)?)
 }
 
@@ -102,41 +92,16 @@ fn each_protocol_makes_its_own_schedule(rt: HostRuntime) -> Result<(), Fail> {
     Ok(())
 }
 
-/// Each task uses its own resource; both have their home at a third processor.
-const APART: &str =
-    r#"{"processors":3,"resources":[{"name":"a","home":3},{"name":"b","home":3}],"tasks":[
-{"name":"t1","processor":1,"period":20,"cost":3,"requests":[{"resource":"a","count":1,"length":1}]},
-{"name":"t2","processor":2,"period":20,"cost":5,"requests":[{"resource":"b","count":1,"length":3}]}]}"#;
-
-const APART_JOBS: &str = "task,release,script\nt1,1,1 a:1 1\nt2,0,1 b:3 1\n";
-
-/// At tick 2 `t1` is higher than the ceiling of `b`, which is `t2`, so that it holds beside `t2` and runs before it.
-const BOTH_HOLD: &str =
-    "ticks,P1,P2,P3,a,b\n1,,2,,,\n1,1,,2,,2\n1,,,1,1,2\n1,1,,2,,2\n1,,,2,,2\n1,,2,,,\n4,,,,,\n";
-
-#[test]
-fn the_higher_of_two_holders_runs_at_home(rt: HostRuntime) -> Result<(), Fail> {
-    assert_eq!(rt;
-        text_of(rt.alloc(), Protocol::Dpcp, APART, APART_JOBS)?.as_slice(),
-        BOTH_HOLD.as_bytes()
-    );
-    Ok(())
-}
-
-/// What is measured of each task over the rows that the protocol chooses in so many ticks.
+/// What is measured of each task over the rows that the protocol chooses in ten ticks.
 fn measures_of(
     alloc: Global,
     protocol: Protocol,
     set: &str,
     jobs: &str,
-    ticks: u64,
-) -> Result<Vec<TaskMeasure>, Fail>
-    requires some { 1 ≤ ticks }
-    requires most { ticks ≤ 1000000000 }
-{
+) -> Result<Vec<TaskMeasure>, Fail> {
     let set = set_of(alloc, protocol, set)?;
     let jobs = jobs_of(alloc, &set, jobs)?;
-    let rows = rows_of(alloc, protocol, &jobs, ticks)?;
+    let rows = rows_of(alloc, protocol, &jobs)?;
     match conform(alloc, protocol, &jobs, &rows) {
         Ok(measured) => Ok(measured.tasks),
         Err(_) => Err("unlawful, or out of memory".into()),
@@ -164,67 +129,7 @@ fn are(tasks: &[TaskMeasure], wanted: &[(u64, u64)]) -> bool {
 /// `t1` waits at tick 3, and `t2` from tick 2 to tick 4. They are finished at the ticks 6, 7 and 5.
 #[test]
 fn a_simulated_schedule_is_lawful_and_measured(rt: HostRuntime) -> Result<(), Fail> {
-    let tasks = measures_of(rt.alloc(), Protocol::Dpcp, SHARED, SHARED_JOBS, 10)?;
+    let tasks = measures_of(rt.alloc(), Protocol::Dpcp, SHARED, SHARED_JOBS)?;
     assert!(rt; are(&tasks, &[(4, 1), (6, 3), (5, 0)]));
-    Ok(())
-}
-
-/// One task, whose job takes all of 10^9 ticks.
-const WHOLE: &str = r#"{"processors":1,"resources":[],"tasks":[
-{"name":"t1","processor":1,"period":1000000000,"cost":1000000000}]}"#;
-
-#[test]
-fn a_job_of_all_ticks_is_one_line(rt: HostRuntime) -> Result<(), Fail> {
-    let jobs = "task,release,script\nt1,0,1000000000\n";
-    assert_eq!(rt;
-        long_text_of(rt.alloc(), Protocol::FmlpPlus, WHOLE, jobs)?.as_slice(),
-        "ticks,P1\n1000000000,1\n".as_bytes()
-    );
-    Ok(())
-}
-
-/// Two tasks on one processor; the home of what the lower one requests is the other.
-const LONG: &str = r#"{"processors":2,"resources":[{"name":"q","home":2}],"tasks":[
-{"name":"t1","processor":1,"period":1000000000,"cost":50},
-{"name":"t2","processor":1,"period":1000000000,"cost":600000000,"requests":[{"resource":"q","count":1,"length":400000000}]}]}"#;
-
-/// The higher task's job is released within the request of the lower one's.
-const LONG_JOBS: &str =
-    "task,release,script\nt2,0,100000000 q:400000000 100000000\nt1,300000000,50\n";
-
-/// It waits until the request ends.
-const WAITS: &str =
-    "ticks,P1,P2,q\n100000000,1,,\n400000000,1,,1\n50,2,,\n100000000,1,,\n399999950,,,\n";
-
-/// It runs at once, beside the request, which goes on where it has its home.
-const RUNS: &str =
-    "ticks,P1,P2,q\n100000000,1,,\n200000000,,1,1\n50,2,1,1\n199999950,,1,1\n100000000,1,,\n400000000,,,\n";
-
-#[test]
-fn releases_and_requests_end_long_runs_only_where_rows_change(rt: HostRuntime) -> Result<(), Fail> {
-    for (protocol, rows) in [
-        (Protocol::Mpcp, WAITS),
-        (Protocol::FmlpPlus, WAITS),
-        (Protocol::Dpcp, RUNS),
-    ] {
-        assert_eq!(rt;
-            long_text_of(rt.alloc(), protocol, LONG, LONG_JOBS)?.as_slice(),
-            rows.as_bytes()
-        );
-    }
-    Ok(())
-}
-
-/// Where the higher job waits for the request it is blocked for its last 200,000,000 ticks.
-#[test]
-fn ticks_of_long_runs_are_measured(rt: HostRuntime) -> Result<(), Fail> {
-    for (protocol, wanted) in [
-        (Protocol::Mpcp, [(200000050, 200000000), (600000050, 0)]),
-        (Protocol::FmlpPlus, [(200000050, 200000000), (600000050, 0)]),
-        (Protocol::Dpcp, [(50, 0), (600000000, 0)]),
-    ] {
-        let tasks = measures_of(rt.alloc(), protocol, LONG, LONG_JOBS, 1_000_000_000)?;
-        assert!(rt; are(&tasks, &wanted));
-    }
     Ok(())
 }

@@ -1,7 +1,7 @@
 use sporadic_model::{ResourceId, TaskId};
 
 /// A job, by its position in the list of jobs, counted from 0.
-#[derive(Clone, Copy, Debug, PartialEq, Eq)]
+#[derive(Clone, Copy, Debug, PartialEq, Eq, PartialOrd, Ord)]
 pub struct JobId(pub u32);
 
 /// A segment of a job's script: ticks outside requests, and then maybe a request.

@@ -1,4 +1,4 @@
-ghost use Rattle.std.specs.Prelude.{◌≡◌, ℕ, ◌+◌, ◌<◌, ◌≤◌, IsTrue, nat_le, map, length, is_some, count_by};
+ghost use Rattle.std.specs.Prelude.{◌≡◌, ℕ, ◌+◌, ◌<◌, ◌≤◌, IsTrue, nat_le, map, length, is_some};
 ghost use Rattle.std.specs.Int.{is_in_range};
 ghost use Rattle.std.specs.List.{list_all};
 ghost use Rattle.bounded_sums.specs.Tests.{all_below};
@@ -100,17 +100,11 @@ fn requests(segment: &Segment, q: ResourceId) -> bool
     }
 }
 
-fn count_requests(script: &[Segment], q: ResourceId) -> usize
-    ensures { result ≡ count_by (λ s. asks_for q.0 (segment_seen s)) script.now }
-{
-    script.iter().filter(|segment| requests(segment, q)).count()
-}
-
 /// How often does the script request the resource?
 fn number_of_requests(script: &[Segment], q: ResourceId) -> usize
     ensures { result ≡ number_of_requests (map segment_seen script.now) q.0 }
 {
-    count_requests(script, q)
+    script.iter().filter(|segment| requests(segment, q)).count()
 }
 
 /// Does the script request each resource at most as often as a job of the task may?

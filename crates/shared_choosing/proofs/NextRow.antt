@@ -53,6 +53,16 @@ place_of_list f n k within = elim (cases_lt k n) [
   nothing None e past = sym e
   nothing (Some j) e past = let l : k < n = within j e in absurd (omega arith)
 
+-- A row whose list has what runs on the processors from 1 to n has it there.
+pub running_placed : (runs : ℕ → Option ℕ) (n : ℕ) (holders : List (Option ℕ)) → ((k r : ℕ) → runs k ≡ Some r → (1 ≤ k) × (k ≤ n))
+    → (k : ℕ) → running_on (record { running = places_of (λ c. runs (suc c)) n; holders = holders }) k ≡ runs k
+running_placed runs n holders within zero = at_zero (runs 0) refl where
+  at_zero : (p : Option ℕ) → runs 0 ≡ p → None ≡ runs 0
+  at_zero None e = sym e
+  at_zero (Some r) e = let b : (1 ≤ 0) × (0 ≤ n) = within 0 r e in absurd (omega (arith, b.0))
+running_placed runs n holders within (suc c) = place_of_list (λ y. runs (suc y)) n c
+    (λ r e. let b : (1 ≤ suc c) × (suc c ≤ n) = within (suc c) r e in omega (arith, b.1))
+
 pub places_length : (f : ℕ → Option ℕ) (n : ℕ) → length (places_of f n) ≡ n
 unfolding places_of
 places_length f n = length-map-range_with_len f 0 n
@@ -105,7 +115,8 @@ next_row o w t accepted lawful ranks = record {
       (subst (IsSized w.set) (sym (row_there w t row)) sized)
       (subst (λ r. Granted s s.tasks (holder_in r)) (sym (row_there w t row)) granted)
       (subst (λ r. Placed s (holder_in r) s.tasks (running_on r)) (sym (row_there w t row))
-      (placed_same s (place_in row.holders) s.tasks runs (running_on row) placed runs_there));
+      (placed_same s (place_in row.holders) s.tasks runs (running_on row) placed
+      (running_placed runs w.set.processors holders within)));
 } where
   s : Scene
   s = scene_at o w t
@@ -140,15 +151,6 @@ next_row o w t accepted lawful ranks = record {
 
   within : (k r : ℕ) → runs k ≡ Some r → (1 ≤ k) × (k ≤ w.set.processors)
   within k r e = processor_within o w t (length w.set.tasks) k r (place_in holders) runs lawful (λ y l. numbers_of_accepted w.set y accepted l) placed e
-
-  at_zero : (p : Option ℕ) → runs 0 ≡ p → None ≡ runs 0
-  at_zero None e = sym e
-  at_zero (Some r) e = let b : (1 ≤ 0) × (0 ≤ w.set.processors) = within 0 r e in absurd (omega (arith, b.0))
-
-  runs_there : (k : ℕ) → running_on row k ≡ runs k
-  runs_there zero = at_zero (runs 0) refl
-  runs_there (suc c) = place_of_list (λ y. runs (suc y)) w.set.processors c
-      (λ r e. let b : (1 ≤ suc c) × (suc c ≤ w.set.processors) = within (suc c) r e in omega (arith, b.1))
 
 pub next_row_mpcp : (w : Trace) (t : ℕ) → IsAccepted w.set → AreLawfulJobs (jobs_of w) → HasChoice mpcp w t
 next_row_mpcp w t accepted lawful =

@@ -224,8 +224,7 @@ fn runs_before<O: Order>(
             let first = holds(machine, &row.holders, r);
             (!holds(machine, &row.holders, j)
                 || (first && order.run_of(machine, r) <= order.run_of(machine, j)))
-                && (!is_local(machine, j)
-                    || (first || task_of(machine, r).0 <= task_of(machine, j).0))
+                && (!is_local(machine, j) || (first || task_of(machine, r) <= task_of(machine, j)))
         }
         None => true,
     }

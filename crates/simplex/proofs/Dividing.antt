@@ -1,8 +1,9 @@
 -- A list of nonzero cells while each value is divided.
-use Rattle.std.proofs.Common.{◌≡◌, ◌≢◌, inl, inr, ℕ, ◌+◌, ◌<◌, ◌≤◌, List, length, set, ℤ, pos, ◌*ℤ◌, ◌<ℤ◌, refl, sym}
+use Rattle.std.proofs.Common.{◌≡◌, ◌≢◌, inl, inr, ℕ, ◌+◌, ◌<◌, ◌≤◌, List, length, set, pos, ◌*ℤ◌, refl, sym}
 use Rattle.std.proofs.Common.{ap, ◌∙◌, arith, get_or-set_same, get_or-set_other, length-set}
-use Rattle.std.proofs.lemmas.Int.{ints}
 use Rattle.std.proofs.lemmas.Bool.{cases_eq}
+use Rattle.fraction128.proofs.Unique.{apart_of_positive}
+use Rattle.number_laws.proofs.Ring.{zero-mul}
 use Rattle.number_laws.proofs.Order.{times_apart}
 use Rattle.fraction128.specs.Fraction.{Fraction, IsForm, IsQuotient, whole}
 use Rattle.fraction128.specs.Gives.{HasNoForm}
@@ -46,14 +47,8 @@ divided_more i before now by f v l h own form is =
 -- what isn't zero isn't zero when it is divided
 quotient_apart : (a b c : Fraction) → IsForm b → IsForm c → a.num ≢ pos 0 → IsQuotient a b c → c.num ≢ pos 0
 quotient_apart a b c hb hc some is none =
-    times_apart (a.num *ℤ b.den) c.den (times_apart a.num b.den some (positive_apart b.den hb.positive)) (positive_apart c.den hc.positive)
-    (sym is.same ∙ (ap (λ x. x *ℤ (a.den *ℤ b.num)) none ∙ nothing (a.den *ℤ b.num)))
-  where
-    positive_apart : (z : ℤ) → pos 0 <ℤ z → z ≡ pos 0 → ⊥
-    positive_apart z h e = omega (arith, ints)
-
-    nothing : (z : ℤ) → pos 0 *ℤ z ≡ pos 0
-    nothing z = omega (arith, ints)
+    times_apart (a.num *ℤ b.den) c.den (times_apart a.num b.den some (apart_of_positive b.den hb.positive)) (apart_of_positive c.den hc.positive)
+    (sym is.same ∙ (ap (λ x. x *ℤ (a.den *ℤ b.num)) none ∙ zero-mul (a.den *ℤ b.num)))
 
 pub divided_sparse : (i : ℕ) (before now : List Entry) (by : Fraction) → length before ≤ i → AreSparse before
     → IsForm by → AreDividedTo i before now by → AreSparse now

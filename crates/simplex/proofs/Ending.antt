@@ -1,5 +1,5 @@
 -- What is read off the last table, and the first table's parts.
-use Rattle.std.proofs.Common.{◌≡◌, ◌≢◌, inl, inr, ℕ, zero, suc, ◌<◌, ◌≤◌, ◌+◌, ◌^◌, List, [], ◌∷◌, ◌++◌, length, Err, pos, refl}
+use Rattle.std.proofs.Common.{◌≡◌, ◌≢◌, inl, inr, ℕ, ◌<◌, ◌≤◌, ◌+◌, ◌^◌, List, [], ◌∷◌, ◌++◌, length, Err, pos, refl}
 use Rattle.std.proofs.Common.{sym, ◌∙◌, ap, arith, set, slice_index_or, get_or-set_same, get_or-set_other}
 use Rattle.std.proofs.lemmas.Bool.{cases_eq, cases_lt}
 use Rattle.std.proofs.lemmas.Int.{ints}
@@ -46,17 +46,6 @@ numbers_zero p i k n entries h is none = record {
     | inr earlier ↦ h.numbers v (omega arith)
   ];
 }
-
--- variables more, whose numbers are
-pub numbers_zeros : (count : ℕ) (p : ProgramDef) (i k m : ℕ) (entries : List Entry) → AreFirstEntries p i k entries → m ≡ k + count
-    → ((v : ℕ) → k ≤ v → v < m → first_number p i v ≡ 0) → AreFirstEntries p i m entries
-numbers_zeros zero p i k m entries h far none =
-    let here : m ≡ k = omega (arith, far) in
-    rw here h
-numbers_zeros (suc count) p i k m entries h far none =
-    numbers_zeros count p i (k + 1) m entries
-    (numbers_zero p i k (first_number p i k) entries h refl (none k (omega arith) (omega (arith, far)))) (omega (arith, far))
-    (λ v l. none v (omega arith))
 
 -- one variable more, whose number isn't
 pub numbers_more : (p : ProgramDef) (i k n : ℕ) (entries : List Entry) (f : Fraction) → AreFirstEntries p i k entries

@@ -9,7 +9,7 @@ use Rattle.fraction128.specs.Fraction.{Fraction, IsForm, whole}
 use Rattle.fraction128.proofs.Unique.{same_form}
 use Rattle.fraction128.proofs.Forms.{form_of_zero}
 use Rattle.exchange_runs.specs.Exchange.{IsLess}
-use Rattle.exchange_runs.specs.WideExchange.{IsWideLess}
+use Rattle.fraction128.specs.Gives.{IsWideLess}
 use Rattle.exchange_runs.proofs.Loops.{less_at_zero}
 use Rattle.simplex.specs.Entries.{listed_at, entry_at, AreSparse, AreBelow, IsSplit, IsNextPlace}
 use Rattle.simplex.specs.CellSteps.{IsPushed, AreLeft}

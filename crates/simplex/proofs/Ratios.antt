@@ -3,14 +3,15 @@ use Rattle.std.proofs.Common.{◌≡◌, inl, inr, ℕ, zero, suc, ◌<◌, ◌�
 use Rattle.std.proofs.Common.{Option, Some, None, List, length, ap, sym, ◌∙◌, subst, arith}
 use Rattle.std.proofs.lemmas.Int.{ints}
 use Rattle.std.proofs.lemmas.Bool.{cases_eq}
+use lib.Signed.{clash_ℤ}
 use Rattle.fraction128.specs.Fraction.{Fraction, IsForm, IsAtMost, IsBelow, IsQuotient, whole}
 use Rattle.std.specs.Prelude.{IfSome}
+use Rattle.number_laws.proofs.Order.{weaker}
 use Rattle.exchange_runs.specs.Table.{Table}
 use Rattle.exchange_runs.specs.Exchange.{HasRatio, IsRatio}
 use Rattle.fraction128.specs.Gives.{HasNoForm}
 use Rattle.exchange_runs.specs.WideExchange.{IsWideRatio}
 use Rattle.exchange_runs.proofs.Loops.{least_skip}
-use Rattle.exchange_runs.proofs.Signs.{not_back, weaker}
 use Rattle.simplex.specs.Choice.{IsLeastSoFar}
 use Rattle.simplex.specs.Entries.{entry_at, IsSplit}
 use Rattle.simplex.specs.declared.entries.Entry.{Entry}
@@ -20,7 +21,7 @@ use Rattle.simplex.proofs.Listed.{split_gap}
 
 -- the lesser ratio comes first, whatever the basic variables are
 pub below_comes : (g f : Fraction) (j i : ℕ) → IsBelow g f → IsAtMost g f × (IsAtMost f g → j ≤ i)
-below_comes g f j i h = (record { le = weaker h.lt }, λ k. absurd (not_back _ _ h.lt k.le))
+below_comes g f j i h = (record { le = weaker h.lt }, λ k. clash_ℤ h.lt k.le)
 
 -- a row that has no ratio changes nothing
 pub no_more : (place : ℕ) (t : Table) (e i : ℕ) (best : Option (ℕ × Fraction)) → IsLeastSoFar place t e i best → (HasRatio t e i → ⊥)

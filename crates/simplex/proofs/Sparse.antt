@@ -3,8 +3,7 @@ use Rattle.std.proofs.Common.{◌≡◌, ◌≢◌, inl, inr, ℕ, ◌<◌, ◌%
 use Rattle.std.specs.Int.{bit_at}
 use Rattle.std.proofs.lemmas.Bool.{cases_eq, eq-eqb, ne_eqb}
 use Rattle.fraction128.specs.Fraction.{Fraction, IsForm, IsQuotient, whole}
-use Rattle.fraction128.specs.Gives.{HasNoForm}
-use Rattle.exchange_runs.specs.WideExchange.{IsWideLess}
+use Rattle.fraction128.specs.Gives.{HasNoForm, IsWideLess}
 use Rattle.simplex.specs.Entries.{listed_at}
 use Rattle.simplex.specs.Filters.{IsFilter}
 use Rattle.simplex.specs.Rows.{RowDef, places, cell_at, HasForms, IsSparseRow}

@@ -3,10 +3,9 @@ use Rattle.std.specs.Prelude.{◌≡◌, ◌≢◌, ◌⊎◌, ℕ, ◌<◌, Lis
 use Rattle.std.specs.Global.{Global}
 use Rattle.std.specs.declared.vec.Vec.{Vec}
 use Rattle.fraction128.specs.Fraction.{Fraction, IsQuotient}
-use Rattle.fraction128.specs.Gives.{HasNoForm}
+use Rattle.fraction128.specs.Gives.{HasNoForm, IsWideLess}
 use Rattle.fraction128.specs.declared.Wide.{Wide}
 use Rattle.exchange_runs.specs.Exchange.{IsLess}
-use Rattle.exchange_runs.specs.WideExchange.{IsWideLess}
 use Rattle.simplex.specs.Entries.{listed_at, AreSparse, AreBelow}
 use Rattle.simplex.specs.declared.entries.Entry.{Entry}
 use Rattle.simplex.specs.declared.SolveStop.{SolveStop}

@@ -3,7 +3,8 @@ use Rattle.std.specs.Prelude.{◌≡◌, ◌≢◌, ◌⊎◌, ℕ, ◌+◌, ◌
 use Rattle.program_form.specs.Program.{ProgramDef, height}
 use Rattle.exchange_runs.specs.Table.{variables}
 use Rattle.exchange_runs.specs.Exchange.{IsExchange, IsLeaving}
-use Rattle.exchange_runs.specs.WideExchange.{IsWideLess, IsWideRatio, IsWideStep}
+use Rattle.fraction128.specs.Gives.{IsWideLess}
+use Rattle.exchange_runs.specs.WideExchange.{IsWideRatio, IsWideStep}
 use Rattle.simplex.specs.Entries.{listed_at}
 use Rattle.simplex.specs.declared.entries.Entry.{Entry}
 use Rattle.simplex.specs.Rows.{RowDef, cell_at}

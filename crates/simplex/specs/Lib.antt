@@ -8,8 +8,5 @@ pub mod RowSteps
 pub mod Choice
 pub mod Exchanges
 pub mod Starts
-pub mod Coefficients
-pub mod CoefficientRows
-pub mod SparseView
 pub mod Ends
 pub mod Solves

@@ -1,10 +1,9 @@
 -- What the steps of an exchange answer at a row.
 use Rattle.std.specs.Prelude.{◌≡◌, ℕ, Result, Ok, Err}
 use Rattle.fraction128.specs.Fraction.{Fraction, IsForm, IsQuotient}
-use Rattle.fraction128.specs.Gives.{HasNoForm}
+use Rattle.fraction128.specs.Gives.{HasNoForm, IsWideLess}
 use Rattle.fraction128.specs.declared.Wide.{Wide as WideValue}
 use Rattle.exchange_runs.specs.Exchange.{IsLess}
-use Rattle.exchange_runs.specs.WideExchange.{IsWideLess}
 use Rattle.simplex.specs.Rows.{RowDef, places, cell_at}
 use Rattle.simplex.specs.declared.SolveStop.{SolveStop}
 use Rattle.simplex.specs.declared.SolveStop.TheVariants.{Memory, Wide, Units}

@@ -10,8 +10,8 @@ ghost use Rattle.simplex.specs.Choice.{Enters, Comes, IsLeastSoFar, Leaves};
 
 use crate::entries::Entry;
 use crate::row::SparseRow;
-use crate::sparse_program::SparseProgram;
 use fraction128::{Frac, Wide};
+use program_form::SparseProgram;
 use std::cmp::Ordering;
 
 // The least variable whose objective cell is above 0.

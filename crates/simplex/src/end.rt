@@ -12,10 +12,9 @@ ghost use Rattle.simplex.specs.Tables.{row_of, table_of, HasSize};
 ghost use Rattle.simplex.specs.Ends.{AreMinus, WritesDual, Finishes};
 
 use crate::row::SparseRow;
-use crate::sparse_program::SparseProgram;
 use crate::{SolveStop, Solved};
 use fraction128::{Frac, Scaled, ScalingError, scale};
-use program_form::Dual;
+use program_form::{Dual, SparseProgram};
 use std::alloc::{AllocError, Global};
 
 // Minus the cells of a row, from one place up to another.

@@ -103,8 +103,7 @@ pub(crate) fn taken(a: Frac, f: Frac, y: Frac) -> Result<Frac, Wide>
     if a.is_zero() {
         return taken_from_zero(f, y);
     }
-    let product = f.mul(y)?;
-    a.sub(product)
+    a.less_product(f, y)
 }
 
 // What is left of zero: the product by its other sign, which always has a form.

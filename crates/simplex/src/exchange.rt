@@ -13,8 +13,8 @@ use crate::SolveStop;
 use crate::choice::leaving;
 use crate::entries::{Entry, push_cell, value_at};
 use crate::row::SparseRow;
-use crate::sparse_program::SparseProgram;
 use fraction128::Wide;
+use program_form::SparseProgram;
 use std::alloc::{AllocError, Global};
 use std::mem;
 

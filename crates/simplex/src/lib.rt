@@ -1,6 +1,6 @@
 //! The exact optimum of a blocking program, by exchanges of tables of fractions.
 //!
-//! `sparse_program` keeps a program by its nonzero coefficients, so that its limits can be renewed and it can be solved again.
+//! A [`SparseProgram`] keeps a program by its nonzero coefficients, so that its limits can be renewed and it can be solved again.
 //! `start` makes the first table, `choice` says which variable enters and which row leaves, `exchange` makes the next table, and
 //! `end` reads the answer off the last one. A row of a table is read by its places and cells alone.
 #![tactic(auto)]
@@ -25,13 +25,12 @@ mod entries;
 mod exchange;
 mod filter;
 mod row;
-mod sparse_program;
 mod start;
 
 use choice::entering;
 use end::finish;
 use exchange::step;
-pub use sparse_program::SparseProgram;
+pub use program_form::SparseProgram;
 use start::{first_basis, first_rows, with_room};
 
 /// The end of an exchange run: the optimum, the point that attains it, and a dual that shows that none passes it.

@@ -7,8 +7,8 @@ ghost use Rattle.simplex.specs.Starts.{AreFirstEntries, IsFirstRow, AreFirstRows
 
 use crate::entries::Entry;
 use crate::row::SparseRow;
-use crate::sparse_program::SparseProgram;
 use fraction128::Frac;
+use program_form::SparseProgram;
 use std::alloc::{AllocError, Global};
 
 // How many cells a row may gain before its list takes more memory: with fewer, exchanges take memory twice as often.

@@ -19,7 +19,7 @@ use Rattle.program_laws.specs.Programs.{source_of}
 use Rattle.soundness_laws.specs.Sound.{IsLawfulSchedule, KeepsBounds, Sound}
 use Rattle.soundness_laws.specs.Analyses.{AreValues}
 use Rattle.soundness_laws.specs.Worked.{late_tasks, bounds_alone}
-use Rattle.soundness_laws.proofs.WorkedSet.{covers_from}
+use Rattle.soundness_laws.proofs.WorkedSet.{proved_from}
 
 pub late_accepted : IsAccepted late_tasks
 unfolding is_due size_refusals
@@ -28,16 +28,8 @@ late_accepted = accepted_from_free late_tasks refl
 pub late_valid : IsValid (source_of protocol.FmlpPlus late_tasks) (bounds_alone (2 ∷ 9 ∷ []))
 late_valid = record { bound_each = refl; dual_each = refl; proved = proved } where
   proved : (i : ℕ) → i < 2 → IsProvedBound (source_of protocol.FmlpPlus late_tasks) (bounds_alone (2 ∷ 9 ∷ [])) i
-  proved zero l = record {
-    within = leb-true _ _ refl;
-    feasible = record { number_each = refl; covers = covers_from _ _ _ (omega arith) refl };
-    enough = leb-true _ _ refl;
-  }
-  proved (suc zero) l = record {
-    within = leb-true _ _ refl;
-    feasible = record { number_each = refl; covers = covers_from _ _ _ (omega arith) refl };
-    enough = leb-true _ _ refl;
-  }
+  proved zero l = proved_from _ _ 0 refl refl (omega arith) refl refl
+  proved (suc zero) l = proved_from _ _ 1 refl refl (omega arith) refl refl
   proved (suc (suc i)) l = absurd (omega arith)
 
 pub late_values : AreValues (source_of protocol.FmlpPlus late_tasks) (bounds_alone (2 ∷ 9 ∷ [])) (0 ∷ 0 ∷ [])

@@ -9,7 +9,7 @@ use Rattle.bounded_sums.proofs.TestLaws.{all_below-each}
 use Rattle.program_form.specs.Certificate.{CertificateDef}
 use Rattle.program_form.specs.Program.{ProgramDef, columns, height, cost, entry}
 use Rattle.program_form.specs.Duals.{Covers}
-use Rattle.sporadic_model.specs.SetDef.{task_at}
+use Rattle.sporadic_model.specs.SetDef.{task_at, latest_bound}
 use Rattle.sporadic_model.specs.Accepted.{IsAccepted}
 use Rattle.sporadic_model.specs.Refusals.{is_due, size_refusals}
 use Rattle.sporadic_model.specs.Users.{count_of}
@@ -27,7 +27,8 @@ use Rattle.schedule_model.specs.Ranks.{fmlp_plus}
 use Rattle.schedule_model.specs.Protocols.{shared_rule}
 use Rattle.schedule_model.proofs.WorkedFiles.{then_request, local_only, jobs_a, trace_a}
 use Rattle.schedule_model.proofs.SharedExamples.{a_keeps_fmlp}
-use Rattle.program_sources.specs.Valid.{IsValid, IsProvedBound, value_at}
+use Rattle.program_sources.specs.Recurrence.{SourceDef, response_with}
+use Rattle.program_sources.specs.Valid.{IsValid, IsProvedBound, dual_at, value_at}
 use Rattle.program_laws.specs.Programs.{source_of}
 use Rattle.soundness_laws.specs.Sound.{IsLawfulSchedule, blocked_in_window, KeepsBounds, Sound}
 use Rattle.soundness_laws.specs.Analyses.{AreValues}
@@ -38,12 +39,27 @@ unfolding is_due size_refusals
 two_accepted = accepted_from_free two_tasks refl
 
 -- A dual whose rows hold the cost of each column covers the program: a test of the columns.
-pub covers_from : (p : ProgramDef) (den : ℕ) (num : ℕ → ℕ) → 0 < den
+covers_from : (p : ProgramDef) (den : ℕ) (num : ℕ → ℕ) → 0 < den
     → all_below (columns p) (λ c. nat_le (den * cost p c) (sum_below (height p) (λ r. num r * entry p r c))) ≡ true → Covers p den num
 covers_from p den num some h = record {
   positive = some;
   covered = λ c l. leb-true _ _
       (all_below-each (columns p) (λ c. nat_le (den * cost p c) (sum_below (height p) (λ r. num r * entry p r c))) h c l);
+}
+
+-- A bound is proved where these tests pass.
+pub proved_from : (f : SourceDef) (c : CertificateDef) (i : ℕ) → nat_le (slice_index c.bounds i) (latest_bound (task_at f.set i)) ≡ true
+    → length (dual_at c.duals i).num ≡ height (f.program i c.bounds) → 0 < (dual_at c.duals i).den
+    → all_below (columns (f.program i c.bounds)) (λ k. nat_le ((dual_at c.duals i).den * cost (f.program i c.bounds) k)
+    (sum_below (height (f.program i c.bounds)) (λ r. slice_index (dual_at c.duals i).num r * entry (f.program i c.bounds) r k))) ≡ true
+    → nat_le (response_with f c.bounds i (value_at f c i)) (slice_index c.bounds i) ≡ true → IsProvedBound f c i
+proved_from f c i within numbers some covered enough = record {
+  within = leb-true _ _ within;
+  feasible = record {
+    number_each = numbers;
+    covers = covers_from (f.program i c.bounds) (dual_at c.duals i).den (λ r. slice_index (dual_at c.duals i).num r) some covered;
+  };
+  enough = leb-true _ _ enough;
 }
 
 -- A certificate of the worked set is valid where each of its two bounds is proved.
@@ -57,55 +73,19 @@ valid_from p c bounds duals first second = record { bound_each = bounds; dual_ea
 
 pub two_valid : IsValid (source_of protocol.FmlpPlus two_tasks) two_bounds
 two_valid = valid_from protocol.FmlpPlus two_bounds refl refl
-    (record {
-      within = leb-true _ _ refl;
-      feasible = record { number_each = refl; covers = covers_from _ _ _ (omega arith) refl };
-      enough = leb-true _ _ refl;
-    })
-    (record {
-      within = leb-true _ _ refl;
-      feasible = record { number_each = refl; covers = covers_from _ _ _ (omega arith) refl };
-      enough = leb-true _ _ refl;
-    })
+    (proved_from _ _ 0 refl refl (omega arith) refl refl) (proved_from _ _ 1 refl refl (omega arith) refl refl)
 
 pub two_valid_mpcp : IsValid (source_of protocol.Mpcp two_tasks) two_bounds_of_fewer_rows
 two_valid_mpcp = valid_from protocol.Mpcp two_bounds_of_fewer_rows refl refl
-    (record {
-      within = leb-true _ _ refl;
-      feasible = record { number_each = refl; covers = covers_from _ _ _ (omega arith) refl };
-      enough = leb-true _ _ refl;
-    })
-    (record {
-      within = leb-true _ _ refl;
-      feasible = record { number_each = refl; covers = covers_from _ _ _ (omega arith) refl };
-      enough = leb-true _ _ refl;
-    })
+    (proved_from _ _ 0 refl refl (omega arith) refl refl) (proved_from _ _ 1 refl refl (omega arith) refl refl)
 
 pub two_valid_dpcp : IsValid (source_of protocol.Dpcp two_tasks) two_bounds_of_fewer_rows
 two_valid_dpcp = valid_from protocol.Dpcp two_bounds_of_fewer_rows refl refl
-    (record {
-      within = leb-true _ _ refl;
-      feasible = record { number_each = refl; covers = covers_from _ _ _ (omega arith) refl };
-      enough = leb-true _ _ refl;
-    })
-    (record {
-      within = leb-true _ _ refl;
-      feasible = record { number_each = refl; covers = covers_from _ _ _ (omega arith) refl };
-      enough = leb-true _ _ refl;
-    })
+    (proved_from _ _ 0 refl refl (omega arith) refl refl) (proved_from _ _ 1 refl refl (omega arith) refl refl)
 
 pub greater_valid : IsValid (source_of protocol.FmlpPlus two_tasks) greater_bounds
 greater_valid = valid_from protocol.FmlpPlus greater_bounds refl refl
-    (record {
-      within = leb-true _ _ refl;
-      feasible = record { number_each = refl; covers = covers_from _ _ _ (omega arith) refl };
-      enough = leb-true _ _ refl;
-    })
-    (record {
-      within = leb-true _ _ refl;
-      feasible = record { number_each = refl; covers = covers_from _ _ _ (omega arith) refl };
-      enough = leb-true _ _ refl;
-    })
+    (proved_from _ _ 0 refl refl (omega arith) refl refl) (proved_from _ _ 1 refl refl (omega arith) refl refl)
 
 -- The first bound is less than the cost and the dual's value.
 pub too_small_invalid : IsValid (source_of protocol.FmlpPlus two_tasks) too_small_bound → ⊥

@@ -8,6 +8,7 @@ use Rattle.std.proofs.lemmas.List.Elements.{All-append, All-cons}
 use Rattle.bounded_sums.specs.Sums.{only_if}
 use Rattle.bounded_sums.proofs.CountLaws.{flag-at_most}
 use Rattle.bounded_sums.proofs.SumLaws.{only_if-at_most, sum_below-monotone}
+use Rattle.bounded_sums.proofs.OnlyIfLaws.{only_if-rises}
 use Rattle.program_form.specs.Program.{IsProgram, IsCovered, columns}
 use Rattle.program_form.specs.Limits.{HasLimitsAtMost}
 use Rattle.sporadic_model.specs.SetDef.{SetDef, task_at}
@@ -22,7 +23,7 @@ use Rattle.direct_constraints.specs.Rows.{common_rows}
 use Rattle.program_laws.specs.Written.{IsSmallRow, Rises, HasJobsAtMost, KeepsJobs}
 use Rattle.program_laws.proofs.Lists.{sum_at_most}
 use Rattle.program_laws.proofs.RowKinds.{all_per_pair}
-use Rattle.program_laws.proofs.RisingLimits.{jobs_rise, jobs_stay, common_rises, requests_rise, only_if_rises}
+use Rattle.program_laws.proofs.RisingLimits.{jobs_rise, jobs_stay, common_rises, requests_rise}
 use Rattle.program_laws.proofs.SmallNumbers.{common_small, count_small, requests_small, flag_small}
 use Rattle.program_laws.proofs.CoveredColumns.{covered_by, request_row_among}
 use Rattle.program_laws.proofs.ListLengths.{Few, few, common_few, pair_at_most}
@@ -52,7 +53,8 @@ spin_each P set i common lower all own =
 higher_rise : (set : SetDef) (i q : ℕ) (r s : List ℕ) → i < length set.tasks → HasJobsAtMost set i r s
     → higher_requests set (slice_index r) i q ≤ higher_requests set (slice_index s) i q
 higher_rise set i q r s here h = sum_below-monotone i _ _ (λ x l.
-    only_if_rises (have_one_processor set x i) _ _ (requests_rise set r s i x q (h x (omega arith))))
+    only_if-rises (have_one_processor set x i) (requests_in set (slice_index r) i x q) (requests_in set (slice_index s) i x q)
+    (λ counts. requests_rise set r s i x q (h x (omega arith))))
 
 higher_small : (set : SetDef) (i q : ℕ) (r : List ℕ) → IsAccepted set → AreWithinDeadlines set r → i < length set.tasks
     → higher_requests set (slice_index r) i q ≤ 128000000000000

@@ -1,5 +1,5 @@
 -- After any rows that keep the rules there is a chosen row.
-use Rattle.std.proofs.Common.{◌≡◌, ◌⊎◌, ℕ, ◌<◌, ◌≤◌, ◌&&◌, not, zero, suc, true, List, length, refl, sym, ◌∙◌, arith, inl, inr}
+use Rattle.std.proofs.Common.{◌≡◌, ◌⊎◌, ℕ, ◌<◌, ◌≤◌, ◌&&◌, not, suc, true, List, length, sym, ◌∙◌, arith, inl, inr, []}
 use Rattle.std.proofs.Common.{Option, Some, None}
 use Rattle.sporadic_model.specs.Accepted.{IsAccepted, TaskNumbers}
 use Rattle.sporadic_model.proofs.Laws.{numbers_of_accepted}
@@ -31,7 +31,7 @@ use Rattle.shared_choosing.proofs.Chosen.{requests_shown}
 use Rattle.shared_choosing.proofs.Scenes.{scene_shown, active_job_now}
 use Rattle.shared_choosing.proofs.Walks.{held_at, granted_at, granted_same}
 use Rattle.shared_choosing.proofs.Filling.{filled_at, all_filled, running_read}
-use Rattle.shared_choosing.proofs.NextRow.{places_of, place_of_list, places_length, same_before, row_there}
+use Rattle.shared_choosing.proofs.NextRow.{places_of, place_of_list, running_placed, places_length, same_before, row_there}
 use Rattle.spin_rules.specs.SpinRules.{spin_rule}
 use Rattle.spin_rules.proofs.SpinLaws.{spin_sound_row}
 use Rattle.spin_rules.proofs.SpinAgreement.{spin_rules_read}
@@ -116,20 +116,9 @@ row_of m rows shows = record {
     locals = all_filled m (calm_claim m (place_in holders)) before (length m.list.set.tasks) shows.machine (omega arith);
   }
 
-  at_zero : (p : Option ℕ) → runs 0 ≡ p → None ≡ runs 0
-  at_zero None e = sym e
-  at_zero (Some r) e =
-      let b : (1 ≤ 0) × (0 ≤ m.list.set.processors) = processor_within m rows (place_in holders) runs 0 r shows all_running e in
-      absurd (omega (arith, b.0))
-
   there : (k : ℕ) → running_in (places_of (λ c. runs (suc c)) m.list.set.processors) k ≡ runs k
-  there zero = at_zero (runs 0) refl
-  there (suc c) = place_of_list (λ y. runs (suc y)) m.list.set.processors c (λ r e. below r e) where
-    below : (r : ℕ) → runs (suc c) ≡ Some r → c < m.list.set.processors
-    below r e =
-        let b : (1 ≤ suc c) × (suc c ≤ m.list.set.processors) =
-        processor_within m rows (place_in holders) runs (suc c) r shows all_running e in
-        omega (arith, b.1)
+  there = running_placed runs m.list.set.processors []
+      (λ k r e. processor_within m rows (place_in holders) runs k r shows all_running e)
 
 choice_at : (m : MachineDef) (rows : ℕ → RowDef) → Shows m rows → KeepsBefore spin_rule (under m rows) m.tick
     → HasChoice (under m rows) m.tick

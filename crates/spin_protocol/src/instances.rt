@@ -24,7 +24,7 @@ use crate::{Spin, programs};
 use charged_protocols::ChargedProtocol;
 use fragments::Class;
 use phase_machine::{Judge, Machine};
-use program_form::Program;
+use program_form::{Program, SparseProgram};
 use program_sources::ProgramSource;
 use protocol_programs::{interference, keeps_jobs};
 use schedule_model::{BlockingProtocol, JobId, Row, Rule};
@@ -93,6 +93,16 @@ impl ProgramSource for Spin {
         bounds: &[u64],
     ) -> Result<Program, AllocError> {
         programs::program(alloc, set, i, bounds)
+    }
+
+    fn sparse_program(
+        &self,
+        alloc: Global,
+        set: &TaskSet,
+        i: TaskId,
+        bounds: &[u64],
+    ) -> Result<SparseProgram, AllocError> {
+        programs::sparse_program(alloc, set, i, bounds)
     }
 
     fn limits(

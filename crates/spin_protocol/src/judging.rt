@@ -112,7 +112,7 @@ fn may_run_beside(machine: &Machine, j: JobId, running: Option<JobId>) -> bool
         Some(r) => {
             (!is_asking(machine, j) || r == j)
                 && (!is_local(machine, j)
-                    || (is_asking(machine, r) || task_of(machine, r).0 <= task_of(machine, j).0))
+                    || (is_asking(machine, r) || task_of(machine, r) <= task_of(machine, j)))
         }
         None => true,
     }

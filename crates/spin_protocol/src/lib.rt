@@ -1,5 +1,7 @@
-//! Non-preemptive FIFO spin locks: requests are granted in the order of issue, a job that waits spins, and a job in a request isn't
-//! preempted. [`Spin`] judges and chooses rows, gives programs and charges ticks, so the calls over a protocol's type take it.
+//! Non-preemptive FIFO spin locks. Requests are granted in the order of issue, a job that waits spins, and a job in a request
+//! isn't preempted.
+//!
+//! [`Spin`] judges and chooses rows, gives programs and charges ticks, so the calls over a protocol's type take it.
 #![tactic(auto)]
 
 mod charging;

@@ -9,7 +9,7 @@ ghost use Rattle.fragments.specs.Columns.{have_one_processor};
 ghost use Rattle.fragments.specs.Constraints.{block_of, per_pair};
 ghost use Rattle.sporadic_model.specs.Users.{is_user};
 ghost use Rattle.spin_charging.specs.SpinPrograms.{is_used_beside, blocks_by_spinning, is_spin_column};
-ghost use Rattle.spin_charging.specs.SpinPrograms.{spinning_rows, spin_rows, spin_program};
+ghost use Rattle.spin_charging.specs.SpinPrograms.{spin_columns, spinning_rows, spin_rows, spin_program};
 ghost use Rattle.spin_protocol.specs.SpinRows.{row_of_kind};
 ghost use Rattle.spin_protocol.specs.Used.{AreUsedBeside};
 
@@ -19,8 +19,8 @@ use fragments::{
     Class, ColumnTest, Fragment, RowLimits, RowTaker, add_per_number, add_row, fragments_where,
     lower_local, passing_stand_in_order, share_processor, uses,
 };
-use program_form::{Program, RowBlock};
-use protocol_programs::program_over;
+use program_form::{Program, RowBlock, SparseProgram, SparseRows};
+use protocol_programs::{program_over, sparse_program_over};
 use sporadic_model::{ResourceId, TaskId, TaskSet};
 use std::alloc::{AllocError, Global};
 
@@ -205,6 +205,50 @@ pub(crate) fn program(
     program_over(alloc, set, &columns, block)
 }
 
+/// Gives the taker all rows of that program, and answers its columns.
+fn take_rows<T: RowTaker>(
+    alloc: Global,
+    taker: &mut T,
+    set: &TaskSet,
+    i: TaskId,
+    bounds: &[u64],
+) -> Result<Vec<Fragment>, AllocError>
+    requires task { i.0 < length set.now.tasks }
+    requires within { AreWithinDeadlines set.now bounds.now }
+    ensures columns { IfOk result (λ v. map column_seen v.items ≡ spin_columns set.now i.0) }
+    ensures known { IfOk result (λ v. AreKnown (length set.now.tasks) (length set.now.resources) v.items) }
+    ensures rows { IfOk result (λ v. T.takes taker.old (map column_seen v.items) (spin_rows set.now i.0) bounds.now taker.new) }
+{
+    let test = SpinColumns {
+        used: used_beside(alloc, set, i)?,
+    };
+    let columns = fragments_where(alloc, &test, set, i)?;
+    passing_stand_in_order(set, &test, i, &columns);
+    add_rows(alloc, taker, set, i, bounds, &columns)?;
+    Ok(columns)
+}
+
+/// The same program as that of [`program`], kept by its coefficients that aren't zero. It refuses for want of memory alone.
+pub(crate) fn sparse_program(
+    alloc: Global,
+    set: &TaskSet,
+    i: TaskId,
+    bounds: &[u64],
+) -> Result<SparseProgram, AllocError>
+    requires task { i.0 < length set.now.tasks }
+    requires within { AreWithinDeadlines set.now bounds.now }
+    ensures { IfOk result (λ p. p ≡ spin_program set.now i.0 bounds.now) }
+{
+    // every set is lawful, so its columns and rows make a program
+    let _tasks = set.tasks();
+    let mut taken = SparseRows {
+        rows: Vec::new(alloc),
+        limits: Vec::new(alloc),
+    };
+    let columns = take_rows(alloc, &mut taken, set, i, bounds)?;
+    sparse_program_over(alloc, set, &columns, taken)
+}
+
 /// The limits of that program, without its coefficients. It refuses for want of memory alone.
 pub(crate) fn limits(
     alloc: Global,
@@ -216,14 +260,9 @@ pub(crate) fn limits(
     requires within { AreWithinDeadlines set.now bounds.now }
     ensures { IfOk result (λ v. v.items ≡ (spin_program set.now i.0 bounds.now).limits) }
 {
-    let test = SpinColumns {
-        used: used_beside(alloc, set, i)?,
-    };
-    let columns = fragments_where(alloc, &test, set, i)?;
-    passing_stand_in_order(set, &test, i, &columns);
     let mut taken = RowLimits {
         limits: Vec::new(alloc),
     };
-    add_rows(alloc, &mut taken, set, i, bounds, &columns)?;
+    take_rows(alloc, &mut taken, set, i, bounds)?;
     Ok(taken.limits)
 }

@@ -4,7 +4,6 @@ use Rattle.std.proofs.Common.{◌∷◌, map, length, refl, ap, arith, ◌||◌}
 use Rattle.std.specs.List.{list_any, position_or_len, position, find, slice_index_or}
 use Rattle.std.specs.Option.{option_map}
 use Rattle.std.proofs.lemmas.List.{length-map}
-pub use Rattle.std.proofs.lemmas.List.{take-map}
 
 pub list_any-map : {A B : Type 0} (f : A → B) (p : B → Bool) → (xs : List A) → list_any p (map f xs) ≡ list_any (λ x. p (f x)) xs
 list_any-map f p [] = refl

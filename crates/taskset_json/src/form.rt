@@ -1,9 +1,8 @@
-ghost use Rattle.std.specs.Prelude.{◌≡◌, map, false, string_bytes};
+ghost use Rattle.std.specs.Prelude.{◌≡◌, map, false};
 ghost use Rattle.serde_json.specs.View.{view, members_view};
 ghost use Rattle.std.specs.List.{list_all, list_any};
 ghost use Rattle.std.specs.Option.{option_map_or};
 ghost use Rattle.std.specs.Str.{bytes_eq};
-ghost use Rattle.std.specs.BTreeMap.{keys};
 ghost use Rattle.serde_json.specs.Find.{as_object};
 ghost use Rattle.taskset_json.specs.Members.{names_of};
 ghost use Rattle.taskset_json.specs.Form.{must, may, is_of_kind, gives, is_listed, is_object_of, set_form};
@@ -92,17 +91,11 @@ fn is_listed(form: &[Member], name: &str) -> bool
     form.iter().any(|member| member.name == name)
 }
 
-fn lists_each(form: &[Member], members: &Map<String, Value>) -> bool
-    ensures { result ≡ list_all (λ name. list_any (λ m. bytes_eq m.name.now (string_bytes name)) form.now) (keys members.now) }
-{
-    members.keys().all(|name| is_listed(form, name.as_str()))
-}
-
 /// Is each of the members one of the form?
 fn lists_all(form: &[Member], members: &Map<String, Value>) -> bool
     ensures { result ≡ list_all (is_listed (map member_seen form.now)) (names_of (members_view members.now.entries)) }
 {
-    lists_each(form, members)
+    members.keys().all(|name| is_listed(form, name.as_str()))
 }
 
 /// Is the value an object with no members but those of the form?

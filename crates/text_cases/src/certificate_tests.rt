@@ -1,4 +1,4 @@
-use cert_json::{CertPlace, CertRefusal, read, read_old, write};
+use cert_json::{CertRefusal, read, read_old, write};
 use program_form::{Certificate, Dual};
 use set_digests::{digest_text, set_digest};
 use std::alloc::{AllocError, Global};
@@ -24,20 +24,23 @@ fn dual(alloc: Global, den: u64, num: &[u64]) -> Result<Dual, AllocError> {
     })
 }
 
+/// A text, and its digest as the standard gives it.
+const DIGESTS: &[(&str, &str)] = &[
+    (
+        "abc",
+        "ba7816bf8f01cfea414140de5dae2223b00361a396177a9cb410ff61f20015ad",
+    ),
+    (
+        "",
+        "e3b0c44298fc1c149afbf4c8996fb92427ae41e4649b934ca495991b7852b855",
+    ),
+];
+
 #[test]
 fn a_digest_is_written_in_hexadecimal(rt: HostRuntime) -> Result<(), Fail> {
-    for (bytes, text) in [
-        (
-            "abc",
-            "ba7816bf8f01cfea414140de5dae2223b00361a396177a9cb410ff61f20015ad",
-        ),
-        (
-            "",
-            "e3b0c44298fc1c149afbf4c8996fb92427ae41e4649b934ca495991b7852b855",
-        ),
-    ] {
+    for (bytes, text) in DIGESTS {
         let digest = digest_text(rt.alloc(), &set_digest(bytes.as_bytes()))?;
-        assert_eq!(rt; digest.as_str(), text);
+        assert_eq!(rt; digest.as_str(), *text);
     }
     Ok(())
 }
@@ -72,191 +75,48 @@ fn again(
     }
 }
 
+/// The certificate of two tasks, with spaces and its members in another order.
+const OF_TWO_SPACED: &str = r#"
+    { "version": 2, "verdict": "schedulable", "protocol": "fmlp+",
+      "set": "abababababababababababababababababababababababababababababababab",
+      "duals": [ {"num": [2, 0, 0, 0], "den": 1}, {"num": [1, 0, 0, 0], "den": 1} ],
+      "bounds": [ 5, 5 ] }
+"#;
+
+const FOR_DPCP: &str =
+    "{\"bounds\":[6,6],\"duals\":[{\"den\":1,\"num\":[2,0,0]},{\"den\":1,\"num\":[1,1,0]}],\"protocol\":\"dpcp\",\"set\":\"0123456789abcdef0123456789abcdef0123456789abcdef0123456789abcdef\",\"verdict\":\"schedulable\",\"version\":2}\n";
+
+/// The greatest numbers that a certificate holds.
+const GREATEST: &str =
+    "{\"bounds\":[18446744073709551615,0],\"duals\":[{\"den\":9223372036854775807,\"num\":[9223372036854775807]},{\"den\":1,\"num\":[]}],\"protocol\":\"mpcp\",\"set\":\"abababababababababababababababababababababababababababababababab\",\"verdict\":\"schedulable\",\"version\":2}\n";
+
+/// A text, the protocol that is asked for, and what is written of it.
+const READ: &[(&str, &str, &str)] = &[
+    (OF_TWO, "fmlp+", OF_TWO),
+    (OF_TWO_SPACED, "fmlp+", OF_TWO),
+    (FOR_DPCP, "dpcp", FOR_DPCP),
+    (GREATEST, "mpcp", GREATEST),
+];
+
 #[test]
 fn reads_what_is_written(rt: HostRuntime) -> Result<(), Fail> {
-    for (text, word) in [
-        (OF_TWO, "fmlp+"),
-        (
-            "{\"bounds\":[6,6],\"duals\":[{\"den\":1,\"num\":[2,0,0]},{\"den\":1,\"num\":[1,1,0]}],\"protocol\":\"dpcp\",\"set\":\"0123456789abcdef0123456789abcdef0123456789abcdef0123456789abcdef\",\"verdict\":\"schedulable\",\"version\":2}\n",
-            "dpcp",
-        ),
-        (
-            "{\"bounds\":[18446744073709551615,0],\"duals\":[{\"den\":9223372036854775807,\"num\":[9223372036854775807]},{\"den\":1,\"num\":[]}],\"protocol\":\"mpcp\",\"set\":\"abababababababababababababababababababababababababababababababab\",\"verdict\":\"schedulable\",\"version\":2}\n",
-            "mpcp",
-        ),
-    ] {
+    for (text, word, written) in READ {
         match again(rt.alloc(), text, word)? {
-            Ok(line) => assert_eq!(rt; line.as_slice(), text.as_bytes()),
+            Ok(line) => assert_eq!(rt; line.as_slice(), written.as_bytes()),
             Err(refusal) => assert_eq!(rt; Some(refusal), None, "at {text}"),
         }
     }
     Ok(())
 }
 
-#[test]
-fn reads_members_in_any_order(rt: HostRuntime) -> Result<(), Fail> {
-    let text = r#"
-        { "version": 2, "verdict": "schedulable", "protocol": "fmlp+",
-          "set": "abababababababababababababababababababababababababababababababab",
-          "duals": [ {"num": [2, 0, 0, 0], "den": 1}, {"num": [1, 0, 0, 0], "den": 1} ],
-          "bounds": [ 5, 5 ] }
-    "#;
-    match again(rt.alloc(), text, "fmlp+")? {
-        Ok(line) => assert_eq!(rt; line.as_slice(), OF_TWO.as_bytes()),
-        Err(refusal) => assert_eq!(rt; Some(refusal), None),
-    }
-    Ok(())
-}
-
-fn refusal_of(alloc: Global, text: &str, word: &str) -> Option<CertRefusal> {
-    if text.len() > MOST_TEXT {
-        return None;
-    }
-    read(alloc, text.as_bytes(), word).err()
-}
-
-// A text, and why it is refused under FMLP+.
-const REFUSED: [(&str, CertRefusal); 28] = [
-    ("", CertRefusal::NotJson),
-    ("{", CertRefusal::NotJson),
-    (
-        "{\"bounds\":[5,5],\"duals\":[{\"den\":1,\"num\":",
-        CertRefusal::NotJson,
-    ),
-    ("[]", CertRefusal::Shape(CertPlace::Root)),
-    ("null", CertRefusal::Shape(CertPlace::Root)),
-    ("{}", CertRefusal::Shape(CertPlace::Root)),
-    (r#"{"version":"1"}"#, CertRefusal::Shape(CertPlace::Root)),
-    (r#"{"version":1.0}"#, CertRefusal::Shape(CertPlace::Root)),
-    (r#"{"version":9}"#, CertRefusal::Version),
-    (r#"{"version":2,"version":3}"#, CertRefusal::Version),
-    (r#"{"version":2}"#, CertRefusal::Shape(CertPlace::Root)),
-    (r#"{"version":1}"#, CertRefusal::Version),
-    (
-        r#"{"bounds":[],"duals":[],"protocol":"fmlp+","verdict":"schedulable","version":9}"#,
-        CertRefusal::Version,
-    ),
-    (
-        r#"{"bounds":[],"duals":[],"protocol":"fmlp+","set":"abababababababababababababababababababababababababababababababab","sets":1,"verdict":"schedulable","version":2}"#,
-        CertRefusal::Shape(CertPlace::Root),
-    ),
-    (
-        r#"{"bounds":[],"duals":null,"protocol":"fmlp+","set":"abababababababababababababababababababababababababababababababab","verdict":"schedulable","version":2}"#,
-        CertRefusal::Shape(CertPlace::Root),
-    ),
-    (
-        r#"{"bounds":["5"],"duals":[],"protocol":"pip","set":"abababababababababababababababababababababababababababababababaB","verdict":"schedulable","version":2}"#,
-        CertRefusal::Shape(CertPlace::Root),
-    ),
-    (
-        r#"{"bounds":["5"],"duals":[],"protocol":"fmlp+","set":"abababababababababababababababababababababababababababababababab","verdict":"Schedulable","version":2}"#,
-        CertRefusal::Shape(CertPlace::Root),
-    ),
-    (
-        r#"{"bounds":["5"],"duals":[],"protocol":"fmlp+","verdict":"schedulable","version":2}"#,
-        CertRefusal::Shape(CertPlace::Root),
-    ),
-    (
-        r#"{"bounds":["5"],"duals":[],"protocol":"fmlp+","set":"ababababababababababababababababababababababababababababababab","verdict":"schedulable","version":2}"#,
-        CertRefusal::Shape(CertPlace::Root),
-    ),
-    (
-        r#"{"bounds":[5,-1],"duals":[{}],"protocol":"mpcp","set":"abababababababababababababababababababababababababababababababab","verdict":"schedulable","version":2}"#,
-        CertRefusal::Shape(CertPlace::Bounds),
-    ),
-    (
-        r#"{"bounds":[18446744073709551616],"duals":[],"protocol":"fmlp+","set":"abababababababababababababababababababababababababababababababab","verdict":"schedulable","version":2}"#,
-        CertRefusal::Shape(CertPlace::Bounds),
-    ),
-    (
-        r#"{"bounds":[5,5],"duals":[{"den":0,"num":[2,0]},{"den":1,"num":[1]}],"protocol":"fmlp+","set":"abababababababababababababababababababababababababababababababab","verdict":"schedulable","version":2}"#,
-        CertRefusal::Shape(CertPlace::Dual(0)),
-    ),
-    (
-        r#"{"bounds":[5,5],"duals":[{"den":1,"num":[9223372036854775808,0]},{}],"protocol":"fmlp+","set":"abababababababababababababababababababababababababababababababab","verdict":"schedulable","version":2}"#,
-        CertRefusal::Shape(CertPlace::Dual(0)),
-    ),
-    (
-        r#"{"bounds":[5,5],"duals":[{"den":1,"num":[]},{"den":9223372036854775808,"num":[]}],"protocol":"mpcp","set":"abababababababababababababababababababababababababababababababab","verdict":"schedulable","version":2}"#,
-        CertRefusal::Shape(CertPlace::Dual(1)),
-    ),
-    (
-        r#"{"bounds":[5,5],"duals":[{"den":1,"num":[]},{"den":1,"num":[],"set":1}],"protocol":"fmlp+","set":"abababababababababababababababababababababababababababababababab","verdict":"schedulable","version":2}"#,
-        CertRefusal::Shape(CertPlace::Dual(1)),
-    ),
-    (
-        r#"{"bounds":[5,5],"duals":[{"den":1,"num":[]},{"den":1,"num":[0.5]}],"protocol":"fmlp+","set":"abababababababababababababababababababababababababababababababab","verdict":"schedulable","version":2}"#,
-        CertRefusal::Shape(CertPlace::Dual(1)),
-    ),
-    (
-        r#"{"bounds":[],"duals":[],"protocol":"dpcp","set":"abababababababababababababababababababababababababababababababab","verdict":"schedulable","version":2}"#,
-        CertRefusal::OtherProtocol,
-    ),
-    (
-        r#"{"bounds":[],"duals":[],"protocol":"a \u00e4","set":"abababababababababababababababababababababababababababababababab","verdict":"schedulable","version":2}"#,
-        CertRefusal::OtherProtocol,
-    ),
-];
-
-#[test]
-fn names_the_first_cause(rt: HostRuntime) -> Result<(), Fail> {
-    for (text, cause) in REFUSED {
-        let refusal = refusal_of(rt.alloc(), text, "fmlp+");
-        assert_eq!(rt; refusal, Some(cause), "at {text}");
-    }
-    Ok(())
-}
-
+// No command asks for the last two words.
 #[test]
 fn refuses_a_certificate_for_another_protocol(rt: HostRuntime) -> Result<(), Fail> {
-    for word in ["mpcp", "dpcp", "fmlp", ""] {
-        let refusal = refusal_of(rt.alloc(), OF_TWO, word);
-        assert_eq!(rt; refusal, Some(CertRefusal::OtherProtocol));
-    }
-    Ok(())
-}
-
-/// Why the text is refused as one of version 1.
-fn old_refusal_of(alloc: Global, text: &str, word: &str) -> Option<CertRefusal> {
-    if text.len() > MOST_TEXT {
-        return None;
-    }
-    read_old(alloc, text.as_bytes(), word).err()
-}
-
-#[test]
-fn reads_the_version_before_apart(rt: HostRuntime) -> Result<(), Fail> {
-    let alloc = rt.alloc();
-    assert_eq!(rt;
-        refusal_of(alloc, OLD_OF_TWO, "fmlp+"),
-        Some(CertRefusal::Version)
-    );
-    for (text, word, refusal) in [
-        (OLD_OF_TWO, "fmlp+", None),
-        (OLD_OF_TWO, "mpcp", Some(CertRefusal::OtherProtocol)),
-        (OF_TWO, "fmlp+", Some(CertRefusal::Version)),
-        (
-            r#"{"version":"1"}"#,
-            "fmlp+",
-            Some(CertRefusal::Shape(CertPlace::Root)),
-        ),
-        (
-            r#"{"bounds":[],"duals":[],"protocol":"fmlp+","set":"abababababababababababababababababababababababababababababababab","verdict":"schedulable","version":1}"#,
-            "fmlp+",
-            Some(CertRefusal::Shape(CertPlace::Root)),
-        ),
-        (
-            r#"{"bounds":[],"duals":[{"den":0,"num":[]}],"protocol":"pip","verdict":"schedulable","version":1}"#,
-            "fmlp+",
-            Some(CertRefusal::Shape(CertPlace::Dual(0))),
-        ),
-        (
-            r#"{"bounds":[],"duals":[],"protocol":"pip","verdict":"schedulable","version":1}"#,
-            "fmlp+",
-            Some(CertRefusal::OtherProtocol),
-        ),
-    ] {
-        assert_eq!(rt; old_refusal_of(alloc, text, word), refusal, "at {text}");
+    for word in &["mpcp", "dpcp", "fmlp", ""] {
+        match again(rt.alloc(), OF_TWO, word)? {
+            Ok(_) => return Err("is not refused".into()),
+            Err(refusal) => assert_eq!(rt; refusal, CertRefusal::OtherProtocol),
+        }
     }
     Ok(())
 }

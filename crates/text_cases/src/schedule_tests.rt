@@ -1,9 +1,9 @@
 use schedule_model::{JobId, JobList, RowList, Segment};
-use sporadic_model::{ResourceId, TaskId, TaskSet};
+use sporadic_model::{ResourceId, TaskId};
 use std::alloc::{AllocError, Global};
 use std::fmt::Write;
 use std::test::Fail;
-use trace_csv::{JobsRefusal, RowsRefusal, read_jobs, read_rows, write_rows};
+use trace_csv::{RowsRefusal, read_jobs, read_rows, write_rows};
 use worked_files::{PAIR, PAIR_JOBS, PAIR_LOWER_FIRST, set_from};
 
 /// Where the rows fit the jobs: their text.
@@ -44,79 +44,10 @@ fn reads_jobs_and_rows_and_writes_the_same_rows(rt: HostRuntime) -> Result<(), F
     Ok(())
 }
 
-/// What follows the header of a file of jobs, and the number of jobs or the refusal that is wanted.
-type JobsCase = (&'static str, Result<u32, JobsRefusal>);
-
-const JOBS_CASES: [JobsCase; 31] = [
-    ("", Ok(0)),
-    ("t1,0,1 q:1 1\nt2,0,1 q:2 1\n", Ok(2)),
-    ("t1,0,1\r\nt2,0\r\n", Err(JobsRefusal::Fields(2))),
-    ("t1,1000000000,1 q:1", Ok(1)),
-    ("\"t1\",0,\"1 q:1\"\n", Ok(1)),
-    ("t1,0,1\n\n\nt2,0\n", Err(JobsRefusal::Fields(2))),
-    ("t1,0\n", Err(JobsRefusal::Fields(1))),
-    ("t1,0,1,1\n", Err(JobsRefusal::Fields(1))),
-    ("t1,0,1\nt2,0\n", Err(JobsRefusal::Fields(2))),
-    ("t1,01,1\n", Err(JobsRefusal::Number(1))),
-    ("t1,-1,1\n", Err(JobsRefusal::Number(1))),
-    ("t1,1000000001,1\n", Err(JobsRefusal::Number(1))),
-    ("t9,x,1\n", Err(JobsRefusal::Number(1))),
-    ("t1,0,1\nt2,\"1\n0\",1\n", Err(JobsRefusal::Number(2))),
-    ("t9,0,x\n", Err(JobsRefusal::UnknownName(1))),
-    ("t1 ,0,1\n", Err(JobsRefusal::UnknownName(1))),
-    ("t1,0,1 z:1\n", Err(JobsRefusal::UnknownName(1))),
-    ("t1,0,1 z:1 1 :1\n", Err(JobsRefusal::Script(1))),
-    ("t1,0,1 q:1:1\n", Err(JobsRefusal::Script(1))),
-    ("t1,0,\n", Err(JobsRefusal::Script(1))),
-    ("t1,0,q:1 1\n", Err(JobsRefusal::Script(1))),
-    ("t1,0,1 1\n", Err(JobsRefusal::Script(1))),
-    ("t1,0,1  q:1\n", Err(JobsRefusal::Script(1))),
-    ("t1,0,\"1\nq:1\"\n", Err(JobsRefusal::Script(1))),
-    ("t1,0,1 :1\n", Err(JobsRefusal::Script(1))),
-    (
-        "t1,0,1 rrrrrrrrrrrrrrrrrrrrrrrrrrrrrrrrr:1\n",
-        Err(JobsRefusal::Script(1)),
-    ),
-    ("t1,0,0\n", Err(JobsRefusal::Script(1))),
-    ("t1,0,4\n", Err(JobsRefusal::OverBudget(1))),
-    ("t1,0,1 q:1 1 q:1\n", Err(JobsRefusal::OverBudget(1))),
-    ("t1,0,1\nt1,9,1\n", Err(JobsRefusal::TooClose(2))),
-    ("t1,0,1\n\nt1,9,4\n", Err(JobsRefusal::OverBudget(2))),
-];
-
-fn answer_to_jobs(alloc: Global, set: &TaskSet, text: &str) -> Result<u32, JobsRefusal> {
-    match read_jobs(alloc, set, text.as_bytes()) {
-        Ok(jobs) => Ok(jobs.len()),
-        Err(refusal) => Err(refusal),
-    }
-}
-
-#[test]
-fn reads_jobs_or_names_the_first_refused_line(rt: HostRuntime) -> Result<(), Fail> {
-    let set = set_from(rt.alloc(), PAIR)?;
-    for (lines, wanted) in JOBS_CASES {
-        let text = format!(in rt.alloc(); "task,release,script\n{lines}")?;
-        let answer = answer_to_jobs(rt.alloc(), &set, text.as_str());
-        assert!(rt; answer == wanted, "at {lines}");
-    }
-    Ok(())
-}
-
-#[test]
-fn asks_for_the_header_of_jobs(rt: HostRuntime) -> Result<(), Fail> {
-    let set = set_from(rt.alloc(), PAIR)?;
-    let refused = Err(JobsRefusal::Fields(0));
-    assert!(rt; answer_to_jobs(rt.alloc(), &set, "") == refused);
-    assert!(rt; answer_to_jobs(rt.alloc(), &set, "task,release\n") == refused);
-    assert!(rt; answer_to_jobs(rt.alloc(), &set, "t1,0,1\n") == refused);
-    assert!(rt; answer_to_jobs(rt.alloc(), &set, "\n\"task\",release,\"script\"\n") == Ok(0));
-    Ok(())
-}
-
 /// What follows the header of a file of rows, and the number of ticks or the refusal that is wanted.
 type RowsCase = (&'static str, Result<u64, RowsRefusal>);
 
-const ROWS_CASES: [RowsCase; 19] = [
+const ROWS_CASES: &[RowsCase] = &[
     ("", Ok(0)),
     ("3,\"1\",2,\r\n2,,,2", Ok(5)),
     ("1000000000,1,2,\n", Ok(1_000_000_000)),
@@ -155,7 +86,7 @@ fn reads_rows_or_names_the_first_refused_line(rt: HostRuntime) -> Result<(), Fai
     for (lines, wanted) in ROWS_CASES {
         let text = format!(in rt.alloc(); "ticks,P1,P2,q\n{lines}")?;
         let answer = answer_to_rows(rt.alloc(), &jobs, text.as_str());
-        assert!(rt; answer == wanted, "at {lines}");
+        assert!(rt; answer == *wanted, "at {lines}");
     }
     let refused = Err(RowsRefusal::Fields(0));
     assert!(rt; answer_to_rows(rt.alloc(), &jobs, "") == refused);

@@ -1,13 +1,8 @@
 -- Lines that are added one after another.
-use Rattle.std.proofs.Common.{◌≡◌, ◌++◌, ℕ, ◌+◌, ◌<◌, List, add-one, append_assoc, ap, ◌∙◌}
+use Rattle.std.proofs.Common.{◌≡◌, ◌++◌, ℕ, ◌+◌, List, add-one, append_assoc, ap, ◌∙◌}
 use Rattle.bounded_sums.specs.Sums.{collect_below}
-use Rattle.bounded_sums.proofs.SumLaws.{collect_below-agree}
 
 -- Behind the lines of the numbers below k comes the line of k.
 pub lines_more : (f : ℕ → List ℕ) (old mid new : List ℕ) (k : ℕ) → mid ≡ old ++ collect_below k f → new ≡ mid ++ f k
     → new ≡ old ++ collect_below (k + 1) f
 lines_more f old mid new k before here = rw add-one (here ∙ ap (λ t. t ++ f k) before ∙ append_assoc old (collect_below k f) (f k))
-
--- The same lines for each number below k are the same lines.
-pub lines_same : (f g : ℕ → List ℕ) (k : ℕ) → ((x : ℕ) → x < k → f x ≡ g x) → collect_below k f ≡ collect_below k g
-lines_same f g k same = collect_below-agree k f g same

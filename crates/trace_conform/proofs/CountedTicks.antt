@@ -2,6 +2,7 @@
 use Rattle.std.proofs.Common.{◌≡◌, ℕ, zero, suc, ◌+◌, ◌<◌, ◌≤◌, Bool, true, false, List, length, refl, ap, sym, ◌∙◌}
 use Rattle.std.proofs.Common.{subst, arith, inl, inr, Some, None}
 use Rattle.std.proofs.lemmas.Bool.{cases_lt, cases_eq, cases_Bool, both_ways}
+use Rattle.bounded_sums.proofs.OnlyIfLaws.{only_if-nothing}
 use Rattle.bounded_sums.specs.Sums.{flag, only_if}
 use Rattle.schedule_model.specs.RowDef.{Trace, RowDef, runs_in}
 use Rattle.schedule_model.specs.Phase.{is_finished, phase_of}
@@ -124,10 +125,7 @@ blocking_on : (interferes : Trace → ℕ → ℕ → Bool) (w : Trace) (t n j :
     → blocking_of interferes w (t + n) j ≡ blocking_of interferes w t j + only_if (is_blocked interferes w t j) n
 blocking_on interferes w t zero j same =
     let here : t + 0 ≡ t = omega arith in
-    omega (arith, ap (λ u. blocking_of interferes w u j) here, none (is_blocked interferes w t j)) where
-      none : (b : Bool) → only_if b 0 ≡ 0
-      none true = refl
-      none false = refl
+    omega (arith, ap (λ u. blocking_of interferes w u j) here, only_if-nothing (is_blocked interferes w t j))
 blocking_on interferes w t (suc n) j same =
     let next : t + suc n ≡ suc (t + n) = omega arith in
     omega (

@@ -3,6 +3,7 @@ use Rattle.std.proofs.Common.{◌≡◌, ◌++◌, ◌&&◌, Bool, true, false, 
 use Rattle.std.proofs.lemmas.List.{append-nil}
 use Rattle.std.proofs.lemmas.List.Folds.{list_all-append}
 use Rattle.std.specs.List.{list_all}
+use Rattle.std.proofs.lemmas.Bool.{and_right}
 use Rattle.trace_csv.specs.Scripts.{PartDef, with_front}
 
 more_front : (xs ys : List PartDef) (rest : Option (List PartDef)) → with_front (xs ++ ys) rest ≡ with_front xs (with_front ys rest)
@@ -29,10 +30,7 @@ same_parts : (xs ys : List PartDef) → Some xs ≡ Some ys → xs ≡ ys
 same_parts xs ys h = cc
 
 fails_within : (p : PartDef → Bool) (xs ys : List PartDef) (part : PartDef) → p part ≡ false → list_all p (xs ++ part ∷ ys) ≡ false
-fails_within p xs ys part h = list_all-append p xs (part ∷ ys) ∙ rw h (no_both (list_all p xs)) where
-  no_both : (b : Bool) → (b && false) ≡ false
-  no_both true = refl
-  no_both false = refl
+fails_within p xs ys part h = list_all-append p xs (part ∷ ys) ∙ rw h (and_right (list_all p xs) false refl)
 
 -- A part that fails a test is one of the script.
 pub fails_here : (p : PartDef → Bool) (front : List PartDef) (part : PartDef) (left now script : Option (List PartDef))

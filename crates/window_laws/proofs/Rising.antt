@@ -1,10 +1,11 @@
 -- Windows never shrink where bounds rise, and no limit of a row of windows falls.
-use Rattle.std.proofs.Common.{◌≡◌, ℕ, suc, ◌+◌, ◌*◌, ◌<◌, ◌≤◌, ◌==◌, ◌&&◌, Bool, true, false, length, refl, arith, inl, inr}
+use Rattle.std.proofs.Common.{◌≡◌, ℕ, suc, ◌+◌, ◌*◌, ◌<◌, ◌≤◌, ◌==◌, ◌&&◌, true, false, length, refl, arith, inl, inr}
 use Rattle.std.proofs.Common.{Option, Some, None, nat_lt, nat_le, is_none}
 use Rattle.std.proofs.Math.Nat.{mul-le-mul_left, mul-le-mul_right}
 use Rattle.std.proofs.lemmas.Bool.{cases_Bool, and_parts, and_from, leb-true, le-leb, ltb-true}
 use Rattle.bounded_sums.specs.Sums.{sum_below, only_if}
 use Rattle.bounded_sums.proofs.SumLaws.{sum_below-monotone, sum_below-term}
+use Rattle.bounded_sums.proofs.OnlyIfLaws.{only_if-rises}
 use Rattle.bounded_sums.proofs.TestLaws.{any_below-none, any_below-some, found_below-is}
 use Rattle.sporadic_model.specs.SetDef.{SetDef, task_at}
 use Rattle.sporadic_model.specs.Users.{count_of, is_user}
@@ -69,11 +70,6 @@ window_there set bounds i r q l none meets =
     any_below-none (length set.resources) (λ c. meets_there set i r c && is_none (window_of set bounds i c)) none q l in
     some_of (window_of set bounds i q) (rw meets at here)
 
--- What is at most as much only where a test passes.
-only_if_rises : (b : Bool) (m n : ℕ) → (b ≡ true → m ≤ n) → only_if b m ≤ only_if b n
-only_if_rises true m n h = h refl
-only_if_rises false m n h = omega arith
-
 -- Where there is a window at the greater bounds no more requests run within that at the lower ones.
 there_rise : (set : SetDef) (r s : ℕ → ℕ) (i x p q : ℕ) → ((y : ℕ) → y < i → r y ≤ s y) → x < i
     → (b : ℕ) → window_of set s i q ≡ Some b → requests_there set r i x p q ≤ requests_there set s i x p q
@@ -89,7 +85,7 @@ pub met_rise : (set : SetDef) (r s : ℕ → ℕ) (i x p : ℕ) → ((y : ℕ) �
 met_rise set r s i x p h l none =
     sum_below-monotone (length set.resources) (λ q. only_if (meets_there set i p q) (count_of set i q * requests_there set r i x p q))
     (λ q. only_if (meets_there set i p q) (count_of set i q * requests_there set s i x p q))
-    (λ q b. only_if_rises (meets_there set i p q) (count_of set i q * requests_there set r i x p q)
+    (λ q b. only_if-rises (meets_there set i p q) (count_of set i q * requests_there set r i x p q)
     (count_of set i q * requests_there set s i x p q) (λ meets.
     let at : (c : ℕ) × (window_of set s i q ≡ Some c) = window_there set s i p q b none meets in
     mul-le-mul_left (count_of set i q) (there_rise set r s i x p q h l at.0 at.1)))

@@ -1,7 +1,9 @@
 //! Windows of requests under DPCP, the rows that they give, and what is true of both.
 //!
-//! A window is how long a request can be open: the least number of ticks that is as long as all that may run at its resource's home in
-//! so many ticks. Each function here does nothing: its contract is a law, and the lemmas that prove it stand in `proofs/`.
+//! A window is how long a request can be open. It is the least number of ticks that is as long as all that may run at its
+//! resource's home in so many ticks.
+//!
+//! Each function here does nothing: its contract is a law, and the lemmas that prove it stand in `proofs/`.
 #![tactic(auto)]
 
 ghost use Rattle.std.specs.Prelude.{◌≡◌, ℕ, ◌+◌, ◌<◌, ◌≤◌, List, [], ◌∷◌, length, slice_index, Some};

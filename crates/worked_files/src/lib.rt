@@ -186,3 +186,8 @@ pub const APART_TOGETHER_JOBS: &str = "task,release,script\nt1,0,1 a:1 1\nt2,0,1
 pub const APART_ONE_GRANT: &str = "ticks,P1,P2,P3,a,b\n1,1,2,,,\n1,,,1,1,\n1,1,,2,,2\n1,,2,,,\n";
 
 pub const APART_TWO_GRANTS: &str = "ticks,P1,P2,P3,a,b\n1,1,2,,,\n1,,,1,1,2\n";
+
+/// One task, whose period and cost are 10^9 ticks.
+pub const WHOLE: &str = r#"{"processors":1,"resources":[],"tasks":[
+{"name":"t1","processor":1,"period":1000000000,"cost":1000000000}]}
+"#;

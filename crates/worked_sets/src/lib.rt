@@ -4,7 +4,9 @@
 mod building;
 mod homes;
 mod rows;
+mod sets;
 
 pub use building::set_of;
 pub use homes::suits;
 pub use rows::{EntryRow, SetRow, TaskRow};
+pub use sets::{BESIDE, FOUR, PAIR, THREE};

@@ -38,6 +38,8 @@ CERTIFICATES = [
     checked("the greatest bound with a jitter", "invalid bound t1", certificate("fmlp+", [2**64 - 1, 9], [[], []], LATE), LATE),
     checked("a bound that counts the higher task's jobs without its jitter", "invalid small t2", certificate("fmlp+", [2, 7], [[], []], LATE), LATE),
     checked("one bound", "invalid size", certificate("fmlp+", [5], [[2, 0, 0, 0], [1, 0, 0, 0]])),
+    checked("one dual", "invalid size", certificate("fmlp+", [5, 5], [[2, 0, 0, 0]])),
+    checked("the last task's dual before the first task's column", "invalid dualsize t2", certificate("fmlp+", [4, 5], [[1, 0, 0, 0], [1, 0, 0]])),
     checked("the last task's bound before the first task's dual", "invalid bound t2", certificate("fmlp+", [5, 11], [[2, 0, 0], [1, 0, 0, 0]])),
     checked("a later task's column before an earlier task's bound", "invalid cover t2 1", certificate("fmlp+", [4, 5], [[2, 0, 0, 0], [0, 0, 0, 0]])),
     checked("bounds of 0", "invalid small t1", certificate("fmlp+", [0, 0], [[2, 0, 0, 0], [1, 0, 0, 0]])),

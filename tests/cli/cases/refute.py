@@ -1,11 +1,16 @@
 """The commands `refute` and `confirm`."""
 from setting import Case
-from sets import HOMELESS, PAIR, PAIR_CERTIFICATE, SHORT, SHORT_REFUSAL, digest_of, pair, refusal, resource, step, task, task_set, tied
+from sets import HOMELESS, PAIR, PAIR_CERTIFICATE, SIX, SHORT, SHORT_REFUSAL, digest_of, pair, refusal, resource, step, task, task_set, tied
 
-
+GREATEST = 2**63 - 1
 BOTH_LATE = pair(second={"deadline": 4})
 FIVE_SHORT = task_set(2, [resource("q")], task("t1", 1, 10, 2), {**task("t2", 1, 20, 4, ("q", 2)), "deadline": 10}, task("t3", 2, 20, 5, ("q", 3)))
 FIVE_REFUSAL = refusal("fmlp+", FIVE_SHORT, step(1, 4, 1), step(2, 9, 1), step(3, 7, 1), step(2, 11, 1))
+HOMELESS_SHORT = pair([resource("q")], {"deadline": 4})
+# of the first task 4 + 4 is more than its deadline of 7; its best point is 2/3, 1 and 1/3
+SIX_SHORT = SIX.replace('"period": 100, "cost": 4', '"period": 100, "deadline": 7, "cost": 4', 1)
+# the first task is released up to 6 ticks after its arrival, so that 4 are left before its deadline
+FIRST_LATE = pair(first={"jitter": 6})
 FULL = task_set(1, [], *(task(f"t{i}", 1, 100, 30) for i in range(4)))
 
 
@@ -26,7 +31,11 @@ REFUTED = [
     refuted("a set of which one task is late", SHORT_REFUSAL, SHORT),
     refuted("a step for each value that rises", FIVE_REFUSAL, FIVE_SHORT, "fmlp+"),
     refuted("a step of a task before the one that is late", refusal("fmlp+", BOTH_LATE, step(1, 5, 1), step(2, 5, 1)), BOTH_LATE, "fmlp+"),
+    refuted("a point over the denominator 3", refusal("mpcp", SIX_SHORT, step(1, 8, 2, 3, 1, den=3)), SIX_SHORT),
+    refuted("a set without homes", refusal("mpcp", HOMELESS_SHORT, step(1, 5, 1)), HOMELESS_SHORT),
     refuted("a set that is schedulable has none", "schedulable\n", PAIR, "fmlp+", 1),
+    refuted("two rounds of two programs, each with one exchange", "schedulable\n", PAIR, "fmlp+", 1, " 8"),
+    refuted("one unit fewer", "allowance\n", PAIR, "fmlp+", 6, " 7"),
     refuted("tasks that request nothing", refusal("fmlp+", FULL, step(2, 60), step(3, 90), step(4, 120)), FULL, "fmlp+"),
     refuted("one unit is too few for two tasks", "allowance\n", PAIR, "fmlp+", 6, " 1"),
     refuted("an allowance of 0 has no form", "refused words\n", PAIR, "fmlp+", 2, " 0"),
@@ -39,6 +48,16 @@ CONFIRMED = [
     confirmed("members in another order, with spaces", "confirmed",
               f'{{ "version": 1, "verdict": "notshown", "steps": [{{"value": 5, "task": 1, "point": {{"num": [1], "den": 1}}}}], "set": "{digest_of(SHORT)}", "protocol": "mpcp" }}'),
     confirmed("the same point over another denominator", "confirmed", refusal("mpcp", SHORT, step(1, 5, 3, den=3))),
+    confirmed("the same over the greatest one", "confirmed", refusal("mpcp", SHORT, step(1, 5, GREATEST, den=GREATEST))),
+    confirmed("half of it", "invalid step 1 low", refusal("mpcp", SHORT, step(1, 5, 1, den=2))),
+    confirmed("the greatest value", "invalid step 1 low", refusal("mpcp", SHORT, step(1, 2**64 - 1, 1))),
+    confirmed("a value that doesn't rise", "invalid step 2 rising", refusal("mpcp", SHORT, step(1, 4, 1), step(1, 4, 1))),
+    confirmed("a value that rises twice", "confirmed", refusal("mpcp", SHORT, step(1, 4, 1), step(1, 5, 1))),
+    confirmed("no number", "invalid step 1 size", refusal("mpcp", SHORT, step(1, 5))),
+    confirmed("a value that only the bounds of the steps before it show", "invalid step 2 low", refusal("fmlp+", FIVE_SHORT, step(1, 4, 1), step(2, 11, 1)), FIVE_SHORT, "fmlp+"),
+    confirmed("three of the four steps", "invalid open", refusal("fmlp+", FIVE_SHORT, step(1, 4, 1), step(2, 9, 1), step(3, 7, 1)), FIVE_SHORT, "fmlp+"),
+    confirmed("a value above the deadline less the jitter", "confirmed", refusal("mpcp", FIRST_LATE, step(1, 5, 1)), FIRST_LATE),
+    confirmed("a value at the deadline less the jitter", "invalid open", refusal("mpcp", FIRST_LATE, step(1, 4, 1)), FIRST_LATE),
     confirmed("a point that breaks a row", "invalid step 1 row 1", refusal("mpcp", SHORT, step(1, 5, 2))),
     confirmed("a value above what the point shows", "invalid step 1 low", refusal("mpcp", SHORT, step(1, 6, 1))),
     confirmed("a value that passes nothing", "invalid open", refusal("mpcp", SHORT, step(1, 4, 1))),

@@ -1,15 +1,20 @@
-use Rattle.std.proofs.Common.{◌≡◌, ◌∙◌, ap}
+use Rattle.std.proofs.Common.{◌≡◌, ◌==◌, ◌&&◌, ◌∙◌, ap, not, rules, tests}
+use Rattle.std.proofs.lemmas.Iterator.{YieldsList-from_slice}
+use Rattle.std.proofs.lemmas.Iterator.Search.{any_from_yields_List}
 use Rattle.sporadic_model.specs.SetDef.{task_at}
-use Rattle.fragments.specs.Ceilings.{place_in}
+use Rattle.fragments.specs.Ceilings.{place_in, may_precede}
 use Rattle.fragments.proofs.LinkPaths.{seen_paths}
 use Rattle.fragments.proofs.columns.reaches.Goals as goal
 
 pub returns : goal.returns
 returns c =
+    let p = c.args.protocol in
     let set = c.args.set.now in
     let x = c.args.c.task.0 in
     let q = c.args.c.resource.0 in
-    let seen : c.place_seen-place.result ≡ place_in c.args.protocol set (task_at set x).processor q =
-    c.place_seen-place.ensures ∙ ap (λ k. place_in c.args.protocol set k q) c.processor.ensures.value in
-    c.leads.ensures ∙ seen_paths c.args.protocol set c.args.i.0 x q c.place_seen-place.result c.args.links.now c.requires.links seen
-    c.requires.seen
+    let place = c.place_seen-place.result in
+    let seen : place ≡ place_in p set (task_at set x).processor q =
+    c.place_seen-place.ensures ∙ ap (λ k. place_in p set k q) c.processor.ensures.value in
+    any_from_yields_List (λ e. not (e.resource.0 == q) && may_precede p place e.place) _ _ _ c.any.ensures.ran
+    (YieldsList-from_slice c.args.links.now cc) (λ e b q k. search (rules, tests))
+    ∙ seen_paths p set c.args.i.0 x q place c.args.links.now c.requires.links seen c.requires.seen

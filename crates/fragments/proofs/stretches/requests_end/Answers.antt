@@ -1,19 +1,28 @@
-use Rattle.std.proofs.Common.{length, arith}
-use Rattle.fragments.proofs.Beginnings.{requests_stop}
+use Rattle.std.proofs.Common.{length, arith, sym, ◌∙◌}
+use Rattle.std.proofs.lemmas.Bool.{eqb-true, eqb-false}
+use Rattle.fragments.proofs.Beginnings.{requests_more, requests_stop}
 use Rattle.fragments.proofs.stretches.requests_end.Goals as goal
 
-pub returns-else-columns-place-clause-begins : goal.returns-else-columns-place-clause-begins
-returns-else-columns-place-clause-begins c =
-    requests_stop (length c.args.set.now.tasks) (length c.args.set.now.resources) c.args.x.0 c.args.q.0 c.args.from
-    c.args.columns.now c.loop-place.place _ c.requires.known
-    (omega (arith, c.resources-resources.ensures.most, c.resources-resources.ensures.value)) c.requires.resource
-    c.requires.order c.requires.from c.loop-place.invariant.from
-    c.loop-place-test.true (λ task resource. c.if-columns-place.false task) c.loop-place.invariant.before
+pub loop-place-preserved : goal.loop-place-preserved
+loop-place-preserved c = record {
+  from = omega arith;
+  within = omega (arith, c.loop-place-test.true);
+  before = requests_more c.args.x.0 c.args.q.0 c.args.columns.now c.loop-place.place _ c.loop-place-test.true
+      (eqb-true _ _ (sym c.eq.ensures ∙ c.if-eq.true)) (eqb-true _ _ (sym c.eq-then-eq.ensures ∙ c.if-eq-2.true)) c.loop-place.invariant.before;
+}
 
-pub returns-else-columns-place-2-clause-begins : goal.returns-else-columns-place-2-clause-begins
-returns-else-columns-place-2-clause-begins c =
+pub returns-else-eq-clause-begins : goal.returns-else-eq-clause-begins
+returns-else-eq-clause-begins c =
     requests_stop (length c.args.set.now.tasks) (length c.args.set.now.resources) c.args.x.0 c.args.q.0 c.args.from
     c.args.columns.now c.loop-place.place _ c.requires.known
     (omega (arith, c.resources-resources.ensures.most, c.resources-resources.ensures.value)) c.requires.resource
     c.requires.order c.requires.from c.loop-place.invariant.from
-    c.loop-place-test.true (λ task resource. c.if-columns-place-2.false resource) c.loop-place.invariant.before
+    c.loop-place-test.true (λ task resource. eqb-false _ _ (sym c.eq.ensures ∙ c.if-eq.false) task) c.loop-place.invariant.before
+
+pub returns-else-eq-2-clause-begins : goal.returns-else-eq-2-clause-begins
+returns-else-eq-2-clause-begins c =
+    requests_stop (length c.args.set.now.tasks) (length c.args.set.now.resources) c.args.x.0 c.args.q.0 c.args.from
+    c.args.columns.now c.loop-place.place _ c.requires.known
+    (omega (arith, c.resources-resources.ensures.most, c.resources-resources.ensures.value)) c.requires.resource
+    c.requires.order c.requires.from c.loop-place.invariant.from
+    c.loop-place-test.true (λ task resource. eqb-false _ _ (sym c.eq-then-eq.ensures ∙ c.if-eq-2.false) resource) c.loop-place.invariant.before

@@ -1,4 +1,5 @@
-use Rattle.std.proofs.Common.{length, arith}
+use Rattle.std.proofs.Common.{length, arith, sym, ◌∙◌}
+use Rattle.std.proofs.lemmas.Bool.{eqb-true, eqb-false}
 use Rattle.fragments.proofs.Beginnings.{task_more, task_stops}
 use Rattle.fragments.proofs.stretches.task_end.Goals as goal
 
@@ -9,13 +10,13 @@ loop-place-preserved c = record {
   before = task_more (length c.args.set.now.tasks) (length c.args.set.now.resources) c.args.x.0 c.args.columns.now
       c.loop-place.place _ c.requires.known
       (omega (arith, c.resources-resources.ensures.most, c.resources-resources.ensures.value)) c.loop-place-test.true
-      c.if-columns-place.true c.loop-place.invariant.before;
+      (eqb-true _ _ (sym c.eq.ensures ∙ c.if-eq.true)) c.loop-place.invariant.before;
 }
 
-pub returns-else-columns-place-clause-begins : goal.returns-else-columns-place-clause-begins
-returns-else-columns-place-clause-begins c =
+pub returns-else-eq-clause-begins : goal.returns-else-eq-clause-begins
+returns-else-eq-clause-begins c =
     task_stops (length c.args.set.now.tasks) (length c.args.set.now.resources) c.args.x.0 c.args.from c.args.columns.now
     c.loop-place.place _ c.requires.known
     (omega (arith, c.resources-resources.ensures.most, c.resources-resources.ensures.value)) c.requires.order
     c.requires.from c.loop-place.invariant.from
-    c.loop-place-test.true c.if-columns-place.false c.loop-place.invariant.before
+    c.loop-place-test.true (eqb-false _ _ (sym c.eq.ensures ∙ c.if-eq.false)) c.loop-place.invariant.before

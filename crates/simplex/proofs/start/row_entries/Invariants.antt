@@ -1,5 +1,5 @@
 use Rattle.std.proofs.Common.{◌≡◌, take}
-use Rattle.simplex.specs.Coefficients.{entries_of}
+use Rattle.simplex.proofs.Coefficients.{entries_of}
 use Rattle.simplex.proofs.start.row_entries.Given as goal
 
 abbrev pub invariant-loop-coefficient : goal.invariant-loop-coefficient

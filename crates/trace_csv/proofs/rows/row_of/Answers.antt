@@ -1,6 +1,5 @@
 use Rattle.std.proofs.Common.{◌≡◌, ℕ, List, Bor, map, take, drop, sym, ap, ◌∙◌}
-use Rattle.std.proofs.lemmas.List.{take_rest, drop-map}
-use Rattle.sporadic_model.proofs.Mapped.{take-map}
+use Rattle.std.proofs.lemmas.List.{take_rest, drop-map, take-map}
 use Rattle.schedule_model.specs.Seen.{place_seen}
 use Rattle.trace_csv.specs.RowLines.{job_in}
 use Rattle.trace_csv.proofs.rows.row_of.Goals as goal

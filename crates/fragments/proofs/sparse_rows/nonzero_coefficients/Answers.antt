@@ -1,0 +1,22 @@
+use Rattle.std.proofs.Common.{◌≡◌, ◌<◌, length, slice_index_or, ◌∙◌, ap, arith}
+use Rattle.std.proofs.lemmas.List.{get_or_default}
+use Rattle.fragments.specs.declared.columns.Fragment.{Fragment}
+use Rattle.fragments.specs.ColumnDef.{column_seen}
+use Rattle.fragments.proofs.Nonzero.{nonzero_more, nonzero_end}
+use Rattle.fragments.proofs.sparse_rows.nonzero_coefficients.Goals as goal
+
+pub loop-place-preserved : goal.loop-place-preserved
+loop-place-preserved g c few =
+    let row = g.K.RowKind.row_of c.args.kind.now c.args.set.now c.args.i.0 in
+    let columns = c.args.columns.now in
+    let place = c.loop-place.place in
+    let within : place < length columns = omega (arith, c.loop-place-test.true, c.requires.stretch.within) in
+    let is : (d : Fragment) → c.coefficient-number.result ≡ row.coefficient (column_seen (slice_index_or columns place d)) = λ d.
+    c.coefficient-number.ensures ∙ ap (λ (x : Fragment). row.coefficient (column_seen x)) (get_or_default columns place _ d within) in
+    rw (c.in_ok-push_nonzero.ensures (omega (arith, within, few)))
+    (nonzero_more row columns place c.loop-place.list.items c.coefficient-number.result is (c.loop-place.invariant few))
+
+pub returns : goal.returns
+returns g c few = nonzero_end (g.K.RowKind.row_of c.args.kind.now c.args.set.now c.args.i.0) c.args.columns.now c.args.stretch.0
+    c.args.stretch.1 c.loop-place.place c.loop-place.list.items c.requires.stretch (omega arith)
+    (omega (arith, c.requires.stretch.order, c.requires.stretch.within)) (c.loop-place.invariant few)

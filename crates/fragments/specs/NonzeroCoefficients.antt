@@ -1,0 +1,16 @@
+-- The coefficients of a row that aren't zero.
+use Rattle.std.specs.Prelude.{◌≡◌, ℕ, ◌<◌, ◌==◌, if◌then◌else◌, List, [], ◌∷◌, ◌++◌, slice_index_or}
+use Rattle.program_form.specs.SparseRows.{number_at, AreCoefficients}
+use Rattle.program_form.specs.declared.sparse_rows.Coefficient.{Coefficient}
+use Rattle.fragments.specs.declared.columns.Fragment.{Fragment}
+use Rattle.fragments.specs.ColumnDef.{column_seen}
+use Rattle.fragments.specs.Constraints.{ConstraintDef}
+
+-- The list, and behind it the coefficient of the column at the place, if it isn't zero.
+abbrev pub with_nonzero : List Coefficient → ℕ → ℕ → List Coefficient
+with_nonzero cs place number = if number == 0 then cs else cs ++ record { column = place; number = number } ∷ []
+
+-- Are these the row's coefficients of the first n columns that aren't zero?
+pub record AreNonzeroOf (row : ConstraintDef) (columns : List Fragment) (n : ℕ) (cs : List Coefficient) : Type 0 where
+  pub listed : AreCoefficients n cs
+  pub told : (k : ℕ) (d : Fragment) → k < n → number_at cs k ≡ row.coefficient (column_seen (slice_index_or columns k d))

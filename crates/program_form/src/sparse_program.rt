@@ -1,0 +1,228 @@
+//! A program kept by its nonzero coefficients.
+
+ghost use Rattle.std.specs.Prelude.{◌≡◌, ℕ, ◌<◌, ◌≤◌, length, IfOk};
+ghost use Rattle.program_form.specs.Program.{IsProgram, columns, height, cost, row, entry, limit};
+ghost use Rattle.program_form.specs.SparseRows.{full_row, AreCoefficients, AreListed, sparse_rows_seen};
+ghost use Rattle.program_form.specs.Listings.{ListsRow, ListsRows};
+
+use crate::MOST_NUMBER;
+use crate::program::Program;
+use crate::sparse_rows::{Coefficient, SparseRows};
+use std::alloc::{AllocError, Global};
+use std::marker::Model;
+
+/// A program kept by its nonzero coefficients, whose limits can be renewed.
+///
+/// To a contract it is the same three lists as a [`Program`]. A coefficient takes 16 bytes, and zeros take none.
+#[derive(Debug, Drop)]
+pub struct SparseProgram {
+    costs: Vec<u64>,
+    rows: Vec<Vec<Coefficient>>,
+    limits: Vec<u64>,
+}
+
+impl Model for SparseProgram {
+    ghost use Rattle.program_form.specs.Program.{ProgramDef};
+
+    ghost Value = { ProgramDef };
+
+    ghost use Rattle.program_form.specs.SparseView.{sparse_view, IsKept};
+
+    ghost view = { sparse_view };
+
+    ghost invariant = { IsKept };
+}
+
+impl SparseProgram {
+    /// The same program. The error comes where there is no memory for it.
+    pub fn new(alloc: Global, program: &Program) -> Result<SparseProgram, AllocError>
+        ensures { IfOk result (λ p. p ≡ program.now) }
+    {
+        let costs = costs_of(alloc, program)?;
+        let rows = rows_of(alloc, program)?;
+        let limits = program.limits().to_vec(alloc)?;
+        Ok(SparseProgram {
+            costs,
+            rows,
+            limits,
+        })
+    }
+
+    /// The program of these costs and rows, which it keeps as they are: the cost of each column, and each row by its coefficients that
+    /// aren't zero. It takes no memory.
+    pub fn over(costs: Vec<u64>, rows: SparseRows) -> SparseProgram
+        requires listed { AreListed (length costs.items) rows.rows.items }
+        requires program { IsProgram (record {
+          costs = costs.items;
+          rows = (sparse_rows_seen (length costs.items) rows).rows;
+          limits = rows.limits.items;
+        }) }
+        ensures { result ≡ record {
+          costs = costs.items;
+          rows = (sparse_rows_seen (length costs.items) rows).rows;
+          limits = rows.limits.items;
+        } }
+    {
+        let SparseRows { rows, limits } = rows;
+        SparseProgram {
+            costs,
+            rows,
+            limits,
+        }
+    }
+
+    /// How many columns there are.
+    pub fn columns(&self) -> u32
+        ensures value { result ≡ columns self.now }
+        ensures program { IsProgram self.now }
+    {
+        self.costs.len() as u32
+    }
+
+    /// How many rows there are.
+    pub fn rows(&self) -> u32
+        ensures value { result ≡ height self.now }
+        ensures program { IsProgram self.now }
+    {
+        self.rows.len() as u32
+    }
+
+    /// What a unit of column `c` is worth, in ticks.
+    pub fn cost(&self, c: u32) -> u64
+        requires { c < columns self.now }
+        ensures value { result ≡ cost self.now c }
+        ensures most { result ≤ MOST_NUMBER }
+    {
+        self.costs[c as usize]
+    }
+
+    /// What the sum of row `r` may be at most.
+    pub fn limit(&self, r: u32) -> u64
+        requires { r < height self.now }
+        ensures value { result ≡ limit self.now r }
+        ensures most { result ≤ MOST_NUMBER }
+    {
+        self.limits[r as usize]
+    }
+
+    /// What the sum of each row may be at most.
+    pub fn limits(&self) -> &[u64]
+        ensures value { result.now ≡ self.now.limits }
+        ensures program { IsProgram self.now }
+    {
+        &self.limits
+    }
+
+    /// Puts other limits in the place of its own, and leaves the rest as it is.
+    pub fn renew(&mut self, limits: Vec<u64>)
+        requires { IsProgram (record { costs = self.old.costs; rows = self.old.rows; limits = limits.items }) }
+        ensures { self.new ≡ record { costs = self.old.costs; rows = self.old.rows; limits = limits.items } }
+    {
+        self.limits = limits;
+    }
+
+    /// The coefficients of row `r` that aren't zero, in rising order of their columns.
+    pub fn coefficients(&self, r: usize) -> &[Coefficient]
+        requires { r < height self.now }
+        ensures listed { AreCoefficients (columns self.now) result.now }
+        ensures row { full_row (columns self.now) result.now ≡ row self.now r }
+        ensures program { IsProgram self.now }
+    {
+        &self.rows[r]
+    }
+}
+
+// The cost of each column.
+fn costs_of(alloc: Global, program: &Program) -> Result<Vec<u64>, AllocError>
+    ensures { IfOk result (λ v. v.items ≡ program.now.costs) }
+{
+    let mut list = Vec::with_capacity(alloc, program.columns() as usize)?;
+    for c in 0..program.columns() {
+        list.push(program.cost(c))?;
+    }
+    Ok(list)
+}
+
+// How many coefficients of a row aren't zero, so that its list gets that much room and no more.
+fn count_of(program: &Program, r: u32) -> usize
+    requires { r < height program.now }
+{
+    let mut count = 0usize;
+    for c in 0..program.columns() {
+        if program.entry(r, c) != 0 {
+            count += 1;
+        }
+    }
+    count
+}
+
+// How many columns of a row are looked at together.
+const BLOCK: u32 = 16;
+
+// The bits that any coefficient of a row has, from column `first` up to column `last`.
+fn bits_between(program: &Program, r: u32, first: u32, last: u32) -> u64
+    requires row { r < height program.now }
+    requires within { last ≤ columns program.now }
+    ensures { (c : ℕ) → first ≤ c → c < last → entry program.now r c ≤ result }
+{
+    let mut bits = 0;
+    for c in first..last {
+        bits |= program.entry(r, c);
+    }
+    bits
+}
+
+// Adds the coefficients of a row that aren't zero, from column `first` up to column `last`.
+fn push_between(
+    list: &mut Vec<Coefficient>,
+    program: &Program,
+    r: u32,
+    first: u32,
+    last: u32,
+) -> Result<(), AllocError>
+    requires row { r < height program.now }
+    requires order { first ≤ last }
+    requires within { last ≤ columns program.now }
+    requires earlier { ListsRow program.now r first list.old.items }
+    ensures { IfOk result (λ _. ListsRow program.now r last list.new.items) }
+{
+    // most blocks are zero, and that is seen sooner without a branch for each coefficient
+    if bits_between(program, r, first, last) == 0 {
+        return Ok(());
+    }
+    for column in first..last {
+        let number = program.entry(r, column);
+        if number != 0 {
+            list.push(Coefficient { column, number })?;
+        }
+    }
+    Ok(())
+}
+
+// The coefficients of a row that aren't zero.
+fn list_of(alloc: Global, program: &Program, r: u32) -> Result<Vec<Coefficient>, AllocError>
+    requires { r < height program.now }
+    ensures { IfOk result (λ v. ListsRow program.now r (columns program.now) v.items) }
+{
+    let columns = program.columns();
+    let mut list = Vec::with_capacity(alloc, count_of(program, r))?;
+    let mut first = 0;
+    while first < columns {
+        let last = first.saturating_add(BLOCK).min(columns);
+        push_between(&mut list, program, r, first, last)?;
+        first = last;
+    }
+    Ok(list)
+}
+
+// Those of each row.
+fn rows_of(alloc: Global, program: &Program) -> Result<Vec<Vec<Coefficient>>, AllocError>
+    ensures rows { IfOk result (λ v. ListsRows program.now (height program.now) v.items) }
+    ensures program { IsProgram program.now }
+{
+    let mut rows = Vec::with_capacity(alloc, program.rows() as usize)?;
+    for r in 0..program.rows() {
+        rows.push(list_of(alloc, program, r)?)?;
+    }
+    Ok(rows)
+}
