@@ -3,16 +3,21 @@
 
     python3 bench/csv_memory.py [--program PROGRAM] [--size MIB] [KIND ..]
 
-Each KIND is a file of MIB mebibytes (64 where none is given, the longest input that is read), but `jobs-most`, which is as many jobs and
-segments as a list takes. It is made in a folder that is removed again; without KIND all are tried. A line of the table has the kind, the size of its file, the most memory that was resident, how often the
-file would fit into it, the seconds, and what was answered. The first line is of a small run: what the program takes without a large
-file. PROGRAM is what `rt ci` or `./block` built, where none is given.
+Each KIND is a file of MIB mebibytes (64 where none is given, the longest input that is read), but those whose names end in `-most`: each
+has as many jobs as a list takes. In `jobs-most` they have as many segments as a list takes, in `jobs-short-most` each has one, in a line
+of 9 bytes. A file is made in a folder that is removed again; without KIND all are tried.
 
-It needs Python's standard library on a system that has wait4. It is no test: no gate runs it, and it bounds nothing.
+A line of the table has the kind, the size of its file, the most memory that was resident, how often the file would fit into it, the
+seconds, and what was answered. The first line is of a small run: what the program takes without a large file. PROGRAM is what `rt ci` or
+`./block` built, where none is given.
+
+It needs Python's standard library on Linux. It is no test: no gate runs it, and it bounds nothing.
 """
 import argparse
+import fcntl
 import json
 import os
+import string
 import subprocess
 import sys
 import tempfile
@@ -36,6 +41,9 @@ def of_one_task(period, cost, count):
 SET = of_one_task(10, 5, 2)
 LONG = of_one_task(10**9, 10**9, 1000)
 OFTEN = of_one_task(10**4, 10**3, 10)
+LETTERS = string.ascii_letters + string.digits
+SHORT = set_of(1, [resource("a")], *(task(name, 1, 1, 1) for name in LETTERS))
+WAITS, PAUSE = 20, 0.002
 JOBS = b"task,release,script\n"
 ROWS = b"ticks,P1,a\n"
 
@@ -57,6 +65,17 @@ def numbered(start, line, size):
     return text[: text.rindex(b"\n") + 1]
 
 
+def most(script):
+    """As many jobs of one script as a list takes."""
+    return JOBS + b"".join(b"t,%d,%s\n" % (n * 10**4, script) for n in range(10**5))
+
+
+def shortest():
+    """As many jobs as a list takes, in lines as short as such lines are."""
+    lines = (f"{LETTERS[n % len(LETTERS)]},{n // len(LETTERS)},1\n" for n in range(10**5))
+    return JOBS + "".join(lines).encode()
+
+
 def kinds(size):
     """Each kind: the file that is large, how it is made, and the set."""
     quoted = size - 64
@@ -74,7 +93,8 @@ def kinds(size):
         "jobs-open-quote": ("jobs", lambda: filled(JOBS + b't,0,"', b'""', size), SET),
         "jobs-long-number": ("jobs", lambda: JOBS + b"t," + b"1" * quoted + b",1\n", SET),
         "jobs-long-script": ("jobs", lambda: filled(JOBS + b"t,0,1 a:1", b" 1 a:1", size), LONG),
-        "jobs-most": ("jobs", lambda: JOBS + b"".join(b"t,%d,1 a:1%s\n" % (n * 10**4, b" 1 a:1" * 9) for n in range(10**5)), OFTEN),
+        "jobs-most": ("jobs", lambda: most(b"1 a:1" + b" 1 a:1" * 9), OFTEN),
+        "jobs-short-most": ("jobs", shortest, SHORT),
         "rows-one-tick": ("rows", lambda: filled(ROWS, b"1,1,\n1,,\n", size), SET),
         "rows-bad-first": ("rows", lambda: filled(ROWS + b"0,,\n", b"1,1,\n1,,\n", size), SET),
         "rows-commas": ("rows", lambda: filled(b"", b",", size), SET),
@@ -83,15 +103,39 @@ def kinds(size):
     }
 
 
+def resident(pid):
+    """The most memory that the program held so far, in bytes, and whether it waits; none where it has ended."""
+    try:
+        lines = Path(f"/proc/{pid}/status").read_text().splitlines()
+    except OSError:
+        return None
+    told = dict(line.split(":", 1) for line in lines)
+    return (int(told["VmHWM"].split()[0]) * 1024, told["State"].split()[0] == "S") if "VmHWM" in told else None
+
+
+def held_at_its_end(pid):
+    """The most memory that a program held whose output nobody takes yet: it ends, or it waits, which it does in its last write alone."""
+    held, waited = 0, 0
+    while waited < WAITS and (now := resident(pid)):
+        held, waited = now[0], waited + 1 if now[1] else 0
+        time.sleep(PAUSE)
+    return held
+
+
 def run(program, words):
-    """The first line that a run writes, the most memory that it held, in bytes, and its seconds."""
+    """The first line that a run writes, the most memory that it held, in bytes, and its seconds. The system counts the memory of whoever
+    starts a program as the program's, so its own is read while it waits to write into a pipe that is full."""
     began = time.monotonic()
-    ran = subprocess.Popen([program, *words], stdin=subprocess.DEVNULL, stdout=subprocess.PIPE)
-    text = ran.stdout.read()
-    _, status, used = os.wait4(ran.pid, 0)
-    ran.returncode = os.waitstatus_to_exitcode(status)
-    answer = text.split(b"\n", 1)[0].decode() or f"status {ran.returncode}"
-    return answer, used.ru_maxrss * 1024, time.monotonic() - began
+    taken, given = os.pipe()
+    room = os.write(given, bytes(fcntl.fcntl(given, fcntl.F_GETPIPE_SZ)))
+    ran = subprocess.Popen([program, *words], stdin=subprocess.DEVNULL, stdout=given)
+    os.close(given)
+    held = held_at_its_end(ran.pid)
+    took = time.monotonic() - began - WAITS * PAUSE
+    with open(taken, "rb") as out:
+        text = out.read()[room:]
+    status = ran.wait()
+    return text.split(b"\n", 1)[0].decode() or f"status {status}", held, took
 
 
 def shown(kind, size, held, seconds, answer):

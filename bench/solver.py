@@ -5,9 +5,11 @@
 
 It wants `rt` on the path. The others are measured where they are installed, and a word is printed where they are not:
     plain   the same run in plain Rust over rows of nonzero cells (bench/plain_run.rs), by `rustc`; timed around its run alone
-    glpk    `glpsol` of the package glpk-utils, in floating point, and with --exact
+    glpk    GLPK in floating point, in one process (bench/glpk_time.c, which `cc` compiles with the package libglpk-dev), timed around its
+            solving alone; and `glpsol` of the package glpk-utils with --exact
     qsopt   `esolver` of the package qsopt-ex, which is exact
-The last two are timed as processes, less the time of a process that solves one column. Of each program the least of three times counts.
+`glpsol` and `esolver` are timed as processes, less the time of a process that solves one column: such a difference is as uneven as the
+starts of processes are, some ten milliseconds for all programs of the file. Of each program the least of three times counts.
 Where `cc` is installed the memory that the exchanges take is counted too: the allocations of a run that stops before its last exchange,
 less those of one that stops before its first, and beside it the same for the whole run with its answer.
 The program that solves is built in a temporary directory; building proves it and the crates below it, which takes some minutes.
@@ -121,12 +123,25 @@ def solve_ours(program, folder):
 def solve_plain(folder, programs):
     """The same by the run in plain Rust."""
     run(["rustc", "-O", TOP / "bench" / "plain_run.rs", "-o", "plain_run"], folder)
-    (folder / "programs.txt").write_text("\n".join(as_line(costs, [(limit, row.items()) for limit, row in rows]) for costs, rows in programs) + "\n")
+    (folder / "programs.txt").write_text(as_lines(programs))
     answers = []
     for line in run([folder / "plain_run", "programs.txt"], folder).splitlines():
         value, exchanges, took = line.split()
         answers.append((None if value == "wide" else Fraction(value), int(exchanges), int(took)))
     return answers
+
+
+def as_lines(programs):
+    return "\n".join(as_line(costs, [(limit, row.items()) for limit, row in rows]) for costs, rows in programs) + "\n"
+
+
+def solve_glpk_alone(folder, programs):
+    """GLPK's optima in floating point, and the nanoseconds of its solving, all in one process."""
+    run(["cc", "-O2", TOP / "bench" / "glpk_time.c", "-o", "glpk_time", "-lglpk"], folder)
+    (folder / "programs.txt").write_text(as_lines(programs))
+    with open(folder / "programs.txt", encoding="ascii") as lines:
+        told = subprocess.run([folder / "glpk_time"], stdin=lines, capture_output=True, text=True, check=True).stdout
+    return [(Fraction(value), int(took)) for value, took, _ in map(str.split, told.splitlines())]
 
 
 def solve_glpk(folder, costs, rows, words):
@@ -207,9 +222,12 @@ def measure(program, folder, programs):
         print("rustc is missing: no run in plain Rust to compare with")
     else:
         compare("plain", ours, least(lambda: solve_plain(folder, programs)), True)
+    try:
+        compare("glpk", ours, solve_glpk_alone(folder, programs), False)
+    except (OSError, subprocess.CalledProcessError):
+        print("bench/glpk_time.c can't be compiled (cc and the package libglpk-dev): GLPK in floating point is left out")
     one = ([1], [(1, {0: 1})])
     for name, tool, package, exact, solver in (
-        ("glpk", "glpsol", "glpk-utils", False, lambda p: solve_glpk(folder, *p, [])),
         ("glpk --exact", "glpsol", "glpk-utils", False, lambda p: solve_glpk(folder, *p, ["--exact"])),
         ("qsopt", "esolver", "qsopt-ex", True, lambda p: solve_qsopt(folder, *p)),
     ):

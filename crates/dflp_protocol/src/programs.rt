@@ -1,27 +1,27 @@
 //! The protocol's programs: so its sets are analysed, and its certificates are checked.
 
-ghost use Rattle.std.specs.Prelude.{◌≡◌, ◌<◌, map, length, IfOk, OnOk};
-ghost use Rattle.program_form.specs.RowBlock.{block_seen};
+ghost use Rattle.std.specs.Prelude.{◌<◌, map, length, OnOk};
 ghost use Rattle.sporadic_model.specs.Homes.{EachHasHome};
 ghost use Rattle.program_sources.specs.Bounds.{AreWithinDeadlines};
 ghost use Rattle.fragments.specs.ColumnDef.{column_seen, AreKnown};
 ghost use Rattle.fragments.specs.Asked.{AreAskedBeside};
-ghost use Rattle.fragments.specs.Constraints.{block_of};
 ghost use Rattle.fragments.specs.Stretches.{AreInOrder};
-ghost use Rattle.dflp_laws.specs.Programs.{is_dflp_column, dflp_columns, dflp_rows, dflp_program, dflp_source};
+ghost use Rattle.dflp_laws.specs.Programs.{is_dflp_column, dflp_columns, dflp_rows, dflp_source};
 ghost use Rattle.dflp_laws.proofs.Programs.{dflp_covered, dflp_rises, dflp_is_program};
 
 use crate::Dflp;
 use crate::queues::add_queues;
 use direct_constraints::{add_common, add_turn_rows};
 use fragments::{
-    ColumnTest, Fragment, RowLimits, RowTaker, asked_beside, blocks_at_home, fragments_where,
+    ColumnTest, Fragment, RowTaker, asked_beside, blocks_at_home, fragments_where,
     passing_stand_in_order, uses,
 };
 use preempt_constraints::add_interval_rows;
-use program_form::{Program, RowBlock, SparseProgram, SparseRows};
+use program_form::{Program, SparseProgram};
 use program_sources::ProgramSource;
-use protocol_programs::{interference, keeps_jobs, program_over, sparse_program_over};
+use protocol_programs::{
+    ProgramParts, interference, keeps_jobs, limits_with, program_with, sparse_program_with,
+};
 use sporadic_model::{Protocol, TaskId, TaskSet};
 use std::alloc::{AllocError, Global};
 
@@ -70,100 +70,31 @@ fn add_rows<T: RowTaker>(
     Ok(())
 }
 
-/// The block of these rows, where some column has a coefficient above zero in them.
-fn rows(
-    alloc: Global,
-    set: &TaskSet,
-    i: TaskId,
-    bounds: &[u64],
-    columns: &[Fragment],
-) -> Result<RowBlock, AllocError>
-    requires task { i.0 < length set.now.tasks }
-    requires within { AreWithinDeadlines set.now bounds.now }
-    requires known { AreKnown (length set.now.tasks) (length set.now.resources) columns.now }
-    requires order { AreInOrder columns.now }
-    ensures { IfOk result (λ b. block_seen b ≡ block_of (map column_seen columns.now) (dflp_rows set.now i.0) bounds.now) }
-{
-    let mut block = RowBlock {
-        rows: Vec::new(alloc),
-        limits: Vec::new(alloc),
-    };
-    add_rows(alloc, &mut block, set, i, bounds, columns)?;
-    Ok(block)
-}
+impl ProgramParts for Dflp {
+    ghost serves = { λ p. EachHasHome };
 
-/// The blocking program of task `i`, where these are the bounds, in ticks. It refuses for want of memory alone.
-fn program(alloc: Global, set: &TaskSet, i: TaskId, bounds: &[u64]) -> Result<Program, AllocError>
-    requires task { i.0 < length set.now.tasks }
-    requires within { AreWithinDeadlines set.now bounds.now }
-    ensures { IfOk result (λ p. p ≡ dflp_program set.now i.0 bounds.now) }
-{
-    // every set is lawful, so its columns and rows make a program
-    let _tasks = set.tasks();
-    let test = DflpColumns {
-        beside: asked_beside(alloc, set, i)?,
-    };
-    let columns = fragments_where(alloc, &test, set, i)?;
-    passing_stand_in_order(set, &test, i, &columns);
-    let block = rows(alloc, set, i, bounds, &columns)?;
-    program_over(alloc, set, &columns, block)
-}
+    ghost columns = { λ p. dflp_columns };
 
-/// Gives the taker all rows of that program, and answers its columns.
-fn take_rows<T: RowTaker>(
-    alloc: Global,
-    taker: &mut T,
-    set: &TaskSet,
-    i: TaskId,
-    bounds: &[u64],
-) -> Result<Vec<Fragment>, AllocError>
-    requires task { i.0 < length set.now.tasks }
-    requires within { AreWithinDeadlines set.now bounds.now }
-    ensures columns { IfOk result (λ v. map column_seen v.items ≡ dflp_columns set.now i.0) }
-    ensures known { IfOk result (λ v. AreKnown (length set.now.tasks) (length set.now.resources) v.items) }
-    ensures rows { IfOk result (λ v. T.takes taker.old (map column_seen v.items) (dflp_rows set.now i.0) bounds.now taker.new) }
-{
-    let test = DflpColumns {
-        beside: asked_beside(alloc, set, i)?,
-    };
-    let columns = fragments_where(alloc, &test, set, i)?;
-    passing_stand_in_order(set, &test, i, &columns);
-    add_rows(alloc, taker, set, i, bounds, &columns)?;
-    Ok(columns)
-}
+    ghost rows = { λ p. dflp_rows };
 
-/// The same program as that of [`program`], kept by its coefficients that aren't zero. It refuses for want of memory alone.
-fn sparse_program(
-    alloc: Global,
-    set: &TaskSet,
-    i: TaskId,
-    bounds: &[u64],
-) -> Result<SparseProgram, AllocError>
-    requires task { i.0 < length set.now.tasks }
-    requires within { AreWithinDeadlines set.now bounds.now }
-    ensures { IfOk result (λ p. p ≡ dflp_program set.now i.0 bounds.now) }
-{
-    // every set is lawful, so its columns and rows make a program
-    let _tasks = set.tasks();
-    let mut taken = SparseRows {
-        rows: Vec::new(alloc),
-        limits: Vec::new(alloc),
-    };
-    let columns = take_rows(alloc, &mut taken, set, i, bounds)?;
-    sparse_program_over(alloc, set, &columns, taken)
-}
+    fn take_rows<T: RowTaker>(
+        &self,
+        alloc: Global,
+        taker: &mut T,
+        set: &TaskSet,
+        i: TaskId,
+        bounds: &[u64],
+    ) -> Result<Vec<Fragment>, AllocError> {
+        let test = DflpColumns {
+            beside: asked_beside(alloc, set, i)?,
+        };
+        let columns = fragments_where(alloc, &test, set, i)?;
+        passing_stand_in_order(set, &test, i, &columns);
+        add_rows(alloc, taker, set, i, bounds, &columns)?;
+        Ok(columns)
+    }
 
-/// The limits of that program, where these are the bounds, without its coefficients. It refuses for want of memory alone.
-fn limits(alloc: Global, set: &TaskSet, i: TaskId, bounds: &[u64]) -> Result<Vec<u64>, AllocError>
-    requires task { i.0 < length set.now.tasks }
-    requires within { AreWithinDeadlines set.now bounds.now }
-    ensures { IfOk result (λ v. v.items ≡ (dflp_program set.now i.0 bounds.now).limits) }
-{
-    let mut taken = RowLimits {
-        limits: Vec::new(alloc),
-    };
-    take_rows(alloc, &mut taken, set, i, bounds)?;
-    Ok(taken.limits)
+    ghost is_program = { λ p set i r served accepted here within. dflp_is_program set i r accepted here within };
 }
 
 impl ProgramSource for Dflp {
@@ -188,7 +119,7 @@ impl ProgramSource for Dflp {
         i: TaskId,
         bounds: &[u64],
     ) -> Result<Program, AllocError> {
-        program(alloc, set, i, bounds)
+        program_with(alloc, self, set, i, bounds)
     }
 
     fn sparse_program(
@@ -198,7 +129,7 @@ impl ProgramSource for Dflp {
         i: TaskId,
         bounds: &[u64],
     ) -> Result<SparseProgram, AllocError> {
-        sparse_program(alloc, set, i, bounds)
+        sparse_program_with(alloc, self, set, i, bounds)
     }
 
     fn limits(
@@ -208,7 +139,7 @@ impl ProgramSource for Dflp {
         i: TaskId,
         bounds: &[u64],
     ) -> Result<Vec<u64>, AllocError> {
-        limits(alloc, set, i, bounds)
+        limits_with(alloc, self, set, i, bounds)
     }
 
     fn keeps_limits(&self, set: &TaskSet, i: TaskId, earlier: &[u64], bounds: &[u64]) -> bool {

@@ -1,15 +1,7 @@
 -- Sums that stop growing at what they are compared with.
-use Rattle.std.proofs.Common.{◌≡◌, ◌∙◌, ℕ, ◌+◌, ◌*◌, ◌/◌, ◌≤◌, ◌<◌, ◌↔◌, min, sym, ap, arith, inl, inr, IsTrue}
-use Rattle.std.specs.Prelude.{nat_eq}
-use Rattle.std.proofs.lemmas.Bool.{cases_lt, eqb-true, eq-eqb}
+use Rattle.std.proofs.Common.{◌≡◌, ◌∙◌, ℕ, ◌+◌, ◌*◌, ◌/◌, ◌≤◌, ◌<◌, min, sym, ap, arith, inl, inr}
+use Rattle.std.proofs.lemmas.Bool.{cases_lt}
 use Rattle.std.proofs.Math.Nat.{div-lt_iff_lt-mul, le-div_iff_mul-le}
-
--- A sum that went no further than what is needed has reached it exactly where the whole sum does.
-pub reached : (sum due needed whole : ℕ) → sum ≡ min due whole → due ≡ needed → IsTrue (nat_eq sum due) ↔ (needed ≤ whole)
-reached sum due needed whole capped is = (
-  (λ yes. let same : sum ≡ due = eqb-true sum due yes in omega (arith, capped, is)),
-  λ enough. eq-eqb sum due (omega (arith, capped, is)),
-)
 
 -- The quotient of a sum that went no further than k times the divisor.
 pub capped_quotient : (k d whole : ℕ) → 1 ≤ d → min (k * d) whole / d ≡ min k (whole / d)

@@ -1,6 +1,6 @@
 //! What each task's dual is worth for its program.
 
-ghost use Rattle.std.specs.Prelude.{◌≡◌, ◌<◌, ◌≤◌, ◌^◌, Option, map, length, vec_len, option_map};
+ghost use Rattle.std.specs.Prelude.{◌≡◌, ◌<◌, ◌≤◌, ◌^◌, Option, map, length, vec_len, option_map, IfOk};
 ghost use Rattle.program_form.specs.Certificate.{dual_seen, certificate_seen};
 ghost use Rattle.program_form.specs.Program.{columns, height};
 ghost use Rattle.program_sources.specs.Bounds.{AreWithinDeadlines};
@@ -9,12 +9,13 @@ ghost use Rattle.schedule_answers.specs.Tests.{HoldsColumn};
 ghost use Rattle.schedule_answers.specs.Failures.{Finds};
 ghost use Rattle.dual_check.specs.Answers.{HasDenominators, IsWorth, Weighs, FindsUncovered};
 
-use crate::sums::{holds_column, value_to};
+use crate::lacks::lacks_of;
+use crate::sums::value_to;
 use charged_protocols::ChargedProtocol;
-use program_form::{Certificate, Dual, Program};
+use program_form::{Certificate, Dual, SparseProgram};
 use schedule_answers::Invalid;
 use sporadic_model::{TaskId, TaskSet};
-use std::alloc::Global;
+use std::alloc::{AllocError, Global};
 
 /// What a dual is worth for its program.
 #[derive(Clone, Copy)]
@@ -25,22 +26,33 @@ pub(crate) enum DualWorth {
     Covering(u64),
 }
 
-fn first_uncovered(program: &Program, dual: &Dual) -> Option<u32>
+// The first column that the rows, each its numerator times, do not hold.
+fn first_uncovered(
+    alloc: Global,
+    program: &SparseProgram,
+    dual: &Dual,
+) -> Result<Option<u32>, AllocError>
     requires numerators { vec_len dual.now.num ≡ height program.now }
-    ensures { Finds result (columns program.now) (HoldsColumn program.now (dual_seen dual.now)) }
+    ensures { IfOk result (λ found. Finds found (columns program.now) (HoldsColumn program.now (dual_seen dual.now))) }
 {
-    (0..program.columns()).find(|column| !holds_column(program, dual, *column))
+    let lacks = lacks_of(alloc, program, dual)?;
+    Ok((0..program.columns()).find(|c| lacks[*c as usize] > 0))
 }
 
-fn weigh(program: &Program, dual: &Dual, bound: u64) -> DualWorth
+fn weigh(
+    alloc: Global,
+    program: &SparseProgram,
+    dual: &Dual,
+    bound: u64,
+) -> Result<DualWorth, AllocError>
     requires bound { bound < 2 ^ 63 }
     requires denominator { 1 ≤ dual.now.den }
     requires numerators { vec_len dual.now.num ≡ height program.now }
-    ensures { IsWorth result program.now (dual_seen dual.now) bound }
+    ensures { IfOk result (λ worth. IsWorth worth program.now (dual_seen dual.now) bound) }
 {
-    match first_uncovered(program, dual) {
-        Some(column) => DualWorth::Uncovered(column),
-        None => DualWorth::Covering(value_to(program, dual, bound)),
+    match first_uncovered(alloc, program, dual)? {
+        Some(column) => Ok(DualWorth::Uncovered(column)),
+        None => Ok(DualWorth::Covering(value_to(program, dual, bound))),
     }
 }
 
@@ -61,12 +73,13 @@ pub(crate) fn weigh_duals<P: ChargedProtocol>(
     let mut worths = Vec::new(alloc);
     for i in 0..set.tasks() {
         let task = TaskId(i);
-        let program = protocol.program(alloc, set, task, &certificate.bounds)?;
+        let program = protocol.sparse_program(alloc, set, task, &certificate.bounds)?;
         let dual = &certificate.duals[i as usize];
         if dual.num.len() != program.rows() as usize {
             return Err(Invalid::DualSize(task));
         }
-        worths.push(weigh(&program, dual, certificate.bounds[i as usize]))?;
+        let worth = weigh(alloc, &program, dual, certificate.bounds[i as usize])?;
+        worths.push(worth)?;
     }
     Ok(worths)
 }

@@ -8,6 +8,7 @@
 
 mod duals;
 mod judging;
+mod lacks;
 mod laws;
 mod sums;
 

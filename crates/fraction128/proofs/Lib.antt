@@ -7,3 +7,4 @@ pub mod Forms
 pub mod ScalingLemmas
 pub mod OddParts
 pub mod Less
+pub mod Wholes

@@ -51,6 +51,19 @@ least_more fs f l g pd gcd h =
       least = λ k q. common_least l d g k common_above gcd (h.least k (common_front fs f k q)) (common_last fs f k q);
     }
 
+-- a whole number more leaves it as it is
+least_kept : (fs : List Fraction) (f : Fraction) (l : ℕ) → unsigned_abs f.den ≡ 1 → IsLeastCommon fs l → IsLeastCommon (fs ++ f ∷ []) l
+least_kept fs f l one h = record {
+  positive = h.positive;
+  common = All-push (λ e. unsigned_abs e.den ∣ l) fs f h.common (subst (λ (n : ℕ). n ∣ l) (sym one) (one-dvd l));
+  least = λ k q. h.least k (common_front fs f k q);
+}
+
+pub common_kept : (r : Result ℕ Wide) (fs : List Fraction) (f : Fraction) → unsigned_abs f.den ≡ 1 → GivesCommon r fs
+    → GivesCommon r (fs ++ f ∷ [])
+common_kept (Ok l) fs f one h = (least_kept fs f l one h.0, h.1)
+common_kept (Err w) fs f one h = (h.0, least_kept fs f h.0 one h.1, h.2)
+
 -- it never falls
 pub least_grows : (fs : List Fraction) (f : Fraction) (l : ℕ) → pos 0 <ℤ f.den → IsLeastCommon fs l
     → (m : ℕ) × (IsLeastCommon (fs ++ f ∷ []) m) × (l ≤ m)

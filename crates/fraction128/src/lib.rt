@@ -1,6 +1,7 @@
 //! Exact fractions of two 64-bit parts. Each operation gives the exact value in lowest terms, or `Wide` exactly where those
 //! lowest terms don't fit. It forms the unreduced value in 128 bits, which always hold it, and divides once by the greatest
-//! common divisor, but where the terms are lowest as they stand. Nothing here takes memory but `scale`.
+//! common divisor, but where the terms are lowest as they stand. Whole numbers are multiplied and subtracted in 64 bits.
+//! Nothing here takes memory but `scale`.
 #![tactic(auto)]
 
 ghost use Rattle.std.specs.Prelude.{◌≡◌, ◌≢◌, ℕ, ◌<◌, ◌^◌, pos, ◌*ℤ◌, ◌≤ℤ◌, ◌<ℤ◌, neg_ℤ, unsigned_abs, IsTrue, ◌↔◌};
@@ -16,10 +17,12 @@ use thiserror::Error;
 mod divisor;
 mod laws;
 mod scaling;
+mod whole;
 
 use divisor::{reduce, with_sign_of};
 pub use laws::{least_decides, one_answer, order_is_total};
 pub use scaling::{Scaled, ScalingError, common_denominator, scale};
+use whole::{whole_difference, whole_product};
 
 /// The exact value has no form: its lowest terms pass 2^63 - 1.
 #[derive(Clone, Copy, Debug, PartialEq, Eq, Error)]
@@ -69,7 +72,7 @@ impl Frac {
     }
 
     // The fraction of these very parts.
-    fn of_parts(num: i64, den: i64) -> Frac
+    pub(crate) fn of_parts(num: i64, den: i64) -> Frac
         requires { IsForm (over num den) }
         ensures { result ≡ over num den }
     {
@@ -135,11 +138,19 @@ impl Frac {
     pub fn mul(self, other: Frac) -> Result<Frac, Wide>
         ensures { Gives result (IsProduct self other) }
     {
-        let top = nums(self, other);
-        // whole numbers, 1 and -1 leave lowest terms
         if are_whole(self, other) {
-            return Frac::over_same(top, self);
+            return whole_product(self, other);
         }
+        self.times_any(other)
+    }
+
+    // The product of any two. It is long, and two whole numbers don't come here.
+    #[inline(never)]
+    fn times_any(self, other: Frac) -> Result<Frac, Wide>
+        ensures { Gives result (IsProduct self other) }
+    {
+        let top = nums(self, other);
+        // 1 and -1 leave lowest terms
         if other.is_unit() {
             return Frac::over_same(top, self);
         }
@@ -152,6 +163,18 @@ impl Frac {
     /// What is left when the product of `f` and `y` is taken away; Wide where the lowest terms of the product or of the difference don't
     /// fit.
     pub fn less_product(self, f: Frac, y: Frac) -> Result<Frac, Wide>
+        ensures { GivesLess result self f y }
+    {
+        if self.is_whole() && are_whole(f, y) {
+            let product = whole_product(f, y)?;
+            return whole_difference(self, product);
+        }
+        self.less_any(f, y)
+    }
+
+    // The same of any three. It is long, and three whole numbers don't come here.
+    #[inline(never)]
+    fn less_any(self, f: Frac, y: Frac) -> Result<Frac, Wide>
         ensures { GivesLess result self f y }
     {
         // terms of the product that fit as they stand needn't be made the lowest ones; those of whole numbers are
@@ -177,6 +200,18 @@ impl Frac {
 
     /// The quotient by a fraction that isn't 0; Wide where its lowest terms don't fit.
     pub fn div(self, other: Frac) -> Result<Frac, Wide>
+        requires { other.num ≢ pos 0 }
+        ensures { Gives result (IsQuotient self other) }
+    {
+        if other.is_one() {
+            return Ok(Frac::of_parts(self.num, self.den));
+        }
+        self.over_any(other)
+    }
+
+    // The quotient by any fraction that isn't 0. It is long, and 1 doesn't come here.
+    #[inline(never)]
+    fn over_any(self, other: Frac) -> Result<Frac, Wide>
         requires { other.num ≢ pos 0 }
         ensures { Gives result (IsQuotient self other) }
     {
@@ -216,6 +251,13 @@ impl Frac {
         ensures { IsTrue result ↔ (self.den ≡ pos 1) }
     {
         self.den == 1
+    }
+
+    // Whether this is 1.
+    fn is_one(self) -> bool
+        ensures { IsTrue result → (self.num ≡ pos 1) × (self.den ≡ pos 1) }
+    {
+        self.num == 1 && self.den == 1
     }
 
     // Whether this is 1 or -1.

@@ -6,7 +6,7 @@ ghost use Rattle.fraction128.specs.Scales.{Scales};
 
 use crate::divisor::gcd;
 use crate::{Frac, MOST, Wide};
-use std::alloc::{AllocFailed, Global};
+use std::alloc::{AllocError, AllocFailed, Global};
 use thiserror::Error;
 
 /// Fractions over their least common denominator: each is its number over `den`. All are at most 2^63 - 1.
@@ -25,6 +25,16 @@ pub enum ScalingError {
     /// The least common denominator, or a number over it, passes 2^63 - 1.
     #[error("the least common denominator or a number over it passes 2^63 - 1")]
     Wide,
+}
+
+impl From<AllocError> for ScalingError {
+    ghost use Rattle.fraction128.specs.declared.scaling.ScalingError.TheVariants.{Memory};
+
+    ghost from_gives = { λ _ error. error ≡ Memory };
+
+    fn from(_error: AllocError) -> ScalingError {
+        ScalingError::Memory
+    }
 }
 
 impl<T: Drop> From<AllocFailed<T>> for ScalingError {
@@ -63,6 +73,10 @@ fn with_denominator(common: Result<u64, Wide>, value: Frac) -> Result<u64, Wide>
     ensures { (fs : List Fraction) → GivesCommon common fs → GivesCommon result (fs ++ value ∷ []) }
 {
     let den = value.den() as u128;
+    // a whole number asks for no greater one
+    if den == 1 {
+        return common;
+    }
     match common {
         Ok(so_far) => {
             let multiple = so_far as u128 / gcd(so_far as u128, den) * den;
@@ -83,7 +97,8 @@ fn number_over(den: u64, value: Frac) -> Result<u64, Wide>
     requires not_below { pos 0 ≤ℤ value.num }
     ensures { GivesScaled result den value }
 {
-    let number = den as u128 / value.den() as u128 * value.num() as u128;
+    let times = den / value.den().unsigned_abs();
+    let number = times as u128 * value.num().unsigned_abs() as u128;
     if number > MOST {
         Err(Wide)
     } else {
@@ -97,7 +112,7 @@ pub fn scale(alloc: Global, values: &[Frac]) -> Result<Scaled, ScalingError>
     ensures { Scales result values.now }
 {
     let den = common_denominator(values)?;
-    let mut num = Vec::new(alloc);
+    let mut num = Vec::with_capacity(alloc, values.len())?;
     for value in values {
         let number = number_over(den, *value)?;
         num.push(number)?;

@@ -1,8 +1,7 @@
 -- Paths, and other resources of one home, looked for among the links alone.
-use Rattle.std.proofs.Common.{◌≡◌, ℕ, ◌==◌, ◌&&◌, not, Bool, true, false, List, [], ◌∷◌, length, refl, sym, ap, ◌∙◌}
+use Rattle.std.proofs.Common.{◌≡◌, ℕ, ◌==◌, ◌&&◌, not, Bool, true, false, List, length, refl, sym, ap, ◌∙◌}
 use Rattle.std.proofs.Math.ListN.{get_or}
-use Rattle.std.proofs.lemmas.List.Elements.{All-head, All-tail}
-use Rattle.std.specs.List.{All, list_any}
+use Rattle.std.specs.List.{list_any}
 use Rattle.bounded_sums.specs.Tests.{any_below}
 use Rattle.bounded_sums.proofs.TestLaws.{any_below-agree}
 use Rattle.sporadic_model.specs.SetDef.{SetDef, task_at}
@@ -16,6 +15,7 @@ use Rattle.fragments.specs.Links.{is_used_beside, is_link, AreAsked, AreLinks, A
 use Rattle.fragments.specs.Ceilings.{place_in, may_precede}
 use Rattle.fragments.specs.declared.linking.Rival.{Rival}
 use Rattle.fragments.proofs.Paths.{any_below-swap, paths_by}
+use Rattle.fragments.proofs.Rivals.{any_agree}
 
 used_parts : (mine beside apart before : Bool) → ((mine && beside) && (apart && before)) ≡ ((apart && (mine && before)) && beside)
 used_parts true true true true = refl
@@ -51,15 +51,16 @@ link_parts protocol.FmlpPlus set i x q r = used_parts (is_user set r i) (is_used
 link_parts protocol.Dpcp set i x q r =
     never_parts (is_user set r i) (is_used_beside set i x r) (not (r == q)) ∙ sym (paths_by protocol.Dpcp set i x q r)
 
-linked_paths : (p : Protocol) (set : SetDef) (i x q : ℕ) (es : List Rival) → AreLinks p set i x es
-    → list_any (λ e. not (e.resource.0 == q) && may_run_before p set (task_at set x).processor q e.resource.0) es ≡ has_path p set i x q
+linked_paths : (p : Protocol) (set : SetDef) (i x q : ℕ) (es : List Rival) → AreLinks p set i (task_at set x).processor es
+    → list_any (λ e. not (e.task.0 == x) && (not (e.resource.0 == q) && may_run_before p set (task_at set x).processor q e.resource.0)) es
+    ≡ has_path p set i x q
 linked_paths p set i x q es links =
     let test : ℕ → Bool = λ r. not (r == q) && may_run_before p set (task_at set x).processor q r in
     let below : any_below (length set.resources) (λ r. is_link p set i x r && test r)
     ≡ any_below (length set.resources) (λ r. any_below (length set.tasks) (λ y. is_path p set i x q y r))
     = any_below-agree (length set.resources) (λ r. is_link p set i x r && test r)
     (λ r. any_below (length set.tasks) (λ y. is_path p set i x q y r)) (λ r l. link_parts p set i x q r) in
-    links test ∙ (below ∙ sym (any_below-swap (length set.tasks) (length set.resources) (is_path p set i x q)))
+    links x refl test ∙ (below ∙ sym (any_below-swap (length set.tasks) (length set.resources) (is_path p set i x q)))
 
 may_precede_as_seen : (p : Protocol) (set : SetDef) (k q r a b : ℕ) → a ≡ place_in p set k q → b ≡ place_in p set k r
     → may_precede p a b ≡ may_run_before p set k q r
@@ -67,20 +68,15 @@ may_precede_as_seen protocol.Mpcp set k q r a b mine its = rw (mine, its) refl
 may_precede_as_seen protocol.FmlpPlus set k q r a b mine its = refl
 may_precede_as_seen protocol.Dpcp set k q r a b mine its = refl
 
-any_agree : {X : Type 0} (f g : X → Bool) (xs : List X) → All (λ x. f x ≡ g x) xs → list_any f xs ≡ list_any g xs
-any_agree f g [] same = refl
-any_agree f g (x ∷ xs) same =
-    rw (All-head (λ y. f y ≡ g y) x xs same, any_agree f g xs (All-tail (λ y. f y ≡ g y) x xs same)) refl
-
 -- A path is looked for by the places alone.
-pub seen_paths : (p : Protocol) (set : SetDef) (i x q place : ℕ) (es : List Rival) → AreLinks p set i x es
+pub seen_paths : (p : Protocol) (set : SetDef) (i x q place : ℕ) (es : List Rival) → AreLinks p set i (task_at set x).processor es
     → place ≡ place_in p set (task_at set x).processor q → AreSeenFrom p set (task_at set x).processor es
-    → list_any (λ e. not (e.resource.0 == q) && may_precede p place e.place) es ≡ has_path p set i x q
+    → list_any (λ e. not (e.task.0 == x) && (not (e.resource.0 == q) && may_precede p place e.place)) es ≡ has_path p set i x q
 seen_paths p set i x q place es links mine seen =
     let k = (task_at set x).processor in
-    any_agree (λ e. not (e.resource.0 == q) && may_precede p place e.place)
-    (λ e. not (e.resource.0 == q) && may_run_before p set k q e.resource.0) es
-    (λ n d l. ap (λ (b : Bool). not ((get_or es n d).resource.0 == q) && b)
+    any_agree (λ e. not (e.task.0 == x) && (not (e.resource.0 == q) && may_precede p place e.place))
+    (λ e. not (e.task.0 == x) && (not (e.resource.0 == q) && may_run_before p set k q e.resource.0)) es
+    (λ n d l. ap (λ (b : Bool). not ((get_or es n d).task.0 == x) && (not ((get_or es n d).resource.0 == q) && b))
     (may_precede_as_seen p set k q (get_or es n d).resource.0 place (get_or es n d).place mine (seen n d l)))
     ∙ linked_paths p set i x q es links
 

@@ -1,10 +1,10 @@
 -- Rivals and links as they are listed one after another.
-use Rattle.std.proofs.Common.{◌≡◌, ℕ, ◌+◌, ◌<◌, ◌==◌, ◌&&◌, ◌||◌, not, Bool, true, false, List, [], ◌∷◌, ◌++◌}
-use Rattle.std.proofs.Common.{length, refl, add-one, sym, ap, ◌∙◌, if◌then◌else◌, take}
+use Rattle.std.proofs.Common.{◌≡◌, ℕ, ◌+◌, ◌==◌, ◌&&◌, ◌||◌, not, Bool, true, false, List, [], ◌∷◌, ◌++◌}
+use Rattle.std.proofs.Common.{length, refl, add-one, sym, ap, ◌∙◌, if◌then◌else◌, inl, inr}
 use Rattle.std.proofs.Math.ListN.{get_or}
-use Rattle.std.proofs.lemmas.List.Folds.{list_any-append, list_any_more}
-use Rattle.std.proofs.lemmas.List.Elements.{All-nil, All-cons, All-same, All-append}
-use Rattle.std.specs.List.{All, list_any}
+use Rattle.std.proofs.lemmas.List.Folds.{list_any-append}
+use Rattle.std.proofs.lemmas.List.Elements.{All-nil, All-cons, All-head, All-tail, All-same, All-append, All-filter, filter_passes}
+use Rattle.std.specs.List.{All, list_any, filter}
 use Rattle.std.proofs.Math.Bool.{or-false}
 use Rattle.bounded_sums.specs.Tests.{any_below}
 use Rattle.bounded_sums.proofs.TestLaws.{any_below-agree, any_below-none_from}
@@ -17,8 +17,8 @@ use Rattle.fragments.specs.declared.linking.Rival.{Rival}
 use Rattle.fragments.specs.Columns.{have_one_processor}
 use Rattle.fragments.specs.Ceilings.{place_in}
 use Rattle.fragments.specs.Links.{is_used_beside, ArePassing, AreLinks, is_rival, AreRivalsAt, AreRivalsBelow, AreRivals, is_beside}
-use Rattle.fragments.specs.Links.{IsKnownRival, AreSeenFrom, is_at}
-use Rattle.std.proofs.lemmas.Bool.{and_parts, eqb-true}
+use Rattle.fragments.specs.Links.{IsKnownRival, AreKnownRivals, AreSeenFrom, is_at}
+use Rattle.std.proofs.lemmas.Bool.{cases_Bool, eqb-true}
 use Rattle.fragments.proofs.Paths.{any_below-both}
 
 or_assoc : (a b c : Bool) → ((a || b) || c) ≡ (a || (b || c))
@@ -92,40 +92,27 @@ no_more_rivals set i r xs unasked before test =
     (λ y l. unasked_parts (not (y == i)) (is_user set r i) (is_user set r y) (test y r) unasked) in
     rw (add-one) (before test ∙ (sym (or-false below) ∙ ap (λ (c : Bool). below || c) (sym here)))
 
--- Are the links' resources those of the rivals that are beside x?
-abbrev pub AreBeside : SetDef → ℕ → List Rival → List Rival → Type 0
-AreBeside set x rivals links = (test : ℕ → Bool) → list_any (λ e. test e.resource.0) links
-    ≡ list_any (λ e. is_beside set x e.task.0 && test e.resource.0) rivals
+pub any_agree : {X : Type 0} (f g : X → Bool) (xs : List X) → All (λ x. f x ≡ g x) xs → list_any f xs ≡ list_any g xs
+any_agree f g [] same = refl
+any_agree f g (x ∷ xs) same =
+    rw (All-head (λ y. f y ≡ g y) x xs same, any_agree f g xs (All-tail (λ y. f y ≡ g y) x xs same)) refl
 
-pub next_beside : (set : SetDef) (x k : ℕ) (es : List Rival) (n : ℕ) (e : Rival) (xs ys : List Rival) → n < length es
-    → get_or es n e ≡ e → e.processor ≡ (task_at set e.task.0).processor → k ≡ (task_at set x).processor
-    → AreBeside set x (take n es) xs → ys ≡ xs ++ (if is_at k x e then e ∷ [] else []) → AreBeside set x (take (n + 1) es) ys
-next_beside set x k es n e xs ys l same own here before now test =
-    let seen : Rival → Bool = λ f. is_beside set x f.task.0 && test f.resource.0 in
-    let more : list_any seen (take (n + 1) es) ≡ (list_any seen (take n es) || seen (get_or es n e)) = list_any_more seen es n e l in
-    let beside : is_at k x e ≡ is_beside set x e.task.0 = rw (own, here) refl in
-    any_with (λ (f : Rival). test f.resource.0) (is_at k x e) e xs ys now
-    ∙ (ap (λ (c : Bool). list_any (λ (f : Rival). test f.resource.0) xs || (c && test e.resource.0)) beside
-    ∙ (ap (λ (c : Bool). c || seen e) (before test)
-    ∙ (ap (λ (f : Rival). list_any seen (take n es) || seen f) (sym same) ∙ sym more)))
+any_filter : {X : Type 0} (f p : X → Bool) (xs : List X) → list_any p (filter f xs) ≡ list_any (λ x. f x && p x) xs
+any_filter f p [] = refl
+any_filter f p (x ∷ xs) = elim (cases_Bool (f x)) [
+  | inl passes ↦ rw (passes, any_filter f p xs) refl
+  | inr fails ↦ rw (fails, any_filter f p xs) refl
+]
 
--- Links on x's processor have their places as that sees them.
-pub next_seen : (p : Protocol) (set : SetDef) (x k : ℕ) (e : Rival) (xs ys : List Rival) → IsKnownRival p set e
-    → k ≡ (task_at set x).processor → AreSeenFrom p set (task_at set x).processor xs
-    → ys ≡ xs ++ (if is_at k x e then e ∷ [] else []) → AreSeenFrom p set (task_at set x).processor ys
-next_seen p set x k e xs ys known here before now =
-    let seen : Rival → Type 0 = λ f. f.place ≡ place_in p set (task_at set x).processor f.resource.0 in
-    All-same seen ys (xs ++ (if is_at k x e then e ∷ [] else [])) now
-    (All-append seen xs (if is_at k x e then e ∷ [] else []) before (one (is_at k x e) (λ h. own h))) where
-      own : is_at k x e ≡ true → e.place ≡ place_in p set (task_at set x).processor e.resource.0
-      own h = known.2 ∙ ap (λ (m : ℕ). place_in p set m e.resource.0)
-          (sym known.1 ∙ (eqb-true e.processor k (and_parts (e.processor == k) (not (e.task.0 == x)) h).0 ∙ here))
+and_together : (a b c : Bool) → (a && (b && c)) ≡ ((a && b) && c)
+and_together true b c = refl
+and_together false b c = refl
 
-      one : (c : Bool) → (c ≡ true → e.place ≡ place_in p set (task_at set x).processor e.resource.0)
-          → All (λ (f : Rival). f.place ≡ place_in p set (task_at set x).processor f.resource.0) (if c then e ∷ [] else [])
-      one true h = All-cons (λ (f : Rival). f.place ≡ place_in p set (task_at set x).processor f.resource.0) e [] (h refl)
-          (All-nil (λ (f : Rival). f.place ≡ place_in p set (task_at set x).processor f.resource.0))
-      one false h = All-nil (λ (f : Rival). f.place ≡ place_in p set (task_at set x).processor f.resource.0)
+-- A rival on x's processor, and not x, is beside it.
+beside_here : (p : Protocol) (set : SetDef) (x k : ℕ) (e : Rival) (test : Bool) → IsKnownRival p set e → k ≡ (task_at set x).processor
+    → (is_at k e && (not (e.task.0 == x) && test)) ≡ (is_beside set x e.task.0 && test)
+beside_here p set x k e test known here =
+    rw (known.1, here) (and_together (have_one_processor set e.task.0 x) (not (e.task.0 == x)) test)
 
 rival_parts : (apart mine its share other test : Bool)
     → ((apart && (mine && its)) && ((share && other) && test)) ≡ ((mine && test) && ((share && (other && apart)) && its))
@@ -154,9 +141,11 @@ test_last true true false = refl
 test_last true true true = refl
 
 -- Rivals beside x are links.
-rivals_link : (set : SetDef) (i x : ℕ) (rivals links : List Rival) → AreRivals set i rivals
-    → AreBeside set x rivals links → AreLinks protocol.Mpcp set i x links
-rivals_link set i x rivals links are beside test =
+rivals_link : (p : Protocol) (set : SetDef) (i x k : ℕ) (rivals : List Rival) → AreRivals set i rivals → AreKnownRivals p set rivals
+    → k ≡ (task_at set x).processor → (test : ℕ → Bool)
+    → list_any (λ e. not (e.task.0 == x) && test e.resource.0) (filter (is_at k) rivals)
+    ≡ any_below (length set.resources) (λ r. (is_user set r i && is_used_beside set i x r) && test r)
+rivals_link p set i x k rivals are known here test =
     let used : ℕ → ℕ → Bool = λ r y. (have_one_processor set y x && (not (y == x) && not (y == i))) && is_user set r y in
     let each : (r : ℕ) → any_below (length set.tasks) (λ y. is_rival set i y r && (is_beside set x y && test r))
     ≡ ((is_user set r i && is_used_beside set i x r) && test r) = λ r.
@@ -165,13 +154,28 @@ rivals_link set i x rivals links are beside test =
     rival_parts (not (y == i)) (is_user set r i) (is_user set r y) (have_one_processor set y x) (not (y == x)) (test r))
     ∙ (any_below-both (is_user set r i && test r) (length set.tasks) (used r)
     ∙ test_last (is_user set r i) (test r) (is_used_beside set i x r)) in
-    beside test ∙ (are (λ y r. is_beside set x y && test r)
+    any_filter (is_at k) (λ (e : Rival). not (e.task.0 == x) && test e.resource.0) rivals
+    ∙ (any_agree (λ (e : Rival). is_at k e && (not (e.task.0 == x) && test e.resource.0))
+    (λ (e : Rival). is_beside set x e.task.0 && test e.resource.0) rivals (λ n d l.
+    beside_here p set x k (get_or rivals n d) (test (get_or rivals n d).resource.0) (known n d l) here)
+    ∙ (are (λ y r. is_beside set x y && test r)
     ∙ any_below-agree (length set.resources)
     (λ r. any_below (length set.tasks) (λ y. is_rival set i y r && (is_beside set x y && test r)))
-    (λ r. (is_user set r i && is_used_beside set i x r) && test r) (λ r l. each r))
+    (λ r. (is_user set r i && is_used_beside set i x r) && test r) (λ r l. each r)))
 
-pub rivals_are_links : (p : Protocol) (set : SetDef) (i x : ℕ) (rivals links : List Rival)
-    → (p ≡ protocol.Dpcp → ⊥) → AreRivals set i rivals → AreBeside set x rivals links → AreLinks p set i x links
-rivals_are_links protocol.Mpcp set i x rivals links sharing are beside = rivals_link set i x rivals links are beside
-rivals_are_links protocol.FmlpPlus set i x rivals links sharing are beside = rivals_link set i x rivals links are beside
-rivals_are_links protocol.Dpcp set i x rivals links sharing are beside = absurd (sharing refl)
+pub rivals_are_links : (p : Protocol) (set : SetDef) (i k : ℕ) (rivals : List Rival)
+    → (p ≡ protocol.Dpcp → ⊥) → AreRivals set i rivals → AreKnownRivals p set rivals → AreLinks p set i k (filter (is_at k) rivals)
+rivals_are_links protocol.Mpcp set i k rivals sharing are known x here test =
+    rivals_link protocol.Mpcp set i x k rivals are known here test
+rivals_are_links protocol.FmlpPlus set i k rivals sharing are known x here test =
+    rivals_link protocol.FmlpPlus set i x k rivals are known here test
+rivals_are_links protocol.Dpcp set i k rivals sharing are known x here test = absurd (sharing refl)
+
+-- Those on processor k have their places as it sees them.
+pub rivals_seen : (p : Protocol) (set : SetDef) (k : ℕ) (rivals : List Rival) → AreKnownRivals p set rivals
+    → AreSeenFrom p set k (filter (is_at k) rivals)
+rivals_seen p set k rivals known n d l =
+    let e : Rival = get_or (filter (is_at k) rivals) n d in
+    let own : IsKnownRival p set e = All-filter (is_at k) (IsKnownRival p set) rivals known n d l in
+    let here : is_at k e ≡ true = filter_passes (is_at k) rivals n d l in
+    own.2 ∙ ap (λ (m : ℕ). place_in p set m e.resource.0) (sym own.1 ∙ eqb-true e.processor k here)

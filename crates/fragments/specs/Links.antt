@@ -1,8 +1,8 @@
 -- The resources by which requests of another task can block indirectly, before the requests' own resource is looked at.
-use Rattle.std.specs.Prelude.{◌≡◌, ℕ, ◌<◌, ◌==◌, ◌&&◌, ◌||◌, not, Bool, List, length}
-use Rattle.std.specs.List.{All, list_any}
+use Rattle.std.specs.Prelude.{◌≡◌, ℕ, ◌+◌, ◌-◌, ◌<◌, ◌≤◌, ◌==◌, ◌&&◌, ◌||◌, not, Bool, List, length, slice_index, take, drop}
+use Rattle.std.specs.List.{All, list_any, filter}
 use Rattle.bounded_sums.specs.Tests.{any_below}
-use Rattle.sporadic_model.specs.SetDef.{SetDef, task_at}
+use Rattle.sporadic_model.specs.SetDef.{SetDef, task_at, is_higher_local}
 use Rattle.sporadic_model.specs.Users.{is_user}
 use Rattle.sporadic_model.specs.declared.ids.Protocol.{Protocol}
 use Rattle.sporadic_model.specs.declared.ids.Protocol.TheVariants as protocol
@@ -31,10 +31,15 @@ ArePassing is_one m resources = (test : ℕ → Bool) → list_any (λ r. test r
 abbrev pub AreAsked : SetDef → ℕ → List ResourceId → Type 0
 AreAsked set i resources = ArePassing (λ r. is_user set r i) (length set.resources) resources
 
--- Are the resources of the rivals those by which requests by x can block i indirectly?
+-- For each task x on processor k, are the resources of the rivals but x those by which requests by x can block i indirectly?
 abbrev pub AreLinks : Protocol → SetDef → ℕ → ℕ → List Rival → Type 0
-AreLinks p set i x links = (test : ℕ → Bool) → list_any (λ e. test e.resource.0) links
+AreLinks p set i k links = (x : ℕ) → k ≡ (task_at set x).processor → (test : ℕ → Bool)
+    → list_any (λ e. not (e.task.0 == x) && test e.resource.0) links
     ≡ any_below (length set.resources) (λ r. is_link p set i x r && test r)
+
+-- Under MPCP and FMLP+, may requests by x be columns of i? Those of i and of higher tasks beside it never are.
+abbrev pub may_have_columns : SetDef → ℕ → ℕ → Bool
+may_have_columns set i x = not (x == i) && not (is_higher_local set i x)
 
 -- Does another task y than i use resource r, which i uses too?
 abbrev pub is_rival : SetDef → ℕ → ℕ → ℕ → Bool
@@ -79,6 +84,26 @@ AreSeenFrom p set k links = All (λ e. e.place ≡ place_in p set k e.resource.0
 abbrev pub is_beside : SetDef → ℕ → ℕ → Bool
 is_beside set x y = have_one_processor set y x && not (y == x)
 
--- Is it a rival on processor k, and not x?
-abbrev pub is_at : ℕ → ℕ → Rival → Bool
-is_at k x e = (e.processor == k) && not (e.task.0 == x)
+-- Is it a rival on processor k?
+abbrev pub is_at : ℕ → Rival → Bool
+is_at k e = e.processor == k
+
+-- The rivals of processor k, where those of each processor begin at its place.
+abbrev pub part_at : List Rival → List ℕ → ℕ → List Rival
+part_at parted begins k = take (slice_index begins (k + 1) - slice_index begins k) (drop (slice_index begins k) parted)
+
+-- Are the rivals of each processor below m there, those of one behind those of another?
+pub record AreParted (m : ℕ) (rivals parted : List Rival) (begins : List ℕ) : Type 0 where
+  pub size : length begins ≡ m + 1
+  pub last : slice_index begins m ≡ length parted
+  pub order : (k : ℕ) → k < m → slice_index begins k ≤ slice_index begins (k + 1)
+  pub within : (k : ℕ) → k < m → slice_index begins (k + 1) ≤ length parted
+  pub parts : (k : ℕ) → k < m → part_at parted begins k ≡ filter (is_at k) rivals
+
+-- Are the rivals of each processor those by whose resources requests of its tasks can block i indirectly?
+pub record HaveLinks (p : Protocol) (set : SetDef) (i : ℕ) (parted : List Rival) (begins : List ℕ) : Type 0 where
+  pub size : length begins ≡ set.processors + 2
+  pub order : (k : ℕ) → k ≤ set.processors → slice_index begins k ≤ slice_index begins (k + 1)
+  pub within : (k : ℕ) → k ≤ set.processors → slice_index begins (k + 1) ≤ length parted
+  pub links : (k : ℕ) → k ≤ set.processors → AreLinks p set i k (part_at parted begins k)
+  pub seen : (k : ℕ) → k ≤ set.processors → AreSeenFrom p set k (part_at parted begins k)

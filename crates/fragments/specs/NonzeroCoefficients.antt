@@ -1,6 +1,6 @@
 -- The coefficients of a row that aren't zero.
 use Rattle.std.specs.Prelude.{◌≡◌, ℕ, ◌<◌, ◌==◌, if◌then◌else◌, List, [], ◌∷◌, ◌++◌, slice_index_or}
-use Rattle.program_form.specs.SparseRows.{number_at, AreCoefficients}
+use Rattle.program_form.specs.SparseRows.{SparseRowsDef, number_at, AreCoefficients}
 use Rattle.program_form.specs.declared.sparse_rows.Coefficient.{Coefficient}
 use Rattle.fragments.specs.declared.columns.Fragment.{Fragment}
 use Rattle.fragments.specs.ColumnDef.{column_seen}
@@ -14,3 +14,10 @@ with_nonzero cs place number = if number == 0 then cs else cs ++ record { column
 pub record AreNonzeroOf (row : ConstraintDef) (columns : List Fragment) (n : ℕ) (cs : List Coefficient) : Type 0 where
   pub listed : AreCoefficients n cs
   pub told : (k : ℕ) (d : Fragment) → k < n → number_at cs k ≡ row.coefficient (column_seen (slice_index_or columns k d))
+
+-- Has b one row more than a, of this limit, with the row's coefficients of the first n columns that aren't zero?
+pub record HasRowBegun (a : SparseRowsDef) (row : ConstraintDef) (columns : List Fragment) (n limit : ℕ) (b : SparseRowsDef) : Type 0 where
+  pub list : List Coefficient
+  pub nonzero : AreNonzeroOf row columns n list
+  pub rows : b.rows ≡ a.rows ++ list ∷ []
+  pub limits : b.limits ≡ a.limits ++ limit ∷ []

@@ -1,29 +1,28 @@
 -- What rows kept by their nonzero coefficients hold once they took others, and how that hangs together.
 use Rattle.std.proofs.Common.{◌≡◌, ℕ, ◌<◌, ◌^◌, false, List, [], ◌∷◌, ◌++◌, length}
-use Rattle.program_form.specs.SparseRows.{AreListed, sparse_rows_seen}
-use Rattle.program_form.specs.declared.sparse_rows.SparseRows.{SparseRows}
+use Rattle.program_form.specs.SparseRows.{SparseRowsDef, AreListed, sparse_rows_seen}
 use Rattle.fragments.specs.ColumnDef.{ColumnDef}
 use Rattle.fragments.specs.Constraints.{ConstraintDef, holds_some, with_rows}
 use Rattle.fragments.specs.Taking.{no_rows_more, row_not_there, rows_behind}
 
 -- Has b these rows behind those of a, and are its coefficients listed where those of a are?
-pub record HasSparseBehind (a : SparseRows) (cs : List ColumnDef) (rows : List ConstraintDef) (bounds : List ℕ) (b : SparseRows) : Type 0 where
-  pub listed : AreListed (length cs) a.rows.items → AreListed (length cs) b.rows.items
+pub record HasSparseBehind (a : SparseRowsDef) (cs : List ColumnDef) (rows : List ConstraintDef) (bounds : List ℕ) (b : SparseRowsDef) : Type 0 where
+  pub listed : AreListed (length cs) a.rows → AreListed (length cs) b.rows
   pub seen : sparse_rows_seen (length cs) b ≡ with_rows (sparse_rows_seen (length cs) a) cs rows bounds
 
 -- It has, where there are as few columns as in a program.
-abbrev pub takes_sparse : SparseRows → List ColumnDef → List ConstraintDef → List ℕ → SparseRows → Type 0
+abbrev pub takes_sparse : SparseRowsDef → List ColumnDef → List ConstraintDef → List ℕ → SparseRowsDef → Type 0
 takes_sparse a cs rows bounds b = length cs < 2 ^ 32 → HasSparseBehind a cs rows bounds b
 
 -- No rows change nothing.
-pub no_sparse_more : (t : SparseRows) (cs : List ColumnDef) (bounds : List ℕ) → takes_sparse t cs [] bounds t
+pub no_sparse_more : (t : SparseRowsDef) (cs : List ColumnDef) (bounds : List ℕ) → takes_sparse t cs [] bounds t
 no_sparse_more t cs bounds few = record {
   listed = λ h. h;
   seen = no_rows_more (sparse_rows_seen (length cs) t) cs bounds;
 }
 
 -- A row in which no column has a coefficient above zero changes nothing.
-pub sparse_not_there : (t : SparseRows) (cs : List ColumnDef) (row : ConstraintDef) (bounds : List ℕ) → holds_some cs row ≡ false
+pub sparse_not_there : (t : SparseRowsDef) (cs : List ColumnDef) (row : ConstraintDef) (bounds : List ℕ) → holds_some cs row ≡ false
     → takes_sparse t cs (row ∷ []) bounds t
 sparse_not_there t cs row bounds fails few = record {
   listed = λ h. h;
@@ -31,7 +30,7 @@ sparse_not_there t cs row bounds fails few = record {
 }
 
 -- Rows behind rows are the rows of both lists.
-pub sparse_behind : (a b c : SparseRows) (cs : List ColumnDef) (xs ys : List ConstraintDef) (bounds : List ℕ)
+pub sparse_behind : (a b c : SparseRowsDef) (cs : List ColumnDef) (xs ys : List ConstraintDef) (bounds : List ℕ)
     → takes_sparse a cs xs bounds b → takes_sparse b cs ys bounds c → takes_sparse a cs (xs ++ ys) bounds c
 sparse_behind a b c cs xs ys bounds first second few =
     let one : HasSparseBehind a cs xs bounds b = first few in

@@ -1,16 +1,17 @@
-ghost use Rattle.std.specs.Prelude.{◌≡◌, ◌<◌, ◌++◌, map, length, OnOk, IfOk, not, ◌==◌, ◌&&◌};
+ghost use Rattle.std.specs.Prelude.{◌≡◌, ◌<◌, ◌++◌, map, length, OnOk, IfOk, not, ◌==◌, ◌&&◌, true, if◌then◌else◌, [], ◌∷◌};
 ghost use Rattle.std.specs.List.{filter};
 ghost use Rattle.bounded_sums.specs.Sums.{collect_below};
 ghost use Rattle.sporadic_model.specs.SetDef.{task_at};
+ghost use Rattle.sporadic_model.specs.Users.{is_user};
 ghost use Rattle.sporadic_model.specs.Homes.{HasHomesFor};
 ghost use Rattle.fragments.specs.Ceilings.{may_precede};
 ghost use Rattle.fragments.specs.ColumnDef.{column_seen, classes_of, is_direct, is_indirect, is_preemption};
-ghost use Rattle.fragments.specs.Columns.{has_path, blocks_by_sharing, may_block, is_column, columns_of};
-ghost use Rattle.fragments.specs.Links.{AreLinks, AreSeenFrom, AreRivals, AreKnownRivals};
+ghost use Rattle.fragments.specs.Columns.{has_path, is_column, columns_of};
+ghost use Rattle.fragments.specs.Links.{AreLinks, AreSeenFrom, HaveLinks, may_have_columns};
 
 use crate::homes::{HomeTest, asked_beside};
-use crate::linking::{Rival, find_links, rivals_of};
-use crate::passing::{ColumnTest, add_task, fragments_where};
+use crate::linking::{Links, Rival, links_of};
+use crate::passing::fragments_where;
 use crate::places::{lower_local, may_precede, place_seen, uses};
 use sporadic_model::{Protocol, ResourceId, TaskId, TaskSet};
 use std::alloc::{AllocError, Global};
@@ -69,122 +70,166 @@ pub struct Fragment {
     pub class: Class,
 }
 
-// Is the link's resource another one than `q`, and may its holder wait while one of `q`, whose place this is, runs?
-fn stands_behind(protocol: Protocol, q: ResourceId, place: u32, link: Rival) -> bool
-    ensures { result ≡ (not (link.resource.0 == q.0) && may_precede protocol place link.place) }
+// The column of requests of `q` by `x` that block in this way.
+fn column(x: TaskId, q: ResourceId, class: Class) -> Fragment
+    ensures { column_seen result ≡ record { task = x.0; resource = q.0; class = class } }
 {
-    link.resource != q && may_precede(protocol, place, link.place)
-}
-
-// Is there a path from `i` to the requests?
-fn reaches(set: &TaskSet, protocol: Protocol, i: TaskId, c: Fragment, links: &[Rival]) -> bool
-    requires task { i.0 < length set.now.tasks }
-    requires column { c.task.0 < length set.now.tasks }
-    requires resource { c.resource.0 < length set.now.resources }
-    requires links { AreLinks protocol set.now i.0 c.task.0 links.now }
-    requires seen { AreSeenFrom protocol set.now (task_at set.now c.task.0).processor links.now }
-    ensures { result ≡ has_path protocol set.now i.0 c.task.0 c.resource.0 }
-{
-    let place = place_seen(set, protocol, set.processor(c.task), c.resource);
-    links
-        .iter()
-        .any(|link| stands_behind(protocol, c.resource, place, *link))
-}
-
-// Under MPCP and FMLP+, may the requests block `i` in this way?
-fn blocks_shared(set: &TaskSet, protocol: Protocol, i: TaskId, c: Fragment, links: &[Rival]) -> bool
-    requires task { i.0 < length set.now.tasks }
-    requires column { c.task.0 < length set.now.tasks }
-    requires resource { c.resource.0 < length set.now.resources }
-    requires links { AreLinks protocol set.now i.0 c.task.0 links.now }
-    requires seen { AreSeenFrom protocol set.now (task_at set.now c.task.0).processor links.now }
-    ensures { result ≡ blocks_by_sharing protocol set.now i.0 c.task.0 c.resource.0 c.class }
-{
-    match c.class {
-        Class::Direct => uses(set, i, c.resource),
-        Class::Indirect => reaches(set, protocol, i, c, links),
-        Class::Preemption => lower_local(set, i, c.task),
+    Fragment {
+        task: x,
+        resource: q,
+        class,
     }
 }
 
-// May they, and are they of no higher task beside it?
-fn blocks(set: &TaskSet, protocol: Protocol, i: TaskId, c: Fragment, links: &[Rival]) -> bool
-    requires sharing { protocol ≡ Protocol.Dpcp → ⊥ }
-    requires task { i.0 < length set.now.tasks }
-    requires column { c.task.0 < length set.now.tasks }
-    requires resource { c.resource.0 < length set.now.resources }
-    requires links { AreLinks protocol set.now i.0 c.task.0 links.now }
-    requires seen { AreSeenFrom protocol set.now (task_at set.now c.task.0).processor links.now }
-    ensures { result ≡ may_block protocol set.now i.0 c.task.0 c.resource.0 c.class }
+// Is the link another task than `x`, with another resource than `q`, and may its holder wait while one of `q`, whose place this is, runs?
+fn stands_behind(protocol: Protocol, x: TaskId, q: ResourceId, place: u32, link: Rival) -> bool
+    ensures { result ≡ (not (link.task.0 == x.0) && (not (link.resource.0 == q.0) && may_precede protocol place link.place)) }
 {
-    match protocol {
-        Protocol::Mpcp | Protocol::FmlpPlus => {
-            !set.higher_local(i, c.task) && blocks_shared(set, protocol, i, c, links)
-        }
-        Protocol::Dpcp => unreachable!(),
-    }
+    link.task != x && link.resource != q && may_precede(protocol, place, link.place)
 }
 
-// Is it a column of `i`'s program?
-fn is_fragment(set: &TaskSet, protocol: Protocol, i: TaskId, c: Fragment, links: &[Rival]) -> bool
-    requires sharing { protocol ≡ Protocol.Dpcp → ⊥ }
-    requires task { i.0 < length set.now.tasks }
-    requires column { c.task.0 < length set.now.tasks }
-    requires resource { c.resource.0 < length set.now.resources }
-    requires links { AreLinks protocol set.now i.0 c.task.0 links.now }
-    requires seen { AreSeenFrom protocol set.now (task_at set.now c.task.0).processor links.now }
-    ensures { result ≡ is_column protocol set.now i.0 (column_seen c) }
-{
-    c.task != i && uses(set, c.task, c.resource) && blocks(set, protocol, i, c, links)
-}
-
-// Under MPCP and FMLP+, the columns that are requests of one task: a test that has the resources by which they can block indirectly.
-#[derive(Drop)]
-struct LinkedTest<'a> {
-    protocol: Protocol,
-    links: &'a [Rival],
-}
-
-impl<'a> ColumnTest for LinkedTest<'a> {
-    ghost use Rattle.sporadic_model.specs.declared.ids.Protocol.TheVariants as protocol;
-    ghost use Rattle.fragments.specs.Requested.{linked_requests};
-
-    ghost passes = { λ k set i c. is_column k.protocol set i c };
-
-    ghost requests = { λ t set i. linked_requests t.protocol set i };
-
-    ghost fits = { λ k set i x. (k.protocol ≡ protocol.Dpcp → ⊥) × (AreLinks k.protocol set i x k.links.now)
-        × AreSeenFrom k.protocol set (task_at set x).processor k.links.now };
-
-    fn test(&self, set: &TaskSet, i: TaskId, column: Fragment) -> bool {
-        is_fragment(set, self.protocol, i, column, self.links)
-    }
-}
-
-// Under MPCP and FMLP+, adds the columns of the requests by task `x`. The links are lent, so that they take memory once.
-fn add_requests_by(
-    columns: &mut Vec<Fragment>,
-    links: &mut Vec<Rival>,
+// Is there a path from `i` to requests of `q` by `x`?
+fn reaches(
     set: &TaskSet,
     protocol: Protocol,
     i: TaskId,
     x: TaskId,
-    rivals: &[Rival],
+    q: ResourceId,
+    links: &[Rival],
+) -> bool
+    requires task { i.0 < length set.now.tasks }
+    requires other { x.0 < length set.now.tasks }
+    requires resource { q.0 < length set.now.resources }
+    requires links { AreLinks protocol set.now i.0 (task_at set.now x.0).processor links.now }
+    requires seen { AreSeenFrom protocol set.now (task_at set.now x.0).processor links.now }
+    ensures { result ≡ has_path protocol set.now i.0 x.0 q.0 }
+{
+    let place = place_seen(set, protocol, set.processor(x), q);
+    links
+        .iter()
+        .any(|link| stands_behind(protocol, x, q, place, *link))
+}
+
+// Adds the column, if it passes.
+fn add_if(columns: &mut Vec<Fragment>, passes: bool, c: Fragment) -> Result<(), AllocError>
+    ensures { OnOk result (map column_seen columns.new.items
+        ≡ map column_seen columns.old.items ++ (if passes then column_seen c ∷ [] else [])) }
+{
+    if passes {
+        columns.push(c)?;
+    }
+    Ok(())
+}
+
+// Under MPCP and FMLP+, adds the columns of requests of `q` by `x`, which uses it.
+fn add_requests(
+    columns: &mut Vec<Fragment>,
+    links: &[Rival],
+    set: &TaskSet,
+    protocol: Protocol,
+    i: TaskId,
+    x: TaskId,
+    q: ResourceId,
 ) -> Result<(), AllocError>
     requires sharing { protocol ≡ Protocol.Dpcp → ⊥ }
     requires task { i.0 < length set.now.tasks }
     requires other { x.0 < length set.now.tasks }
-    requires rivals { AreRivals set.now i.0 rivals.now }
-    requires known { AreKnownRivals protocol set.now rivals.now }
+    requires resource { q.0 < length set.now.resources }
+    requires blocks { may_have_columns set.now i.0 x.0 ≡ true }
+    requires used { is_user set.now q.0 x.0 ≡ true }
+    requires links { AreLinks protocol set.now i.0 (task_at set.now x.0).processor links.now }
+    requires seen { AreSeenFrom protocol set.now (task_at set.now x.0).processor links.now }
+    ensures { OnOk result (map column_seen columns.new.items
+        ≡ map column_seen columns.old.items ++ filter (is_column protocol set.now i.0) (classes_of x.0 q.0)) }
+{
+    let direct = uses(set, i, q);
+    let indirect = reaches(set, protocol, i, x, q, links);
+    let preemption = lower_local(set, i, x);
+    add_if(columns, direct, column(x, q, Class::Direct))?;
+    add_if(columns, indirect, column(x, q, Class::Indirect))?;
+    add_if(columns, preemption, column(x, q, Class::Preemption))
+}
+
+// The same, where `x` may not use the resource.
+fn add_used(
+    columns: &mut Vec<Fragment>,
+    links: &[Rival],
+    set: &TaskSet,
+    protocol: Protocol,
+    i: TaskId,
+    x: TaskId,
+    q: ResourceId,
+) -> Result<(), AllocError>
+    requires sharing { protocol ≡ Protocol.Dpcp → ⊥ }
+    requires task { i.0 < length set.now.tasks }
+    requires other { x.0 < length set.now.tasks }
+    requires resource { q.0 < length set.now.resources }
+    requires blocks { may_have_columns set.now i.0 x.0 ≡ true }
+    requires links { AreLinks protocol set.now i.0 (task_at set.now x.0).processor links.now }
+    requires seen { AreSeenFrom protocol set.now (task_at set.now x.0).processor links.now }
+    ensures { OnOk result (map column_seen columns.new.items
+        ≡ map column_seen columns.old.items ++ filter (is_column protocol set.now i.0) (classes_of x.0 q.0)) }
+{
+    if !uses(set, x, q) {
+        return Ok(());
+    }
+    add_requests(columns, links, set, protocol, i, x, q)
+}
+
+// Adds the columns of requests by `x`, which may have some.
+fn add_requests_of(
+    columns: &mut Vec<Fragment>,
+    links: &[Rival],
+    set: &TaskSet,
+    protocol: Protocol,
+    i: TaskId,
+    x: TaskId,
+) -> Result<(), AllocError>
+    requires sharing { protocol ≡ Protocol.Dpcp → ⊥ }
+    requires task { i.0 < length set.now.tasks }
+    requires other { x.0 < length set.now.tasks }
+    requires blocks { may_have_columns set.now i.0 x.0 ≡ true }
+    requires links { AreLinks protocol set.now i.0 (task_at set.now x.0).processor links.now }
+    requires seen { AreSeenFrom protocol set.now (task_at set.now x.0).processor links.now }
     ensures { OnOk result (map column_seen columns.new.items ≡ map column_seen columns.old.items
         ++ filter (is_column protocol set.now i.0) (collect_below (length set.now.resources) (λ q. classes_of x.0 q))) }
 {
-    find_links(links, set, protocol, i, x, rivals)?;
-    let test = LinkedTest {
-        protocol,
-        links: links.as_slice(),
-    };
-    add_task(columns, &test, set, i, x)
+    for q in 0..set.resources() {
+        add_used(columns, links, set, protocol, i, x, ResourceId(q))?;
+    }
+    Ok(())
+}
+
+// Under MPCP and FMLP+, may requests by `x` be columns? Those of `i` and of higher tasks beside it never are.
+fn may_have_columns(set: &TaskSet, i: TaskId, x: TaskId) -> bool
+    requires task { i.0 < length set.now.tasks }
+    requires other { x.0 < length set.now.tasks }
+    ensures { result ≡ may_have_columns set.now i.0 x.0 }
+{
+    x != i && !set.higher_local(i, x)
+}
+
+// Under MPCP and FMLP+, adds the columns of the requests by task `x`.
+fn add_requests_by(
+    columns: &mut Vec<Fragment>,
+    links: &Links,
+    set: &TaskSet,
+    protocol: Protocol,
+    i: TaskId,
+    x: TaskId,
+) -> Result<(), AllocError>
+    requires sharing { protocol ≡ Protocol.Dpcp → ⊥ }
+    requires task { i.0 < length set.now.tasks }
+    requires other { x.0 < length set.now.tasks }
+    requires links { HaveLinks protocol set.now i.0 links.now.rivals.items links.now.begins.items }
+    ensures { OnOk result (map column_seen columns.new.items ≡ map column_seen columns.old.items
+        ++ filter (is_column protocol set.now i.0) (collect_below (length set.now.resources) (λ q. classes_of x.0 q))) }
+{
+    if !may_have_columns(set, i, x) {
+        return Ok(());
+    }
+    let beside = links.at(set.processor(x));
+    add_requests_of(columns, beside, set, protocol, i, x)
 }
 
 // The columns under MPCP and FMLP+.
@@ -198,19 +243,10 @@ fn shared_fragments(
     requires task { i.0 < length set.now.tasks }
     ensures { IfOk result (λ v. map column_seen v.items ≡ columns_of protocol set.now i.0) }
 {
-    let rivals = rivals_of(alloc, set, protocol, i)?;
+    let links = links_of(alloc, set, protocol, i)?;
     let mut columns = Vec::new(alloc);
-    let mut links = Vec::new(alloc);
     for x in 0..set.tasks() {
-        add_requests_by(
-            &mut columns,
-            &mut links,
-            set,
-            protocol,
-            i,
-            TaskId(x),
-            &rivals,
-        )?;
+        add_requests_by(&mut columns, &links, set, protocol, i, TaskId(x))?;
     }
     Ok(columns)
 }

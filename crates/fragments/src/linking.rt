@@ -1,11 +1,11 @@
 //! The resources by which requests of another task can block the analysed one indirectly.
 
-ghost use Rattle.std.specs.Prelude.{◌≡◌, ℕ, ◌<◌, ◌+◌, ◌++◌, length, OnOk, IfOk, [], ◌∷◌, not, ◌==◌, ◌&&◌, if◌then◌else◌};
-ghost use Rattle.std.specs.List.{All};
+ghost use Rattle.std.specs.Prelude.{◌≡◌, ℕ, ◌<◌, ◌≤◌, ◌+◌, ◌++◌, length, slice_index, OnOk, IfOk, [], ◌∷◌, not, ◌==◌, ◌&&◌};
+ghost use Rattle.std.specs.Prelude.{if◌then◌else◌};
+ghost use Rattle.std.specs.List.{All, filter};
 ghost use Rattle.sporadic_model.specs.Users.{is_user};
-ghost use Rattle.fragments.specs.Links.{AreAsked, AreLinks, AreSeenFrom, AreRivalsAt, AreRivalsBelow, AreRivals, AreKnownRivals};
-ghost use Rattle.fragments.specs.Links.{rival_at, is_at};
-ghost use Rattle.sporadic_model.specs.SetDef.{task_at};
+ghost use Rattle.fragments.specs.Links.{AreAsked, AreRivalsAt, AreRivalsBelow, AreRivals, AreKnownRivals, AreParted, HaveLinks};
+ghost use Rattle.fragments.specs.Links.{rival_at, is_at, part_at};
 
 use crate::places::{place_seen, uses};
 use sporadic_model::{Protocol, ResourceId, TaskId, TaskSet};
@@ -142,37 +142,77 @@ pub(crate) fn rivals_of(
     Ok(rivals)
 }
 
-// Adds the rival, if its task is another one than `x` on processor `k`.
-fn add_link(links: &mut Vec<Rival>, k: u32, x: TaskId, rival: Rival) -> Result<(), AllocError>
-    ensures { OnOk result (links.new.items ≡ links.old.items ++ (if is_at k x.0 rival then rival ∷ [] else [])) }
+// Adds the rival, if its task is on processor `k`.
+fn add_link(links: &mut Vec<Rival>, k: u32, rival: Rival) -> Result<(), AllocError>
+    ensures { OnOk result (links.new.items ≡ links.old.items ++ filter (is_at k) (rival ∷ [])) }
 {
-    if rival.processor == k && rival.task != x {
+    if rival.processor == k {
         links.push(rival)?;
     }
     Ok(())
 }
 
-/// Finds the rivals by whose resources requests by `x` can block `i` indirectly, under MPCP and FMLP+, in place of those in the list.
-/// A resource may be that of several.
-pub(crate) fn find_links(
-    links: &mut Vec<Rival>,
+// Adds the rivals whose tasks are on processor `k`.
+fn add_links(links: &mut Vec<Rival>, k: u32, rivals: &[Rival]) -> Result<(), AllocError>
+    ensures { OnOk result (links.new.items ≡ links.old.items ++ filter (is_at k) rivals.now) }
+{
+    for rival in rivals {
+        add_link(links, k, *rival)?;
+    }
+    Ok(())
+}
+
+/// The rivals, parted by the processors of their tasks.
+#[derive(Drop)]
+pub(crate) struct Links {
+    /// Those of each processor behind those of the processors before.
+    pub(crate) rivals: Vec<Rival>,
+    /// Where those of each processor begin, and then where the last ones end.
+    pub(crate) begins: Vec<usize>,
+}
+
+impl Links {
+    /// The rivals on processor `k`.
+    pub(crate) fn at(&self, k: u32) -> &[Rival]
+        requires known { k + 1 < length self.now.begins.items }
+        requires order { slice_index self.now.begins.items k ≤ slice_index self.now.begins.items (k + 1) }
+        requires within { slice_index self.now.begins.items (k + 1) ≤ length self.now.rivals.items }
+        ensures { result.now ≡ part_at self.now.rivals.items self.now.begins.items k }
+    {
+        let place = k as usize;
+        &self.rivals[self.begins[place]..self.begins[place + 1]]
+    }
+}
+
+// Parts the rivals by processor. No task is on processor 0.
+fn parted(alloc: Global, set: &TaskSet, rivals: &[Rival]) -> Result<Links, AllocError>
+    ensures { IfOk result (λ l. AreParted (set.now.processors + 1) rivals.now l.rivals.items l.begins.items) }
+{
+    let mut links = Vec::with_capacity(alloc, rivals.len())?;
+    let mut begins = Vec::with_capacity(alloc, set.processors() as usize + 2)?;
+    begins.push(0usize)?;
+    for k in 0..set.processors() + 1 {
+        add_links(&mut links, k, rivals)?;
+        begins.push(links.len())?;
+    }
+    Ok(Links {
+        rivals: links,
+        begins,
+    })
+}
+
+/// Finds by processor the rivals by whose resources requests of tasks there can block `i` indirectly, under MPCP and FMLP+. A resource
+/// may be that of several.
+pub(crate) fn links_of(
+    alloc: Global,
     set: &TaskSet,
     protocol: Protocol,
     i: TaskId,
-    x: TaskId,
-    rivals: &[Rival],
-) -> Result<(), AllocError>
+) -> Result<Links, AllocError>
     requires sharing { protocol ≡ Protocol.Dpcp → ⊥ }
-    requires other { x.0 < length set.now.tasks }
-    requires rivals { AreRivals set.now i.0 rivals.now }
-    requires known { AreKnownRivals protocol set.now rivals.now }
-    ensures links { OnOk result (AreLinks protocol set.now i.0 x.0 links.new.items) }
-    ensures seen { OnOk result (AreSeenFrom protocol set.now (task_at set.now x.0).processor links.new.items) }
+    requires task { i.0 < length set.now.tasks }
+    ensures { IfOk result (λ l. HaveLinks protocol set.now i.0 l.rivals.items l.begins.items) }
 {
-    let k = set.processor(x);
-    links.clear();
-    for rival in rivals {
-        add_link(links, k, x, *rival)?;
-    }
-    Ok(())
+    let rivals = rivals_of(alloc, set, protocol, i)?;
+    parted(alloc, set, &rivals)
 }

@@ -99,8 +99,8 @@ fn add_used<T: ColumnTest>(
     add_classes(columns, test, set, i, of)
 }
 
-/// Adds the columns of the requests by task `x` that pass.
-pub(crate) fn add_task<T: ColumnTest>(
+// Adds the columns of the requests by task `x` that pass.
+fn add_task<T: ColumnTest>(
     columns: &mut Vec<Fragment>,
     test: &T,
     set: &TaskSet,

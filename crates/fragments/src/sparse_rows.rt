@@ -1,9 +1,7 @@
 //! What takes rows by their coefficients that aren't zero.
 
-ghost use Rattle.std.specs.Prelude.{◌≡◌, ℕ, ◌<◌, ◌^◌, length, OnOk, IfOk};
-ghost use Rattle.fragments.specs.ColumnDef.{AreKnown};
-ghost use Rattle.fragments.specs.NonzeroCoefficients.{with_nonzero, AreNonzeroOf};
-ghost use Rattle.fragments.specs.Stretches.{IsStretch};
+ghost use Rattle.std.specs.Prelude.{◌≡◌, ◌<◌, ◌^◌, List, [], ◌∷◌, ◌++◌, OnOk};
+ghost use Rattle.fragments.specs.NonzeroCoefficients.{with_nonzero};
 
 use crate::columns::Fragment;
 use crate::constraints::RowKind;
@@ -19,40 +17,17 @@ fn column_number(place: usize) -> u32
     place.min(u32::MAX as usize) as u32
 }
 
-// Adds the coefficient of the column at the place, if it isn't zero.
-fn push_nonzero(list: &mut Vec<Coefficient>, place: usize, number: u64) -> Result<(), AllocError>
-    ensures { place < 2 ^ 32 → OnOk result (list.new.items ≡ with_nonzero list.old.items place number) }
+// Adds the coefficient of the column at the place to the last row, if it isn't zero.
+fn add_nonzero(rows: &mut SparseRows, place: usize, number: u64) -> Result<(), AllocError>
+    ensures row { place < 2 ^ 32 → OnOk result ((before : List (List Coefficient)) (last : List Coefficient)
+        → rows.old.rows ≡ before ++ last ∷ [] → rows.new.rows ≡ before ++ with_nonzero last place number ∷ []) }
+    ensures limits { OnOk result (rows.new.limits ≡ rows.old.limits) }
 {
     if number != 0 {
         let column = column_number(place);
-        list.push(Coefficient { column, number })?;
+        rows.add(Coefficient { column, number })?;
     }
     Ok(())
-}
-
-// The coefficients of the columns that aren't zero, where those outside the stretch are.
-fn nonzero_coefficients<K: RowKind>(
-    alloc: Global,
-    kind: &K,
-    set: &TaskSet,
-    i: TaskId,
-    columns: &[Fragment],
-    stretch: (usize, usize),
-) -> Result<Vec<Coefficient>, AllocError>
-    requires fits { K.fits kind.now set.now }
-    requires task { i.0 < length set.now.tasks }
-    requires known { AreKnown (length set.now.tasks) (length set.now.resources) columns.now }
-    requires stretch { IsStretch (K.row_of kind.now set.now i.0) columns.now stretch.0 stretch.1 }
-    ensures { length columns.now < 2 ^ 32 →
-        IfOk result (λ v. AreNonzeroOf (K.row_of kind.now set.now i.0) columns.now (length columns.now) v.items) }
-{
-    let (from, to) = stretch;
-    let mut list = Vec::new(alloc);
-    for place in from..to {
-        let number = kind.coefficient(set, i, columns[place]);
-        push_nonzero(&mut list, place, number)?;
-    }
-    Ok(list)
 }
 
 impl RowTaker for SparseRows {
@@ -68,7 +43,7 @@ impl RowTaker for SparseRows {
 
     fn take<K: RowKind>(
         &mut self,
-        alloc: Global,
+        _alloc: Global,
         kind: &K,
         set: &TaskSet,
         i: TaskId,
@@ -77,9 +52,12 @@ impl RowTaker for SparseRows {
         stretch: (usize, usize),
         limit: u64,
     ) -> Result<(), AllocError> {
-        let list = nonzero_coefficients(alloc, kind, set, i, columns, stretch)?;
-        self.rows.push(list)?;
-        self.limits.push(limit)?;
+        let (from, to) = stretch;
+        self.begin(limit)?;
+        for place in from..to {
+            let number = kind.coefficient(set, i, columns[place]);
+            add_nonzero(self, place, number)?;
+        }
         Ok(())
     }
 }

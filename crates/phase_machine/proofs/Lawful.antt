@@ -2,12 +2,11 @@
 use Rattle.std.proofs.Common.{◌≡◌, ℕ, ◌<◌, ◌==◌, true, List, [], ◌∷◌, length, arith}
 use Rattle.std.specs.List.{list_all}
 use Rattle.std.proofs.lemmas.Bool.{and_parts, not-true, eqb-false}
-use Rattle.schedule_model.specs.JobDef.{SegmentDef, JobsDef, job_of}
+use Rattle.schedule_model.specs.JobDef.{SegmentDef, JobsDef, job_of, no_segment}
 use Rattle.schedule_model.specs.LawfulJobs.{is_segment, is_script, AreLawfulJobs, IsLawfulJob}
 use Rattle.schedule_model.specs.RowDef.{Trace}
 use Rattle.schedule_model.specs.Phase.{phase_from, executed, phase_of}
 use Rattle.schedule_model.specs.Phase.Phase.{Local}
-use Rattle.schedule_laws.specs.Counting.{no_segment}
 use Rattle.schedule_laws.proofs.Phases.{phase_local, segment_local}
 use Rattle.schedule_laws.proofs.Ticks.{script_segments}
 use Rattle.schedule_model.proofs.Scripts.{list_all-each}

@@ -5,13 +5,12 @@ use Rattle.std.specs.Option.{option_map_or}
 use Rattle.std.specs.List.{list_all}
 use Rattle.std.proofs.lemmas.Bool.{cases_lt, and_parts, ltb-true}
 use Rattle.std.proofs.lemmas.List.{get_or-take, length-take}
-use Rattle.schedule_model.specs.JobDef.{SegmentDef, job_of, segment_ticks, request_ticks, total_ticks}
+use Rattle.schedule_model.specs.JobDef.{SegmentDef, job_of, segment_ticks, request_ticks, total_ticks, no_segment}
 use Rattle.schedule_model.specs.LawfulJobs.{is_segment, is_script}
 use Rattle.schedule_model.specs.RowDef.{Trace}
 use Rattle.schedule_model.specs.Phase.{executed, phase_of}
 use Rattle.schedule_model.specs.Phase.Phase.{Local, Asking, Finished}
 use Rattle.schedule_model.proofs.Scripts.{list_all-each}
-use Rattle.schedule_laws.specs.Counting.{no_segment}
 use Rattle.schedule_laws.proofs.Ticks.{executed_runs, finished_at, script_segments}
 use Rattle.phase_machine.specs.declared.place.ScriptPlace.{ScriptPlace}
 use Rattle.phase_machine.specs.MachineDef.{segment_in}

@@ -4,10 +4,9 @@ use Rattle.std.proofs.Common.{◌∙◌, arith, inl, inr, Option, Some, None}
 use Rattle.std.specs.Option.{option_map_or}
 use Rattle.std.proofs.lemmas.Bool.{cases_lt, lt-ltb, le-ltb}
 use Rattle.std.proofs.lemmas.List.Sums.{sum_by-cons}
-use Rattle.schedule_model.specs.JobDef.{SegmentDef, segment_ticks, request_ticks, total_ticks}
+use Rattle.schedule_model.specs.JobDef.{SegmentDef, segment_ticks, request_ticks, total_ticks, no_segment}
 use Rattle.schedule_model.specs.Phase.{asking, phase_from}
 use Rattle.schedule_model.specs.Phase.Phase.{Local, Asking}
-use Rattle.schedule_laws.specs.Counting.{no_segment}
 use Rattle.schedule_laws.proofs.Phases.{phase_local, phase_request, phase_later}
 use Rattle.phase_machine.specs.Now.{phase_in}
 

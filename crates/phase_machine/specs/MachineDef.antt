@@ -1,12 +1,11 @@
 -- A machine as mathematics sees it: how far each task has come, and who held which resource in the last row.
 use Rattle.std.specs.Prelude.{◌≡◌, ℕ, ◌<◌, ◌≤◌, List, length, Option, None, Some, slice_index_or}
 use Rattle.sporadic_model.specs.declared.limits.TheConstants.{MOST_TICKS}
-use Rattle.schedule_model.specs.JobDef.{SegmentDef, JobDef, JobsDef, job_of, segment_ticks}
+use Rattle.schedule_model.specs.JobDef.{SegmentDef, JobDef, JobsDef, job_of, segment_ticks, no_segment}
 use Rattle.schedule_model.specs.LawfulJobs.{AreLawfulJobs}
 use Rattle.schedule_model.specs.JobLists.{IsJobList}
 use Rattle.sporadic_model.specs.Accepted.{TaskNumbers}
 use Rattle.schedule_model.specs.RowDef.{RowDef, Trace}
-use Rattle.schedule_laws.specs.Counting.{no_segment}
 use Rattle.phase_machine.specs.declared.place.ScriptPlace.{ScriptPlace}
 
 -- The jobs that a machine carries, the number of rows that it took, the place of each task, the holder of each

@@ -1,14 +1,13 @@
-ghost use Rattle.std.specs.Prelude.{◌≡◌, ℕ, ◌+◌, ◌<◌, ◌≤◌, true, length, slice_index_or};
+ghost use Rattle.std.specs.Prelude.{◌≡◌, ℕ, ◌+◌, ◌<◌, ◌≤◌, true, length};
 ghost use Rattle.sporadic_model.specs.declared.limits.TheConstants.{MOST_TICKS};
 ghost use Rattle.sporadic_model.specs.Accepted.{TaskNumbers};
 ghost use Rattle.schedule_model.specs.JobDef.{job_of, segment_ticks};
 ghost use Rattle.schedule_model.specs.LawfulJobs.{is_resource_in, AreLawfulJobs};
 ghost use Rattle.schedule_model.specs.JobLists.{IsJobList, is_listed_segment};
-ghost use Rattle.schedule_model.specs.Seen.{job_seen, segment_seen};
-ghost use Rattle.schedule_laws.specs.Counting.{no_segment};
+ghost use Rattle.schedule_model.specs.Seen.{segment_seen};
 ghost use Rattle.phase_machine.specs.MachineDef.{IsNext, segment_in, task_in};
 
-use schedule_model::{Job, JobId, JobList, Segment};
+use schedule_model::{JobId, JobList, Segment};
 use sporadic_model::TaskId;
 
 /// Every list of jobs is lawful, and each task of its set has numbers in their ranges. This says so, and does nothing.
@@ -21,14 +20,6 @@ pub(crate) fn list_is_lawful(jobs: &JobList)
     jobs.set().keeps_the_model();
 }
 
-/// The segment of the job's script.
-fn segment_of(job: &Job, n: usize) -> Segment
-    requires { n < length (job_seen job.now).script }
-    ensures { segment_seen result ≡ slice_index_or (job_seen job.now).script n no_segment }
-{
-    job.script[n]
-}
-
 /// Segment number `n` of a listed job.
 pub(crate) fn segment_at(jobs: &JobList, j: u32, n: u32) -> Segment
     requires listed { j < length jobs.now.jobs }
@@ -37,7 +28,7 @@ pub(crate) fn segment_at(jobs: &JobList, j: u32, n: u32) -> Segment
     ensures listed { is_listed_segment (segment_seen result) ≡ true }
     ensures resource { is_resource_in (length jobs.now.set.resources) (segment_seen result) ≡ true }
 {
-    segment_of(jobs.job(JobId(j)), n as usize)
+    jobs.job(JobId(j)).script.at(n as usize)
 }
 
 /// How many segments a listed job has.

@@ -4,4 +4,5 @@ pub mod Duality
 mod Listings
 mod Lists
 pub mod Points
+mod RowCuts
 mod SevenRowsWorked

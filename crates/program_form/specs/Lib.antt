@@ -2,9 +2,11 @@ pub mod Certificate
 pub mod Program
 pub mod RowBlock
 pub mod SparseRows
+pub mod RowCuts
 pub mod Listings
 pub mod Refusals
 pub mod ProgramView
+pub mod SparseRowsView
 pub mod SparseView
 pub mod Points
 pub mod Optimum

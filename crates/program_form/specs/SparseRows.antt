@@ -1,11 +1,13 @@
--- What contracts see of rows that are kept by their nonzero coefficients: the full rows that they stand for.
+-- What contracts see of rows that are kept by their nonzero coefficients: the coefficients of each, and the full rows that they stand for.
 use Rattle.std.specs.Prelude.{ℕ, ◌<◌, ◌==◌, if◌then◌else◌, List, [], ◌∷◌, map, length, slice_index_or}
 use Rattle.std.specs.List.{range_with_len}
-use Rattle.std.specs.declared.vec.Vec.{Vec}
-use Rattle.std.specs.Global.{Global}
 use Rattle.program_form.specs.RowBlock.{RowBlockDef}
 use Rattle.program_form.specs.declared.sparse_rows.Coefficient.{Coefficient}
-use Rattle.program_form.specs.declared.sparse_rows.SparseRows.{SparseRows}
+
+-- The coefficients of each row, and the limit of each.
+pub record SparseRowsDef : Type 0 where
+  pub rows : List (List Coefficient)
+  pub limits : List ℕ
 
 -- Which number has column v? Zero where v isn't listed.
 abbrev pub number_at : List Coefficient → ℕ → ℕ
@@ -26,17 +28,14 @@ pub record AreCoefficients (n : ℕ) (cs : List Coefficient) : Type 0 where
   pub below : (k : ℕ) → k < length cs → (coefficient_at cs k).column < n
   pub nonzero : (k : ℕ) → k < length cs → 0 < (coefficient_at cs k).number
 
--- The lists of coefficients, one for each row, and that of row r.
-abbrev pub lists_of : List (Vec Coefficient Global) → List (List Coefficient)
-lists_of rows = map (λ row. row.items) rows
-
-abbrev pub list_at : List (Vec Coefficient Global) → ℕ → List Coefficient
-list_at rows r = slice_index_or (lists_of rows) r []
+-- The coefficients of row r.
+abbrev pub list_at : List (List Coefficient) → ℕ → List Coefficient
+list_at rows r = slice_index_or rows r []
 
 -- Is each row listed in this way?
-abbrev pub AreListed : ℕ → List (Vec Coefficient Global) → Type 0
+abbrev pub AreListed : ℕ → List (List Coefficient) → Type 0
 AreListed n rows = (r : ℕ) → r < length rows → AreCoefficients n (list_at rows r)
 
 -- The block of full rows of n columns.
-abbrev pub sparse_rows_seen : ℕ → SparseRows → RowBlockDef
-sparse_rows_seen n b = record { rows = map (full_row n) (lists_of b.rows.items); limits = b.limits.items }
+abbrev pub sparse_rows_seen : ℕ → SparseRowsDef → RowBlockDef
+sparse_rows_seen n b = record { rows = map (full_row n) b.rows; limits = b.limits }

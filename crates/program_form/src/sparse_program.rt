@@ -1,9 +1,9 @@
 //! A program kept by its nonzero coefficients.
 
-ghost use Rattle.std.specs.Prelude.{◌≡◌, ℕ, ◌<◌, ◌≤◌, length, IfOk};
+ghost use Rattle.std.specs.Prelude.{◌≡◌, ℕ, ◌+◌, ◌<◌, ◌≤◌, [], ◌∷◌, ◌++◌, length, IfOk, OnOk};
 ghost use Rattle.program_form.specs.Program.{IsProgram, columns, height, cost, row, entry, limit};
 ghost use Rattle.program_form.specs.SparseRows.{full_row, AreCoefficients, AreListed, sparse_rows_seen};
-ghost use Rattle.program_form.specs.Listings.{ListsRow, ListsRows};
+ghost use Rattle.program_form.specs.Listings.{ListsRows, ListsUpTo};
 
 use crate::MOST_NUMBER;
 use crate::program::Program;
@@ -17,8 +17,7 @@ use std::marker::Model;
 #[derive(Debug, Drop)]
 pub struct SparseProgram {
     costs: Vec<u64>,
-    rows: Vec<Vec<Coefficient>>,
-    limits: Vec<u64>,
+    rows: SparseRows,
 }
 
 impl Model for SparseProgram {
@@ -40,35 +39,25 @@ impl SparseProgram {
     {
         let costs = costs_of(alloc, program)?;
         let rows = rows_of(alloc, program)?;
-        let limits = program.limits().to_vec(alloc)?;
-        Ok(SparseProgram {
-            costs,
-            rows,
-            limits,
-        })
+        Ok(SparseProgram { costs, rows })
     }
 
     /// The program of these costs and rows, which it keeps as they are: the cost of each column, and each row by its coefficients that
     /// aren't zero. It takes no memory.
     pub fn over(costs: Vec<u64>, rows: SparseRows) -> SparseProgram
-        requires listed { AreListed (length costs.items) rows.rows.items }
+        requires listed { AreListed (length costs.items) rows.rows }
         requires program { IsProgram (record {
           costs = costs.items;
           rows = (sparse_rows_seen (length costs.items) rows).rows;
-          limits = rows.limits.items;
+          limits = rows.limits;
         }) }
         ensures { result ≡ record {
           costs = costs.items;
           rows = (sparse_rows_seen (length costs.items) rows).rows;
-          limits = rows.limits.items;
+          limits = rows.limits;
         } }
     {
-        let SparseRows { rows, limits } = rows;
-        SparseProgram {
-            costs,
-            rows,
-            limits,
-        }
+        SparseProgram { costs, rows }
     }
 
     /// How many columns there are.
@@ -84,7 +73,7 @@ impl SparseProgram {
         ensures value { result ≡ height self.now }
         ensures program { IsProgram self.now }
     {
-        self.rows.len() as u32
+        self.rows.count() as u32
     }
 
     /// What a unit of column `c` is worth, in ticks.
@@ -102,7 +91,7 @@ impl SparseProgram {
         ensures value { result ≡ limit self.now r }
         ensures most { result ≤ MOST_NUMBER }
     {
-        self.limits[r as usize]
+        self.rows.limits()[r as usize]
     }
 
     /// What the sum of each row may be at most.
@@ -110,7 +99,7 @@ impl SparseProgram {
         ensures value { result.now ≡ self.now.limits }
         ensures program { IsProgram self.now }
     {
-        &self.limits
+        self.rows.limits()
     }
 
     /// Puts other limits in the place of its own, and leaves the rest as it is.
@@ -118,7 +107,7 @@ impl SparseProgram {
         requires { IsProgram (record { costs = self.old.costs; rows = self.old.rows; limits = limits.items }) }
         ensures { self.new ≡ record { costs = self.old.costs; rows = self.old.rows; limits = limits.items } }
     {
-        self.limits = limits;
+        self.rows.renew(limits);
     }
 
     /// The coefficients of row `r` that aren't zero, in rising order of their columns.
@@ -128,7 +117,7 @@ impl SparseProgram {
         ensures row { full_row (columns self.now) result.now ≡ row self.now r }
         ensures program { IsProgram self.now }
     {
-        &self.rows[r]
+        self.rows.row(r)
     }
 }
 
@@ -141,19 +130,6 @@ fn costs_of(alloc: Global, program: &Program) -> Result<Vec<u64>, AllocError>
         list.push(program.cost(c))?;
     }
     Ok(list)
-}
-
-// How many coefficients of a row aren't zero, so that its list gets that much room and no more.
-fn count_of(program: &Program, r: u32) -> usize
-    requires { r < height program.now }
-{
-    let mut count = 0usize;
-    for c in 0..program.columns() {
-        if program.entry(r, c) != 0 {
-            count += 1;
-        }
-    }
-    count
 }
 
 // How many columns of a row are looked at together.
@@ -172,9 +148,9 @@ fn bits_between(program: &Program, r: u32, first: u32, last: u32) -> u64
     bits
 }
 
-// Adds the coefficients of a row that aren't zero, from column `first` up to column `last`.
-fn push_between(
-    list: &mut Vec<Coefficient>,
+// Adds the coefficients of row `r` that aren't zero, from column `first` up to column `last`, where it is the row begun last.
+fn add_between(
+    rows: &mut SparseRows,
     program: &Program,
     r: u32,
     first: u32,
@@ -183,8 +159,9 @@ fn push_between(
     requires row { r < height program.now }
     requires order { first ≤ last }
     requires within { last ≤ columns program.now }
-    requires earlier { ListsRow program.now r first list.old.items }
-    ensures { IfOk result (λ _. ListsRow program.now r last list.new.items) }
+    requires earlier { ListsUpTo program.now r first rows.old.rows }
+    ensures rows { OnOk result (ListsUpTo program.now r last rows.new.rows) }
+    ensures limits { OnOk result (rows.new.limits ≡ rows.old.limits) }
 {
     // most blocks are zero, and that is seen sooner without a branch for each coefficient
     if bits_between(program, r, first, last) == 0 {
@@ -193,36 +170,39 @@ fn push_between(
     for column in first..last {
         let number = program.entry(r, column);
         if number != 0 {
-            list.push(Coefficient { column, number })?;
+            rows.add(Coefficient { column, number })?;
         }
     }
     Ok(())
 }
 
-// The coefficients of a row that aren't zero.
-fn list_of(alloc: Global, program: &Program, r: u32) -> Result<Vec<Coefficient>, AllocError>
-    requires { r < height program.now }
-    ensures { IfOk result (λ v. ListsRow program.now r (columns program.now) v.items) }
+// Adds row `r` behind those before it.
+fn add_row(rows: &mut SparseRows, program: &Program, r: u32) -> Result<(), AllocError>
+    requires row { r < height program.now }
+    requires earlier { ListsRows program.now r rows.old.rows }
+    ensures rows { OnOk result (ListsRows program.now (r + 1) rows.new.rows) }
+    ensures limits { OnOk result (rows.new.limits ≡ rows.old.limits ++ limit program.now r ∷ []) }
 {
+    rows.begin(program.limit(r))?;
     let columns = program.columns();
-    let mut list = Vec::with_capacity(alloc, count_of(program, r))?;
     let mut first = 0;
     while first < columns {
         let last = first.saturating_add(BLOCK).min(columns);
-        push_between(&mut list, program, r, first, last)?;
+        add_between(rows, program, r, first, last)?;
         first = last;
     }
-    Ok(list)
+    Ok(())
 }
 
 // Those of each row.
-fn rows_of(alloc: Global, program: &Program) -> Result<Vec<Vec<Coefficient>>, AllocError>
-    ensures rows { IfOk result (λ v. ListsRows program.now (height program.now) v.items) }
+fn rows_of(alloc: Global, program: &Program) -> Result<SparseRows, AllocError>
+    ensures rows { IfOk result (λ b. ListsRows program.now (height program.now) b.rows) }
+    ensures limits { IfOk result (λ b. b.limits ≡ program.now.limits) }
     ensures program { IsProgram program.now }
 {
-    let mut rows = Vec::with_capacity(alloc, program.rows() as usize)?;
+    let mut rows = SparseRows::new(alloc);
     for r in 0..program.rows() {
-        rows.push(list_of(alloc, program, r)?)?;
+        add_row(&mut rows, program, r)?;
     }
     Ok(rows)
 }

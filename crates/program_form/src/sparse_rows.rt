@@ -1,3 +1,11 @@
+//! Rows of a program by their nonzero coefficients.
+
+ghost use Rattle.std.specs.Prelude.{◌≡◌, ℕ, ◌+◌, ◌-◌, ◌<◌, ◌≤◌, List, [], ◌∷◌, ◌++◌, length, take, drop, slice_index_or, OnOk};
+ghost use Rattle.program_form.specs.SparseRows.{SparseRowsDef, list_at};
+
+use std::alloc::{AllocError, Global};
+use std::marker::Model;
+
 /// A coefficient that isn't zero, at its column.
 #[derive(Clone, Copy, Debug, PartialEq, Eq)]
 pub struct Coefficient {
@@ -8,10 +16,105 @@ pub struct Coefficient {
 }
 
 /// Rows of a program, each kept by its coefficients that aren't zero, in rising order of their columns, and the limit of each row.
+///
+/// The coefficients of all rows stand in one list, so that a row takes no memory of its own. To a contract they are a list for each row.
 #[derive(Debug, Drop)]
 pub struct SparseRows {
-    /// The coefficients of each row that aren't zero.
-    pub rows: Vec<Vec<Coefficient>>,
+    // the coefficients of all rows, one row behind another
+    coefficients: Vec<Coefficient>,
+    // where each row begins
+    starts: Vec<usize>,
+    limits: Vec<u64>,
+}
+
+impl Model for SparseRows {
+    ghost use Rattle.program_form.specs.SparseRows.{SparseRowsDef};
+
+    ghost Value = { SparseRowsDef };
+
+    ghost use Rattle.program_form.specs.SparseRowsView.{sparse_rows_view, IsKept};
+
+    ghost view = { sparse_rows_view };
+
+    ghost invariant = { IsKept };
+}
+
+impl SparseRows {
+    /// No rows. It takes no memory.
+    pub fn new(alloc: Global) -> SparseRows
+        ensures { result ≡ record { rows = []; limits = [] } }
+    {
+        SparseRows {
+            coefficients: Vec::new(alloc),
+            starts: Vec::new(alloc),
+            limits: Vec::new(alloc),
+        }
+    }
+
+    /// Begins a row of this limit behind the others. It has no coefficient so far.
+    pub fn begin(&mut self, limit: u64) -> Result<(), AllocError>
+        ensures { OnOk result (self.new ≡ record { rows = self.old.rows ++ [] ∷ []; limits = self.old.limits ++ limit ∷ [] }) }
+    {
+        self.starts.push(self.coefficients.len())?;
+        self.limits.push(limit)?;
+        Ok(())
+    }
+
+    /// Adds a coefficient to the last row, behind those that it has.
+    pub fn add(&mut self, coefficient: Coefficient) -> Result<(), AllocError>
+        ensures row { OnOk result ((before : List (List Coefficient)) (last : List Coefficient) → self.old.rows ≡ before ++ last ∷ []
+            → self.new.rows ≡ before ++ (last ++ coefficient ∷ []) ∷ []) }
+        ensures limits { OnOk result (self.new.limits ≡ self.old.limits) }
+    {
+        self.coefficients.push(coefficient)?;
+        Ok(())
+    }
+
+    /// How many rows there are.
+    pub(crate) fn count(&self) -> usize
+        ensures { result ≡ length self.now.rows }
+    {
+        self.starts.len()
+    }
+
+    /// The coefficients of row `r`.
+    pub(crate) fn row(&self, r: usize) -> &[Coefficient]
+        requires { r < length self.now.rows }
+        ensures { result.now ≡ list_at self.now.rows r }
+    {
+        let start = self.starts[r];
+        let end = end_of(self.coefficients.len(), &self.starts, r);
+        part(&self.coefficients, start, end)
+    }
+
     /// The limit of each row.
-    pub limits: Vec<u64>,
+    pub(crate) fn limits(&self) -> &[u64]
+        ensures { result.now ≡ self.now.limits }
+    {
+        &self.limits
+    }
+
+    /// Puts other limits in the place of its own, and leaves the coefficients as they are.
+    pub(crate) fn renew(&mut self, limits: Vec<u64>)
+        ensures { self.new ≡ record { rows = self.old.rows; limits = limits.items } }
+    {
+        self.limits = limits;
+    }
+}
+
+// Where row `r` ends: where the next one begins. The last one ends with the list.
+fn end_of(all: usize, starts: &[usize], r: usize) -> usize
+    requires { r < length starts.now }
+    ensures { result ≡ slice_index_or starts.now (r + 1) all }
+{
+    starts.get(r + 1).copied().unwrap_or(all)
+}
+
+// The coefficients from place `start` up to place `end`.
+fn part(list: &[Coefficient], start: usize, end: usize) -> &[Coefficient]
+    requires order { start ≤ end }
+    requires within { end ≤ length list.now }
+    ensures { result.now ≡ take (end - start) (drop start list.now) }
+{
+    &list[start..end]
 }

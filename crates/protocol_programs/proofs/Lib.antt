@@ -1,1 +1,1 @@
-pub mod Over
+mod Over

@@ -3,14 +3,13 @@
 
 mod counting;
 mod keeping;
+mod parts;
 mod programs;
 mod written;
 
 pub use counting::interference;
 pub use keeping::keeps_jobs;
+pub use parts::{ProgramParts, limits_with, program_with, sparse_program_with};
 pub use program_sources::ProgramSource;
-pub use programs::{
-    accepted, add_rows, costs, limits, program, program_over, rows, sparse_program,
-    sparse_program_over,
-};
+pub use programs::{add_rows, limits, program, sparse_program};
 pub use written::Written;

@@ -1,4 +1,8 @@
-use crate::{interference, keeps_jobs, limits, program, sparse_program};
+use crate::{
+    ProgramParts, add_rows, interference, keeps_jobs, limits_with, program_with,
+    sparse_program_with,
+};
+use fragments::{Fragment, RowTaker, columns_stand_in_order, fragments};
 use program_form::{Program, SparseProgram};
 use program_sources::ProgramSource;
 use sporadic_model::{Protocol, TaskId, TaskSet};
@@ -7,6 +11,35 @@ use std::alloc::{AllocError, Global};
 /// The programs of a protocol as they are written down in this repository: a source for the analysis.
 #[derive(Clone, Copy, Debug, PartialEq, Eq)]
 pub struct Written(pub Protocol);
+
+impl ProgramParts for Written {
+    ghost use Rattle.sporadic_model.specs.Homes.{HasHomesFor};
+    ghost use Rattle.fragments.specs.Columns.{columns_of};
+    ghost use Rattle.program_laws.specs.Programs.{rows_of};
+    ghost use Rattle.program_laws.proofs.WrittenPrograms.{written_program};
+
+    ghost serves = { λ p set. HasHomesFor p.0 set };
+
+    ghost columns = { λ p. columns_of p.0 };
+
+    ghost rows = { λ p. rows_of p.0 };
+
+    fn take_rows<T: RowTaker>(
+        &self,
+        alloc: Global,
+        taker: &mut T,
+        set: &TaskSet,
+        i: TaskId,
+        bounds: &[u64],
+    ) -> Result<Vec<Fragment>, AllocError> {
+        let columns = fragments(alloc, set, self.0, i)?;
+        columns_stand_in_order(set, self.0, i, &columns);
+        add_rows(alloc, taker, set, self.0, i, bounds, &columns)?;
+        Ok(columns)
+    }
+
+    ghost is_program = { λ p set i r served accepted here within. written_program p.0 set i r accepted here within };
+}
 
 impl ProgramSource for Written {
     ghost use Rattle.sporadic_model.specs.Homes.{HasHomesFor};
@@ -35,7 +68,7 @@ impl ProgramSource for Written {
         i: TaskId,
         bounds: &[u64],
     ) -> Result<Program, AllocError> {
-        program(alloc, set, self.0, i, bounds)
+        program_with(alloc, self, set, i, bounds)
     }
 
     fn sparse_program(
@@ -45,7 +78,7 @@ impl ProgramSource for Written {
         i: TaskId,
         bounds: &[u64],
     ) -> Result<SparseProgram, AllocError> {
-        sparse_program(alloc, set, self.0, i, bounds)
+        sparse_program_with(alloc, self, set, i, bounds)
     }
 
     fn limits(
@@ -55,7 +88,7 @@ impl ProgramSource for Written {
         i: TaskId,
         bounds: &[u64],
     ) -> Result<Vec<u64>, AllocError> {
-        limits(alloc, set, self.0, i, bounds)
+        limits_with(alloc, self, set, i, bounds)
     }
 
     fn keeps_limits(&self, set: &TaskSet, i: TaskId, earlier: &[u64], bounds: &[u64]) -> bool {

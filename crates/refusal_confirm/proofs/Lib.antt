@@ -1,4 +1,5 @@
 pub mod Capped
+pub mod RowSums
 pub mod SeenLaws
 pub mod PartLaws
 pub mod WalkLaws

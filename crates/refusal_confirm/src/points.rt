@@ -11,14 +11,14 @@ ghost use Rattle.refusal_confirm.specs.Parts.{FindsBroken, FindsPart};
 
 use crate::fault::Part;
 use crate::sums::{is_worth, keeps_row};
-use program_form::{Dual, Program};
+use program_form::{Dual, SparseProgram};
 use program_sources::{ProgramSource, response};
 use refusal_laws::RefusalStep;
 use sporadic_model::{TaskId, TaskSet};
 use std::alloc::{AllocError, Global};
 
 /// The first row that the point breaks.
-fn first_broken(program: &Program, point: &Dual) -> Option<u32>
+fn first_broken(program: &SparseProgram, point: &Dual) -> Option<u32>
     requires { HasSize program.now (dual_seen point.now) }
     ensures { FindsBroken result program.now (dual_seen point.now) }
 {
@@ -29,7 +29,7 @@ fn first_broken(program: &Program, point: &Dual) -> Option<u32>
 fn reaches_value<P: ProgramSource>(
     set: &TaskSet,
     protocol: &P,
-    program: &Program,
+    program: &SparseProgram,
     task: TaskId,
     bounds: &[u64],
     step: &RefusalStep,
@@ -64,7 +64,7 @@ pub(crate) fn fault_of_point<P: ProgramSource>(
     ensures { IfOk result (λ part.
         FindsPart part (source_at (P.source protocol.now) set.now) bounds.now (step_seen step.now)) }
 {
-    let program = protocol.program(alloc, set, task, bounds)?;
+    let program = protocol.sparse_program(alloc, set, task, bounds)?;
     if step.point.num.len() != program.columns() as usize {
         return Ok(Some(Part::Size));
     }

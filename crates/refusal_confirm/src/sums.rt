@@ -3,12 +3,13 @@
 ghost use Rattle.std.specs.Prelude.{◌≡◌, ◌+◌, ◌-◌, ◌*◌, ◌<◌, ◌≤◌, ◌^◌, ◌↔◌, IsTrue, min, length, vec_len, slice_index};
 ghost use Rattle.bounded_sums.specs.Sums.{sum_below};
 ghost use Rattle.program_form.specs.Certificate.{dual_seen};
-ghost use Rattle.program_form.specs.Program.{columns, height, cost, entry};
+ghost use Rattle.program_form.specs.Program.{columns, height, cost};
+ghost use Rattle.program_form.specs.SparseRows.{number_at, AreCoefficients};
 ghost use Rattle.program_form.specs.Points.{worth};
 ghost use Rattle.refusal_laws.specs.Steps.{whole_worth};
 ghost use Rattle.refusal_confirm.specs.Tests.{HasSize, KeepsRow};
 
-use program_form::{Dual, Program};
+use program_form::{Coefficient, Dual, SparseProgram};
 
 fn product(a: u64, b: u64) -> u128
     ensures value { result ≡ a * b }
@@ -17,22 +18,21 @@ fn product(a: u64, b: u64) -> u128
     u128::from(a) * u128::from(b)
 }
 
-/// What a row comes to at these numbers, no further than `most`.
-fn row_sum(program: &Program, num: &[u64], row: u32, most: u128) -> u128
-    requires row { row < height program.now }
-    requires numbers { length num.now ≡ columns program.now }
-    ensures { result ≡ min most (sum_below (columns program.now) (λ c. entry program.now row c * slice_index num.now c)) }
+/// What a row of these coefficients comes to at these numbers, no further than `most`.
+fn row_sum(coefficients: &[Coefficient], num: &[u64], most: u128) -> u128
+    requires listed { AreCoefficients (length num.now) coefficients.now }
+    ensures { result ≡ min most (sum_below (length num.now) (λ c. number_at coefficients.now c * slice_index num.now c)) }
 {
     let mut sum = 0;
-    for c in 0..program.columns() {
-        let term = product(program.entry(row, c), num[c as usize]);
+    for coefficient in coefficients {
+        let term = product(coefficient.number, num[coefficient.column as usize]);
         sum = most.min(term.saturating_add(sum));
     }
     sum
 }
 
 /// What the columns are worth at these numbers, no further than `most`.
-fn worth_sum(program: &Program, num: &[u64], most: u128) -> u128
+fn worth_sum(program: &SparseProgram, num: &[u64], most: u128) -> u128
     requires numbers { length num.now ≡ columns program.now }
     ensures { result ≡ min most (worth program.now (slice_index num.now)) }
 {
@@ -45,17 +45,17 @@ fn worth_sum(program: &Program, num: &[u64], most: u128) -> u128
 }
 
 /// Does the point keep the row: is what the row comes to at most the limit, the denominator times?
-pub(crate) fn keeps_row(program: &Program, point: &Dual, row: u32) -> bool
+pub(crate) fn keeps_row(program: &SparseProgram, point: &Dual, row: u32) -> bool
     requires row { row < height program.now }
     requires size { HasSize program.now (dual_seen point.now) }
     ensures { IsTrue result ↔ KeepsRow program.now (dual_seen point.now) row }
 {
     let due = product(point.den, program.limit(row));
-    row_sum(program, &point.num, row, due + 1) <= due
+    row_sum(program.coefficients(row as usize), &point.num, due + 1) <= due
 }
 
 /// Is the point worth so many whole ticks?
-pub(crate) fn is_worth(program: &Program, point: &Dual, ticks: u64) -> bool
+pub(crate) fn is_worth(program: &SparseProgram, point: &Dual, ticks: u64) -> bool
     requires denominator { 1 ≤ point.now.den }
     requires size { HasSize program.now (dual_seen point.now) }
     ensures { IsTrue result ↔ (ticks ≤ whole_worth program.now (dual_seen point.now)) }

@@ -21,14 +21,13 @@ ghost use Rattle.window_laws.specs.WindowRows.{windowed_source};
 ghost use Rattle.window_laws.proofs.Points.{windowed_point};
 ghost use Rattle.window_laws.proofs.Programs.{windowed_covered, windowed_rises, windowed_is_program};
 
-use crate::programs::{limits, program, sparse_program};
 use charged_protocols::ChargedProtocol;
 use dpcp_rules::Dpcp;
 use fragments::Class;
 use phase_machine::{Judge, Machine};
 use program_form::{Program, SparseProgram};
 use program_sources::ProgramSource;
-use protocol_programs::interference;
+use protocol_programs::{interference, limits_with, program_with, sparse_program_with};
 use schedule_model::{BlockingProtocol, JobId, Row, Rule};
 use sporadic_model::{Protocol, TaskId, TaskSet};
 use std::alloc::{AllocError, Global};
@@ -97,7 +96,7 @@ impl ProgramSource for DpcpWindows {
         i: TaskId,
         bounds: &[u64],
     ) -> Result<Program, AllocError> {
-        program(alloc, set, i, bounds)
+        program_with(alloc, self, set, i, bounds)
     }
 
     fn sparse_program(
@@ -107,7 +106,7 @@ impl ProgramSource for DpcpWindows {
         i: TaskId,
         bounds: &[u64],
     ) -> Result<SparseProgram, AllocError> {
-        sparse_program(alloc, set, i, bounds)
+        sparse_program_with(alloc, self, set, i, bounds)
     }
 
     fn limits(
@@ -117,7 +116,7 @@ impl ProgramSource for DpcpWindows {
         i: TaskId,
         bounds: &[u64],
     ) -> Result<Vec<u64>, AllocError> {
-        limits(alloc, set, i, bounds)
+        limits_with(alloc, self, set, i, bounds)
     }
 
     fn interference(&self, set: &TaskSet, i: TaskId, bounds: &[u64]) -> u64 {

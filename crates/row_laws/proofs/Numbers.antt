@@ -11,13 +11,12 @@ use Rattle.bounded_sums.proofs.SumLaws.{sum_below-agree}
 use Rattle.bounded_sums.proofs.SumLaws.{sum_below-zero, only_if-true, only_if-false}
 use Rattle.sporadic_model.specs.SetDef.{SetDef}
 use Rattle.sporadic_model.specs.Users.{count_of}
-use Rattle.schedule_model.specs.JobDef.{SegmentDef, JobDef, job_of}
+use Rattle.schedule_model.specs.JobDef.{SegmentDef, JobDef, job_of, no_segment}
 use Rattle.schedule_model.specs.LawfulJobs.{IsLawfulJob}
 use Rattle.schedule_model.specs.RowDef.{Trace}
 use Rattle.schedule_model.specs.Phase.{Phase, phase_of}
 use Rattle.schedule_model.specs.Phase.Phase.{Asking}
 use Rattle.schedule_model.specs.Activity.{task_of}
-use Rattle.schedule_laws.specs.Counting.{no_segment}
 use Rattle.schedule_laws.proofs.Segments.{RequestAt, open_segment, asks_some}
 use Rattle.fragments.specs.ColumnDef.{ColumnDef}
 use Rattle.charge_model.specs.Windows.{window_end}

@@ -11,9 +11,8 @@ use Rattle.bounded_sums.proofs.SumLaws.{sum_below-agree, sum_below-plus, sum_bel
 use Rattle.bounded_sums.proofs.ListCounts.{count_by-first}
 use Rattle.sporadic_model.specs.SetDef.{SetDef}
 use Rattle.sporadic_model.specs.Users.{count_of}
-use Rattle.schedule_model.specs.JobDef.{SegmentDef, JobDef, asks_for, number_of_requests}
+use Rattle.schedule_model.specs.JobDef.{SegmentDef, JobDef, asks_for, number_of_requests, no_segment}
 use Rattle.schedule_model.specs.LawfulJobs.{is_resource_in, IsLawfulJob}
-use Rattle.schedule_laws.specs.Counting.{no_segment}
 
 -- What a segment's request weighs; nothing where it has none.
 abbrev pub weighed : (ℕ → ℕ) → SegmentDef → ℕ

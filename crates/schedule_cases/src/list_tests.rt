@@ -1,8 +1,8 @@
 ghost use Rattle.std.specs.Prelude.{◌<◌, length};
 ghost use Rattle.schedule_model.specs.Fitting.{IsMadeFor};
 
-use crate::scripts::{Part, held_job, job_of, request_below, segment};
-use schedule_model::{Job, JobId, JobList, JobRefusal, Row, RowList, RowRefusal, RowRun};
+use crate::scripts::{Part, has_segments, held_job, job_of, request_below, segment};
+use schedule_model::{Job, JobId, JobList, JobRefusal, Row, RowList, RowRefusal, RowRun, Segment};
 use sporadic_model::{ResourceId, TaskId, TaskSet};
 use std::alloc::{AllocError, Global};
 use std::test::Fail;
@@ -111,9 +111,100 @@ fn takes_jobs_or_names_the_first_refusal(rt: HostRuntime) -> Result<(), Fail> {
     assert!(rt; jobs.len() == 4);
     let job = jobs.job(JobId(2));
     assert_eq!(rt; (job.task, job.release), (TaskId(0), 15));
-    assert!(rt; job.script.as_slice() == [segment((3, None))].as_slice());
+    assert!(rt; has_segments(&job.script, &[segment((3, None))]));
     let first = [segment((2, Some(1))), segment((1, None))];
-    assert!(rt; jobs.job(JobId(0)).script.as_slice() == first.as_slice());
+    assert!(rt; has_segments(&jobs.job(JobId(0)).script, &first));
+    Ok(())
+}
+
+/// A task that may request the first and the last of 32 resources, and one whose jobs may take 10^9 ticks.
+const LONG: SetRow = SetRow {
+    processors: 2,
+    homes: &[None; 32],
+    tasks: &[
+        TaskRow {
+            jitter: 7,
+            ..task_row!(1, 1000, 20, [(0, 3), (31, 4)])
+        },
+        task_row!(2, 1_000_000_000, 1_000_000_000, [(31, 999_999_999)]),
+    ],
+};
+
+/// The task, the arrival, the release and the segments of a job.
+type Read = (u32, u64, u64, &'static [Segment]);
+
+/// A segment by its local ticks, and by the number of its resource and how long it is requested, if one is.
+macro_rules! segment_row {
+    ($local:expr) => {
+        Segment {
+            local: $local,
+            request: None,
+        }
+    };
+    ($local:expr, $resource:expr, $ticks:expr) => {
+        Segment {
+            local: $local,
+            request: Some((ResourceId($resource), $ticks)),
+        }
+    };
+}
+
+const READ: &[Read] = &[
+    (
+        0,
+        0,
+        7,
+        &[
+            segment_row!(2, 31, 4),
+            segment_row!(1, 0, 3),
+            segment_row!(5),
+        ],
+    ),
+    (1, 0, 0, &[segment_row!(1, 31, 999_999_999)]),
+    (0, 1000, 1000, &[segment_row!(5)]),
+    (
+        1,
+        1_000_000_000,
+        1_000_000_000,
+        &[segment_row!(1_000_000_000)],
+    ),
+];
+
+/// Are these the listed jobs, down to every segment?
+fn lists(jobs: &JobList, wanted: &[Read]) -> bool {
+    if jobs.len() as usize != wanted.len() {
+        return false;
+    }
+    for j in 0..jobs.len() {
+        let (task, arrival, release, script) = wanted[j as usize];
+        let job = jobs.job(JobId(j));
+        if (job.task, job.arrival, job.release) != (TaskId(task), arrival, release) {
+            return false;
+        }
+        if !has_segments(&job.script, script) {
+            return false;
+        }
+    }
+    true
+}
+
+#[test]
+fn reads_back_each_job_and_segment(rt: HostRuntime) -> Result<(), Fail> {
+    let set = set_of(rt.alloc(), LONG)?;
+    let mut jobs = JobList::new(rt.alloc(), &set);
+    assert!(rt; lists(&jobs, &[]));
+    for (number, (task, arrival, release, script)) in READ.iter().enumerate() {
+        for answer in [Ok(()), Err(JobRefusal::TooClose)] {
+            let job = Job {
+                task: TaskId(*task),
+                arrival: *arrival,
+                release: *release,
+                script: script.to_vec(rt.alloc())?,
+            };
+            assert!(rt; pushed(&mut jobs, job) == Some(answer), "job {number}");
+            assert!(rt; lists(&jobs, &READ[..number + 1]), "job {number}");
+        }
+    }
     Ok(())
 }
 

@@ -3,7 +3,7 @@ ghost use Rattle.std.specs.List.{list_all};
 ghost use Rattle.schedule_model.specs.LawfulJobs.{is_resource_in};
 ghost use Rattle.schedule_model.specs.Seen.{segment_seen};
 
-use schedule_model::{Job, Segment};
+use schedule_model::{Job, ListedScript, Segment};
 use sporadic_model::{ResourceId, TaskId};
 use std::alloc::{AllocError, Global};
 
@@ -47,6 +47,19 @@ pub(crate) fn held_job(
         release,
         script: segments,
     })
+}
+
+/// Are these the segments of the listed script?
+pub(crate) fn has_segments(script: &ListedScript, wanted: &[Segment]) -> bool {
+    if script.len() != wanted.len() {
+        return false;
+    }
+    for n in 0..script.len() {
+        if script.at(n) != wanted[n] {
+            return false;
+        }
+    }
+    true
 }
 
 fn requests_below(segment: &Segment, resources: u32) -> bool

@@ -11,9 +11,9 @@ use Rattle.bounded_sums.proofs.CountLaws.{count_below-none, count_below-equal}
 use Rattle.bounded_sums.proofs.ListCounts.{count_by-first, count_by-places}
 use Rattle.sporadic_model.specs.SetDef.{SetDef}
 use Rattle.sporadic_model.specs.Users.{count_of}
-use Rattle.schedule_model.specs.JobDef.{SegmentDef, JobDef, asks_for, number_of_requests}
+use Rattle.schedule_model.specs.JobDef.{SegmentDef, JobDef, asks_for, number_of_requests, no_segment}
 use Rattle.schedule_model.specs.LawfulJobs.{is_resource_in, IsLawfulJob}
-use Rattle.schedule_laws.specs.Counting.{no_segment, requests_in}
+use Rattle.schedule_laws.specs.Counting.{requests_in}
 
 -- The segments that ask for q, counted by their numbers, are as many as the requests of q.
 pub requests_by_number : (script : List SegmentDef) (q : ℕ)

@@ -6,13 +6,12 @@ use Rattle.std.proofs.lemmas.Bool.{cases_lt, lt-ltb, ltb-true, eqb-true}
 use Rattle.bounded_sums.proofs.ListCounts.{count_by-some}
 use Rattle.sporadic_model.specs.SetDef.{SetDef}
 use Rattle.sporadic_model.specs.Users.{count_of, is_user}
-use Rattle.schedule_model.specs.JobDef.{SegmentDef, job_of, segment_ticks, asks_for, number_of_requests}
+use Rattle.schedule_model.specs.JobDef.{SegmentDef, job_of, segment_ticks, asks_for, number_of_requests, no_segment}
 use Rattle.schedule_model.specs.LawfulJobs.{is_resource_in, IsLawfulJob}
 use Rattle.schedule_model.proofs.Scripts.{list_all-each}
 use Rattle.schedule_model.specs.RowDef.{Trace}
 use Rattle.schedule_model.specs.Phase.{phase_from, executed, phase_of}
 use Rattle.schedule_model.specs.Phase.Phase.{Local, Asking, Finished}
-use Rattle.schedule_laws.specs.Counting.{no_segment}
 use Rattle.schedule_laws.proofs.Phases.{phase_of_none, phase_local, phase_request, phase_later, asking_at}
 use Rattle.schedule_laws.proofs.Ticks.{unfinished_listed}
 

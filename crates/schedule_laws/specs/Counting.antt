@@ -22,10 +22,6 @@ abbrev pub is_request : ℕ → ℕ → Phase → Bool
 is_request m q (Asking n r) = (n == m) && (r == q)
 is_request m q _ = false
 
--- What a look-up past the end of a script gives: a segment of no ticks.
-abbrev pub no_segment : SegmentDef
-no_segment = record { local = 0; request = None }
-
 -- How many requests has a script?
 abbrev pub requests_in : List SegmentDef → ℕ
 requests_in script = count_by (λ s. is_some s.request) script

@@ -3,13 +3,13 @@ ghost use Rattle.bounded_sums.specs.Sums.{sum_below};
 ghost use Rattle.bounded_sums.specs.Tests.{count_below};
 ghost use Rattle.sporadic_model.specs.SetDef.{SetDef};
 ghost use Rattle.sporadic_model.specs.Users.{count_of, length_of, is_user};
-ghost use Rattle.schedule_model.specs.JobDef.{JobDef, job_of, asks_for, total_ticks, local_ticks, number_of_requests};
+ghost use Rattle.schedule_model.specs.JobDef.{JobDef, job_of, asks_for, total_ticks, local_ticks, number_of_requests, no_segment};
 ghost use Rattle.schedule_model.specs.LawfulJobs.{IsLawfulJob};
 ghost use Rattle.schedule_model.specs.RowDef.{Trace};
 ghost use Rattle.schedule_model.specs.Phase.{Phase, is_local, is_asking, executed, phase_of};
 ghost use Rattle.schedule_model.specs.Phase.Phase.{Asking, Finished};
 ghost use Rattle.schedule_laws.specs.Agreement.{RunsActiveBefore};
-ghost use Rattle.schedule_laws.specs.Counting.{ticks_where, executed_in, is_request, no_segment, requests_in, requests_begun};
+ghost use Rattle.schedule_laws.specs.Counting.{ticks_where, executed_in, is_request, requests_in, requests_begun};
 
 /// A job runs in a kind of phase at most as often as its script has ticks of that kind, and just as often once it is
 /// finished. So it runs Local at most its local ticks, in requests of a resource at most their number times the length

@@ -1,12 +1,13 @@
 -- The last arrival of a task: which job has it, and what it says of the jobs before.
-use Rattle.std.proofs.Common.{◌≡◌, ℕ, zero, suc, ◌<◌, ◌==◌, true, cond, List, [], ◌∷◌, map, length, drop, get_or, refl}
+use Rattle.std.proofs.Common.{◌≡◌, ℕ, zero, suc, ◌<◌, ◌==◌, true, cond, List, [], ◌∷◌, length, drop, get_or, refl}
 use Rattle.std.proofs.Common.{◌∙◌, arith, inl, inr, Option, Some, None}
 use Rattle.std.specs.Option.{option_or}
 use Rattle.std.proofs.lemmas.Bool.{cases_Bool, eqb-true, eq-eqb}
-use Rattle.schedule_model.specs.JobDef.{JobDef, job_of}
+use Rattle.schedule_model.specs.JobDef.{SegmentDef, JobDef, job_of}
 use Rattle.schedule_model.specs.JobLists.{last_arrival}
-use Rattle.schedule_model.specs.Seen.{job_seen}
-use Rattle.schedule_model.specs.declared.job.Job.{Job}
+use Rattle.schedule_model.specs.Kept.{kept_job, kept_jobs}
+use Rattle.schedule_model.specs.declared.kept_jobs.KeptJob.{KeptJob}
+use Rattle.schedule_model.proofs.KeptJobLaws.{last_arrival-scripts}
 
 last_arrival-here : (job : JobDef) (jobs : List JobDef) (x : ℕ) → last_arrival jobs x ≡ None → (job.task == x) ≡ true
     → last_arrival (job ∷ jobs) x ≡ Some job.arrival
@@ -76,9 +77,12 @@ last_arrival-at [] x r h = absurd (cc)
 last_arrival-at (job ∷ jobs) x r h = last_of_tail job jobs x r (λ s e. last_arrival-at jobs x s e) (last_arrival jobs x) refl h
 
 -- A job of the task behind which no job is of it has the task's last arrival.
-pub last_arrival-found : (jobs : List Job) (n x : ℕ) (d : Job) → n < length jobs
-    → last_arrival (map job_seen (drop (suc n) jobs)) x ≡ None → ((get_or jobs n d).task.0 == x) ≡ true
-    → last_arrival (map job_seen jobs) x ≡ Some (get_or jobs n d).arrival
-last_arrival-found [] n x d l none same = absurd (omega arith)
-last_arrival-found (job ∷ jobs) zero x d l none same = last_arrival-here (job_seen job) (map job_seen jobs) x none same
-last_arrival-found (job ∷ jobs) (suc n) x d l none same = rw (last_arrival-found jobs n x d (omega arith) none same) refl
+pub last_arrival-found : (segments : List SegmentDef) (a b : ℕ) (jobs : List KeptJob) (n x : ℕ) (d : KeptJob) → n < length jobs
+    → last_arrival (kept_jobs segments b (drop (suc n) jobs)) x ≡ None → ((get_or jobs n d).task.0 == x) ≡ true
+    → last_arrival (kept_jobs segments a jobs) x ≡ Some (get_or jobs n d).arrival
+last_arrival-found segments a b [] n x d l none same = absurd (omega arith)
+last_arrival-found segments a b (job ∷ jobs) zero x d l none same =
+    last_arrival-here (kept_job segments a job) (kept_jobs segments job.end jobs) x
+    (last_arrival-scripts segments segments job.end b jobs x ∙ none) same
+last_arrival-found segments a b (job ∷ jobs) (suc n) x d l none same =
+    rw (last_arrival-found segments job.end b jobs n x d (omega arith) none same) refl

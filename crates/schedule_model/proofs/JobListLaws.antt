@@ -16,10 +16,11 @@ use Rattle.schedule_model.specs.JobDef.{JobDef, JobsDef, job_of, total_ticks, lo
 use Rattle.schedule_model.specs.LawfulJobs.{is_length_kept, is_resource_in, IsLawfulJob, AreLawfulJobs}
 use Rattle.schedule_model.specs.JobLists.{is_listed_script, is_within_budget, last_arrival, is_too_close, is_too_many, is_late}
 use Rattle.schedule_model.specs.JobLists.{segment_count, first_refusal, with_job, IsJobList}
+use Rattle.schedule_model.specs.Kept.{FitsBehind}
 use Rattle.schedule_model.specs.declared.limits.TheConstants.{MOST_JOBS, MOST_SEGMENTS}
-use Rattle.sporadic_model.specs.declared.limits.TheConstants.{MOST_TICKS}
+use Rattle.sporadic_model.specs.declared.limits.TheConstants.{MOST_TICKS, MOST_RESOURCES}
 use Rattle.schedule_model.specs.declared.refusal.JobRefusal.TheVariants as refusal
-use Rattle.schedule_model.proofs.Scripts.{number_of_requests-past, script_from}
+use Rattle.schedule_model.proofs.Scripts.{number_of_requests-past, script_from, listed_script-parts, resources-more}
 use Rattle.schedule_model.proofs.Arrivals.{IsLastAt, last_arrival-at, last_arrival-none}
 
 -- A job for which no refusal is due.
@@ -197,21 +198,42 @@ lawful_more jobs job lawful task resources none =
       apart = apart_more jobs job lawful (apart_from jobs job accepted.apart);
     }
 
+-- What it says that there is room for a job.
+room_from : (jobs : List JobDef) (job : JobDef) → is_too_many jobs job ≡ false
+    → (length jobs < MOST_JOBS) × (segment_count jobs + length job.script ≤ MOST_SEGMENTS)
+unfolding is_too_many
+room_from jobs job h =
+    let parts : (leb MOST_JOBS (length jobs) ≡ false) × (ltb MOST_SEGMENTS (segment_count jobs + length job.script) ≡ false) =
+    or_parts (leb MOST_JOBS (length jobs)) (ltb MOST_SEGMENTS (segment_count jobs + length job.script)) h in
+    (leb-false _ _ parts.0, ltb-false _ _ parts.1)
+
 -- And it stays within the limits.
 pub listed_more : (jobs : JobsDef) (job : JobDef) → IsJobList jobs → first_refusal jobs job ≡ None → IsJobList (with_job jobs job)
-unfolding is_too_many
 listed_more jobs job listed none =
     let accepted = accepted_from jobs job none in
     let apart = apart_from jobs job accepted.apart in
-    let room : (leb MOST_JOBS (length jobs.jobs) ≡ false)
-    × (ltb MOST_SEGMENTS (segment_count jobs.jobs + length job.script) ≡ false) =
-    or_parts (leb MOST_JOBS (length jobs.jobs)) (ltb MOST_SEGMENTS (segment_count jobs.jobs + length job.script))
-    accepted.room in
-    let fewer : length jobs.jobs < MOST_JOBS = leb-false _ _ room.0 in
-    let shorter : segment_count jobs.jobs + length job.script ≤ MOST_SEGMENTS = ltb-false _ _ room.1 in
+    let room = room_from jobs.jobs job accepted.room in
     record {
       scripts = each_more (λ j. is_listed_script j.script ≡ true) jobs.jobs job listed.scripts accepted.script;
       release = each_more (λ j. j.release ≤ MOST_TICKS) jobs.jobs job listed.release apart.release;
-      most = omega (arith, length-append jobs.jobs (job ∷ []));
-      segments = omega (arith, segments_more jobs.jobs job);
+      most = omega (arith, room.0, length-append jobs.jobs (job ∷ []));
+      segments = omega (arith, room.1, segments_more jobs.jobs job);
+    }
+
+-- A job for which no refusal is due fits behind the others.
+pub fits_from : (jobs : JobsDef) (job : JobDef) → length jobs.set.resources ≤ MOST_RESOURCES
+    → list_all (is_resource_in (length jobs.set.resources)) job.script ≡ true
+    → first_refusal jobs job ≡ None → FitsBehind jobs.jobs job
+fits_from jobs job few resources none =
+    let accepted = accepted_from jobs job none in
+    let time = in_time_from jobs.set job accepted.time in
+    let apart = apart_from jobs job accepted.apart in
+    let room = room_from jobs.jobs job accepted.room in
+    record {
+      listed = (listed_script-parts job.script accepted.script).1;
+      resources = resources-more (length jobs.set.resources) MOST_RESOURCES job.script few resources;
+      arrival = omega (arith, time.0, apart.release);
+      release = apart.release;
+      fewer = room.0;
+      room = room.1;
     }

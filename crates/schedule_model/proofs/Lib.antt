@@ -1,5 +1,8 @@
 pub mod Scripts
 pub mod Arrivals
+pub mod KeptSegmentLaws
+pub mod KeptJobLaws
+mod KeptViewLaws
 pub mod JobListLaws
 pub mod JobRefusalLaws
 pub mod RowListLaws

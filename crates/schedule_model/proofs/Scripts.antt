@@ -52,11 +52,28 @@ pub is_listed_script-from : (xs : List Segment) (b c d : Bool) → (length xs ==
     → is_listed_script (map segment_seen xs) ≡ (not b && (c && d))
 is_listed_script-from xs b c d e f g = is_listed_script-seen xs ∙ rw (e, f, g) refl
 
+-- Where each segment's record passes a test, so does that of the one at a place.
+pub segment-each : (p : SegmentDef → Bool) → (xs : List Segment) (i : ℕ) (d : Segment) → i < length xs
+    → list_all p (map segment_seen xs) ≡ true → p (segment_seen (get_or xs i d)) ≡ true
+segment-each p xs i d l h = list_all-each (λ (s : Segment). p (segment_seen s)) xs i d l (sym (list_all-map p segment_seen xs) ∙ h)
+
 -- The resource that a segment requests is in range where all are.
 pub resource_at-each : (n : ℕ) (xs : List Segment) (i : ℕ) (d : Segment) → i < length xs
     → list_all (is_resource_in n) (map segment_seen xs) ≡ true → is_resource_in n (segment_seen (get_or xs i d)) ≡ true
-resource_at-each n xs i d l h =
-    list_all-each (λ (s : Segment). is_resource_in n (segment_seen s)) xs i d l (sym (list_all-map (is_resource_in n) segment_seen xs) ∙ h)
+resource_at-each n xs i d l h = segment-each (is_resource_in n) xs i d l h
+
+resource_in-more : (m n : ℕ) (o : Option (ℕ × ℕ)) → m ≤ n → option_map_or (λ r. nat_lt r.0 m) o true ≡ true
+    → option_map_or (λ r. nat_lt r.0 n) o true ≡ true
+resource_in-more m n None l h = refl
+resource_in-more m n (Some r) l h = lt-ltb r.0 n (omega (arith, ltb-true r.0 m h))
+
+-- A script that requests some of the first resources requests some of these and further ones.
+pub resources-more : (m n : ℕ) (script : List SegmentDef) → m ≤ n → list_all (is_resource_in m) script ≡ true
+    → list_all (is_resource_in n) script ≡ true
+resources-more m n [] l h = refl
+resources-more m n (s ∷ script) l h =
+    let parts : (is_resource_in m s ≡ true) × (list_all (is_resource_in m) script ≡ true) = and_parts _ _ h in
+    and_from _ _ (resource_in-more m n s.request l parts.0) (resources-more m n script l parts.1)
 
 asks_for-past : (n q : ℕ) (o : Option (ℕ × ℕ)) → n ≤ q → option_map_or (λ r. nat_lt r.0 n) o true ≡ true
     → option_map_or (λ r. r.0 == q) o false ≡ false
@@ -79,7 +96,7 @@ number_of_requests-past n q (s ∷ script) l h =
     sum_by-cons (λ (r : SegmentDef). cond (asks_for q r) 1 0) s script ∙ rw (here, number_of_requests-past n q script l parts.1) refl
 
 -- What is from 1 is above 0.
-from_one : (n : ℕ) → is_in_range 1 MOST_TICKS n ≡ true → nat_lt 0 n ≡ true
+pub from_one : (n : ℕ) → is_in_range 1 MOST_TICKS n ≡ true → nat_lt 0 n ≡ true
 from_one n h = let parts : (nat_le 1 n ≡ true) × (nat_le n MOST_TICKS ≡ true) = and_parts _ _ h in
     lt-ltb 0 n (omega (arith, leb-true _ _ parts.0))
 
@@ -98,9 +115,12 @@ segments_from (s ∷ script) h =
     and_from (is_segment s) (list_all is_segment script)
     (and_from _ _ (from_one s.local numbers.0) (from_one_where s.request numbers.1)) (segments_from script parts.1)
 
--- A script that a list takes is a script.
-pub script_from : (script : List SegmentDef) → is_listed_script script ≡ true → is_script script ≡ true
-script_from script h =
+-- What it says that a list takes a script.
+pub listed_script-parts : (script : List SegmentDef) → is_listed_script script ≡ true
+    → (not (length script == 0) ≡ true)
+    × (list_all is_listed_segment script ≡ true)
+    × (list_all (λ s. is_some s.request) (take (length script - 1) script) ≡ true)
+listed_script-parts script h =
     let some : (not (length script == 0) ≡ true)
     × ((list_all is_listed_segment script && list_all (λ s. is_some s.request) (take (length script - 1) script))
     ≡ true) = and_parts (not (length script == 0))
@@ -108,7 +128,13 @@ script_from script h =
     let rest : (list_all is_listed_segment script ≡ true)
     × (list_all (λ s. is_some s.request) (take (length script - 1) script) ≡ true) = and_parts
     (list_all is_listed_segment script) (list_all (λ s. is_some s.request) (take (length script - 1) script)) some.1 in
+    (some.0, rest.0, rest.1)
+
+-- A script that a list takes is a script.
+pub script_from : (script : List SegmentDef) → is_listed_script script ≡ true → is_script script ≡ true
+script_from script h =
+    let parts = listed_script-parts script h in
     and_from (not (length script == 0))
-    (list_all is_segment script && list_all (λ s. is_some s.request) (take (length script - 1) script)) some.0
+    (list_all is_segment script && list_all (λ s. is_some s.request) (take (length script - 1) script)) parts.0
     (and_from (list_all is_segment script) (list_all (λ s. is_some s.request) (take (length script - 1) script))
-    (segments_from script rest.0) rest.1)
+    (segments_from script parts.1) parts.2)

@@ -1,6 +1,6 @@
 -- Jobs as mathematics sees them: plain numbers and lists. Tasks, resources and jobs are named by their
 -- positions, counted from 0. All times are in ticks.
-use Rattle.std.specs.Prelude.{ℕ, ◌+◌, ◌==◌, Bool, false, List, [], Option, slice_index_or, sum_by, count_by}
+use Rattle.std.specs.Prelude.{ℕ, ◌+◌, ◌==◌, Bool, false, List, [], Option, None, slice_index_or, sum_by, count_by}
 use Rattle.std.specs.Option.{option_map_or}
 use Rattle.sporadic_model.specs.SetDef.{SetDef}
 
@@ -22,9 +22,12 @@ pub record JobsDef : Type 0 where
   pub set : SetDef
   pub jobs : List JobDef
 
--- What a look-up past the end gives: a job without a segment.
+-- What a look-up past the end gives: a job without a segment, and a segment of no ticks.
 abbrev pub no_job : JobDef
 no_job = record { task = 0; arrival = 0; release = 0; script = [] }
+
+abbrev pub no_segment : SegmentDef
+no_segment = record { local = 0; request = None }
 
 -- Job number j of the list.
 abbrev pub job_of : List JobDef → ℕ → JobDef

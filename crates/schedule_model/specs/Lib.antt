@@ -9,6 +9,10 @@ pub mod LawfulJobs
 pub mod JobLists
 pub mod Fitting
 pub mod Seen
+pub mod Kept
+pub mod KeptViews
+pub mod ListedView
+pub mod Listed
 pub mod ListViews
 pub mod Protocols
 pub mod Keeping

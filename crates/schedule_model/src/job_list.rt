@@ -1,16 +1,19 @@
-ghost use Rattle.std.specs.Prelude.{◌≡◌, ◌<◌, ◌≤◌, [], length, IsTrue, option_map, map};
+ghost use Rattle.std.specs.Prelude.{◌≡◌, ◌<◌, ◌≤◌, [], length, IsTrue};
 ghost use Rattle.std.specs.List.{list_all};
 ghost use Rattle.schedule_model.specs.JobDef.{job_of};
 ghost use Rattle.schedule_model.specs.LawfulJobs.{AreLawfulJobs, is_resource_in};
 ghost use Rattle.schedule_model.specs.JobLists.{JobJudged, IsJobList};
+ghost use Rattle.schedule_model.specs.Listed.{listed_seen};
 ghost use Rattle.schedule_model.specs.Seen.{job_seen};
 
 use crate::job::{Job, JobId};
 use crate::judging::refusal_of;
+use crate::kept_jobs::KeptJobs;
 use crate::limits::MOST_JOBS;
+use crate::listed::ListedJob;
 use crate::refusal::JobRefusal;
 use sporadic_model::TaskSet;
-use std::alloc::Global;
+use std::alloc::{AllocError, Global};
 use std::marker::Model;
 
 /// Lawful jobs of a task set, in the order in which they were pushed. Those of one task arrive at least a
@@ -18,8 +21,7 @@ use std::marker::Model;
 #[derive(Drop)]
 pub struct JobList<'a> {
     set: &'a TaskSet,
-    jobs: Vec<Job>,
-    segments: u64,
+    jobs: KeptJobs,
 }
 
 impl<'a> Model for JobList<'a> {
@@ -41,8 +43,7 @@ impl<'a> JobList<'a> {
     {
         JobList {
             set,
-            jobs: Vec::new(alloc),
-            segments: 0,
+            jobs: KeptJobs::new(alloc),
         }
     }
 
@@ -54,14 +55,16 @@ impl<'a> JobList<'a> {
         ensures value { JobJudged result self.old self.new (job_seen job) }
         ensures set { self.new.set ≡ self.old.set }
     {
-        match refusal_of(self.set, &self.jobs, self.segments, &job) {
+        match refusal_of(self.set, &self.jobs, &job) {
             Some(refusal) => return Err(refusal),
             None => {}
         }
-        let segments = self.segments + job.script.len() as u64;
-        self.jobs.push(job)?;
-        self.segments = segments;
-        Ok(())
+        // its resources, as those of every set, are few enough to be kept in a byte
+        self.set.keeps_the_model();
+        match self.jobs.push(&job) {
+            Ok(()) => Ok(()),
+            Err(AllocError) => Err(JobRefusal::Memory),
+        }
     }
 
     /// How many jobs there are, at most 100,000.
@@ -75,13 +78,13 @@ impl<'a> JobList<'a> {
     }
 
     /// The job.
-    pub fn job(&self, j: JobId) -> &Job
+    pub fn job(&self, j: JobId) -> ListedJob<'_>
         requires { j.0 < length self.now.jobs }
-        ensures value { job_seen result.now ≡ job_of self.now.jobs j.0 }
+        ensures value { listed_seen result ≡ job_of self.now.jobs j.0 }
         ensures lawful { AreLawfulJobs self.now }
         ensures listed { IsJobList self.now }
     {
-        &self.jobs[j.0 as usize]
+        self.jobs.job(j.0 as usize)
     }
 
     /// Every list's jobs are lawful and within the limits of lists. This says so, and does nothing.

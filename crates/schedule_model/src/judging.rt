@@ -1,39 +1,25 @@
-ghost use Rattle.std.specs.Prelude.{◌≡◌, ◌<◌, ◌≤◌, ◌+◌, false, IsTrue, nat_lt, map, length};
+ghost use Rattle.std.specs.Prelude.{◌≡◌, ◌<◌, ◌+◌, false, IsTrue, nat_lt, length};
 ghost use Rattle.std.specs.List.{list_all};
 ghost use Rattle.std.specs.Option.{option_map_or};
 ghost use Rattle.schedule_model.specs.LawfulJobs.{is_resource_in};
-ghost use Rattle.schedule_model.specs.JobLists.{last_arrival, segment_count, is_too_close, is_too_many, is_late, first_refusal};
+ghost use Rattle.schedule_model.specs.JobLists.{is_too_close, is_too_many, is_late, first_refusal};
 ghost use Rattle.schedule_model.specs.Seen.{job_seen};
 
 use crate::job::Job;
+use crate::kept_jobs::KeptJobs;
 use crate::limits::{MOST_JOBS, MOST_SEGMENTS};
 use crate::refusal::JobRefusal;
 use crate::script::{is_listed_script, stays_within_budget};
-use sporadic_model::{MOST_TICKS, TaskId, TaskSet};
-
-/// When did the task's last listed job arrive, if it has one?
-fn last_arrival_of(jobs: &[Job], x: TaskId) -> Option<u64>
-    ensures { result ≡ last_arrival (map job_seen jobs.now) x.0 }
-{
-    let mut left = jobs.len();
-    while left > 0 {
-        left -= 1;
-        let job = &jobs[left];
-        if job.task == x {
-            return Some(job.arrival);
-        }
-    }
-    None
-}
+use sporadic_model::{MOST_TICKS, TaskSet};
 
 /// Does the job arrive less than a period after the last listed job of its task, or is it released after tick 10^9?
 #[tactic(auto, unfolding(crate::specs::JobLists::is_too_close))]
-fn follows_too_closely(set: &TaskSet, jobs: &[Job], job: &Job) -> bool
+fn follows_too_closely(set: &TaskSet, jobs: &KeptJobs, job: &Job) -> bool
     requires { job.now.task.0 < length set.now.tasks }
-    ensures { result ≡ is_too_close (record { set = set.now; jobs = map job_seen jobs.now }) (job_seen job.now) }
+    ensures { result ≡ is_too_close (record { set = set.now; jobs = jobs.now }) (job_seen job.now) }
 {
     if is_within(
-        last_arrival_of(jobs, job.task),
+        jobs.last_arrival_of(job.task),
         set.period(job.task),
         job.arrival,
     ) {
@@ -52,17 +38,15 @@ fn is_within(last: Option<u64>, period: u64, tick: u64) -> bool
     }
 }
 
-/// Is there no room for the job, where the listed ones have so many segments?
+/// Is there no room for the job after the listed ones?
 #[tactic(auto, unfolding(crate::specs::JobLists::is_too_many))]
-fn passes_limits(jobs: &[Job], segments: u64, job: &Job) -> bool
-    requires most { segments ≤ MOST_SEGMENTS }
-    requires counted { segments ≡ segment_count (map job_seen jobs.now) }
-    ensures { result ≡ is_too_many (map job_seen jobs.now) (job_seen job.now) }
+fn passes_limits(jobs: &KeptJobs, job: &Job) -> bool
+    ensures { result ≡ is_too_many jobs.now (job_seen job.now) }
 {
     if jobs.len() as u64 >= MOST_JOBS {
         return true;
     }
-    job.script.len() as u64 > MOST_SEGMENTS - segments
+    job.script.len() as u64 > MOST_SEGMENTS - jobs.segments()
 }
 
 /// Is the job released before it arrives, or later than its task's jitter lets it be?
@@ -77,18 +61,11 @@ fn leaves_its_jitter(set: &TaskSet, job: &Job) -> bool
     job.release - job.arrival > set.jitter(job.task)
 }
 
-/// The first refusal that is due for the job after the listed ones, which have so many segments.
-pub(crate) fn refusal_of(
-    set: &TaskSet,
-    jobs: &[Job],
-    segments: u64,
-    job: &Job,
-) -> Option<JobRefusal>
+/// The first refusal that is due for the job after the listed ones.
+pub(crate) fn refusal_of(set: &TaskSet, jobs: &KeptJobs, job: &Job) -> Option<JobRefusal>
     requires task { job.now.task.0 < length set.now.tasks }
     requires resources { IsTrue (list_all (is_resource_in (length set.now.resources)) (job_seen job.now).script) }
-    requires most { segments ≤ MOST_SEGMENTS }
-    requires counted { segments ≡ segment_count (map job_seen jobs.now) }
-    ensures { result ≡ first_refusal (record { set = set.now; jobs = map job_seen jobs.now }) (job_seen job.now) }
+    ensures { result ≡ first_refusal (record { set = set.now; jobs = jobs.now }) (job_seen job.now) }
 {
     if !is_listed_script(&job.script) {
         return Some(JobRefusal::Script);
@@ -99,7 +76,7 @@ pub(crate) fn refusal_of(
     if follows_too_closely(set, jobs, job) {
         return Some(JobRefusal::TooClose);
     }
-    if passes_limits(jobs, segments, job) {
+    if passes_limits(jobs, job) {
         return Some(JobRefusal::TooMany);
     }
     if leaves_its_jitter(set, job) {

@@ -1,13 +1,16 @@
 -- The column of a variable while it is read, row by row.
-use Rattle.std.proofs.Common.{◌≡◌, inl, inr, ℕ, ◌+◌, ◌<◌, List, [], length, refl, sym, ◌∙◌, arith}
-use Rattle.std.proofs.lemmas.Bool.{cases_eq}
+use Rattle.std.proofs.Common.{◌≡◌, inl, inr, ℕ, ◌+◌, ◌<◌, ◌≤◌, List, [], length, refl, sym, ◌∙◌, arith}
+use Rattle.std.proofs.lemmas.Bool.{cases_eq, cases_lt}
 use Rattle.fraction128.specs.Fraction.{Fraction, IsForm}
 use Rattle.simplex.specs.Entries.{listed_at, entry_at, AreSparse, AreBelow}
 use Rattle.simplex.specs.CellSteps.{IsPushed}
-use Rattle.simplex.specs.Rows.{RowDef, cell_at}
+use Rattle.simplex.specs.Rows.{RowDef, cell_at, HasForms}
 use Rattle.simplex.specs.Tables.{row_of, IsColumn}
+use Rattle.simplex.specs.Marks.{IsMarked, AreMarked}
 use Rattle.simplex.specs.declared.entries.Entry.{Entry}
+use Rattle.simplex.specs.declared.marks.RowMarks.{RowMarks}
 use Rattle.simplex.proofs.Listed.{listed_past, listed_push, listed_push_other, below_push, below_up, sparse_none, sparse_push}
+use Rattle.simplex.proofs.Marking.{unmarked_zero}
 use Rattle.simplex.proofs.Merging.{zero_is}
 
 -- the first n rows are read
@@ -44,6 +47,22 @@ one_read n rows e column after f h is form pushed = elim pushed [
         ];
       })
 ]
+
+-- rows that aren't marked have no cell there
+pub read_to : (n m : ℕ) (rows : List RowDef) (e variables : ℕ) (marks : RowMarks) (column : List Entry) → AreMarked variables rows marks
+    → e < variables → ((i : ℕ) → i < length rows → HasForms (row_of rows i)) → n ≤ m → m ≤ length rows
+    → ((i : ℕ) → n ≤ i → i < m → IsMarked marks e i → ⊥) → IsColumnTo n rows e column → IsColumnTo m rows e column
+read_to n m rows e variables marks column marked l forms up within none h = record {
+  sparse = h.sparse;
+  below = λ k lk. let b : (entry_at column k).variable < n = h.below k lk in omega (arith, up);
+  each = λ i li. elim (cases_lt i n) [
+    | inl earlier ↦ h.each i earlier
+    | inr later ↦
+        let inside : i < length rows = omega (arith, li, within) in
+        let from : n ≤ i = omega (arith, later) in
+        listed_past column n i h.below from ∙ sym (unmarked_zero variables e i rows marks marked l inside (forms i inside) (none i from li))
+  ];
+}
 
 pub all_read : (n : ℕ) (rows : List RowDef) (e : ℕ) (column : List Entry) → n ≡ length rows → IsColumnTo n rows e column
     → IsColumn rows e column

@@ -1,8 +1,8 @@
 pub mod Entries
-pub mod Filters
 pub mod Rows
 pub mod RowView
 pub mod Tables
+pub mod Marks
 pub mod CellSteps
 pub mod RowSteps
 pub mod Choice

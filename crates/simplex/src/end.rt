@@ -1,39 +1,21 @@
 //! What is read off the last table.
 
-ghost use Rattle.std.specs.Prelude.{◌≡◌, ℕ, ◌+◌, ◌-◌, ◌<◌, ◌≤◌, pos, ◌≤ℤ◌, length, IfOk};
+ghost use Rattle.std.specs.Prelude.{◌≡◌, ℕ, ◌<◌, ◌≤◌, pos, ◌≤ℤ◌, length, IfOk};
 ghost use Rattle.fraction128.specs.Fraction.{whole};
 ghost use Rattle.fraction128.specs.Scaling.{fraction_at};
 ghost use Rattle.program_form.specs.Program.{columns, height};
 ghost use Rattle.exchange_runs.specs.Table.{Table, variables};
 ghost use Rattle.exchange_runs.specs.Exchange.{IsLast};
 ghost use Rattle.exchange_runs.specs.Readings.{IsPrimal, IsValueOf};
-ghost use Rattle.simplex.specs.Rows.{Fits, places, cell_at};
+ghost use Rattle.simplex.specs.Rows.{Fits, cell_at};
 ghost use Rattle.simplex.specs.Tables.{row_of, table_of, HasSize};
-ghost use Rattle.simplex.specs.Ends.{AreMinus, WritesDual, Finishes};
+ghost use Rattle.simplex.specs.Ends.{WritesDual, Finishes};
 
 use crate::row::SparseRow;
 use crate::{SolveStop, Solved};
 use fraction128::{Frac, Scaled, ScalingError, scale};
 use program_form::{Dual, SparseProgram};
 use std::alloc::{AllocError, Global};
-
-// Minus the cells of a row, from one place up to another.
-fn minus_cells(
-    alloc: Global,
-    row: &SparseRow,
-    first: usize,
-    last: usize,
-) -> Result<Vec<Frac>, AllocError>
-    requires order { first ≤ last }
-    requires within { last ≤ places row.now }
-    ensures { IfOk result (λ list. AreMinus row.now first (last - first) list.items) }
-{
-    let mut list = Vec::with_capacity(alloc, last - first)?;
-    for v in first..last {
-        list.push(row.cell(v).neg())?;
-    }
-    Ok(list)
-}
 
 // The dual that is written for the objective row of a last table.
 fn dual_of(alloc: Global, program: &SparseProgram, row: &SparseRow) -> Result<Dual, SolveStop>
@@ -43,7 +25,7 @@ fn dual_of(alloc: Global, program: &SparseProgram, row: &SparseRow) -> Result<Du
 {
     let columns = program.columns() as usize;
     let variables = columns + program.rows() as usize;
-    let duals = minus_cells(alloc, row, columns, variables)?;
+    let duals = row.minus_cells(alloc, columns, variables)?;
     match scale(alloc, &duals) {
         Ok(Scaled { den, num }) => Ok(Dual { den, num }),
         Err(ScalingError::Memory) => Err(SolveStop::Memory),

@@ -1,13 +1,14 @@
 //! Lists of nonzero cells in order of their variables, and what an exchange does to them.
 
-ghost use Rattle.std.specs.Prelude.{◌≡◌, ◌≢◌, ℕ, ◌+◌, ◌≤◌, ◌++◌, length, IfOk, pos};
+ghost use Rattle.std.specs.Prelude.{◌≡◌, ◌≢◌, ℕ, ◌+◌, ◌-◌, ◌<◌, ◌≤◌, ◌^◌, ◌++◌, List, length, IfOk, IsTrue, pos};
 ghost use Rattle.fraction128.specs.Fraction.{Fraction, IsForm};
 ghost use Rattle.simplex.specs.Entries.{listed_at, AreSparse, AreBelow, IsSplit, IsAt, IsNextPlace, IsFirstListed};
+ghost use Rattle.simplex.specs.Ends.{AreMinusListed};
 ghost use Rattle.simplex.specs.CellSteps.{TakesCell, DividesAll, IsPushed, TakesAway};
 
 use crate::SolveStop;
 use fraction128::{Frac, Wide};
-use std::alloc::AllocError;
+use std::alloc::{AllocError, Global};
 
 // A nonzero cell of a row, at its variable, or of a column, at its row.
 #[derive(Clone, Copy)]
@@ -16,12 +17,13 @@ pub(crate) struct Entry {
     pub(crate) value: Frac,
 }
 
-// How many entries stand at variables below v.
-fn count_below(entries: &[Entry], v: usize) -> usize
-    requires { AreSparse entries.now }
-    ensures { IsSplit entries.now result v }
+// The first place from i on whose variable isn't below v, or the end of the list. What is left is halved at each step.
+fn place_by_halves(entries: &[Entry], i: usize, v: usize) -> usize
+    requires sparse { AreSparse entries.now }
+    requires within { i ≤ length entries.now }
+    ensures { IsNextPlace entries.now i v result }
 {
-    let mut low = 0;
+    let mut low = i;
     let mut high = entries.len();
     while low < high {
         let middle = low + (high - low) / 2;
@@ -32,6 +34,32 @@ fn count_below(entries: &[Entry], v: usize) -> usize
         }
     }
     low
+}
+
+// How many entries are looked at one by one before a place is looked for by halves: most places are near.
+const NEAR: usize = 8;
+
+// The first place from i on whose variable isn't below v, or the end of the list.
+fn next_place(entries: &[Entry], i: usize, v: usize) -> usize
+    requires sparse { AreSparse entries.now }
+    requires within { i ≤ length entries.now }
+    ensures { IsNextPlace entries.now i v result }
+{
+    let near = entries.len().min(i + NEAR);
+    for place in i..near {
+        if entries[place].variable >= v {
+            return place;
+        }
+    }
+    place_by_halves(entries, near, v)
+}
+
+// How many entries stand at variables below v.
+fn count_below(entries: &[Entry], v: usize) -> usize
+    requires { AreSparse entries.now }
+    ensures { IsSplit entries.now result v }
+{
+    next_place(entries, 0, v)
 }
 
 // Whether the entry at a place of the list is that of variable v.
@@ -114,43 +142,63 @@ fn taken_from_zero(f: Frac, y: Frac) -> Result<Frac, Wide>
     Ok(product.neg())
 }
 
-// What is left of the cell at variable v when f times y is taken away, where so many entries stand at variables below it.
-fn taken_behind(entries: &[Entry], count: usize, v: usize, f: Frac, y: Frac) -> Result<Frac, Wide>
-    requires sparse { AreSparse entries.now }
-    requires split { IsSplit entries.now count v }
-    ensures { TakesCell result (listed_at entries.now v) f y }
+// What is left of the cell at a variable when f times y is taken away, where so many entries stand at variables below it. `listed` says
+// whether the next one is its own.
+fn taken_behind(
+    entries: &[Entry],
+    count: usize,
+    listed: bool,
+    f: Frac,
+    y: Frac,
+) -> Result<Frac, Wide>
+    requires { IsTrue listed → count < length entries.now }
+    ensures { (v : ℕ) → AreSparse entries.now → IsSplit entries.now count v → IsAt listed entries.now count v
+        → TakesCell result (listed_at entries.now v) f y }
 {
-    if is_at(entries, count, v) {
-        taken(entries[count].value, f, y)
+    if listed {
+        // no entry is zero
+        entries[count].value.less_product(f, y)
     } else {
         taken_from_zero(f, y)
     }
 }
 
-// The first place from i on whose variable isn't below v, or the end of the list.
-fn next_place(entries: &[Entry], i: usize, v: usize) -> usize
-    requires { i ≤ length entries.now }
-    ensures { IsNextPlace entries.now i v result }
+// Where the variables above one begin, where so many entries stand at variables below it. `listed` says whether the next one is its own.
+fn count_through(count: usize, listed: bool) -> usize
+    requires { count < 2 ^ 63 }
+    ensures { (entries : List Entry) (v : ℕ) → AreSparse entries → IsSplit entries count v → IsAt listed entries count v
+        → IsSplit entries result (v + 1) }
 {
-    for place in i..entries.len() {
-        if entries[place].variable >= v {
-            return place;
-        }
-    }
-    entries.len()
+    if listed { count + 1 } else { count }
 }
 
-// Where the variables above v begin, where so many entries stand at variables below it.
-fn count_through(entries: &[Entry], count: usize, v: usize) -> usize
+// How many entries stand at variables up to v, where so many stand at variables below it.
+fn count_next(entries: &[Entry], count: usize, v: usize) -> usize
     requires sparse { AreSparse entries.now }
     requires split { IsSplit entries.now count v }
     ensures { IsSplit entries.now result (v + 1) }
 {
-    if is_at(entries, count, v) {
-        count + 1
-    } else {
-        count
+    count_through(count, is_at(entries, count, v))
+}
+
+// Minus the value listed at each variable from one up to another, in one walk over the list.
+pub(crate) fn minus_listed(
+    alloc: Global,
+    entries: &[Entry],
+    first: usize,
+    last: usize,
+) -> Result<Vec<Frac>, AllocError>
+    requires sparse { AreSparse entries.now }
+    requires order { first ≤ last }
+    ensures { IfOk result (λ list. AreMinusListed entries.now first (last - first) list.items) }
+{
+    let mut list = Vec::with_capacity(alloc, last - first)?;
+    let mut count = count_below(entries, first);
+    for v in first..last {
+        list.push(value_behind(entries, count, v).neg())?;
+        count = count_next(entries, count, v);
     }
+    Ok(list)
 }
 
 // Adds a cell behind the others. A zero cell gets no entry.
@@ -170,7 +218,8 @@ pub(crate) fn push_cell(
 // How many entries are copied as one block: fewer take less time one by one.
 const BLOCK: usize = 8;
 
-// Adds a run of entries behind the others.
+// Adds a run of entries behind the others. Most runs have no entry or one, so a call would take longer than they do.
+#[inline(always)]
 fn push_run(list: &mut Vec<Entry>, run: &[Entry]) -> Result<(), AllocError>
     ensures { IfOk result (λ _. list.new.items ≡ list.old.items ++ run.now) }
 {
@@ -208,10 +257,11 @@ pub(crate) fn take_away(
         let y = pivot[j];
         let place = next_place(entries, i, y.variable);
         push_run(&mut left, &entries[i..place])?;
-        let rest = taken_behind(entries, place, y.variable, f, y.value)?;
-        i = count_through(entries, place, y.variable);
+        let listed = is_at(entries, place, y.variable);
+        let rest = taken_behind(entries, place, listed, f, y.value)?;
+        i = count_through(place, listed);
         push_cell(&mut left, y.variable, rest)?;
     }
-    left.extend_from_slice(&entries[i..])?;
+    push_run(&mut left, &entries[i..])?;
     Ok(left)
 }

@@ -23,7 +23,7 @@ mod choice;
 mod end;
 mod entries;
 mod exchange;
-mod filter;
+mod marks;
 mod row;
 mod start;
 
@@ -31,7 +31,7 @@ use choice::entering;
 use end::finish;
 use exchange::step;
 pub use program_form::SparseProgram;
-use start::{first_basis, first_rows, with_room};
+use start::{first_basis, first_marks, first_rows, with_room};
 
 /// The end of an exchange run: the optimum, the point that attains it, and a dual that shows that none passes it.
 #[derive(Debug, Drop)]
@@ -129,6 +129,7 @@ fn run(alloc: Global, program: &SparseProgram, units: u64) -> Result<Solved, Sol
     ensures program { IsProgram program.now }
 {
     let mut rows = first_rows(alloc, program)?;
+    let mut marks = first_marks(alloc, program, &rows)?;
     let mut basis = first_basis(alloc, program)?;
     let mut column = Vec::with_capacity(alloc, rows.len())?;
     let mut spare = with_room(alloc, program)?;
@@ -144,6 +145,7 @@ fn run(alloc: Global, program: &SparseProgram, units: u64) -> Result<Solved, Sol
             alloc,
             program,
             &mut rows,
+            &mut marks,
             &mut basis,
             e,
             &mut column,

@@ -1,25 +1,26 @@
 //! A row of a table, and what an exchange does to it.
 
-ghost use Rattle.std.specs.Prelude.{◌≡◌, ◌≢◌, ℕ, ◌<◌, false, pos, IfOk};
-ghost use Rattle.fraction128.specs.Fraction.{IsForm, whole};
+ghost use Rattle.std.specs.Prelude.{◌≡◌, ◌≢◌, ℕ, ◌-◌, ◌<◌, ◌≤◌, pos, IfOk};
+ghost use Rattle.fraction128.specs.Fraction.{IsForm};
 ghost use Rattle.simplex.specs.Entries.{AreSparse, AreBelow};
 ghost use Rattle.simplex.specs.Choice.{IsFirstAbove};
 ghost use Rattle.simplex.specs.Rows.{RowDef, places, cell_at, no_row, HasForms, IsSparseRow};
+ghost use Rattle.simplex.specs.Marks.{HasWord, IsMarked, AreKept};
+ghost use Rattle.simplex.specs.Ends.{AreMinus};
 ghost use Rattle.simplex.specs.RowSteps.{DividesRow, LeavesRow, TakesRow};
 
 use crate::SolveStop;
-use crate::entries::{Entry, divide_all, first_above, take_away, taken, value_at};
-use crate::filter::{filter_of, may_list};
+use crate::entries::{Entry, divide_all, first_above, minus_listed, take_away, taken, value_at};
+use crate::marks::{RowMarks, mark_entries};
 use fraction128::{Frac, Wide};
 use std::alloc::{AllocError, Global};
 use std::marker::Model;
 use std::mem;
 
-// A row: its nonzero cells in order of their variables with their filter, and its limit, whose place is behind all variables.
+// A row: its nonzero cells in order of their variables, and its limit, whose place is behind all variables.
 #[derive(Drop)]
 pub(crate) struct SparseRow {
     entries: Vec<Entry>,
-    filter: u64,
     place: usize,
     limit: Frac,
 }
@@ -44,10 +45,8 @@ impl SparseRow {
         requires form { IsForm limit }
         ensures { result ≡ record { entries = entries.items; place = place; limit = limit } }
     {
-        let filter = filter_of(&entries);
         SparseRow {
             entries,
-            filter,
             place,
             limit,
         }
@@ -68,18 +67,16 @@ impl SparseRow {
         if self.place == v {
             return self.limit;
         }
-        if !may_list(self.filter, v) {
-            return Frac::whole(0);
-        }
         value_at(&self.entries, v)
     }
 
-    // Whether the cell of a variable may be other than zero. Few rows list a given variable, and the others' lists needn't be looked at.
-    pub(crate) fn may_have(&self, v: usize) -> bool
-        ensures value { self.now.place ≢ v → result ≡ false → cell_at self.now v ≡ whole (pos 0) }
-        ensures forms { HasForms self.now }
+    // Marks the row at each variable whose cell isn't zero. It is row i.
+    pub(crate) fn mark_in(&self, marks: &mut RowMarks, i: usize)
+        requires { (v : ℕ) → v < self.now.place → HasWord marks.old v i }
+        ensures own { (v : ℕ) → v < self.now.place → (cell_at self.now v).num ≢ pos 0 → IsMarked marks.new v i }
+        ensures kept { AreKept marks.old marks.new }
     {
-        may_list(self.filter, v)
+        mark_entries(marks, &self.entries, i);
     }
 
     // The first variable whose cell is above 0.
@@ -87,6 +84,20 @@ impl SparseRow {
         ensures { IsFirstAbove result self.now }
     {
         first_above(&self.entries)
+    }
+
+    // Minus the cells from one variable up to another.
+    pub(crate) fn minus_cells(
+        &self,
+        alloc: Global,
+        first: usize,
+        last: usize,
+    ) -> Result<Vec<Frac>, AllocError>
+        requires order { first ≤ last }
+        requires within { last ≤ self.now.place }
+        ensures { IfOk result (λ list. AreMinus self.now first (last - first) list.items) }
+    {
+        minus_listed(alloc, &self.entries, first, last)
     }
 
     // The row with each cell divided, in its own memory.
@@ -117,7 +128,6 @@ impl SparseRow {
     {
         self.entries.clear();
         self.entries.extend_from_slice(&other.entries)?;
-        self.filter = other.filter;
         self.place = other.place;
         self.limit = other.limit;
         Ok(())

@@ -3,9 +3,11 @@
 ghost use Rattle.std.specs.Prelude.{[], ◌≡◌, ◌<◌, ◌≤◌, ◌^◌, IfOk};
 ghost use Rattle.program_form.specs.Program.{IsProgram, columns, height};
 ghost use Rattle.exchange_runs.specs.Table.{variables, first_limit};
+ghost use Rattle.simplex.specs.Marks.{AreMarked};
 ghost use Rattle.simplex.specs.Starts.{AreFirstEntries, IsFirstRow, AreFirstRows, IsFirstBasis};
 
 use crate::entries::Entry;
+use crate::marks::RowMarks;
 use crate::row::SparseRow;
 use fraction128::Frac;
 use program_form::SparseProgram;
@@ -123,4 +125,21 @@ pub(crate) fn first_basis(alloc: Global, program: &SparseProgram) -> Result<Vec<
         basis.push(program.columns() as usize + i as usize)?;
     }
     Ok(basis)
+}
+
+// The marks of the first rows.
+pub(crate) fn first_marks(
+    alloc: Global,
+    program: &SparseProgram,
+    rows: &[SparseRow],
+) -> Result<RowMarks, AllocError>
+    requires { AreFirstRows program.now rows.now }
+    ensures { IfOk result (AreMarked (variables program.now) rows.now) }
+{
+    let variables = program.columns() as usize + program.rows() as usize;
+    let mut marks = RowMarks::none(alloc, variables, rows.len())?;
+    for i in 0..rows.len() {
+        rows[i].mark_in(&mut marks, i);
+    }
+    Ok(marks)
 }

@@ -17,16 +17,16 @@ ghost use Rattle.spin_charging.proofs.SpinStretches.{spin_stays_charged};
 ghost use Rattle.spin_charging.proofs.SpinPrograms.{spin_is_program, spin_rises, spin_covered, cost_least, cost_most};
 ghost use Rattle.spin_charging.proofs.SpinPoints.{spin_point, spin_interferes_within};
 
+use crate::Spin;
 use crate::charging::charged_spin;
 use crate::choosing::choose_spin;
 use crate::judging::judge_spin;
-use crate::{Spin, programs};
 use charged_protocols::ChargedProtocol;
 use fragments::Class;
 use phase_machine::{Judge, Machine};
 use program_form::{Program, SparseProgram};
 use program_sources::ProgramSource;
-use protocol_programs::{interference, keeps_jobs};
+use protocol_programs::{interference, keeps_jobs, limits_with, program_with, sparse_program_with};
 use schedule_model::{BlockingProtocol, JobId, Row, Rule};
 use shared_rules::blocked_shared;
 use sporadic_model::{Protocol, TaskId, TaskSet};
@@ -92,7 +92,7 @@ impl ProgramSource for Spin {
         i: TaskId,
         bounds: &[u64],
     ) -> Result<Program, AllocError> {
-        programs::program(alloc, set, i, bounds)
+        program_with(alloc, self, set, i, bounds)
     }
 
     fn sparse_program(
@@ -102,7 +102,7 @@ impl ProgramSource for Spin {
         i: TaskId,
         bounds: &[u64],
     ) -> Result<SparseProgram, AllocError> {
-        programs::sparse_program(alloc, set, i, bounds)
+        sparse_program_with(alloc, self, set, i, bounds)
     }
 
     fn limits(
@@ -112,7 +112,7 @@ impl ProgramSource for Spin {
         i: TaskId,
         bounds: &[u64],
     ) -> Result<Vec<u64>, AllocError> {
-        programs::limits(alloc, set, i, bounds)
+        limits_with(alloc, self, set, i, bounds)
     }
 
     fn keeps_limits(&self, set: &TaskSet, i: TaskId, earlier: &[u64], bounds: &[u64]) -> bool {

@@ -1,26 +1,27 @@
-//! The protocol's programs, so that its sets are analysed and its certificates checked.
+//! What the protocol's programs are made of: their columns and rows.
 
 ghost use Rattle.std.specs.Prelude.{◌≡◌, ℕ, ◌<◌, ◌≤◌, ◌+◌, ◌&&◌, ◌==◌, not, length, map, IfOk, OnOk};
-ghost use Rattle.program_form.specs.RowBlock.{block_seen};
+ghost use Rattle.schedule_model.specs.Protocols.{EachSetSuits};
 ghost use Rattle.program_sources.specs.Bounds.{AreWithinDeadlines};
 ghost use Rattle.fragments.specs.ColumnDef.{column_seen, AreKnown};
 ghost use Rattle.fragments.specs.Stretches.{AreInOrder};
 ghost use Rattle.fragments.specs.Columns.{have_one_processor};
-ghost use Rattle.fragments.specs.Constraints.{block_of, per_pair};
+ghost use Rattle.fragments.specs.Constraints.{per_pair};
 ghost use Rattle.sporadic_model.specs.Users.{is_user};
 ghost use Rattle.spin_charging.specs.SpinPrograms.{is_used_beside, blocks_by_spinning, is_spin_column};
-ghost use Rattle.spin_charging.specs.SpinPrograms.{spin_columns, spinning_rows, spin_rows, spin_program};
+ghost use Rattle.spin_charging.specs.SpinPrograms.{spin_columns, spinning_rows, spin_rows};
+ghost use Rattle.spin_charging.proofs.SpinPrograms.{spin_is_program};
 ghost use Rattle.spin_protocol.specs.SpinRows.{row_of_kind};
 ghost use Rattle.spin_protocol.specs.Used.{AreUsedBeside};
 
+use crate::Spin;
 use crate::rows::{LowerRequestRow, Spinning, SpinningRows};
 use direct_constraints::add_common;
 use fragments::{
-    Class, ColumnTest, Fragment, RowLimits, RowTaker, add_per_number, add_row, fragments_where,
-    lower_local, passing_stand_in_order, share_processor, uses,
+    Class, ColumnTest, Fragment, RowTaker, add_per_number, add_row, fragments_where, lower_local,
+    passing_stand_in_order, share_processor, uses,
 };
-use program_form::{Program, RowBlock, SparseProgram, SparseRows};
-use protocol_programs::{program_over, sparse_program_over};
+use protocol_programs::ProgramParts;
 use sporadic_model::{ResourceId, TaskId, TaskSet};
 use std::alloc::{AllocError, Global};
 
@@ -161,108 +162,29 @@ fn add_rows<T: RowTaker>(
     Ok(())
 }
 
-/// The block of these rows, where some column has a coefficient above zero in them.
-fn rows(
-    alloc: Global,
-    set: &TaskSet,
-    i: TaskId,
-    bounds: &[u64],
-    columns: &[Fragment],
-) -> Result<RowBlock, AllocError>
-    requires task { i.0 < length set.now.tasks }
-    requires within { AreWithinDeadlines set.now bounds.now }
-    requires known { AreKnown (length set.now.tasks) (length set.now.resources) columns.now }
-    requires order { AreInOrder columns.now }
-    ensures { IfOk result (λ b. block_seen b ≡ block_of (map column_seen columns.now) (spin_rows set.now i.0) bounds.now) }
-{
-    let mut block = RowBlock {
-        rows: Vec::new(alloc),
-        limits: Vec::new(alloc),
-    };
-    add_rows(alloc, &mut block, set, i, bounds, columns)?;
-    Ok(block)
-}
+impl ProgramParts for Spin {
+    ghost serves = { λ p. EachSetSuits };
 
-/// The blocking program of task `i` at these bounds. It refuses for want of memory alone.
-pub(crate) fn program(
-    alloc: Global,
-    set: &TaskSet,
-    i: TaskId,
-    bounds: &[u64],
-) -> Result<Program, AllocError>
-    requires task { i.0 < length set.now.tasks }
-    requires within { AreWithinDeadlines set.now bounds.now }
-    ensures { IfOk result (λ p. p ≡ spin_program set.now i.0 bounds.now) }
-{
-    // every set is lawful, so its columns and rows make a program
-    let _tasks = set.tasks();
-    let test = SpinColumns {
-        used: used_beside(alloc, set, i)?,
-    };
-    let columns = fragments_where(alloc, &test, set, i)?;
-    passing_stand_in_order(set, &test, i, &columns);
-    let block = rows(alloc, set, i, bounds, &columns)?;
-    program_over(alloc, set, &columns, block)
-}
+    ghost columns = { λ p. spin_columns };
 
-/// Gives the taker all rows of that program, and answers its columns.
-fn take_rows<T: RowTaker>(
-    alloc: Global,
-    taker: &mut T,
-    set: &TaskSet,
-    i: TaskId,
-    bounds: &[u64],
-) -> Result<Vec<Fragment>, AllocError>
-    requires task { i.0 < length set.now.tasks }
-    requires within { AreWithinDeadlines set.now bounds.now }
-    ensures columns { IfOk result (λ v. map column_seen v.items ≡ spin_columns set.now i.0) }
-    ensures known { IfOk result (λ v. AreKnown (length set.now.tasks) (length set.now.resources) v.items) }
-    ensures rows { IfOk result (λ v. T.takes taker.old (map column_seen v.items) (spin_rows set.now i.0) bounds.now taker.new) }
-{
-    let test = SpinColumns {
-        used: used_beside(alloc, set, i)?,
-    };
-    let columns = fragments_where(alloc, &test, set, i)?;
-    passing_stand_in_order(set, &test, i, &columns);
-    add_rows(alloc, taker, set, i, bounds, &columns)?;
-    Ok(columns)
-}
+    ghost rows = { λ p. spin_rows };
 
-/// The same program as that of [`program`], kept by its coefficients that aren't zero. It refuses for want of memory alone.
-pub(crate) fn sparse_program(
-    alloc: Global,
-    set: &TaskSet,
-    i: TaskId,
-    bounds: &[u64],
-) -> Result<SparseProgram, AllocError>
-    requires task { i.0 < length set.now.tasks }
-    requires within { AreWithinDeadlines set.now bounds.now }
-    ensures { IfOk result (λ p. p ≡ spin_program set.now i.0 bounds.now) }
-{
-    // every set is lawful, so its columns and rows make a program
-    let _tasks = set.tasks();
-    let mut taken = SparseRows {
-        rows: Vec::new(alloc),
-        limits: Vec::new(alloc),
-    };
-    let columns = take_rows(alloc, &mut taken, set, i, bounds)?;
-    sparse_program_over(alloc, set, &columns, taken)
-}
+    fn take_rows<T: RowTaker>(
+        &self,
+        alloc: Global,
+        taker: &mut T,
+        set: &TaskSet,
+        i: TaskId,
+        bounds: &[u64],
+    ) -> Result<Vec<Fragment>, AllocError> {
+        let test = SpinColumns {
+            used: used_beside(alloc, set, i)?,
+        };
+        let columns = fragments_where(alloc, &test, set, i)?;
+        passing_stand_in_order(set, &test, i, &columns);
+        add_rows(alloc, taker, set, i, bounds, &columns)?;
+        Ok(columns)
+    }
 
-/// The limits of that program, without its coefficients. It refuses for want of memory alone.
-pub(crate) fn limits(
-    alloc: Global,
-    set: &TaskSet,
-    i: TaskId,
-    bounds: &[u64],
-) -> Result<Vec<u64>, AllocError>
-    requires task { i.0 < length set.now.tasks }
-    requires within { AreWithinDeadlines set.now bounds.now }
-    ensures { IfOk result (λ v. v.items ≡ (spin_program set.now i.0 bounds.now).limits) }
-{
-    let mut taken = RowLimits {
-        limits: Vec::new(alloc),
-    };
-    take_rows(alloc, &mut taken, set, i, bounds)?;
-    Ok(taken.limits)
+    ghost is_program = { λ p set i r served accepted here within. spin_is_program set i r accepted here within };
 }

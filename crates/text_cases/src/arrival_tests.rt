@@ -23,7 +23,8 @@ fn described(alloc: Global, jobs: &JobList) -> Result<String, AllocError> {
     for j in 0..jobs.len() {
         let job = jobs.job(JobId(j));
         write!(text, "{},{},{},", job.task.0, job.arrival, job.release)?;
-        for segment in job.script.as_slice() {
+        for n in 0..job.script.len() {
+            let segment = job.script.at(n);
             write!(text, "{}", segment.local)?;
             if let Some((q, ticks)) = segment.request {
                 write!(text, " {}:{ticks} ", q.0)?;

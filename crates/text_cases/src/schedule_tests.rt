@@ -29,7 +29,8 @@ fn reads_jobs_and_rows_and_writes_the_same_rows(rt: HostRuntime) -> Result<(), F
         local: 1,
         request: None,
     };
-    assert!(rt; job.script.as_slice() == [first, last].as_slice());
+    assert!(rt; job.script.len() == 2);
+    assert!(rt; job.script.at(0) == first && job.script.at(1) == last);
     let rows = read_rows(rt.alloc(), &jobs, PAIR_LOWER_FIRST.as_bytes())?;
     let runs = rows.runs();
     assert!(rt; rows.ticks() == 5 && runs.len() == 4);

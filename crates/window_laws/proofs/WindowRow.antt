@@ -9,7 +9,7 @@ use Rattle.bounded_sums.proofs.SumLaws.{sum_below-monotone, sum_below-agree, sum
 use Rattle.bounded_sums.proofs.SlotLaws.{sum_below-slots}
 use Rattle.sporadic_model.specs.SetDef.{task_at, jobs_within}
 use Rattle.sporadic_model.specs.Users.{count_of, length_of}
-use Rattle.schedule_model.specs.JobDef.{SegmentDef, job_of}
+use Rattle.schedule_model.specs.JobDef.{SegmentDef, job_of, no_segment}
 use Rattle.schedule_model.specs.LawfulJobs.{IsLawfulJob}
 use Rattle.schedule_model.specs.RowDef.{Trace}
 use Rattle.schedule_model.specs.Phase.{phase_of}
@@ -18,7 +18,6 @@ use Rattle.schedule_model.specs.Activity.{task_of, is_active, issue_tick_of}
 use Rattle.schedule_model.specs.DpcpRules.{home_of}
 use Rattle.schedule_model.specs.Protocols.{dpcp_rule}
 use Rattle.schedule_model.specs.Keeping.{KeepsBefore}
-use Rattle.schedule_laws.specs.Counting.{no_segment}
 use Rattle.schedule_laws.proofs.Holders.{open_active}
 use Rattle.schedule_laws.proofs.Issues.{issue_at_most, issue_no_later, open_at_issue}
 use Rattle.schedule_laws.proofs.Segments.{RequestAt, open_segment, open_resource, open_user, asks_some}

@@ -13,14 +13,14 @@ loop-item-init c = record { size = refl; each = λ x l. c.requires.none x ∙ su
 pub loop-item-preserved : goal.loop-item-preserved
 loop-item-preserved c =
     let item : ChargeItem = get_or c.args.items.now c.loop-item.item-index no_charge in
-    let own : c.job.result.now.task.0 ≡ (job_of c.args.jobs.now.jobs item.blocked.0).task =
+    let own : c.job.result.task.0 ≡ (job_of c.args.jobs.now.jobs item.blocked.0).task =
     ap (λ (j : JobDef). j.task) c.job.ensures.value in
     let listed : IsLawfulJob c.args.jobs.now.set (job_of c.args.jobs.now.jobs item.blocked.0) =
     c.job.ensures.lawful.each item.blocked.0 (c.requires.listed c.loop-item.item-index no_charge c.loop-item-test.true) in
-    let below : c.job.result.now.task.0 < length c.loop-item.sums =
+    let below : c.job.result.task.0 < length c.loop-item.sums =
     omega (arith, own, listed.task, c.loop-item.invariant.size, c.requires.size) in
     record {
-      size = ap length c.add_item.ensures ∙ length-set c.loop-item.sums c.job.result.now.task.0 _ ∙ c.loop-item.invariant.size;
-      each = λ x l. rw c.add_item.ensures (sums_step c.args.jobs.now.jobs x c.job.result.now.task.0 c.args.items.now c.loop-item.item-index
+      size = ap length c.add_item.ensures ∙ length-set c.loop-item.sums c.job.result.task.0 _ ∙ c.loop-item.invariant.size;
+      each = λ x l. rw c.add_item.ensures (sums_step c.args.jobs.now.jobs x c.job.result.task.0 c.args.items.now c.loop-item.item-index
           no_charge c.loop-item.sums c.loop-item-test.true (sym own) below (c.loop-item.invariant.each x l));
     }

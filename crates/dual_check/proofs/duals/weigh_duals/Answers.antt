@@ -28,17 +28,18 @@ loop-i-preserved g c =
     let seen : dual_at cert.duals i ≡ dual_seen c.index-dual.result.now =
     dual_seen_at c.args.certificate.now.duals.items i c.index-dual.result.now here c.index-dual.ensures in
     let p : ProgramDef = c.in_ok-program.program in
+    let w : DualWorth = c.in_ok-worth.worth in
     let same : p ≡ f.program i cert.bounds = rw (c.deref.ensures.value) at c.in_ok-program.ensures in
     let bound : c.index.result.now ≡ slice_index cert.bounds i =
     c.index.ensures ∙ get_or_default cert.bounds i c.index.result.now 0 (omega (arith, c.requires.within.one_each)) in
     let size : HasNumerators p (dual_seen c.index-dual.result.now) = search rules in
     let sized : HasDualSize f cert i =
     subst (λ (q : ProgramDef). HasNumerators q (dual_at cert.duals i)) same (subst (λ (d : DualDef). HasNumerators p d) (sym seen) size) in
-    let own : IsWorth c.weigh.result p (dual_at cert.duals i) (slice_index cert.bounds i) =
-    subst (λ (d : DualDef). IsWorth c.weigh.result p d (slice_index cert.bounds i)) (sym seen)
-    (subst (λ (b : ℕ). IsWorth c.weigh.result p (dual_seen c.index-dual.result.now) b) bound c.weigh.ensures) in
-    let pushed : c.push.new.self.items ≡ c.loop-i.worths.items ++ c.weigh.result ∷ [] = c.in_ok-push.ensures.items in
-    let is : IsWorthOf f cert i c.weigh.result =
-    subst (λ (q : ProgramDef). IsWorth c.weigh.result q (dual_at cert.duals i) (slice_index cert.bounds i)) same own in
+    let own : IsWorth w p (dual_at cert.duals i) (slice_index cert.bounds i) =
+    subst (λ (d : DualDef). IsWorth w p d (slice_index cert.bounds i)) (sym seen)
+    (subst (λ (b : ℕ). IsWorth w p (dual_seen c.index-dual.result.now) b) bound c.in_ok-worth.ensures) in
+    let pushed : c.push.new.self.items ≡ c.loop-i.worths.items ++ w ∷ [] = c.in_ok-push.ensures.items in
+    let is : IsWorthOf f cert i w =
+    subst (λ (q : ProgramDef). IsWorth w q (dual_at cert.duals i) (slice_index cert.bounds i)) same own in
     subst (AreWorths f cert (i + 1)) (sym {A = List DualWorth} pushed)
-    (one_more_worth f cert i c.loop-i.worths.items c.weigh.result c.loop-i.invariant sized is)
+    (one_more_worth f cert i c.loop-i.worths.items w c.loop-i.invariant sized is)

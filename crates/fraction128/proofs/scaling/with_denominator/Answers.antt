@@ -1,5 +1,5 @@
 use Rattle.std.proofs.Common.{arith}
-use Rattle.fraction128.proofs.ScalingLemmas.{den_read, gcd_above, common_after_ok, common_after_wide}
+use Rattle.fraction128.proofs.ScalingLemmas.{den_read, gcd_above, common_kept, common_after_ok, common_after_wide}
 use Rattle.fraction128.proofs.scaling.with_denominator.Goals as goal
 
 pub nonzero_div-multiple : goal.nonzero_div-multiple
@@ -27,3 +27,9 @@ returns-else-multiple-gt-MOST c fs h =
 pub returns-in-Err : goal.returns-in-Err
 returns-in-Err c fs h =
     common_after_wide c.args.common _ fs c.args.value c.in-Err.is c.den-den.ensures.form h
+
+pub returns-then-den-eq1 : goal.returns-then-den-eq1
+returns-then-den-eq1 c fs h =
+    let form = c.den-den.ensures.form in
+    let read = den_read c.args.value c.den-den.result form c.den-den.ensures.value in
+    common_kept c.args.common fs c.args.value (omega (arith, read, c.if-den-eq1.true)) h

@@ -10,11 +10,11 @@ pub returns : goal.returns
 returns c =
     let p = c.args.protocol in
     let set = c.args.set.now in
-    let x = c.args.c.task.0 in
-    let q = c.args.c.resource.0 in
+    let x = c.args.x.0 in
+    let q = c.args.q.0 in
     let place = c.place_seen-place.result in
     let seen : place ≡ place_in p set (task_at set x).processor q =
     c.place_seen-place.ensures ∙ ap (λ k. place_in p set k q) c.processor.ensures.value in
-    any_from_yields_List (λ e. not (e.resource.0 == q) && may_precede p place e.place) _ _ _ c.any.ensures.ran
+    any_from_yields_List (λ e. not (e.task.0 == x) && (not (e.resource.0 == q) && may_precede p place e.place)) _ _ _ c.any.ensures.ran
     (YieldsList-from_slice c.args.links.now cc) (λ e b q k. search (rules, tests))
     ∙ seen_paths p set c.args.i.0 x q place c.args.links.now c.requires.links seen c.requires.seen

@@ -1,7 +1,8 @@
-use Rattle.std.proofs.Common.{◌≡◌, ◌*◌, min, slice_index}
+use Rattle.std.proofs.Common.{◌≡◌, ◌*◌, length, min, slice_index, take}
 use Rattle.bounded_sums.specs.Sums.{sum_below}
-use Rattle.program_form.specs.Program.{entry}
+use Rattle.program_form.specs.SparseRows.{number_at}
 use Rattle.refusal_confirm.proofs.sums.row_sum.Given as goal
 
-abbrev pub invariant-loop-c : goal.invariant-loop-c
-invariant-loop-c l = l.sum ≡ min l.most (sum_below l.c (λ c. entry l.program l.row c * slice_index l.num c))
+abbrev pub invariant-loop-coefficient : goal.invariant-loop-coefficient
+invariant-loop-coefficient l =
+    l.sum ≡ min l.most (sum_below (length l.num) (λ c. number_at (take l.coefficient-index l.coefficients) c * slice_index l.num c))

@@ -1,19 +1,5 @@
-use Rattle.std.proofs.Common.{◌+◌, ◌-◌, ◌/◌, ◌<◌, length, arith}
-use Rattle.simplex.specs.Entries.{entry_at}
-use Rattle.simplex.proofs.Listed.{entry_same, below_through}
+use Rattle.simplex.proofs.Listed.{split_of_next}
 use Rattle.simplex.proofs.entries.count_below.Goals as goal
 
-pub loop-low-preserved-then-entries-middle : goal.loop-low-preserved-then-entries-middle
-loop-low-preserved-then-entries-middle c =
-    let inv = c.loop-low.invariant in
-    let within : c.loop-low.low + (c.loop-low.high - c.loop-low.low) / 2 < length c.args.entries.now = omega (arith, inv.within) in
-    let below : (entry_at c.args.entries.now (c.loop-low.low + (c.loop-low.high - c.loop-low.low) / 2)).variable < c.args.v
-    = rw
-    (entry_same c.args.entries.now (c.loop-low.low + (c.loop-low.high - c.loop-low.low) / 2)
-    c.index-entries-middle.result within) c.if-entries-middle.true in
-    record {
-      order = omega arith;
-      within = inv.within;
-      before = below_through c.args.entries.now (c.loop-low.low + (c.loop-low.high - c.loop-low.low) / 2) c.args.v c.requires within below;
-      behind = inv.behind;
-    }
+pub returns : goal.returns
+returns c = split_of_next c.args.entries.now c.args.v c.next_place.result c.requires c.next_place.ensures

@@ -1,7 +1,0 @@
-use Rattle.std.proofs.Common.{◌≡◌, ◌*◌, min, slice_index}
-use Rattle.bounded_sums.specs.Sums.{sum_below}
-use Rattle.program_form.specs.Program.{entry}
-use Rattle.dual_check.proofs.sums.column_sum.Given as goal
-
-abbrev pub invariant-loop-r : goal.invariant-loop-r
-invariant-loop-r l = l.sum ≡ min l.most (sum_below l.r (λ r. slice_index l.num r * entry l.program r l.column))

@@ -1,0 +1,142 @@
+//! What blocking programs are made of, and the programs and limits that are made of it.
+
+ghost use Rattle.std.specs.Prelude.{◌≡◌, ℕ, ◌<◌, List, map, length, IfOk};
+ghost use Rattle.program_form.specs.RowBlock.{block_seen};
+ghost use Rattle.program_form.specs.Program.{IsProgram};
+ghost use Rattle.sporadic_model.specs.SetDef.{SetDef};
+ghost use Rattle.sporadic_model.specs.Accepted.{IsAccepted};
+ghost use Rattle.program_sources.specs.Bounds.{AreWithinDeadlines};
+ghost use Rattle.fragments.specs.ColumnDef.{ColumnDef, column_seen, AreKnown};
+ghost use Rattle.fragments.specs.Constraints.{ConstraintDef};
+ghost use Rattle.program_laws.specs.Programs.{cost_of, program_with};
+ghost use Rattle.protocol_programs.specs.Lists.{lists_of};
+
+use fragments::{Fragment, RowLimits, RowTaker};
+use program_form::{Program, RowBlock, SparseProgram, SparseRows, refusals_are_exact};
+use sporadic_model::{TaskId, TaskSet};
+use std::alloc::{AllocError, Global};
+
+/// What blocking programs are made of: for each set that it serves the columns of each task's program, and the rows over them. The
+/// programs, dense or sparse, and their limits follow by [`program_with`], [`sparse_program_with`] and [`limits_with`].
+pub trait ProgramParts {
+    /// Which task sets are served? All that follows speaks of these.
+    ghost serves: { Self → SetDef → Type 0 };
+
+    /// The columns of each task's program, in their order.
+    ghost columns: { Self → SetDef → ℕ → List ColumnDef };
+
+    /// The rows of each task's program, in their order. One in which no column has a coefficient above zero is left out.
+    ghost rows: { Self → SetDef → ℕ → List ConstraintDef };
+
+    /// Gives the taker all rows of task `i`'s program at these bounds, and answers its columns. It refuses for want of memory alone.
+    fn take_rows<T: RowTaker>(
+        &self,
+        alloc: Global,
+        taker: &mut T,
+        set: &TaskSet,
+        i: TaskId,
+        bounds: &[u64],
+    ) -> Result<Vec<Fragment>, AllocError>
+        requires serves { serves self.now set.now }
+        requires task { i.0 < length set.now.tasks }
+        requires within { AreWithinDeadlines set.now bounds.now }
+        ensures columns { IfOk result (λ v. map column_seen v.items ≡ columns self.now set.now i.0) }
+        ensures known { IfOk result (λ v. AreKnown (length set.now.tasks) (length set.now.resources) v.items) }
+        ensures rows { IfOk result (λ v. T.takes taker.old (map column_seen v.items) (rows self.now set.now i.0) bounds.now taker.new) };
+
+    /// The columns and rows of an accepted set, at bounds within its deadlines, make a program: they fit together and no number is
+    /// large.
+    ghost is_program: { (p : Self) (set : SetDef) (i : ℕ) (r : List ℕ) → serves p set → IsAccepted set → i < length set.tasks
+        → AreWithinDeadlines set r → IsProgram (program_with set (columns p set i) (rows p set i) r) };
+}
+
+// What any columns of the set are worth: the lengths of their requests, in ticks.
+fn costs(alloc: Global, set: &TaskSet, columns: &[Fragment]) -> Result<Vec<u64>, AllocError>
+    requires { AreKnown (length set.now.tasks) (length set.now.resources) columns.now }
+    ensures { IfOk result (λ v. v.items ≡ map (cost_of set.now) (map column_seen columns.now)) }
+{
+    let mut costs = Vec::with_capacity(alloc, columns.len())?;
+    for column in columns {
+        costs.push(set.length(column.task, column.resource))?;
+    }
+    Ok(costs)
+}
+
+// The program of these lists, which are one.
+fn accepted(costs: Vec<u64>, block: RowBlock) -> Program
+    requires { IsProgram (lists_of costs.items (block_seen block)) }
+    ensures { result ≡ lists_of costs.items (block_seen block) }
+{
+    refusals_are_exact();
+    match Program::new(costs, block.rows, block.limits) {
+        Ok(program) => program,
+        Err(_) => unreachable!(),
+    }
+}
+
+/// The blocking program of task `i` that is made of these parts, where these are the bounds, in ticks. It refuses for want of memory
+/// alone.
+pub fn program_with<P: ProgramParts>(
+    alloc: Global,
+    parts: &P,
+    set: &TaskSet,
+    i: TaskId,
+    bounds: &[u64],
+) -> Result<Program, AllocError>
+    requires serves { P.serves parts.now set.now }
+    requires task { i.0 < length set.now.tasks }
+    requires within { AreWithinDeadlines set.now bounds.now }
+    ensures { IfOk result (λ p. p ≡ program_with set.now (P.columns parts.now set.now i.0) (P.rows parts.now set.now i.0) bounds.now) }
+{
+    // every set is lawful, so its columns and rows make a program
+    let _tasks = set.tasks();
+    let mut block = RowBlock {
+        rows: Vec::new(alloc),
+        limits: Vec::new(alloc),
+    };
+    let columns = parts.take_rows(alloc, &mut block, set, i, bounds)?;
+    let costs = costs(alloc, set, &columns)?;
+    Ok(accepted(costs, block))
+}
+
+/// The same program as that of [`program_with`], kept by its coefficients that aren't zero. It refuses for want of memory alone.
+pub fn sparse_program_with<P: ProgramParts>(
+    alloc: Global,
+    parts: &P,
+    set: &TaskSet,
+    i: TaskId,
+    bounds: &[u64],
+) -> Result<SparseProgram, AllocError>
+    requires serves { P.serves parts.now set.now }
+    requires task { i.0 < length set.now.tasks }
+    requires within { AreWithinDeadlines set.now bounds.now }
+    ensures { IfOk result (λ p. p ≡ program_with set.now (P.columns parts.now set.now i.0) (P.rows parts.now set.now i.0) bounds.now) }
+{
+    // every set is lawful, so its columns and rows make a program
+    let _tasks = set.tasks();
+    let mut taken = SparseRows::new(alloc);
+    let columns = parts.take_rows(alloc, &mut taken, set, i, bounds)?;
+    let costs = costs(alloc, set, &columns)?;
+    Ok(SparseProgram::over(costs, taken))
+}
+
+/// The limits of that program, where these are the bounds, without its coefficients. It refuses for want of memory alone.
+pub fn limits_with<P: ProgramParts>(
+    alloc: Global,
+    parts: &P,
+    set: &TaskSet,
+    i: TaskId,
+    bounds: &[u64],
+) -> Result<Vec<u64>, AllocError>
+    requires serves { P.serves parts.now set.now }
+    requires task { i.0 < length set.now.tasks }
+    requires within { AreWithinDeadlines set.now bounds.now }
+    ensures { IfOk result (λ v. v.items
+        ≡ (program_with set.now (P.columns parts.now set.now i.0) (P.rows parts.now set.now i.0) bounds.now).limits) }
+{
+    let mut taken = RowLimits {
+        limits: Vec::new(alloc),
+    };
+    parts.take_rows(alloc, &mut taken, set, i, bounds)?;
+    Ok(taken.limits)
+}

@@ -1,0 +1,150 @@
+ghost use Rattle.std.specs.Prelude.{◌≡◌, ◌+◌, ◌<◌, ◌≤◌, ◌++◌, [], true, map, length, slice_index_or, vec_len, vec_capacity, OnOk, OnErr};
+ghost use Rattle.std.specs.List.{list_all};
+ghost use Rattle.schedule_model.specs.JobDef.{request_ticks, no_segment};
+ghost use Rattle.schedule_model.specs.JobLists.{is_listed_segment};
+ghost use Rattle.schedule_model.specs.LawfulJobs.{is_resource_in};
+ghost use Rattle.schedule_model.specs.Kept.{requested, kept_segment};
+ghost use Rattle.schedule_model.specs.Seen.{segment_seen};
+
+use crate::job::Segment;
+use sporadic_model::{MOST_RESOURCES, ResourceId};
+use std::alloc::{AllocError, Global};
+use std::marker::Model;
+
+/// Segments, in 9 bytes each.
+#[derive(Drop)]
+pub(crate) struct KeptSegments {
+    locals: Vec<u32>,
+    /// How many ticks each segment's request takes, and 0 where it has none.
+    ticks: Vec<u32>,
+    resources: Vec<u8>,
+}
+
+impl Model for KeptSegments {
+    ghost use Rattle.std.specs.Prelude.{List};
+    ghost use Rattle.schedule_model.specs.JobDef.{SegmentDef};
+
+    ghost Value = { List SegmentDef };
+
+    ghost use Rattle.schedule_model.specs.KeptViews.{segments_view, AreSegmentsKept};
+
+    ghost view = { segments_view };
+
+    ghost invariant = { AreSegmentsKept };
+}
+
+impl KeptSegments {
+    pub(crate) fn new(alloc: Global) -> KeptSegments
+        ensures { result ≡ [] }
+    {
+        KeptSegments {
+            locals: Vec::new(alloc),
+            ticks: Vec::new(alloc),
+            resources: Vec::new(alloc),
+        }
+    }
+
+    pub(crate) fn len(&self) -> usize
+        ensures { result ≡ length self.now }
+    {
+        self.locals.len()
+    }
+
+    /// Segment number `n`.
+    pub(crate) fn at(&self, n: usize) -> Segment
+        requires { n < length self.now }
+        ensures { segment_seen result ≡ slice_index_or self.now n no_segment }
+    {
+        segment_from(self.locals[n], self.ticks[n], self.resources[n])
+    }
+
+    /// Puts the segments of the script behind, all or none.
+    pub(crate) fn append(&mut self, script: &[Segment]) -> Result<(), AllocError>
+        requires listed { list_all is_listed_segment (map segment_seen script.now) ≡ true }
+        requires resources { list_all (is_resource_in MOST_RESOURCES) (map segment_seen script.now) ≡ true }
+        ensures ok { OnOk result (self.new ≡ self.old ++ map segment_seen script.now) }
+        ensures err { OnErr result (self.new ≡ self.old) }
+    {
+        self.locals.reserve(script.len())?;
+        self.ticks.reserve(script.len())?;
+        self.resources.reserve(script.len())?;
+        push_locals(&mut self.locals, script);
+        push_ticks(&mut self.ticks, script);
+        push_resources(&mut self.resources, script);
+        Ok(())
+    }
+}
+
+/// The segment of its three numbers.
+fn segment_from(local: u32, ticks: u32, resource: u8) -> Segment
+    ensures { segment_seen result ≡ kept_segment local ticks resource }
+{
+    let request = if ticks == 0 {
+        None
+    } else {
+        Some((ResourceId(u32::from(resource)), u64::from(ticks)))
+    };
+    Segment {
+        local: u64::from(local),
+        request,
+    }
+}
+
+fn local_of(segment: &Segment) -> u32
+    requires { is_listed_segment (segment_seen segment.now) ≡ true }
+    ensures { result ≡ (segment_seen segment.now).local }
+{
+    segment.local as u32
+}
+
+/// How many ticks the segment's request takes, 0 where it has none.
+fn ticks_of(segment: &Segment) -> u32
+    requires { is_listed_segment (segment_seen segment.now) ≡ true }
+    ensures { result ≡ request_ticks (segment_seen segment.now) }
+{
+    match segment.request {
+        Some((_, ticks)) => ticks as u32,
+        None => 0,
+    }
+}
+
+/// The resource that the segment requests, 0 where it requests none.
+fn resource_of(segment: &Segment) -> u8
+    requires { is_resource_in MOST_RESOURCES (segment_seen segment.now) ≡ true }
+    ensures { result ≡ requested (segment_seen segment.now) }
+{
+    match segment.request {
+        Some((q, _)) => q.0 as u8,
+        None => 0,
+    }
+}
+
+fn push_locals(locals: &mut Vec<u32>, script: &[Segment])
+    requires room { vec_len locals.old + length script.now ≤ vec_capacity locals.old }
+    requires listed { list_all is_listed_segment (map segment_seen script.now) ≡ true }
+    ensures { locals.new.items ≡ locals.old.items ++ map (λ s. s.local) (map segment_seen script.now) }
+{
+    for segment in script {
+        locals.push_reserved(local_of(segment));
+    }
+}
+
+fn push_ticks(ticks: &mut Vec<u32>, script: &[Segment])
+    requires room { vec_len ticks.old + length script.now ≤ vec_capacity ticks.old }
+    requires listed { list_all is_listed_segment (map segment_seen script.now) ≡ true }
+    ensures { ticks.new.items ≡ ticks.old.items ++ map request_ticks (map segment_seen script.now) }
+{
+    for segment in script {
+        ticks.push_reserved(ticks_of(segment));
+    }
+}
+
+fn push_resources(resources: &mut Vec<u8>, script: &[Segment])
+    requires room { vec_len resources.old + length script.now ≤ vec_capacity resources.old }
+    requires within { list_all (is_resource_in MOST_RESOURCES) (map segment_seen script.now) ≡ true }
+    ensures { resources.new.items ≡ resources.old.items ++ map requested (map segment_seen script.now) }
+{
+    for segment in script {
+        resources.push_reserved(resource_of(segment));
+    }
+}

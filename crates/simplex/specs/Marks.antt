@@ -1,0 +1,34 @@
+-- Marks: by variable the rows that may list it. Row i is bit i mod 64 of word i / 64 of those of the variable.
+use Rattle.std.specs.Prelude.{◌≡◌, ◌≢◌, ℕ, ◌+◌, ◌*◌, ◌/◌, ◌%◌, ◌<◌, ◌≤◌, List, length, slice_index, pos}
+use Rattle.std.specs.Int.{bit_at}
+use Rattle.simplex.specs.Rows.{RowDef, cell_at}
+use Rattle.simplex.specs.Tables.{row_of}
+use Rattle.simplex.specs.declared.marks.RowMarks.{RowMarks}
+
+-- Which word has the bit of row i at variable v?
+abbrev pub word_of : RowMarks → ℕ → ℕ → ℕ
+word_of marks v i = v * marks.words + i / 64
+
+-- Is there such a word?
+abbrev pub HasWord : RowMarks → ℕ → ℕ → Type 0
+HasWord marks v i = word_of marks v i < length marks.bits.items
+
+-- Is row i marked at variable v?
+abbrev pub IsMarked : RowMarks → ℕ → ℕ → Type 0
+IsMarked marks v i = bit_at (slice_index marks.bits.items (word_of marks v i)) (i % 64) ≡ 1
+
+-- Is there a bit for each of so many rows at each of so many variables?
+pub record HaveRoom (variables rows : ℕ) (marks : RowMarks) : Type 0 where
+  pub row_each : rows ≤ 64 * marks.words
+  pub word_each : variables * marks.words ≤ length marks.bits.items
+
+-- Are there as many words as before, and is each row marked where it was?
+pub record AreKept (before after : RowMarks) : Type 0 where
+  pub words : after.words ≡ before.words
+  pub as_many : length after.bits.items ≡ length before.bits.items
+  pub marked : (v i : ℕ) → IsMarked before v i → IsMarked after v i
+
+-- Is each row marked at each variable where its cell isn't zero? It may be marked elsewhere.
+pub record AreMarked (variables : ℕ) (rows : List RowDef) (marks : RowMarks) : Type 0 where
+  pub room : HaveRoom variables (length rows) marks
+  pub marked : (v i : ℕ) → v < variables → i < length rows → (cell_at (row_of rows i) v).num ≢ pos 0 → IsMarked marks v i
