@@ -188,23 +188,36 @@ fn lists(jobs: &JobList, wanted: &[Read]) -> bool {
     true
 }
 
+/// Is each row's job answered so when it is pushed?
+fn are_pushed(
+    alloc: Global,
+    jobs: &mut JobList,
+    rows: &[Read],
+    answer: Result<(), JobRefusal>,
+) -> Result<bool, Fail> {
+    for (task, arrival, release, script) in rows {
+        let job = Job {
+            task: TaskId(*task),
+            arrival: *arrival,
+            release: *release,
+            script: script.to_vec(alloc)?,
+        };
+        if pushed(jobs, job) != Some(answer) {
+            return Ok(false);
+        }
+    }
+    Ok(true)
+}
+
 #[test]
 fn reads_back_each_job_and_segment(rt: HostRuntime) -> Result<(), Fail> {
     let set = set_of(rt.alloc(), LONG)?;
     let mut jobs = JobList::new(rt.alloc(), &set);
     assert!(rt; lists(&jobs, &[]));
-    for (number, (task, arrival, release, script)) in READ.iter().enumerate() {
-        for answer in [Ok(()), Err(JobRefusal::TooClose)] {
-            let job = Job {
-                task: TaskId(*task),
-                arrival: *arrival,
-                release: *release,
-                script: script.to_vec(rt.alloc())?,
-            };
-            assert!(rt; pushed(&mut jobs, job) == Some(answer), "job {number}");
-            assert!(rt; lists(&jobs, &READ[..number + 1]), "job {number}");
-        }
-    }
+    assert!(rt; are_pushed(rt.alloc(), &mut jobs, READ, Ok(()))?);
+    assert!(rt; lists(&jobs, READ));
+    assert!(rt; are_pushed(rt.alloc(), &mut jobs, READ, Err(JobRefusal::TooClose))?);
+    assert!(rt; lists(&jobs, READ));
     Ok(())
 }
 
