@@ -9,7 +9,8 @@ It wants `rt` on the path. The others are measured where they are installed, and
             solving alone; and `glpsol` of the package glpk-utils with --exact
     qsopt   `esolver` of the package qsopt-ex, which is exact
 `glpsol` and `esolver` are timed as processes, less the time of a process that solves one column: such a difference is as uneven as the
-starts of processes are, some ten milliseconds for all programs of the file. Of each program the least of three times counts.
+starts of processes are, some ten milliseconds for all programs of the file. Of each program the least of three times counts, for us and
+for GLPK in floating point of three solutions in one process, for the others of three processes.
 Where `cc` is installed the memory that the exchanges take is counted too: the allocations of a run that stops before its last exchange,
 less those of one that stops before its first, and beside it the same for the whole run with its answer.
 The program that solves is built in a temporary directory; building proves it and the crates below it, which takes some minutes.
@@ -29,7 +30,7 @@ from pathlib import Path
 from commands import TOP, run
 from program_lines import as_line, read
 
-CRATES = ["number_laws", "bounded_sums", "fraction128", "program_form", "exchange_runs", "simplex"]
+CRATES = ["number_laws", "bounded_sums", "fraction128", "program_form", "exchange_runs", "small_runs", "row_marks", "whole_rows", "whole_runs", "simplex"]
 UNITS = 1_000_000
 TRIES = 3
 
@@ -77,9 +78,9 @@ def largest():
     return costs, rows
 
 
-def numbers(programs, units):
-    """The units and the programs as the numbers that our program reads."""
-    words = [units, len(programs)]
+def numbers(programs, units, tries):
+    """The units, how often each program is solved, and the programs, as the numbers that our program reads."""
+    words = [units, tries, len(programs)]
     for costs, rows in programs:
         words += [len(costs), len(rows), *costs]
         for _, entries in rows:
@@ -105,7 +106,7 @@ def build(folder):
     lines = [line for line in (TOP / "crates.txt").read_text().splitlines() if line.split(":")[0] in CRATES]
     (folder / "crates.txt").write_text("\n".join(lines) + "\nsolver_bench: simplex program_form fraction128\n")
     # the run that builds it finds no program
-    (crate / "numbers.txt").write_text("0 0")
+    (crate / "numbers.txt").write_text("0 0 0")
     run(["rt", "run"], crate)
     return crate / "out" / "solver_bench"
 
@@ -177,7 +178,7 @@ def least(solver):
 
 def allocations(program, folder, programs, units):
     """How many times a run of the programs with so many units takes memory."""
-    (folder / "numbers.txt").write_text(numbers(programs, units))
+    (folder / "numbers.txt").write_text(numbers(programs, units, 1))
     environment = {**os.environ, "LD_PRELOAD": str(folder / "counter.so"), "COUNTED": str(folder / "counted.txt")}
     subprocess.run([program], cwd=folder, env=environment, capture_output=True, check=True)
     return int((folder / "counted.txt").read_text())
@@ -211,8 +212,8 @@ def compare(name, ours, theirs, exact):
 
 
 def measure(program, folder, programs):
-    (folder / "numbers.txt").write_text(numbers(programs, UNITS))
-    ours = least(lambda: solve_ours(program, folder))
+    (folder / "numbers.txt").write_text(numbers(programs, UNITS, TRIES))
+    ours = solve_ours(program, folder)
     solved = [i for i, answer in enumerate(ours) if answer[0] is not None]
     exchanges = sum(ours[i][1] for i in solved)
     print(f"{len(programs)} programs, {len(solved)} solved by {exchanges} exchanges, {len(programs) - len(solved)} wide")

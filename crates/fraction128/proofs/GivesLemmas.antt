@@ -1,7 +1,7 @@
 -- From what `ratio` gives of an unreduced value to what the operation gives.
-use Rattle.std.proofs.Common.{◌≡◌, ℤ, pos, subst, ◌+ℤ◌, ◌-ℤ◌, ◌*ℤ◌, neg_ℤ, Result, Ok, Err, ap, ◌∙◌, sym, arith}
+use Rattle.std.proofs.Common.{◌≡◌, ℤ, ◌+ℤ◌, ◌-ℤ◌, ◌*ℤ◌, neg_ℤ, Result, Ok, Err, ap, ◌∙◌, sym, arith}
 use Rattle.std.proofs.lemmas.Int.{ints}
-use Rattle.number_laws.proofs.Ring.{mul-comm, mul-neg_left, mul-neg_right, mul-one, one-mul}
+use Rattle.number_laws.proofs.Ring.{mul-comm, mul-neg_left, mul-neg_right}
 use Rattle.fraction128.specs.Fraction.{Fraction, IsSame, IsSum, IsDifference, IsProduct, IsQuotient, over}
 use Rattle.fraction128.specs.Gives.{Gives}
 use Rattle.fraction128.specs.declared.Wide.{Wide}
@@ -39,10 +39,3 @@ turned_back x n d y h = mul-neg_right x d ∙ (ap neg_ℤ h ∙ sym (mul-neg_lef
 pub gives_turned : (r : Result Fraction Wide) (n d : ℤ) → Gives r (IsSame (over (neg_ℤ n) (neg_ℤ d))) → Gives r (IsSame (over n d))
 gives_turned (Ok f) n d h = (h.0, record { same = turned f.num n d f.den h.1.same })
 gives_turned (Err w) n d h = λ f form is. h f form (record { same = turned_back f.num n d f.den is.same })
-
--- a denominator times one
-pub gives_over_whole : (r : Result Fraction Wide) (n d e : ℤ) → e ≡ pos 1 → Gives r (IsSame (over n d)) → Gives r (IsSame (over n (d *ℤ e)))
-gives_over_whole r n d e one h = subst (λ (z : ℤ). Gives r (IsSame (over n z))) (sym (ap (λ z. d *ℤ z) one ∙ mul-one d)) h
-
-pub gives_whole_over : (r : Result Fraction Wide) (n d e : ℤ) → e ≡ pos 1 → Gives r (IsSame (over n d)) → Gives r (IsSame (over n (e *ℤ d)))
-gives_whole_over r n d e one h = subst (λ (z : ℤ). Gives r (IsSame (over n z))) (sym (ap (λ z. z *ℤ d) one ∙ one-mul d)) h

@@ -6,5 +6,3 @@ pub mod OrderLemmas
 pub mod Forms
 pub mod ScalingLemmas
 pub mod OddParts
-pub mod Less
-pub mod Wholes

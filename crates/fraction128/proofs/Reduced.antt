@@ -1,16 +1,13 @@
 -- What dividing by the greatest common divisor makes of a fraction.
 use Rattle.std.proofs.Common.{◌≡◌, ℕ, zero, suc, ◌*◌, ◌/◌, ◌<◌, ◌^◌, ℤ, pos, negsuc, ◌*ℤ◌, ◌≤ℤ◌, ◌<ℤ◌}
-use Rattle.std.proofs.Common.{inl, inr, ◌⊎◌, ◌+◌, ◌-◌, ◌+ℤ◌, ◌-ℤ◌, unsigned_abs, ap, ◌∙◌, sym, subst, refl, arith}
-use Rattle.std.proofs.lemmas.Bool.{cases_lt}
-use Rattle.std.proofs.Math.Nat.{dvd-add, dvd-sub, dvd-mul_left, eq_of_mul-eq-mul_right}
-use Rattle.std.proofs.lemmas.Nat.Gcd.{dvd_trans}
+use Rattle.std.proofs.Common.{unsigned_abs, ap, ◌∙◌, sym, subst, refl, arith}
+use Rattle.std.proofs.Math.Nat.{eq_of_mul-eq-mul_right}
 use Rattle.std.specs.Int.{IsGcd, ◌∣◌}
 use Rattle.std.proofs.lemmas.Int.{ints, unsigned_abs-mul}
 use Rattle.std.proofs.Math.Nat.{eq-one_of_dvd-one, div-mul_cancel, pos_of_dvd_of_pos, dvd-mul_right}
 use Rattle.number_laws.proofs.Order.{above_zero}
 use Rattle.number_laws.specs.Divisors.{IsCoprime}
 use Rattle.number_laws.proofs.Divisors.{parts_apart, coprime_of_gcd, lowest_terms_once}
-use Rattle.number_laws.proofs.Ring.{mul-one}
 use Rattle.fraction128.specs.Fraction.{Fraction, IsForm, IsSame, over}
 use Rattle.fraction128.specs.LowestTerms.{IsLowest, signed}
 use Rattle.fraction128.proofs.Unique.{size_positive}
@@ -80,70 +77,3 @@ reduced_by_one a b g pb one h =
 pub whole_is_lowest : (a b : ℕ) → b ≡ 1 → IsLowest a b a b
 whole_is_lowest a b one =
     record { same = refl; positive = omega arith; lowest = λ d p q. eq-one_of_dvd-one (subst (λ (n : ℕ). d ∣ n) one q) }
-
--- the size of a sum
-sizes : (x y : ℤ) → (unsigned_abs (x +ℤ y) ≡ unsigned_abs x + unsigned_abs y)
-    ⊎ ((unsigned_abs (x +ℤ y) ≡ unsigned_abs x - unsigned_abs y) ⊎ (unsigned_abs (x +ℤ y) ≡ unsigned_abs y - unsigned_abs x))
-sizes (pos a) (pos b) = inl (omega (arith, ints))
-sizes (negsuc a) (negsuc b) = inl (omega (arith, ints))
-sizes (pos a) (negsuc b) = elim (cases_lt a (suc b)) [
-  | inl l ↦ inr (inr (omega (arith, ints)))
-  | inr l ↦ inr (inl (omega (arith, ints)))
-]
-sizes (negsuc a) (pos b) = elim (cases_lt b (suc a)) [
-  | inl l ↦ inr (inl (omega (arith, ints)))
-  | inr l ↦ inr (inr (omega (arith, ints)))
-]
-
--- a common divisor of two sizes divides the size of the sum
-dvd_sum : (k : ℕ) (x y : ℤ) → k ∣ unsigned_abs x → k ∣ unsigned_abs y → k ∣ unsigned_abs (x +ℤ y)
-dvd_sum k x y h l = elim (sizes x y) [
-  | inl q ↦ subst (λ (n : ℕ). k ∣ n) (sym q) (dvd-add k h l)
-  | inr q ↦ elim q [
-    | inl less ↦ subst (λ (n : ℕ). k ∣ n) (sym less) (dvd-sub k h l)
-    | inr more ↦ subst (λ (n : ℕ). k ∣ n) (sym more) (dvd-sub k l h)
-  ]
-]
-
--- a multiple of the denominator taken away leaves lowest terms
-pub coprime_less : (n m d : ℤ) → IsCoprime (unsigned_abs n) (unsigned_abs d)
-    → IsCoprime (unsigned_abs (n -ℤ (m *ℤ d))) (unsigned_abs d)
-coprime_less n m d h k p q =
-    let multiple : k ∣ unsigned_abs (m *ℤ d)
-    = subst (λ (x : ℕ). k ∣ x) (sym (unsigned_abs-mul m d)) (dvd_trans k q (dvd-mul_left (unsigned_abs d) (unsigned_abs m))) in
-    h k (subst (λ (z : ℤ). k ∣ unsigned_abs z) (back n (m *ℤ d)) (dvd_sum k (n -ℤ (m *ℤ d)) (m *ℤ d) p multiple)) q
-  where
-    back : (a b : ℤ) → (a -ℤ b) +ℤ b ≡ a
-    back a b = omega (arith, ints)
-
--- over one all are lowest terms
-pub coprime_one : (n d : ℤ) → d ≡ pos 1 → IsCoprime (unsigned_abs n) (unsigned_abs d)
-coprime_one n d one k p q = eq-one_of_dvd-one (subst (λ (z : ℤ). k ∣ unsigned_abs z) one q)
-
--- so are those times 1 or -1
-pub coprime_unit : (n m d : ℤ) → unsigned_abs m ≡ 1 → IsCoprime (unsigned_abs n) (unsigned_abs d)
-    → IsCoprime (unsigned_abs (n *ℤ m)) (unsigned_abs d)
-coprime_unit n m d one h =
-    let same : unsigned_abs (n *ℤ m) ≡ unsigned_abs n = unsigned_abs-mul n m ∙ (ap (λ x. unsigned_abs n * x) one ∙ omega arith) in
-    subst (λ (x : ℕ). IsCoprime x (unsigned_abs d)) (sym same) h
-
-pub coprime_times_unit : (m n d : ℤ) → unsigned_abs m ≡ 1 → IsCoprime (unsigned_abs n) (unsigned_abs d)
-    → IsCoprime (unsigned_abs (m *ℤ n)) (unsigned_abs d)
-coprime_times_unit m n d one h =
-    let same : unsigned_abs (m *ℤ n) ≡ unsigned_abs n = unsigned_abs-mul m n ∙ (ap (λ x. x * unsigned_abs n) one ∙ omega arith) in
-    subst (λ (x : ℕ). IsCoprime x (unsigned_abs d)) (sym same) h
-
--- lowest terms whose numerator is too wide leave no form
-pub no_lowest_form : (n d : ℤ) → pos 0 <ℤ d → IsCoprime (unsigned_abs n) (unsigned_abs d) → (unsigned_abs n < 2 ^ 63 → ⊥)
-    → (f : Fraction) → IsForm f → IsSame (over n d) f → ⊥
-no_lowest_form n d above lowest wide =
-    no_form n d (unsigned_abs n) (unsigned_abs d) (omega (arith, ints))
-    (record { same = refl; positive = size_positive d above; lowest = lowest }) (λ small. wide small.0)
-
--- the same for the numerator that a difference has
-pub coprime_whole_taken : (a b : Fraction) → b.den ≡ pos 1 → IsCoprime (unsigned_abs a.num) (unsigned_abs a.den)
-    → IsCoprime (unsigned_abs ((a.num *ℤ b.den) -ℤ (b.num *ℤ a.den))) (unsigned_abs a.den)
-coprime_whole_taken a b one h =
-    let own : a.num *ℤ b.den ≡ a.num = ap (λ z. a.num *ℤ z) one ∙ mul-one a.num in
-    subst (λ (z : ℤ). IsCoprime (unsigned_abs (z -ℤ (b.num *ℤ a.den))) (unsigned_abs a.den)) (sym own)
-    (coprime_less a.num b.num a.den h)

@@ -17,18 +17,19 @@ pub(crate) fn gcd(a: u128, b: u128) -> u128
         y = rest;
     }
     if x <= MOST_SMALL {
-        return gcd_small(x as u64, y as u64) as u128;
+        return greatest_common_divisor(x as u64, y as u64) as u128;
     }
     if y == 0 {
         return x;
     }
-    gcd_small(y as u64, (x % y) as u64) as u128
+    greatest_common_divisor(y as u64, (x % y) as u64) as u128
 }
 
-// The same over 64 bits, by shifts in place of divisions: factors of 2 are taken off, and the fewer of them put back.
-fn gcd_small(a: u64, b: u64) -> u64
+/// The greatest common divisor of two sizes. That of 0 and another is the other.
+pub fn greatest_common_divisor(a: u64, b: u64) -> u64
     ensures { IsGcd a b result }
 {
+    // by shifts in place of divisions: factors of 2 are taken off, and the fewer of them put back
     if a == 0 {
         return b;
     }

@@ -1,12 +1,10 @@
 //! Exact fractions of two 64-bit parts. Each operation gives the exact value in lowest terms, or `Wide` exactly where those
 //! lowest terms don't fit. It forms the unreduced value in 128 bits, which always hold it, and divides once by the greatest
-//! common divisor, but where the terms are lowest as they stand. Whole numbers are multiplied and subtracted in 64 bits.
-//! Nothing here takes memory but `scale`.
+//! common divisor. Nothing here takes memory but `scale`.
 #![tactic(auto)]
 
 ghost use Rattle.std.specs.Prelude.{◌≡◌, ◌≢◌, ℕ, ◌<◌, ◌^◌, pos, ◌*ℤ◌, ◌≤ℤ◌, ◌<ℤ◌, neg_ℤ, unsigned_abs, IsTrue, ◌↔◌};
 ghost use Rattle.std.specs.Ordering.{MatchOrdering};
-ghost use Rattle.number_laws.specs.Divisors.{IsCoprime};
 ghost use Rattle.fraction128.specs.Fraction.{IsForm};
 
 use std::cmp::Ordering;
@@ -17,12 +15,11 @@ use thiserror::Error;
 mod divisor;
 mod laws;
 mod scaling;
-mod whole;
 
+pub use divisor::greatest_common_divisor;
 use divisor::{reduce, with_sign_of};
 pub use laws::{least_decides, one_answer, order_is_total};
 pub use scaling::{Scaled, ScalingError, common_denominator, scale};
-use whole::{whole_difference, whole_product};
 
 /// The exact value has no form: its lowest terms pass 2^63 - 1.
 #[derive(Clone, Copy, Debug, PartialEq, Eq, Error)]
@@ -56,7 +53,7 @@ pub(crate) const MOST: u128 = i64::MAX as u128;
 impl Frac {
     ghost use Rattle.fraction128.specs.Fraction.{over, whole, IsSame, IsSum, IsDifference, IsProduct, IsQuotient};
     ghost use Rattle.fraction128.specs.Fraction.{IsAtMost, IsBelow, IsFloor};
-    ghost use Rattle.fraction128.specs.Gives.{Gives, GivesLess};
+    ghost use Rattle.fraction128.specs.Gives.{Gives};
     ghost use Rattle.fraction128.specs.Order.{value_cmp};
 
     /// num / den; Wide where its lowest terms don't fit.
@@ -72,23 +69,11 @@ impl Frac {
     }
 
     // The fraction of these very parts.
-    pub(crate) fn of_parts(num: i64, den: i64) -> Frac
+    fn of_parts(num: i64, den: i64) -> Frac
         requires { IsForm (over num den) }
         ensures { result ≡ over num den }
     {
         Frac { num, den }
-    }
-
-    // num over the denominator of another, with which it has no common divisor; Wide where it doesn't fit.
-    fn over_same(num: i128, other: Frac) -> Result<Frac, Wide>
-        requires { IsCoprime (unsigned_abs num) (unsigned_abs other.den) }
-        ensures { Gives result (IsSame (over num other.den)) }
-    {
-        let den = other.den;
-        if num.unsigned_abs() > MOST {
-            return Err(Wide);
-        }
-        Ok(Frac::of_parts(num as i64, den))
     }
 
     /// The whole number n, below 2^63.
@@ -126,92 +111,18 @@ impl Frac {
     pub fn sub(self, other: Frac) -> Result<Frac, Wide>
         ensures { Gives result (IsDifference self other) }
     {
-        let top = cross(self, other) - cross(other, self);
-        // a whole number taken away leaves lowest terms
-        if other.is_whole() {
-            return Frac::over_same(top, self);
-        }
-        Frac::ratio(top, dens(self, other))
+        Frac::ratio(cross(self, other) - cross(other, self), dens(self, other))
     }
 
     /// The product; Wide where its lowest terms don't fit.
     pub fn mul(self, other: Frac) -> Result<Frac, Wide>
         ensures { Gives result (IsProduct self other) }
     {
-        if are_whole(self, other) {
-            return whole_product(self, other);
-        }
-        self.times_any(other)
-    }
-
-    // The product of any two. It is long, and two whole numbers don't come here.
-    #[inline(never)]
-    fn times_any(self, other: Frac) -> Result<Frac, Wide>
-        ensures { Gives result (IsProduct self other) }
-    {
-        let top = nums(self, other);
-        // 1 and -1 leave lowest terms
-        if other.is_unit() {
-            return Frac::over_same(top, self);
-        }
-        if self.is_unit() {
-            return Frac::over_same(top, other);
-        }
-        Frac::ratio(top, dens(self, other))
-    }
-
-    /// What is left when the product of `f` and `y` is taken away; Wide where the lowest terms of the product or of the difference don't
-    /// fit.
-    pub fn less_product(self, f: Frac, y: Frac) -> Result<Frac, Wide>
-        ensures { GivesLess result self f y }
-    {
-        if self.is_whole() && are_whole(f, y) {
-            let product = whole_product(f, y)?;
-            return whole_difference(self, product);
-        }
-        self.less_any(f, y)
-    }
-
-    // The same of any three. It is long, and three whole numbers don't come here.
-    #[inline(never)]
-    fn less_any(self, f: Frac, y: Frac) -> Result<Frac, Wide>
-        ensures { GivesLess result self f y }
-    {
-        // terms of the product that fit as they stand needn't be made the lowest ones; those of whole numbers are
-        if !are_whole(f, y) && fit_as_they_stand(f, y) {
-            return self.less(nums(f, y), dens(f, y));
-        }
-        let product = f.mul(y)?;
-        self.sub(product)
-    }
-
-    // What is left when top / bottom is taken away; Wide where its lowest terms don't fit.
-    fn less(self, top: i128, bottom: i128) -> Result<Frac, Wide>
-        requires positive { pos 1 ≤ℤ bottom }
-        requires top { unsigned_abs top < 2 ^ 63 }
-        requires bottom { unsigned_abs bottom < 2 ^ 63 }
-        ensures { Gives result (IsDifference self (over top bottom)) }
-    {
-        Frac::ratio(
-            times(self.num, bottom) - times(self.den, top),
-            times(self.den, bottom),
-        )
+        Frac::ratio(nums(self, other), dens(self, other))
     }
 
     /// The quotient by a fraction that isn't 0; Wide where its lowest terms don't fit.
     pub fn div(self, other: Frac) -> Result<Frac, Wide>
-        requires { other.num ≢ pos 0 }
-        ensures { Gives result (IsQuotient self other) }
-    {
-        if other.is_one() {
-            return Ok(Frac::of_parts(self.num, self.den));
-        }
-        self.over_any(other)
-    }
-
-    // The quotient by any fraction that isn't 0. It is long, and 1 doesn't come here.
-    #[inline(never)]
-    fn over_any(self, other: Frac) -> Result<Frac, Wide>
         requires { other.num ≢ pos 0 }
         ensures { Gives result (IsQuotient self other) }
     {
@@ -244,27 +155,6 @@ impl Frac {
         ensures { IsTrue result ↔ IsAtMost self other }
     {
         cross(self, other) <= cross(other, self)
-    }
-
-    // Whether this is a whole number.
-    fn is_whole(self) -> bool
-        ensures { IsTrue result ↔ (self.den ≡ pos 1) }
-    {
-        self.den == 1
-    }
-
-    // Whether this is 1.
-    fn is_one(self) -> bool
-        ensures { IsTrue result → (self.num ≡ pos 1) × (self.den ≡ pos 1) }
-    {
-        self.num == 1 && self.den == 1
-    }
-
-    // Whether this is 1 or -1.
-    fn is_unit(self) -> bool
-        ensures { IsTrue result → (unsigned_abs self.num ≡ 1) × (self.den ≡ pos 1) }
-    {
-        self.den == 1 && (self.num == 1 || self.num == -1)
     }
 
     /// Whether this is 0.
@@ -336,21 +226,6 @@ impl fmt::Display for Frac {
     }
 }
 
-// Whether both are whole numbers.
-fn are_whole(a: Frac, b: Frac) -> bool
-    ensures { IsTrue result → (a.den ≡ pos 1) × (b.den ≡ pos 1) }
-{
-    a.den == 1 && b.den == 1
-}
-
-// Whether the terms of the product fit before they are made the lowest ones.
-fn fit_as_they_stand(f: Frac, y: Frac) -> bool
-    ensures num { IsTrue result → unsigned_abs (f.num *ℤ y.num) < 2 ^ 63 }
-    ensures den { IsTrue result → unsigned_abs (f.den *ℤ y.den) < 2 ^ 63 }
-{
-    nums(f, y).unsigned_abs() <= MOST && dens(f, y).unsigned_abs() <= MOST
-}
-
 // The products that the operations are made of. Each part is below 2^63 in size, so 128 bits hold them, and a sum of two.
 
 fn cross(a: Frac, b: Frac) -> i128
@@ -362,18 +237,7 @@ fn cross(a: Frac, b: Frac) -> i128
     a.num as i128 * b.den as i128
 }
 
-fn times(part: i64, n: i128) -> i128
-    requires part { unsigned_abs part < 2 ^ 63 }
-    requires number { unsigned_abs n < 2 ^ 63 }
-    ensures value { result ≡ part *ℤ n }
-    ensures small { unsigned_abs result < 2 ^ 126 }
-{
-    part as i128 * n
-}
-
 fn nums(a: Frac, b: Frac) -> i128
-    ensures left { IsForm a }
-    ensures right { IsForm b }
     ensures value { result ≡ a.num *ℤ b.num }
     ensures small { unsigned_abs result < 2 ^ 126 }
 {

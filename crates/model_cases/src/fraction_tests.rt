@@ -1,7 +1,9 @@
 ghost use Rattle.std.specs.Prelude.{pos, ◌≤ℤ◌};
 
 use crate::threads::may_cross_threads;
-use fraction128::{Frac, Scaled, ScalingError, Wide, common_denominator, scale};
+use fraction128::{
+    Frac, Scaled, ScalingError, Wide, common_denominator, greatest_common_divisor, scale,
+};
 use std::cmp::Ordering;
 use std::process::Abort;
 use std::test::Fail;
@@ -42,21 +44,6 @@ fn ratio_takes_lowest_terms(rt: HostRuntime) {
     for (num, den, want) in RATIOS {
         assert!(rt; *den > 0);
         assert_eq!(rt; parts(Frac::ratio(*num, *den)), *want, "{num}/{den}");
-    }
-}
-
-#[test]
-fn a_product_is_taken_away_where_it_and_the_difference_fit(rt: HostRuntime) {
-    for (a, f, y, want) in [
-        ((1, 2), (1, 3), (3, 4), Some((1, 4))),
-        ((1, 2), (2, 1), (3, 4), Some((-1, 1))),
-        ((5, 6), (1, 1), (1, 2), Some((1, 3))),
-        ((MOST, 1), (1 << 62, 1), (2, 1), None),
-        ((-MOST, 1), (1, 1), (1, 1), None),
-        ((1, MOST), (1, 2), (1, 3), None),
-    ] {
-        let [a, f, y] = [a, f, y].map(|(num, den)| make(&rt, num, den));
-        assert_eq!(rt; parts(a.less_product(f, y)), want, "{a} {f} {y}");
     }
 }
 
@@ -277,6 +264,22 @@ fn scaling_is_wide_past_the_limit(rt: HostRuntime) {
     match scale(rt.alloc(), &[large, quarter]) {
         Ok(_) => assert!(rt; false, "a scaling"),
         Err(error) => assert_eq!(rt; error, ScalingError::Wide),
+    }
+}
+
+/// Two numbers, and their greatest common divisor.
+type Divisor = (u64, u64, u64);
+
+const DIVISORS: &[Divisor] = &[
+    (12, 18, 6),
+    (0, 5, 5),
+    (1 << 63, (1 << 62) + (1 << 61), 1 << 61),
+];
+
+#[test]
+fn greatest_common_divisors(rt: HostRuntime) {
+    for (a, b, want) in DIVISORS {
+        assert_eq!(rt; greatest_common_divisor(*a, *b), *want, "{a} and {b}");
     }
 }
 

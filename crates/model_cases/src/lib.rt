@@ -30,4 +30,6 @@ mod threads;
 #[cfg(test)]
 mod watched;
 #[cfg(test)]
+mod whole_tests;
+#[cfg(test)]
 mod window_tests;

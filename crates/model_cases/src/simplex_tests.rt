@@ -2,7 +2,7 @@ ghost use Rattle.std.specs.Prelude.{◌≡◌, length, vec_len, IfOk};
 
 use crate::threads::may_cross_threads;
 use fraction128::Frac;
-use program_form::Program;
+use program_form::{Dual, Program};
 use simplex::{SolveStop, Solved, solve};
 use std::alloc::{AllocError, Global};
 use std::process::Abort;
@@ -19,7 +19,7 @@ pub(crate) fn rows_of(alloc: Global, rows: &[&[u64]]) -> Result<Vec<Vec<u64>>, A
     Ok(list)
 }
 
-fn program_of(
+pub(crate) fn program_of(
     rt: &impl Abort,
     alloc: Global,
     costs: &[u64],
@@ -40,8 +40,8 @@ fn are_parts(values: &[Frac], parts: &[(i64, i64)]) -> bool {
 }
 
 // A program, and the whole answer to it.
-#[derive(Drop)]
-struct Case<'a> {
+#[derive(Clone, Copy)]
+pub(crate) struct Case<'a> {
     costs: &'a [u64],
     rows: &'a [&'a [u64]],
     limits: &'a [u64],
@@ -49,13 +49,33 @@ struct Case<'a> {
     primal: &'a [(i64, i64)],
     den: u64,
     num: &'a [u64],
-    exchanges: u64,
+    pub(crate) exchanges: u64,
 }
 
 impl Case<'_> {
+    pub(crate) fn program(&self, rt: &impl Abort, alloc: Global) -> Result<Program, AllocError> {
+        program_of(rt, alloc, self.costs, self.rows, self.limits)
+    }
+
+    // The answer is the whole one.
+    pub(crate) fn is_met(
+        &self,
+        rt: &impl Abort,
+        value: Frac,
+        primal: &[Frac],
+        dual: &Dual,
+        exchanges: u64,
+    ) {
+        assert_eq!(rt; (value.num(), value.den()), self.value);
+        assert!(rt; are_parts(primal, self.primal), "the primal");
+        assert_eq!(rt; dual.den, self.den);
+        assert_eq!(rt; dual.num.as_slice(), self.num);
+        assert_eq!(rt; exchanges, self.exchanges);
+    }
+
     // It is answered within one unit more than its exchanges, and within no fewer.
     fn holds(&self, rt: &impl Abort, alloc: Global) -> Result<(), AllocError> {
-        let program = program_of(rt, alloc, self.costs, self.rows, self.limits)?;
+        let program = self.program(rt, alloc)?;
         assert!(rt; self.exchanges < 1000);
         let short = solve(alloc, &program, self.exchanges);
         assert_eq!(rt; short.err(), Some(SolveStop::Units), "a unit short");
@@ -67,52 +87,66 @@ impl Case<'_> {
                 dual,
                 exchanges,
             } = solved;
-            assert_eq!(rt; (value.num(), value.den()), self.value);
-            assert!(rt; are_parts(&primal, self.primal), "the primal");
-            assert_eq!(rt; dual.den, self.den);
-            assert_eq!(rt; dual.num.as_slice(), self.num);
-            assert_eq!(rt; exchanges, self.exchanges);
+            self.is_met(rt, value, &primal, &dual, exchanges);
         }
         Ok(())
     }
 }
 
-#[test]
-fn chained_rows_of_1024(rt: HostRuntime) -> Result<(), AllocError> {
-    let case = Case {
-        costs: &[1, 1, 1],
-        rows: &[&[1024, 0, 0], &[1, 1024, 0], &[0, 1, 1024]],
-        limits: &[1, 1, 1],
-        value: (3143681, 1073741824),
-        primal: &[(1, 1024), (1023, 1048576), (1047553, 1073741824)],
-        den: 1073741824,
-        num: &[1047553, 1047552, 1048576],
-        exchanges: 3,
-    };
-    case.holds(&rt, rt.alloc())
-}
+pub(crate) const CHAINED: Case<'static> = Case {
+    costs: &[1, 1, 1],
+    rows: &[&[1024, 0, 0], &[1, 1024, 0], &[0, 1, 1024]],
+    limits: &[1, 1, 1],
+    value: (3143681, 1073741824),
+    primal: &[(1, 1024), (1023, 1048576), (1047553, 1073741824)],
+    den: 1073741824,
+    num: &[1047553, 1047552, 1048576],
+    exchanges: 3,
+};
+
+pub(crate) const SEVEN_ROWS: Case<'static> = Case {
+    costs: &[3, 2, 2],
+    rows: &[
+        &[1, 0, 0],
+        &[0, 1, 0],
+        &[0, 0, 1],
+        &[3, 2, 0],
+        &[0, 0, 2],
+        &[1, 0, 1],
+        &[0, 1, 0],
+    ],
+    limits: &[1, 1, 1, 4, 3, 1, 1],
+    value: (14, 3),
+    primal: &[(2, 3), (1, 1), (1, 3)],
+    den: 3,
+    num: &[0, 4, 0, 1, 0, 6, 0],
+    exchanges: 4,
+};
+
+// Four primes below 2^20. Each cell fits in lowest terms, but the last row's common denominator becomes their product.
+pub(crate) const FOUR_PRIMES: Case<'static> = Case {
+    costs: &[1048573, 1048571, 1048559, 1048549],
+    rows: &[
+        &[1048573, 0, 0, 0],
+        &[0, 1048571, 0, 0],
+        &[0, 0, 1048559, 0],
+        &[0, 0, 0, 1048549],
+        &[1, 1, 1, 1],
+    ],
+    limits: &[0, 0, 0, 0, 1],
+    value: (0, 1),
+    primal: &[(0, 1), (0, 1), (0, 1), (0, 1)],
+    den: 1,
+    num: &[1, 1, 1, 1, 0],
+    exchanges: 4,
+};
 
 #[test]
-fn seven_rows_over_three_columns(rt: HostRuntime) -> Result<(), AllocError> {
-    let case = Case {
-        costs: &[3, 2, 2],
-        rows: &[
-            &[1, 0, 0],
-            &[0, 1, 0],
-            &[0, 0, 1],
-            &[3, 2, 0],
-            &[0, 0, 2],
-            &[1, 0, 1],
-            &[0, 1, 0],
-        ],
-        limits: &[1, 1, 1, 4, 3, 1, 1],
-        value: (14, 3),
-        primal: &[(2, 3), (1, 1), (1, 3)],
-        den: 3,
-        num: &[0, 4, 0, 1, 0, 6, 0],
-        exchanges: 4,
-    };
-    case.holds(&rt, rt.alloc())
+fn programs_are_answered_whole(rt: HostRuntime) -> Result<(), AllocError> {
+    for case in [CHAINED, SEVEN_ROWS, FOUR_PRIMES] {
+        case.holds(&rt, rt.alloc())?;
+    }
+    Ok(())
 }
 
 #[test]

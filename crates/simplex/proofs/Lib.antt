@@ -1,8 +1,6 @@
 pub mod Cells
 pub mod Listed
 pub mod Merging
-pub mod Marking
-pub mod Columns
 pub mod Dividing
 pub mod Sparse
 pub mod Ratios

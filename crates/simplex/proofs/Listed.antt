@@ -5,7 +5,7 @@ use Rattle.std.proofs.lemmas.Bool.{cases_eq, cases_lt, eq-eqb, ne_eqb}
 use Rattle.std.proofs.lemmas.List.{get_or_at, get_or_read, get_or_default, get_or_append_left, length_push}
 use Rattle.std.proofs.lemmas.Int.{ints}
 use Rattle.fraction128.specs.Fraction.{IsForm, whole}
-use Rattle.simplex.specs.Entries.{listed_at, entry_at, AreSparse, AreBelow, IsSplit, IsNextPlace}
+use Rattle.simplex.specs.Entries.{listed_at, entry_at, AreSparse, AreBelow, IsSplit}
 use Rattle.simplex.specs.declared.entries.Entry.{Entry}
 use Rattle.fraction128.proofs.Forms.{form_of_zero}
 
@@ -186,12 +186,13 @@ behind_from es m v h l b k lk inside = elim (cases_eq k m) [
   | inr later ↦ let first : (entry_at es m).variable < (entry_at es k).variable = h.rise m k (omega arith) inside in omega arith
 ]
 
--- the first of all places whose variable isn't below v splits the list
-pub split_of_next : (es : List Entry) (v next : ℕ) → AreSparse es → IsNextPlace es 0 v next → IsSplit es next v
-split_of_next es v next h is = record {
-  within = is.within;
-  before = λ k l. is.before k (omega arith) l;
-  behind = λ k l inside. behind_from es next v h (omega arith) (is.behind (omega arith)) k l inside;
+-- the entries through one are those of the variables through its own
+pub split_through : (es : List Entry) (k v : ℕ) → AreSparse es → k < length es → (entry_at es k).variable ≡ v → IsSplit es (k + 1) (v + 1)
+split_through es k v h l is = record {
+  within = omega arith;
+  before = below_through es k (v + 1) h l (omega (arith, is));
+  behind = λ m lm inside.
+      let after : (entry_at es k).variable < (entry_at es m).variable = h.rise k m (omega arith) inside in omega (arith, is);
 }
 
 nothing_above : pos 0 ≤ℤ pos 0

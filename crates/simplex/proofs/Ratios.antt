@@ -1,10 +1,9 @@
 -- The least ratio of the rows so far, and one row more.
-use Rattle.std.proofs.Common.{◌≡◌, inl, inr, ℕ, zero, suc, ◌<◌, ◌≤◌, ◌+◌, ◌-◌, pos, ◌<ℤ◌}
-use Rattle.std.proofs.Common.{Option, Some, None, List, length, ap, sym, ◌∙◌, subst, arith}
-use Rattle.std.proofs.lemmas.Int.{ints}
+use Rattle.std.proofs.Common.{◌≡◌, inl, inr, ℕ, ◌<◌, ◌≤◌, ◌+◌, pos, ◌<ℤ◌}
+use Rattle.std.proofs.Common.{Option, Some, None, subst, arith}
 use Rattle.std.proofs.lemmas.Bool.{cases_eq}
 use lib.Signed.{clash_ℤ}
-use Rattle.fraction128.specs.Fraction.{Fraction, IsForm, IsAtMost, IsBelow, IsQuotient, whole}
+use Rattle.fraction128.specs.Fraction.{Fraction, IsForm, IsAtMost, IsBelow, IsQuotient}
 use Rattle.std.specs.Prelude.{IfSome}
 use Rattle.number_laws.proofs.Order.{weaker}
 use Rattle.exchange_runs.specs.Table.{Table}
@@ -13,11 +12,6 @@ use Rattle.fraction128.specs.Gives.{HasNoForm}
 use Rattle.exchange_runs.specs.WideExchange.{IsWideRatio}
 use Rattle.exchange_runs.proofs.Loops.{least_skip}
 use Rattle.simplex.specs.Choice.{IsLeastSoFar}
-use Rattle.simplex.specs.Entries.{entry_at, IsSplit}
-use Rattle.simplex.specs.declared.entries.Entry.{Entry}
-use Rattle.simplex.specs.Rows.{RowDef}
-use Rattle.simplex.specs.Tables.{table_of, IsColumn}
-use Rattle.simplex.proofs.Listed.{split_gap}
 
 -- the lesser ratio comes first, whatever the basic variables are
 pub below_comes : (g f : Fraction) (j i : ℕ) → IsBelow g f → IsAtMost g f × (IsAtMost f g → j ≤ i)
@@ -31,31 +25,6 @@ no_more place t e i None so_far not = λ k l above. elim (cases_eq k i) [
   | inr other ↦ so_far k (omega arith) above
 ]
 no_more place t e i (Some best) so_far not = least_skip place t e i best.0 best.1 so_far not
-
-zero_not_above : (f : Fraction) → f ≡ whole (pos 0) → pos 0 <ℤ f.num → ⊥
-zero_not_above f is h =
-    let none : f.num ≡ pos 0 = ap (λ (x : Fraction). x.num) is in
-    omega (arith, ints)
-
--- nor do those up to another whose cells are zero
-no_more_zeros : (n place : ℕ) (t : Table) (e k v : ℕ) (best : Option (ℕ × Fraction)) → IsLeastSoFar place t e k best → v ≡ k + n
-    → ((i : ℕ) → k ≤ i → i < v → t.cell i e ≡ whole (pos 0)) → IsLeastSoFar place t e v best
-no_more_zeros zero place t e k v best h far none =
-    let here : v ≡ k = omega (arith, far) in
-    rw here h
-no_more_zeros (suc n) place t e k v best h far none =
-    let own = none k (omega arith) (omega (arith, far)) in
-    no_more_zeros n place t e (k + 1) v best (no_more place t e k best h (λ has. zero_not_above (t.cell k e) own has.above))
-    (omega (arith, far)) (λ i l. none i (omega arith))
-
--- nor all before the next that the column lists
-pub no_more_before : (place : ℕ) (rows : List RowDef) (basis : List ℕ) (column : List Entry) (e j k v : ℕ)
-    (best : Option (ℕ × Fraction)) → IsColumn rows e column → IsSplit column j k → IsLeastSoFar place (table_of rows basis) e k best
-    → k ≤ v → v ≤ length rows → (j < length column → v ≤ (entry_at column j).variable)
-    → IsLeastSoFar place (table_of rows basis) e v best
-no_more_before place rows basis column e j k v best is split h order within next =
-    no_more_zeros (v - k) place (table_of rows basis) e k v best h (omega arith)
-    (λ i l li. sym (is.each i (omega arith)) ∙ split_gap column j k v i is.sparse split l li next)
 
 -- a ratio, and that there is one, at the cells that were read
 pub ratio_read : (place : ℕ) (t : Table) (e i : ℕ) (a b f : Fraction) → a ≡ t.cell i place → b ≡ t.cell i e → IsForm f

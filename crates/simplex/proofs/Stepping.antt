@@ -1,14 +1,13 @@
 -- An exchange of the rows, as one of the table.
-use Rattle.std.proofs.Common.{◌≢◌, inl, inr, ℕ, ◌<◌, ℤ, pos, ◌<ℤ◌, length, List, set, Err, ◌∙◌, arith, get_or-set_same}
+use Rattle.std.proofs.Common.{◌≢◌, inl, inr, ℕ, ◌<◌, ℤ, pos, ◌<ℤ◌, List, set, Err, ◌∙◌, arith, get_or-set_same}
 use Rattle.std.proofs.Common.{get_or-set_other, length-set}
 use Rattle.std.proofs.lemmas.Bool.{cases_eq}
 use Rattle.std.proofs.lemmas.Int.{ints}
-use Rattle.simplex.specs.Entries.{listed_at}
-use Rattle.simplex.specs.declared.entries.Entry.{Entry}
+use Rattle.exchange_runs.specs.Table.{Table}
 use Rattle.program_form.specs.Program.{ProgramDef, height}
 use Rattle.exchange_runs.specs.Exchange.{IsEntering, HasRatio, IsLeaving, IsExchange}
-use Rattle.simplex.specs.Rows.{RowDef, cell_at}
-use Rattle.simplex.specs.Tables.{row_of, table_of, IsColumn, HasSize}
+use Rattle.simplex.specs.Rows.{RowDef}
+use Rattle.simplex.specs.Tables.{table_of, HasSize}
 use Rattle.simplex.specs.Exchanges.{AreExchanged, ExchangesIn, Steps}
 use Rattle.simplex.specs.declared.SolveStop.{SolveStop}
 use Rattle.simplex.specs.declared.SolveStop.TheVariants.{Memory, Wide, Units}
@@ -48,11 +47,9 @@ step_done p e r rows rows' basis size enters leaves h =
       ),
     )
 
--- the cell of the leaving row in the column isn't zero
-pub pivot_apart : (rows : List RowDef) (basis : List ℕ) (column : List Entry) (e r : ℕ) → IsColumn rows e column
-    → r < length rows → HasRatio (table_of rows basis) e r
-    → (listed_at column r).num ≢ pos 0
-pivot_apart rows basis column e r is l has = rw (is.each r l) (apart (cell_at (row_of rows r) e).num has.above)
+-- the cell of the leaving row at the entering variable isn't zero
+pub pivot_apart : (t : Table) (e r : ℕ) → HasRatio t e r → (t.cell r e).num ≢ pos 0
+pivot_apart t e r has = apart (t.cell r e).num has.above
   where
     apart : (z : ℤ) → pos 0 <ℤ z → z ≢ pos 0
     apart z h q = omega (arith, ints)

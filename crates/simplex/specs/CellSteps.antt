@@ -1,5 +1,5 @@
 -- What the steps of an exchange answer at one cell, and at a list of nonzero cells.
-use Rattle.std.specs.Prelude.{◌≡◌, ◌≢◌, ◌⊎◌, ℕ, ◌<◌, List, [], ◌∷◌, ◌++◌, length, pos, Result, Ok, Err}
+use Rattle.std.specs.Prelude.{◌≡◌, ◌≢◌, ◌⊎◌, ℕ, ◌<◌, List, [], ◌∷◌, ◌++◌, pos, Result, Ok, Err}
 use Rattle.std.specs.Global.{Global}
 use Rattle.std.specs.declared.vec.Vec.{Vec}
 use Rattle.fraction128.specs.Fraction.{Fraction, IsQuotient}
@@ -18,16 +18,17 @@ TakesCell (Err w) a f y = IsWideLess a f y
 
 -- Is `divided` the list with each value divided?
 pub record AreDivided (entries : List Entry) (by : Fraction) (divided : List Entry) : Type 0 where
-  pub as_many : length divided ≡ length entries
   pub sparse : AreSparse divided
   pub below : (end : ℕ) → AreBelow end entries → AreBelow end divided
   pub quotient : (v : ℕ) → IsQuotient (listed_at entries v) by (listed_at divided v)
 
 -- Each value divided, or Wide exactly where a quotient has no form.
-abbrev pub DividesAll : Result (Unit {0}) Wide → List Entry → Fraction → List Entry → Type 0
-DividesAll (Ok u) entries by divided = AreDivided entries by divided
-DividesAll (Err w) entries by divided =
+abbrev pub DividesAll : Result (Vec Entry Global) SolveStop → List Entry → Fraction → Type 0
+DividesAll (Ok divided) entries by = AreDivided entries by divided.items
+DividesAll (Err Memory) entries by = Unit {0}
+DividesAll (Err WideStop) entries by =
     (v : ℕ) × ((end : ℕ) → AreBelow end entries → v < end) × HasNoForm (IsQuotient (listed_at entries v) by)
+DividesAll (Err Units) entries by = ⊥
 
 -- Is `after` the list with one more cell behind the others, which gets no entry where it is zero?
 abbrev pub IsPushed : List Entry → ℕ → Fraction → List Entry → Type 0

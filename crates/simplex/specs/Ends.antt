@@ -7,17 +7,10 @@ use Rattle.program_form.specs.declared.certificate.Dual.{Dual}
 use Rattle.exchange_runs.specs.Table.{Table}
 use Rattle.exchange_runs.specs.Readings.{minus, IsWrittenDual, IsWideEnd, IsReadOff}
 use Rattle.fraction128.specs.Scaling.{fraction_at}
-use Rattle.simplex.specs.declared.entries.Entry.{Entry}
-use Rattle.simplex.specs.Entries.{listed_at}
 use Rattle.simplex.specs.Rows.{RowDef, cell_at}
 use Rattle.simplex.specs.declared.Solved.{Solved}
 use Rattle.simplex.specs.declared.SolveStop.{SolveStop}
 use Rattle.simplex.specs.declared.SolveStop.TheVariants.{Memory, Wide, Units}
-
--- Are these minus what is listed at the n variables from `first` on?
-pub record AreMinusListed (entries : List Entry) (first n : ℕ) (list : List Fraction) : Type 0 where
-  pub as_many : length list ≡ n
-  pub each : (r : ℕ) → r < n → fraction_at list r ≡ minus (listed_at entries (first + r))
 
 -- Are these minus the n cells of the row from place `first` on?
 pub record AreMinus (row : RowDef) (first n : ℕ) (list : List Fraction) : Type 0 where

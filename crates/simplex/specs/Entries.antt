@@ -34,12 +34,10 @@ abbrev pub IsAt : Bool → List Entry → ℕ → ℕ → Type 0
 IsAt true entries k v = (k < length entries) × ((entry_at entries k).variable ≡ v)
 IsAt false entries k v = k < length entries → (entry_at entries k).variable ≢ v
 
--- Is `next` the first place from i on whose variable isn't below v, or the end of the list?
-pub record IsNextPlace (entries : List Entry) (i v next : ℕ) : Type 0 where
-  pub order : i ≤ next
-  pub within : next ≤ length entries
-  pub before : (k : ℕ) → i ≤ k → k < next → (entry_at entries k).variable < v
-  pub behind : next < length entries → v ≤ (entry_at entries next).variable
+-- Is v the variable of the entry behind so many others, or `end` behind the last one?
+pub record IsBehind (entries : List Entry) (count end v : ℕ) : Type 0 where
+  pub listed : count < length entries → v ≡ (entry_at entries count).variable
+  pub past : length entries ≤ count → v ≡ end
 
 -- The first variable whose listed value is above zero, or None where there is none.
 abbrev pub IsFirstListed : Option ℕ → List Entry → Type 0

@@ -5,26 +5,24 @@ use Rattle.exchange_runs.specs.Table.{variables}
 use Rattle.exchange_runs.specs.Exchange.{IsExchange, IsLeaving}
 use Rattle.fraction128.specs.Gives.{IsWideLess}
 use Rattle.exchange_runs.specs.WideExchange.{IsWideRatio, IsWideStep}
-use Rattle.simplex.specs.Entries.{listed_at}
-use Rattle.simplex.specs.declared.entries.Entry.{Entry}
 use Rattle.simplex.specs.Rows.{RowDef, cell_at}
 use Rattle.simplex.specs.Tables.{row_of, table_of, HasSize}
 use Rattle.simplex.specs.RowSteps.{IsDividedRow, IsLeftRow}
 use Rattle.simplex.specs.declared.SolveStop.{SolveStop}
 use Rattle.simplex.specs.declared.SolveStop.TheVariants.{Memory, Wide, Units}
 
--- Has each row but r lost its cell in the column times the pivot row?
-pub record AreTaken (before after : List RowDef) (column : List Entry) (r : ℕ) (pivot : RowDef) : Type 0 where
+-- Has each row but r lost its cell at e times the pivot row?
+pub record AreTaken (before after : List RowDef) (e r : ℕ) (pivot : RowDef) : Type 0 where
   pub as_many : length after ≡ length before
-  pub taken : (i : ℕ) → i < length before → i ≢ r → IsLeftRow (row_of before i) (listed_at column i) pivot (row_of after i)
+  pub taken : (i : ℕ) → i < length before → i ≢ r → IsLeftRow (row_of before i) (cell_at (row_of before i) e) pivot (row_of after i)
 
 -- The rows so, or Wide exactly where a product or a difference has no form.
-abbrev pub TakesAll : Result (Unit {0}) SolveStop → List RowDef → List RowDef → List Entry → ℕ → RowDef → Type 0
-TakesAll (Ok u) before after column r pivot = AreTaken before after column r pivot
-TakesAll (Err Memory) before after column r pivot = Unit {0}
-TakesAll (Err Wide) before after column r pivot =
-    (i : ℕ) × (v : ℕ) × (i < length before) × (i ≢ r) × IsWideLess (cell_at (row_of before i) v) (listed_at column i) (cell_at pivot v)
-TakesAll (Err Units) before after column r pivot = ⊥
+abbrev pub TakesAll : Result (Unit {0}) SolveStop → List RowDef → List RowDef → ℕ → ℕ → RowDef → Type 0
+TakesAll (Ok u) before after e r pivot = AreTaken before after e r pivot
+TakesAll (Err Memory) before after e r pivot = Unit {0}
+TakesAll (Err Wide) before after e r pivot = (i : ℕ) × (v : ℕ) × (i < length before) × (i ≢ r)
+    × IsWideLess (cell_at (row_of before i) v) (cell_at (row_of before i) e) (cell_at pivot v)
+TakesAll (Err Units) before after e r pivot = ⊥
 
 -- Is row r divided by its cell at e, and has each other row lost its cell at e times the new row r?
 pub record AreExchanged (before after : List RowDef) (e r : ℕ) : Type 0 where

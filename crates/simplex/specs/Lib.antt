@@ -2,7 +2,6 @@ pub mod Entries
 pub mod Rows
 pub mod RowView
 pub mod Tables
-pub mod Marks
 pub mod CellSteps
 pub mod RowSteps
 pub mod Choice

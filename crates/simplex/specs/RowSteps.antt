@@ -2,7 +2,6 @@
 use Rattle.std.specs.Prelude.{◌≡◌, ℕ, Result, Ok, Err}
 use Rattle.fraction128.specs.Fraction.{Fraction, IsForm, IsQuotient}
 use Rattle.fraction128.specs.Gives.{HasNoForm, IsWideLess}
-use Rattle.fraction128.specs.declared.Wide.{Wide as WideValue}
 use Rattle.exchange_runs.specs.Exchange.{IsLess}
 use Rattle.simplex.specs.Rows.{RowDef, places, cell_at}
 use Rattle.simplex.specs.declared.SolveStop.{SolveStop}
@@ -15,9 +14,11 @@ pub record IsDividedRow (row : RowDef) (by : Fraction) (divided : RowDef) : Type
   pub quotient : (v : ℕ) → IsQuotient (cell_at row v) by (cell_at divided v)
 
 -- The row divided, or Wide exactly where a quotient has no form.
-abbrev pub DividesRow : Result RowDef WideValue → RowDef → Fraction → Type 0
+abbrev pub DividesRow : Result RowDef SolveStop → RowDef → Fraction → Type 0
 DividesRow (Ok divided) row by = IsDividedRow row by divided
-DividesRow (Err w) row by = (v : ℕ) × HasNoForm (IsQuotient (cell_at row v) by)
+DividesRow (Err Memory) row by = Unit {0}
+DividesRow (Err Wide) row by = (v : ℕ) × HasNoForm (IsQuotient (cell_at row v) by)
+DividesRow (Err Units) row by = ⊥
 
 -- Is `left` what is left of the row when f times the pivot row is taken away?
 pub record IsLeftRow (row : RowDef) (f : Fraction) (pivot left : RowDef) : Type 0 where
@@ -30,10 +31,3 @@ LeavesRow (Ok left) row f pivot = IsLeftRow row f pivot left
 LeavesRow (Err Memory) row f pivot = Unit {0}
 LeavesRow (Err Wide) row f pivot = (v : ℕ) × IsWideLess (cell_at row v) f (cell_at pivot v)
 LeavesRow (Err Units) row f pivot = ⊥
-
--- f times the pivot row taken away, or Wide exactly where a product or a difference has no form.
-abbrev pub TakesRow : Result (Unit {0}) SolveStop → RowDef → Fraction → RowDef → RowDef → Type 0
-TakesRow (Ok u) row f pivot left = IsLeftRow row f pivot left
-TakesRow (Err Memory) row f pivot left = Unit {0}
-TakesRow (Err Wide) row f pivot left = (v : ℕ) × IsWideLess (cell_at row v) f (cell_at pivot v)
-TakesRow (Err Units) row f pivot left = ⊥

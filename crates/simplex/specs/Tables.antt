@@ -2,8 +2,6 @@
 use Rattle.std.specs.Prelude.{◌≡◌, ℕ, ◌+◌, ◌<◌, List, length, slice_index, slice_index_or}
 use Rattle.program_form.specs.Program.{ProgramDef, height}
 use Rattle.exchange_runs.specs.Table.{Table, variables}
-use Rattle.simplex.specs.Entries.{listed_at, AreSparse, AreBelow}
-use Rattle.simplex.specs.declared.entries.Entry.{Entry}
 use Rattle.simplex.specs.Rows.{RowDef, Fits, no_row, cell_at}
 
 -- Which row stands at i? The objective row stands behind those of the program.
@@ -18,9 +16,3 @@ pub record HasSize (p : ProgramDef) (rows : List RowDef) (basis : List ℕ) : Ty
   pub row_each : length rows ≡ height p + 1
   pub basic_each : length basis ≡ height p
   pub fits : (i : ℕ) → i < height p + 1 → Fits (variables p) (row_of rows i)
-
--- Is it the column of variable e: the nonzero cells there, each at its row?
-pub record IsColumn (rows : List RowDef) (e : ℕ) (column : List Entry) : Type 0 where
-  pub sparse : AreSparse column
-  pub below : AreBelow (length rows) column
-  pub each : (i : ℕ) → i < length rows → listed_at column i ≡ cell_at (row_of rows i) e

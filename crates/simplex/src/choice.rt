@@ -1,14 +1,13 @@
 //! Which variable enters the basis, and which row leaves it.
 
-ghost use Rattle.std.specs.Prelude.{◌≡◌, ℕ, ◌+◌, ◌<◌, ◌≤◌, List, length, slice_index, IfOk, IfSome};
+ghost use Rattle.std.specs.Prelude.{◌≡◌, ℕ, ◌+◌, ◌<◌, ◌≤◌, List, length, slice_index, IfSome};
 ghost use Rattle.program_form.specs.Program.{height};
 ghost use Rattle.exchange_runs.specs.Table.{Table, variables};
 ghost use Rattle.exchange_runs.specs.Exchange.{HasRatio, IsRatio, IsLeastOf};
 ghost use Rattle.simplex.specs.Rows.{Fits};
-ghost use Rattle.simplex.specs.Tables.{row_of, table_of, IsColumn};
+ghost use Rattle.simplex.specs.Tables.{row_of, table_of};
 ghost use Rattle.simplex.specs.Choice.{Enters, Comes, IsLeastSoFar, Leaves};
 
-use crate::entries::Entry;
 use crate::row::SparseRow;
 use fraction128::{Frac, Wide};
 use program_form::SparseProgram;
@@ -63,29 +62,22 @@ fn chosen(best: Option<(usize, Frac)>, i: usize, ratio: Frac, basis: &[usize]) -
     }
 }
 
-// The row that leaves where the variable of the column enters, with its ratio. The limits stand at `place`.
+// The row that leaves where the variable e enters, with its ratio. The limits stand at `place`.
 pub(crate) fn leaving(
     rows: &[SparseRow],
     basis: &[usize],
-    column: &[Entry],
+    e: usize,
     place: usize,
 ) -> Result<Option<(usize, Frac)>, Wide>
-    requires rows { length basis.now ≤ length rows.now }
-    requires read { (e : ℕ) × IsColumn rows.now e column.now }
-    ensures least { (e : ℕ) → IsColumn rows.now e column.now
-        → Leaves result place (table_of rows.now basis.now) e (length basis.now) }
-    ensures within { IfOk result (λ best. IfSome best (λ b. b.0 < length basis.now)) }
+    requires { length basis.now ≤ length rows.now }
+    ensures { Leaves result place (table_of rows.now basis.now) e (length basis.now) }
 {
     let mut best = None;
-    for j in 0..column.len() {
-        let cell = column[j];
-        // the objective row, which is the last, has no basic variable
-        if cell.variable >= basis.len() {
-            return Ok(best);
-        }
-        if cell.value.is_above_zero() {
-            let ratio = rows[cell.variable].cell(place).div(cell.value)?;
-            best = Some(chosen(best, cell.variable, ratio, basis));
+    for i in 0..basis.len() {
+        let cell = rows[i].cell(e);
+        if cell.is_above_zero() {
+            let ratio = rows[i].cell(place).div(cell)?;
+            best = Some(chosen(best, i, ratio, basis));
         }
     }
     Ok(best)

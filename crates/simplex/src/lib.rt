@@ -1,6 +1,7 @@
 //! The exact optimum of a blocking program, by exchanges of tables of fractions.
 //!
 //! A [`SparseProgram`] keeps a program by its nonzero coefficients, so that its limits can be renewed and it can be solved again.
+//! The run is tried over whole numbers (`whole_runs`). Where those don't fit, it is made over fractions here:
 //! `start` makes the first table, `choice` says which variable enters and which row leaves, `exchange` makes the next table, and
 //! `end` reads the answer off the last one. A row of a table is read by its places and cells alone.
 #![tactic(auto)]
@@ -18,12 +19,12 @@ use fraction128::{Frac, Wide};
 use program_form::{Dual, Program};
 use std::alloc::{AllocError, AllocFailed, Global};
 use thiserror::Error;
+use whole_runs::{Ended, Halt, run_whole};
 
 mod choice;
 mod end;
 mod entries;
 mod exchange;
-mod marks;
 mod row;
 mod start;
 
@@ -31,7 +32,7 @@ use choice::entering;
 use end::finish;
 use exchange::step;
 pub use program_form::SparseProgram;
-use start::{first_basis, first_marks, first_rows, with_room};
+use start::{first_basis, first_rows};
 
 /// The end of an exchange run: the optimum, the point that attains it, and a dual that shows that none passes it.
 #[derive(Debug, Drop)]
@@ -120,19 +121,43 @@ pub fn solve_sparse(alloc: Global, program: &SparseProgram, units: u64) -> Resul
     ensures greatest { IfOk result
         (λ s. IsGreatestReached program.now (dual_value program.now s.dual.den (λ r. slice_index s.dual.num.items r))) }
 {
-    run(alloc, program, units)
+    run_either(alloc, program, units)
 }
 
-// The exchange run, up to its end or its first stop.
+// The exchange run over whole numbers, or over fractions where a number of that one is too large.
+fn run_either(alloc: Global, program: &SparseProgram, units: u64) -> Result<Solved, SolveStop>
+    ensures outcome { Solves result program.now units }
+    ensures program { IsProgram program.now }
+{
+    // says that it is a program
+    let _rows = program.rows();
+    match run_whole(alloc, program, units) {
+        Ok(
+            Ended {
+                value,
+                primal,
+                dual,
+                exchanges,
+            },
+        ) => Ok(Solved {
+            value,
+            primal,
+            dual,
+            exchanges,
+        }),
+        Err(Halt::Memory) => Err(SolveStop::Memory),
+        Err(Halt::Units) => Err(SolveStop::Units),
+        Err(Halt::Large) => run(alloc, program, units),
+    }
+}
+
+// The exchange run over fractions, up to its end or its first stop.
 fn run(alloc: Global, program: &SparseProgram, units: u64) -> Result<Solved, SolveStop>
     ensures outcome { Solves result program.now units }
     ensures program { IsProgram program.now }
 {
     let mut rows = first_rows(alloc, program)?;
-    let mut marks = first_marks(alloc, program, &rows)?;
     let mut basis = first_basis(alloc, program)?;
-    let mut column = Vec::with_capacity(alloc, rows.len())?;
-    let mut spare = with_room(alloc, program)?;
     for exchanges in 0..units {
         let e = match entering(program, &rows) {
             Some(e) => e,
@@ -141,16 +166,7 @@ fn run(alloc: Global, program: &SparseProgram, units: u64) -> Result<Solved, Sol
         if exchanges + 1 == units {
             return Err(SolveStop::Units);
         }
-        step(
-            alloc,
-            program,
-            &mut rows,
-            &mut marks,
-            &mut basis,
-            e,
-            &mut column,
-            &mut spare,
-        )?;
+        step(alloc, program, &mut rows, &mut basis, e)?;
     }
     Err(SolveStop::Units)
 }

@@ -1,20 +1,15 @@
 //! The first table of a program.
 
-ghost use Rattle.std.specs.Prelude.{[], ◌≡◌, ◌<◌, ◌≤◌, ◌^◌, IfOk};
+ghost use Rattle.std.specs.Prelude.{◌≡◌, ◌<◌, ◌≤◌, ◌^◌, IfOk};
 ghost use Rattle.program_form.specs.Program.{IsProgram, columns, height};
 ghost use Rattle.exchange_runs.specs.Table.{variables, first_limit};
-ghost use Rattle.simplex.specs.Marks.{AreMarked};
 ghost use Rattle.simplex.specs.Starts.{AreFirstEntries, IsFirstRow, AreFirstRows, IsFirstBasis};
 
 use crate::entries::Entry;
-use crate::marks::RowMarks;
 use crate::row::SparseRow;
 use fraction128::Frac;
 use program_form::SparseProgram;
 use std::alloc::{AllocError, Global};
-
-// How many cells a row may gain before its list takes more memory: with fewer, exchanges take memory twice as often.
-const GROWTH: usize = 16;
 
 // The limit of row i, or zero for the objective row.
 fn bound_of(program: &SparseProgram, i: usize) -> u64
@@ -29,23 +24,13 @@ fn bound_of(program: &SparseProgram, i: usize) -> u64
     }
 }
 
-// A list with room for a row of any table of the program's run. Of the basic variables only a row's own has a nonzero cell in it,
-// so such a row has at most one more than there are columns.
-pub(crate) fn with_room(alloc: Global, program: &SparseProgram) -> Result<Vec<Entry>, AllocError>
-    ensures { IfOk result (λ v. v.items ≡ []) }
-{
-    Vec::with_capacity(alloc, program.columns() as usize + 1)
-}
-
 // The coefficients of row i, as cells.
 fn row_entries(alloc: Global, program: &SparseProgram, i: usize) -> Result<Vec<Entry>, AllocError>
     requires { i < height program.now }
     ensures { IfOk result (λ v. AreFirstEntries program.now i (columns program.now) v.items) }
 {
-    let coefficients = program.coefficients(i);
-    let room = (coefficients.len() + GROWTH).min(program.columns() as usize + 1);
-    let mut entries = Vec::with_capacity(alloc, room)?;
-    for coefficient in coefficients {
+    let mut entries = Vec::new(alloc);
+    for coefficient in program.coefficients(i) {
         entries.push(Entry {
             variable: coefficient.column as usize,
             value: Frac::whole(coefficient.number),
@@ -58,7 +43,7 @@ fn row_entries(alloc: Global, program: &SparseProgram, i: usize) -> Result<Vec<E
 fn cost_entries(alloc: Global, program: &SparseProgram) -> Result<Vec<Entry>, AllocError>
     ensures { IfOk result (λ v. AreFirstEntries program.now (height program.now) (variables program.now) v.items) }
 {
-    let mut entries = with_room(alloc, program)?;
+    let mut entries = Vec::new(alloc);
     for c in 0..program.columns() {
         let cost = program.cost(c);
         if cost != 0 {
@@ -125,21 +110,4 @@ pub(crate) fn first_basis(alloc: Global, program: &SparseProgram) -> Result<Vec<
         basis.push(program.columns() as usize + i as usize)?;
     }
     Ok(basis)
-}
-
-// The marks of the first rows.
-pub(crate) fn first_marks(
-    alloc: Global,
-    program: &SparseProgram,
-    rows: &[SparseRow],
-) -> Result<RowMarks, AllocError>
-    requires { AreFirstRows program.now rows.now }
-    ensures { IfOk result (AreMarked (variables program.now) rows.now) }
-{
-    let variables = program.columns() as usize + program.rows() as usize;
-    let mut marks = RowMarks::none(alloc, variables, rows.len())?;
-    for i in 0..rows.len() {
-        rows[i].mark_in(&mut marks, i);
-    }
-    Ok(marks)
 }

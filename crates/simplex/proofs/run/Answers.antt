@@ -16,32 +16,31 @@ returns-then-exchanges-units-clause-outcome c =
       c.in-Some.e,
       c.if-exchanges-units.true,
       c.loop-exchanges.invariant.reached,
-      rw c.deref-in-loop-exchanges.ensures.value at (c.in-Some.ensures basis),
+      rw c.deref.ensures.value at (c.in-Some.ensures basis),
     )
 
 pub step-requires-clause-enters : goal.step-requires-clause-enters
 step-requires-clause-enters c =
     rw (c.deref_mut.ensures.value, c.deref_mut-in-loop-exchanges.ensures.value)
-    (rw c.deref-in-loop-exchanges.ensures.value at (c.in-Some.ensures c.loop-exchanges.basis.items))
+    (rw c.deref.ensures.value at (c.in-Some.ensures c.loop-exchanges.basis.items))
 
 pub returns-in_err-step-clause-outcome : goal.returns-in_err-step-clause-outcome
 returns-in_err-step-clause-outcome c =
     let stop = err_from_is_err_and c.from_residual-in_err-step.result c.from_residual-in_err-step.ensures.1 in
-    let stopped = rw (c.deref_mut.ensures.value, c.deref_mut-in-loop-exchanges.ensures.value) at c.in_err-step.ensures.next in
+    let stopped = rw (c.deref_mut.ensures.value, c.deref_mut-in-loop-exchanges.ensures.value) at c.in_err-step.ensures in
     let begun : c.loop-exchanges.exchanges + 1 < c.args.units = omega (arith, c.loop-exchanges-test.true, c.if-exchanges-units.false) in
     rw (stop.1, stop.2)
     (solve_stop c.in_err-step.field-0.0 c.args.program.now c.args.units c.loop-exchanges.exchanges c.in-Some.e
     c.loop-exchanges.rows.items c.loop-exchanges.basis.items
     c.step.new.rows c.step.new.basis begun c.loop-exchanges.invariant.reached
-    (rw c.deref-in-loop-exchanges.ensures.value at (c.in-Some.ensures c.loop-exchanges.basis.items)) stopped)
+    (rw c.deref.ensures.value at (c.in-Some.ensures c.loop-exchanges.basis.items)) stopped)
 
 pub loop-exchanges-preserved : goal.loop-exchanges-preserved
 loop-exchanges-preserved c =
     let inv = c.loop-exchanges.invariant in
     let old_rows = c.loop-exchanges.rows.items in
     let old_basis = c.loop-exchanges.basis.items in
-    let done = rw (c.deref_mut.ensures.value, c.deref_mut-in-loop-exchanges.ensures.value) at c.in_ok-step.ensures.next in
-    let marked = c.in_ok-step.ensures.marked in
+    let done = rw (c.deref_mut.ensures.value, c.deref_mut-in-loop-exchanges.ensures.value) at c.in_ok-step.ensures in
     let rows : length c.step.new.rows ≡ c.loop-exchanges.rows.len =
     omega (arith, done.0.row_each, inv.size.row_each, c.loop-exchanges.rows.ok.0) in
     let basis : length c.step.new.basis ≡ c.loop-exchanges.basis.len =
@@ -52,7 +51,6 @@ loop-exchanges-preserved c =
     )
     (record {
       size = done.0;
-      marked = marked;
       left = λ some. omega (arith, c.loop-exchanges-test.true, c.if-exchanges-units.false);
       reached = reached_next c.args.program.now c.loop-exchanges.exchanges (table_of old_rows old_basis)
           (table_of c.step.new.rows c.step.new.basis) c.in-Some.e
@@ -65,5 +63,5 @@ returns-in-None-clause-outcome c =
     let basis = c.loop-exchanges.basis.items in
     finished c.finish.result c.args.program.now c.args.units c.loop-exchanges.exchanges (table_of rows basis)
     (omega (arith, c.loop-exchanges-test.true))
-    c.loop-exchanges.invariant.reached (rw c.deref-in-loop-exchanges.ensures.value at (c.in-None.ensures c.loop-exchanges.basis.items))
+    c.loop-exchanges.invariant.reached (rw c.deref.ensures.value at (c.in-None.ensures c.loop-exchanges.basis.items))
     (rw (c.deref-in-None.ensures.value, c.deref-in-None-2.ensures.value) at c.finish.ensures)

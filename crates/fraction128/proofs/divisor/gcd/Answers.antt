@@ -9,4 +9,4 @@ pub returns-then-y-eq0 : goal.returns-then-y-eq0
 returns-then-y-eq0 c = c.loop-y.invariant _ (IsGcd-from_zero _ _ (omega arith))
 
 pub returns : goal.returns
-returns c = c.loop-y.invariant _ (IsGcd-from_mod _ _ _ c.gcd_small-2.ensures)
+returns c = c.loop-y.invariant _ (IsGcd-from_mod _ _ _ c.greatest_common_divisor-2.ensures)

@@ -1,5 +1,5 @@
 use Rattle.simplex.proofs.Dividing.{AreDividedTo}
 use Rattle.simplex.proofs.entries.divide_all.Given as goal
 
-abbrev pub invariant-loop-i : goal.invariant-loop-i
-invariant-loop-i l = AreDividedTo l.i l.initial.entries l.entries l.by
+abbrev pub invariant-loop-entry : goal.invariant-loop-entry
+invariant-loop-entry l = AreDividedTo l.entry-index l.entries l.divided.items l.by

@@ -1,82 +1,46 @@
-use Rattle.std.proofs.Common.{◌≡◌, ◌<◌, ◌≤◌, ◌+◌, length, arith, ap, sym, ◌∙◌, slice_index_or}
+use Rattle.std.proofs.Common.{refl}
 use Rattle.std.proofs.lemmas.Result.{err_from_is_err_and}
-use Rattle.simplex.specs.Entries.{entry_at}
-use Rattle.simplex.specs.Rows.{RowDef, places}
-use Rattle.simplex.specs.declared.entries.Entry.{Entry}
-use Rattle.simplex.proofs.Cells.{row_same}
-use Rattle.simplex.proofs.Listed.{entry_read, listed_entry}
-use Rattle.simplex.proofs.Merging.{split_through}
-use Rattle.simplex.proofs.Taking.{AreTakenTo, takes_stop, taken_before, taken_more, taken_past, left_read}
+use Rattle.simplex.specs.Rows.{RowDef}
+use Rattle.simplex.proofs.Taking.{still, takes_stop, taken_more, taken_same, taken_past}
 use Rattle.simplex.proofs.exchange.take_all.Goals as goal
-use Rattle.simplex.proofs.exchange.take_all.Goals.{then-cell-r+in_ok-take_away, else-cell-r}
+use Rattle.simplex.proofs.exchange.take_all.Goals.{then-i-r+then-not-is_zero+in_ok-left, else-i-r}
+use Rattle.simplex.proofs.exchange.take_all.Goals.{else-i-r-via-then-i-r+else-not-is_zero, else-i-r-via-else-i-r}
 
-pub take_away-requires : goal.take_away-requires
-take_away-requires c =
-    let inv = c.loop-j.invariant in
-    let i = c.index-column-j.result.variable in
-    let inside : c.loop-j.j < length c.args.column.now = omega (arith, c.loop-j-test.true) in
-    let at : (entry_at c.args.column.now c.loop-j.j).variable ≡ c.index-column-j.result.variable
-    = ap (λ (e : Entry). e.variable) (entry_read c.args.column.now c.loop-j.j c.index-column-j.result inside c.index-column-j.is) in
-    let here : c.index-column-j.result.variable < length c.args.rows.now = omega (arith, at, c.requires.below c.loop-j.j inside) in
-    let order : inv.0 ≤ c.index-column-j.result.variable = omega (arith, at, inv.1.behind c.loop-j.j (omega arith) inside) in
-    let within : c.index-column-j.result.variable < length c.loop-j.rows = omega (arith, inv.3.as_many, here) in
-    ap (λ (row : RowDef). places row)
-    (sym (row_same c.loop-j.rows i c.index-rows-cell.result within) ∙ inv.3.rest i order)
-    ∙ c.requires.even i here c.if-cell-r.true
+pub left-requires : goal.left-requires
+left-requires c =
+    rw (still c.loop-i.i c.args.rows.now c.loop-i.rows c.args.e c.args.r c.args.pivot.now c.index-rows-i-then-not-is_zero.result
+    c.loop-i.invariant c.loop-i-test.true)
+    (c.requires c.loop-i.i c.loop-i-test.true c.if-i-r.true)
 
-pub returns-in_err-take_away : goal.returns-in_err-take_away
-returns-in_err-take_away c =
+pub returns-in_err-left : goal.returns-in_err-left
+returns-in_err-left c =
     let stop = err_from_is_err_and c.from_residual.result c.from_residual.ensures.1 in
-    let inv = c.loop-j.invariant in
-    let i = c.index-column-j.result.variable in
-    let inside : c.loop-j.j < length c.args.column.now = omega (arith, c.loop-j-test.true) in
-    let own = entry_read c.args.column.now c.loop-j.j c.index-column-j.result inside c.index-column-j.is in
-    let at : (entry_at c.args.column.now c.loop-j.j).variable ≡ c.index-column-j.result.variable = ap (λ (e : Entry). e.variable) own in
-    let here : c.index-column-j.result.variable < length c.args.rows.now = omega (arith, at, c.requires.below c.loop-j.j inside) in
-    let order : inv.0 ≤ c.index-column-j.result.variable = omega (arith, at, inv.1.behind c.loop-j.j (omega arith) inside) in
-    let within : c.index-column-j.result.variable < length c.loop-j.rows = omega (arith, inv.3.as_many, here) in
+    let i = c.loop-i.i in
+    let before = c.args.rows.now in
+    let was = λ (x : RowDef). still i before c.loop-i.rows c.args.e c.args.r c.args.pivot.now x c.loop-i.invariant c.loop-i-test.true in
     rw (stop.1, stop.2)
-    (takes_stop c.in_err-take_away.field-0.0 c.args.rows.now _ c.args.column.now c.args.r i c.args.pivot.now
-    (slice_index_or c.loop-j.rows i c.index-rows-cell.result) c.take_away.new.self c.index-column-j.result.value
-    here c.if-cell-r.true
-    (sym (inv.3.rest i order) ∙ row_same c.loop-j.rows i c.index-rows-cell.result within)
-    (listed_entry c.args.column.now c.loop-j.j i c.requires.sparse.rise inside at ∙ ap (λ (e : Entry). e.value) own)
-    c.in_err-take_away.ensures)
+    (takes_stop i before c.loop-i.rows c.args.e c.args.r c.args.pivot.now c.cell-cell.result c.loop-i.invariant c.loop-i-test.true
+    (rw (was c.index-rows-i.result) at c.cell-cell.ensures.value) c.in_err-left.field-0.0 c.if-i-r.true
+    (rw (was c.index-rows-i-then-not-is_zero.result) at c.in_err-left.ensures))
 
-pub loop-j-preserved : goal.loop-j-preserved
-loop-j-preserved c =
-    let inv = c.loop-j.invariant in
-    let i = c.index-column-j.result.variable in
-    let inside : c.loop-j.j < length c.args.column.now = omega (arith, c.loop-j-test.true) in
-    let own = entry_read c.args.column.now c.loop-j.j c.index-column-j.result inside c.index-column-j.is in
-    let at : (entry_at c.args.column.now c.loop-j.j).variable ≡ c.index-column-j.result.variable = ap (λ (e : Entry). e.variable) own in
-    let here : c.index-column-j.result.variable < length c.args.rows.now = omega (arith, at, c.requires.below c.loop-j.j inside) in
-    let order : inv.0 ≤ c.index-column-j.result.variable = omega (arith, at, inv.1.behind c.loop-j.j (omega arith) inside) in
-    let within : c.index-column-j.result.variable < length c.loop-j.rows = omega (arith, inv.3.as_many, here) in
-    let h : AreTakenTo c.index-column-j.result.variable c.args.rows.now c.loop-j.rows c.args.column.now c.args.r c.args.pivot.now
-    = taken_before c.args.rows.now c.loop-j.rows c.args.column.now c.args.r c.args.pivot.now c.loop-j.j inv.0 i c.requires.sparse
-    c.requires.forms inv.1 inv.3 order (omega arith) (λ l. omega (arith, at)) in (
-      i + 1,
-      split_through c.args.column.now c.loop-j.j i c.requires.sparse inside at,
-      omega arith,
-      elim c.if-cell-r.branch [
-        | then-cell-r+in_ok-take_away w ↦
-            rw w.rows-is
-            (taken_more i c.args.rows.now c.loop-j.rows c.args.column.now c.args.r c.args.pivot.now w.take_away.new.self within h
-            (left_read c.args.rows.now i c.args.column.now c.args.pivot.now
-            (slice_index_or c.loop-j.rows i w.index-rows-cell.result) w.take_away.new.self c.index-column-j.result.value
-            (sym (inv.3.rest i order) ∙ row_same c.loop-j.rows i w.index-rows-cell.result within)
-            (listed_entry c.args.column.now c.loop-j.j i c.requires.sparse.rise inside at ∙ ap (λ (e : Entry). e.value) own)
-            w.in_ok-take_away.ensures))
-        | else-cell-r w ↦
-            rw w.rows-is (taken_past i c.args.rows.now c.loop-j.rows c.args.column.now c.args.r c.args.pivot.now w.if-cell-r.false h)
-      ],
-    )
-
-pub returns : goal.returns
-returns c =
-    let inv = c.loop-j.invariant in
-    let done = taken_before c.args.rows.now c.loop-j.rows c.args.column.now c.args.r c.args.pivot.now c.loop-j.j inv.0
-    (length c.args.rows.now) c.requires.sparse c.requires.forms inv.1 inv.3 inv.2 (omega arith)
-    (λ l. absurd (omega (arith, c.loop-j-test.false))) in
-    record { as_many = done.as_many; taken = done.taken }
+pub loop-i-preserved : goal.loop-i-preserved
+loop-i-preserved c =
+    let i = c.loop-i.i in
+    let before = c.args.rows.now in
+    let inv = c.loop-i.invariant in
+    let was = λ (x : RowDef). still i before c.loop-i.rows c.args.e c.args.r c.args.pivot.now x inv c.loop-i-test.true in
+    let cell = rw (was c.index-rows-i.result) at c.cell-cell.ensures.value in
+    elim c.if-i-r.branch [
+      | then-i-r+then-not-is_zero+in_ok-left w ↦
+          rw w.rows-is
+          (taken_more i before c.loop-i.rows c.args.e c.args.r c.args.pivot.now c.cell-cell.result inv c.loop-i-test.true cell
+          w.in_ok-left.left (rw (was w.index-rows-i-then-not-is_zero.result) at w.in_ok-left.ensures))
+      | else-i-r w ↦
+          rw w.rows-is
+          (elim w.else-i-r.branch [
+            | else-i-r-via-then-i-r+else-not-is_zero w' ↦
+                taken_same i before c.loop-i.rows c.args.e c.args.r c.args.pivot.now c.cell-cell.result inv c.loop-i-test.true cell
+                (rw (was c.index-rows-i.result) at c.cell-cell.ensures.forms) (w'.if-not-is_zero.ensures.0 refl)
+            | else-i-r-via-else-i-r w' ↦ taken_past i before c.loop-i.rows c.args.e c.args.r c.args.pivot.now w'.if-i-r.false inv
+          ])
+    ]

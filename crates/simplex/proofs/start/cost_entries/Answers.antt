@@ -8,7 +8,7 @@ use Rattle.simplex.proofs.start.cost_entries.Goals as goal
 use Rattle.simplex.proofs.start.cost_entries.Goals.{then-cost-ne0+in_ok-push, else-cost-ne0}
 
 pub loop-c-init : goal.loop-c-init
-loop-c-init c = rw c.in_ok-entries.ensures
+loop-c-init c = rw c.new-entries.ensures.items
     (record { sparse = sparse_none; below = λ k l. absurd (omega arith); numbers = λ v l. absurd (omega arith) })
 
 pub loop-c-preserved : goal.loop-c-preserved

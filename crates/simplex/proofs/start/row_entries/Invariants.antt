@@ -3,4 +3,4 @@ use Rattle.simplex.proofs.Coefficients.{entries_of}
 use Rattle.simplex.proofs.start.row_entries.Given as goal
 
 abbrev pub invariant-loop-coefficient : goal.invariant-loop-coefficient
-invariant-loop-coefficient l = l.entries.items ≡ entries_of (take l.coefficient-index l.coefficients)
+invariant-loop-coefficient l = l.entries.items ≡ entries_of (take l.coefficient-index l.coefficient-items)

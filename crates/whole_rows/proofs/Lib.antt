@@ -1,0 +1,9 @@
+pub mod Listed
+pub mod Sizes
+pub mod Coefficients
+pub mod Loops
+pub mod Dividing
+pub mod Larger
+pub mod Read
+pub mod Entering
+pub mod Taking

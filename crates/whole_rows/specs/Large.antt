@@ -1,0 +1,45 @@
+-- When numbers over a row's denominator are too large for what is taken from it.
+use Rattle.std.specs.Prelude.{◌≡◌, ◌⊎◌, ℕ, ◌+◌, ◌*◌, ◌≤◌, ◌^◌, ℤ, unsigned_abs}
+use Rattle.std.specs.Int.{◌∣◌}
+use Rattle.number_laws.specs.Divisors.{IsCoprime}
+use Rattle.whole_rows.specs.Rows.{RowDef, PivotDef, num_at, listed_at}
+use Rattle.whole_rows.specs.Numbers.{DividesEach, IsCancelled, IsSameRow}
+
+-- Is n the size of a number of the row, of its limit or of its denominator?
+abbrev pub IsSizeIn : RowDef → ℕ → Type 0
+IsSizeIn row n = ((k : ℕ) × (unsigned_abs (num_at row k) ≡ n)) ⊎ ((unsigned_abs row.limit ≡ n) ⊎ (unsigned_abs row.den ≡ n))
+
+-- Is n the size of a number that the pivot lists, or of its limit?
+abbrev pub IsSizeInPivot : PivotDef → ℕ → Type 0
+IsSizeInPivot pivot n = ((k : ℕ) × (unsigned_abs (listed_at pivot.entries k) ≡ n)) ⊎ (unsigned_abs pivot.limit ≡ n)
+
+-- Have its numbers, its limit and its denominator no common divisor above 1?
+pub record IsReduced (row : RowDef) : Type 0 where
+  pub none : (d : ℕ) → DividesEach d row.nums → d ∣ unsigned_abs row.limit → d ∣ unsigned_abs row.den → d ≡ 1
+
+-- With f / p for its cell at k over the pivot's denominator, all common divisors taken off: does `most` taken p times, and some number
+-- of the pivot taken f times, together pass 2^63 - 1?
+pub record IsPast (row : RowDef) (k most : ℕ) (pivot : PivotDef) : Type 0 where
+  pub f : ℤ
+  pub p : ℤ
+  pub factor : IsCancelled (num_at row k) pivot.den f p
+  pub apart : IsCoprime (unsigned_abs f) (unsigned_abs p)
+  pub other : ℕ
+  pub is_other : IsSizeInPivot pivot other
+  pub large : 2 ^ 63 ≤ most * unsigned_abs p + unsigned_abs f * other
+
+-- With f / p for its cell at k over the pivot's denominator, all common divisors taken off: does some number of the row taken p times,
+-- and some number of the pivot taken f times, together pass 2^63 - 1 in size?
+pub record IsTooLarge (row : RowDef) (k : ℕ) (pivot : PivotDef) : Type 0 where
+  pub reduced : RowDef
+  pub same : IsSameRow row reduced
+  pub lowest : IsReduced reduced
+  pub f : ℤ
+  pub p : ℤ
+  pub factor : IsCancelled (num_at reduced k) pivot.den f p
+  pub apart : IsCoprime (unsigned_abs f) (unsigned_abs p)
+  pub size : ℕ
+  pub is_size : IsSizeIn reduced size
+  pub other : ℕ
+  pub is_other : IsSizeInPivot pivot other
+  pub large : 2 ^ 63 ≤ size * unsigned_abs p + unsigned_abs f * other

@@ -1,0 +1,61 @@
+-- What contracts see of a row of whole numbers over one denominator, and of its numbers that aren't zero as a list.
+use Rattle.std.specs.Prelude.{◌≡◌, ◌≢◌, ℕ, ◌<◌, ◌==◌, if◌then◌else◌, List, [], ◌∷◌, map, length, slice_index_or, ℤ, pos}
+use Rattle.std.specs.List.{range_with_len}
+use Rattle.fraction128.specs.Fraction.{Fraction, over}
+use Rattle.program_form.specs.SparseRows.{number_at}
+use Rattle.program_form.specs.declared.sparse_rows.Coefficient.{Coefficient}
+use Rattle.whole_rows.specs.declared.entries.Entry.{Entry}
+
+-- A number for each place, and one for the limit, all over one denominator.
+pub record RowDef : Type 0 where
+  pub nums : List ℤ
+  pub limit : ℤ
+  pub den : ℤ
+
+-- Which number stands at place k? Past the places zero.
+abbrev pub num_at : RowDef → ℕ → ℤ
+num_at row k = slice_index_or row.nums k (pos 0)
+
+-- Which fraction is that?
+abbrev pub cell_at : RowDef → ℕ → Fraction
+cell_at row k = over (num_at row k) row.den
+
+-- Which fraction is the limit?
+abbrev pub limit_of : RowDef → Fraction
+limit_of row = over row.limit row.den
+
+-- The row of n places that coefficients and a limit are, over 1.
+abbrev pub coefficient_row : ℕ → List Coefficient → ℕ → RowDef
+coefficient_row n cs limit = record { nums = map (λ v. pos (number_at cs v)) (range_with_len 0 n); limit = pos limit; den = pos 1 }
+
+-- Which number is listed at place k? Zero where k isn't listed.
+abbrev pub listed_at : List Entry → ℕ → ℤ
+listed_at [] k = pos 0
+listed_at (e ∷ es) k = if e.place == k then e.num else listed_at es k
+
+-- The entry at index j of a list.
+abbrev pub entry_at : List Entry → ℕ → Entry
+entry_at entries j = slice_index_or entries j (record { place = 0; num = pos 0 })
+
+-- Do the places rise, and is no number zero?
+pub record AreSparse (entries : List Entry) : Type 0 where
+  pub rise : (i j : ℕ) → i < j → j < length entries → (entry_at entries i).place < (entry_at entries j).place
+  pub nonzero : (j : ℕ) → j < length entries → (entry_at entries j).num ≢ pos 0
+
+-- Are all places below `end`?
+abbrev pub AreBelow : ℕ → List Entry → Type 0
+AreBelow end entries = (j : ℕ) → j < length entries → (entry_at entries j).place < end
+
+-- The numbers of a row that aren't zero, its limit and its denominator.
+pub record PivotDef : Type 0 where
+  pub entries : List Entry
+  pub limit : ℤ
+  pub den : ℤ
+
+-- Is it that of the row?
+pub record IsPivotOf (pivot : PivotDef) (row : RowDef) : Type 0 where
+  pub sparse : AreSparse pivot.entries
+  pub below : AreBelow (length row.nums) pivot.entries
+  pub each : (k : ℕ) → listed_at pivot.entries k ≡ num_at row k
+  pub limit : pivot.limit ≡ row.limit
+  pub den : pivot.den ≡ row.den

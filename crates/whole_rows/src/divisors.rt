@@ -1,0 +1,64 @@
+//! Common divisors of the numbers of a row.
+
+ghost use Rattle.std.specs.Prelude.{ℕ, ◌<◌, ◌^◌, pos, ◌<ℤ◌, unsigned_abs};
+ghost use Rattle.std.specs.Int.{◌∣◌};
+ghost use Rattle.number_laws.specs.Divisors.{IsCoprime};
+ghost use Rattle.whole_rows.specs.Numbers.{IsCancelled, DividesEach, IsSameRow};
+ghost use Rattle.whole_rows.specs.Large.{IsReduced};
+
+use crate::numbers::divide_all;
+use fraction128::greatest_common_divisor;
+
+// A fraction with all its common divisors taken off.
+pub(crate) fn cancelled(num: i64, den: i64) -> (i64, i64)
+    requires positive { pos 0 <ℤ den }
+    requires small { unsigned_abs num < 2 ^ 63 }
+    ensures form { IsCancelled num den result.0 result.1 }
+    ensures apart { IsCoprime (unsigned_abs result.0) (unsigned_abs result.1) }
+{
+    // a whole number has none
+    if den == 1 {
+        return (num, den);
+    }
+    // mostly the denominator divides the number, which is seen sooner than their greatest common divisor
+    if num % den == 0 {
+        return (num / den, 1);
+    }
+    let common = greatest_common_divisor(num.unsigned_abs(), den.unsigned_abs()) as i64;
+    (num / common, den / common)
+}
+
+// The greatest common divisor of all numbers and of `first`. The walk ends where it is 1.
+pub(crate) fn common_divisor(nums: &[i64], first: u64) -> u64
+    requires { 0 < first }
+    ensures positive { 0 < result }
+    ensures first { result ∣ first }
+    ensures all { DividesEach result nums.now }
+    ensures greatest { (d : ℕ) → d ∣ first → DividesEach d nums.now → d ∣ result }
+{
+    let mut common = first;
+    for num in nums {
+        if common == 1 {
+            return 1;
+        }
+        common = greatest_common_divisor(num.unsigned_abs(), common);
+    }
+    common
+}
+
+// Divides the numbers of a row by the greatest common divisor of all its parts. The limit and the denominator divided by it.
+pub(crate) fn divide_parts(nums: &mut [i64], limit: i64, den: i64) -> (i64, i64)
+    requires positive { pos 0 <ℤ den }
+    requires small { unsigned_abs limit < 2 ^ 63 }
+    ensures same { IsSameRow (record { nums = nums.old; limit = limit; den = den })
+        (record { nums = nums.new; limit = result.0; den = result.1 }) }
+    ensures lowest { IsReduced (record { nums = nums.new; limit = result.0; den = result.1 }) }
+{
+    let first = greatest_common_divisor(limit.unsigned_abs(), den.unsigned_abs());
+    let common = common_divisor(nums, first) as i64;
+    if common == 1 {
+        return (limit, den);
+    }
+    divide_all(nums, common);
+    (limit / common, den / common)
+}

@@ -1,0 +1,107 @@
+//! What is done to all numbers of a row. The loops of `multiply_all` and `take_listed`, which an exchange runs through for each row that
+//! it changes, have no call, no check and no branch. In one function with the run they would lack registers, so they aren't inlined.
+
+ghost use Rattle.std.specs.Prelude.{◌≡◌, ◌⊎◌, ℕ, ◌+◌, ◌*◌, ◌≤◌, ◌<◌, ◌^◌, length, pos, ◌-ℤ◌, ◌*ℤ◌, ◌<ℤ◌, unsigned_abs};
+ghost use Rattle.whole_rows.specs.Rows.{AreSparse, AreBelow, entry_at, listed_at};
+ghost use Rattle.whole_rows.specs.Numbers.{number_at, AreWithin, DividesEach, AreDivided, AreTimes, AreTimesBetween, AreLess, AreTaken};
+
+use crate::entries::Entry;
+
+// How many numbers are multiplied in one round.
+const BLOCK: usize = 8;
+
+// The greatest size of the numbers, and of a first one.
+pub(crate) fn greatest_size(nums: &[i64], first: u64) -> u64
+    ensures first { first ≤ result }
+    ensures all { AreWithin result nums.now }
+    ensures least { (most : ℕ) → first ≤ most → AreWithin most nums.now → result ≤ most }
+    ensures attained { (result ≡ first) ⊎ ((k : ℕ) × (unsigned_abs (number_at nums.now k) ≡ result)) }
+{
+    let mut most = first;
+    for num in nums {
+        most = most.max(num.unsigned_abs());
+    }
+    most
+}
+
+// Divides each number by a common divisor.
+pub(crate) fn divide_all(nums: &mut [i64], by: i64)
+    requires positive { pos 0 <ℤ by }
+    requires divisor { DividesEach (unsigned_abs by) nums.old }
+    ensures { AreDivided nums.old by nums.new }
+{
+    for k in 0..nums.len() {
+        nums[k] = nums[k] / by;
+    }
+}
+
+// Takes a block of numbers from place `first` on so many times. As their count is fixed they are multiplied one by one, without a
+// loop; a loop would multiply two together, and that takes longer than two products of 64 bits.
+fn multiply_block(nums: &mut [i64], first: usize, by: i64)
+    requires within { first + BLOCK ≤ length nums.old }
+    requires room { (k : ℕ) → first ≤ k → unsigned_abs (number_at nums.old k *ℤ by) < 2 ^ 63 }
+    ensures { AreTimesBetween first (first + BLOCK) nums.old by nums.new }
+{
+    for k in 0..BLOCK {
+        nums[first + k] = nums[first + k] * by;
+    }
+}
+
+// Takes each number from place `first` up to place `last` so many times.
+fn multiply_between(nums: &mut [i64], first: usize, last: usize, by: i64)
+    requires order { first ≤ last }
+    requires within { last ≤ length nums.old }
+    requires room { (k : ℕ) → first ≤ k → unsigned_abs (number_at nums.old k *ℤ by) < 2 ^ 63 }
+    ensures { AreTimesBetween first last nums.old by nums.new }
+{
+    for k in first..last {
+        nums[k] = nums[k] * by;
+    }
+}
+
+// Takes each number so many times.
+#[inline(never)]
+fn multiply_all(nums: &mut [i64], by: i64)
+    requires room { (k : ℕ) → unsigned_abs (number_at nums.old k *ℤ by) < 2 ^ 63 }
+    ensures { AreTimes nums.old by nums.new }
+{
+    // mostly there is nothing to do
+    if by == 1 {
+        return;
+    }
+    let mut first = 0;
+    while nums.len() - first >= BLOCK {
+        multiply_block(nums, first, by);
+        first += BLOCK;
+    }
+    let last = nums.len();
+    multiply_between(nums, first, last, by);
+}
+
+// Takes f times each number listed away from the one at its place.
+#[inline(never)]
+fn take_listed(nums: &mut [i64], entries: &[Entry], f: i64)
+    requires sparse { AreSparse entries.now }
+    requires below { AreBelow (length nums.old) entries.now }
+    requires products { (j : ℕ) → unsigned_abs (f *ℤ (entry_at entries.now j).num) < 2 ^ 63 }
+    requires room { (k : ℕ) → unsigned_abs (number_at nums.old k -ℤ (f *ℤ listed_at entries.now k)) < 2 ^ 63 }
+    ensures { AreLess nums.old f entries.now nums.new }
+{
+    for entry in entries {
+        nums[entry.place] = nums[entry.place] - f * entry.num;
+    }
+}
+
+// Takes f times each number listed away from the numbers taken p times, where 0 stands at place k.
+pub(crate) fn take_from(nums: &mut [i64], k: usize, p: i64, f: i64, entries: &[Entry])
+    requires place { k < length nums.old }
+    requires sparse { AreSparse entries.now }
+    requires below { AreBelow (length nums.old) entries.now }
+    requires room { (j : ℕ)
+        → unsigned_abs (number_at nums.old j) * unsigned_abs p + unsigned_abs f * unsigned_abs (listed_at entries.now j) < 2 ^ 63 }
+    ensures { AreTaken nums.old k p f entries.now nums.new }
+{
+    nums[k] = 0;
+    multiply_all(nums, p);
+    take_listed(nums, entries, f);
+}

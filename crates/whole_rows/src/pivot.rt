@@ -1,0 +1,202 @@
+//! The row that is taken from the others in an exchange.
+
+ghost use Rattle.std.specs.Prelude.{◌≡◌, ◌⊎◌, ℕ, ◌+◌, ◌<◌, ◌≤◌, ◌^◌, [], length, pos, ◌<ℤ◌, unsigned_abs, IsTrue, IfOk};
+ghost use Rattle.program_form.specs.SparseRows.{coefficient_at, AreCoefficients};
+ghost use Rattle.whole_rows.specs.Numbers.{AreFirst, AreFrom, AreListed, AreListedTo, AreListedWithin, AreZeroBetween};
+ghost use Rattle.whole_rows.specs.PivotView.{IsBoundedPivot};
+ghost use Rattle.whole_rows.specs.Rows.{coefficient_row, entry_at, AreSparse, IsPivotOf};
+
+use crate::entries::Entry;
+use crate::row::WholeRow;
+use program_form::Coefficient;
+use std::alloc::{AllocError, Global};
+use std::marker::Model;
+
+/// The numbers of a row that aren't zero, in order of their places, with its limit and its denominator.
+#[derive(Drop)]
+pub struct Pivot {
+    entries: Vec<Entry>,
+    limit: i64,
+    den: i64,
+    // the greatest size among the numbers above but the denominator
+    most: u64,
+}
+
+impl Model for Pivot {
+    ghost use Rattle.whole_rows.specs.Rows.{PivotDef};
+
+    ghost Value = { PivotDef };
+
+    ghost use Rattle.whole_rows.specs.PivotView.{pivot_view, IsKept};
+
+    ghost view = { pivot_view };
+
+    ghost invariant = { IsKept };
+}
+
+impl Pivot {
+    /// That of a row without numbers. It takes no memory.
+    pub fn none(alloc: Global) -> Pivot
+        ensures { result ≡ record { entries = []; limit = pos 0; den = pos 1 } }
+    {
+        Pivot {
+            entries: Vec::new(alloc),
+            limit: 0,
+            den: 1,
+            most: 0,
+        }
+    }
+
+    /// Becomes that of a row. The error comes where there is no memory for it.
+    pub fn read(&mut self, row: &WholeRow) -> Result<(), AllocError>
+        ensures { IfOk result (λ _. IsPivotOf self.new row.now) }
+    {
+        let listed = list_nums(&mut self.entries, row.nums());
+        self.limit = row.limit();
+        self.den = row.den();
+        self.most = greatest_listed(&self.entries, self.limit.unsigned_abs());
+        listed
+    }
+
+    /// Becomes that of a row over 1 with these coefficients, each at the place of its column, and this limit. The error comes where there
+    /// is no memory for it.
+    pub fn read_coefficients(
+        &mut self,
+        coefficients: &[Coefficient],
+        limit: u64,
+    ) -> Result<(), AllocError>
+        requires listed { (n : ℕ) × AreCoefficients n coefficients.now }
+        requires small { (j : ℕ) → j < length coefficients.now → (coefficient_at coefficients.now j).number < 2 ^ 63 }
+        requires limit { limit < 2 ^ 63 }
+        ensures { IfOk result (λ _. (n : ℕ) → AreCoefficients n coefficients.now
+            → IsPivotOf self.new (coefficient_row n coefficients.now limit)) }
+    {
+        let listed = list_coefficients(&mut self.entries, coefficients);
+        self.limit = limit as i64;
+        self.den = 1;
+        self.most = greatest_listed(&self.entries, limit);
+        listed
+    }
+
+    /// The numbers that aren't zero.
+    pub fn entries(&self) -> &[Entry]
+        ensures value { result.now ≡ self.now.entries }
+        ensures sparse { AreSparse result.now }
+    {
+        &self.entries
+    }
+
+    // The limit, over the denominator.
+    pub(crate) fn limit(&self) -> i64
+        ensures { result ≡ self.now.limit }
+    {
+        self.limit
+    }
+
+    // The denominator.
+    pub(crate) fn den(&self) -> i64
+        ensures value { result ≡ self.now.den }
+        ensures positive { pos 0 <ℤ result }
+    {
+        self.den
+    }
+
+    // The greatest size of the numbers and of the limit.
+    pub(crate) fn most(&self) -> u64
+        ensures { IsBoundedPivot self.now result }
+    {
+        self.most
+    }
+}
+
+// How many numbers are looked at together.
+const BLOCK: usize = 8;
+
+// Whether a whole block of numbers stands from place `first` on, and all of it is zero.
+fn is_zero_block(nums: &[i64], first: usize) -> bool
+    requires { first ≤ length nums.now }
+    ensures whole { IsTrue result → first + BLOCK ≤ length nums.now }
+    ensures zero { IsTrue result → AreZeroBetween nums.now first (first + BLOCK) }
+{
+    if nums.len() - first < BLOCK {
+        return false;
+    }
+    let mut zero = true;
+    for k in 0..BLOCK {
+        zero = zero & (nums[first + k] == 0);
+    }
+    zero
+}
+
+// Adds the numbers that aren't zero, from place `first` up to place `last`, to a list of those before.
+fn list_between(
+    list: &mut Vec<Entry>,
+    nums: &[i64],
+    first: usize,
+    last: usize,
+) -> Result<(), AllocError>
+    requires order { first ≤ last }
+    requires within { last ≤ length nums.now }
+    requires earlier { AreListedTo first nums.now list.old.items }
+    ensures from { AreFrom nums.now list.new.items }
+    ensures all { IfOk result (λ _. AreListedTo last nums.now list.new.items) }
+{
+    for place in first..last {
+        let num = nums[place];
+        if num != 0 {
+            list.push(Entry { place, num })?;
+        }
+    }
+    Ok(())
+}
+
+// The numbers that aren't zero, at their places, in the memory of a list. Where there is none for all of them, some.
+fn list_nums(list: &mut Vec<Entry>, nums: &[i64]) -> Result<(), AllocError>
+    ensures from { AreFrom nums.now list.new.items }
+    ensures all { IfOk result (λ _. AreListed nums.now list.new.items) }
+{
+    list.clear();
+    let mut first = 0;
+    while first < nums.len() {
+        // most blocks are zero, and that is seen sooner without a branch for each number
+        if is_zero_block(nums, first) {
+            first += BLOCK;
+        } else {
+            let last = first.saturating_add(BLOCK).min(nums.len());
+            list_between(list, nums, first, last)?;
+            first = last;
+        }
+    }
+    Ok(())
+}
+
+// The coefficients, in the memory of a list. Where there is none for all of them, some.
+fn list_coefficients(list: &mut Vec<Entry>, coefficients: &[Coefficient]) -> Result<(), AllocError>
+    requires { (j : ℕ) → j < length coefficients.now → (coefficient_at coefficients.now j).number < 2 ^ 63 }
+    ensures first { (m : ℕ) × AreFirst m coefficients.now list.new.items }
+    ensures all { IfOk result (λ _. AreFirst (length coefficients.now) coefficients.now list.new.items) }
+{
+    list.clear();
+    for coefficient in coefficients {
+        list.push(Entry {
+            place: coefficient.column as usize,
+            num: coefficient.number as i64,
+        })?;
+    }
+    Ok(())
+}
+
+// The greatest size of the numbers listed, and of a first one.
+fn greatest_listed(entries: &[Entry], first: u64) -> u64
+    ensures first { first ≤ result }
+    ensures all { AreListedWithin result entries.now }
+    ensures least { (most : ℕ) → first ≤ most → AreListedWithin most entries.now → result ≤ most }
+    ensures attained { (result ≡ first)
+        ⊎ ((j : ℕ) × (j < length entries.now) × (unsigned_abs (entry_at entries.now j).num ≡ result)) }
+{
+    let mut most = first;
+    for entry in entries {
+        most = most.max(entry.num.unsigned_abs());
+    }
+    most
+}

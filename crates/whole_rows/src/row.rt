@@ -1,0 +1,222 @@
+//! A row of whole numbers over one denominator.
+
+ghost use Rattle.std.specs.Prelude.{◌≡◌, ℕ, ◌+◌, ◌*◌, ◌<◌, ◌≤◌, ◌^◌, length, slice_index_or, IfSome, IfNone, OnErr};
+ghost use Rattle.std.specs.Prelude.{pos, ◌-ℤ◌, ◌*ℤ◌, ◌<ℤ◌, unsigned_abs};
+ghost use Rattle.whole_rows.specs.Rows.{RowDef, num_at, AreBelow, IsPivotOf};
+ghost use Rattle.whole_rows.specs.Numbers.{IsSameRow, swapped};
+ghost use Rattle.whole_rows.specs.RowView.{IsBounded};
+ghost use Rattle.whole_rows.specs.Large.{IsReduced, IsSizeIn, IsPast, IsTooLarge};
+ghost use Rattle.whole_rows.specs.Steps.{AreSmallCells, IsDividedRow, LeavesRow};
+
+use crate::divisors::{cancelled, divide_parts};
+use crate::numbers::{greatest_size, take_from};
+use crate::pivot::Pivot;
+use std::marker::Model;
+use thiserror::Error;
+
+// The greatest size of a number.
+const MOST: u64 = i64::MAX as u64;
+
+/// A bound on the numbers over the row's denominator passes 2^63 - 1.
+#[derive(Clone, Copy, Debug, PartialEq, Eq, Error)]
+#[error("a number over the row's denominator passes 2^63 - 1")]
+pub struct Large;
+
+/// A row: a number for each place, and its limit, over one denominator.
+#[derive(Drop)]
+pub struct WholeRow {
+    nums: Vec<i64>,
+    limit: i64,
+    den: i64,
+    // no number above is greater in size, the denominator neither
+    most: u64,
+}
+
+impl Model for WholeRow {
+    ghost use Rattle.whole_rows.specs.Rows.{RowDef};
+
+    ghost Value = { RowDef };
+
+    ghost use Rattle.whole_rows.specs.RowView.{row_view, IsKept};
+
+    ghost view = { row_view };
+
+    ghost invariant = { IsKept };
+}
+
+impl WholeRow {
+    /// The row of these numbers over 1, none of which is greater in size than `most`.
+    pub fn over_one(nums: Vec<i64>, limit: i64, most: u64) -> WholeRow
+        requires nums { (k : ℕ) → unsigned_abs (slice_index_or nums.items k (pos 0)) ≤ most }
+        requires limit { unsigned_abs limit ≤ most }
+        requires one { 1 ≤ most }
+        requires most { most < 2 ^ 63 }
+        ensures { result ≡ record { nums = nums.items; limit = limit; den = pos 1 } }
+    {
+        WholeRow {
+            nums,
+            limit,
+            den: 1,
+            most,
+        }
+    }
+
+    /// How many places there are.
+    pub fn places(&self) -> usize
+        ensures { result ≡ length self.now.nums }
+    {
+        self.nums.len()
+    }
+
+    // The numbers.
+    pub(crate) fn nums(&self) -> &[i64]
+        ensures value { result.now ≡ self.now.nums }
+        ensures small { AreSmallCells self.now }
+    {
+        &self.nums
+    }
+
+    /// The number at a place.
+    pub fn num(&self, k: usize) -> i64
+        requires { k < length self.now.nums }
+        ensures value { result ≡ num_at self.now k }
+        ensures small { AreSmallCells self.now }
+    {
+        self.nums[k]
+    }
+
+    /// The limit, over the same denominator.
+    pub fn limit(&self) -> i64
+        ensures value { result ≡ self.now.limit }
+        ensures small { AreSmallCells self.now }
+    {
+        self.limit
+    }
+
+    /// The denominator.
+    pub fn den(&self) -> i64
+        ensures value { result ≡ self.now.den }
+        ensures small { AreSmallCells self.now }
+    {
+        self.den
+    }
+
+    /// Divides the row by its cell at place k, which the variable that leaves takes.
+    pub fn enter(&mut self, k: usize)
+        requires place { k < length self.old.nums }
+        requires above { pos 0 <ℤ num_at self.old k }
+        ensures { IsDividedRow self.old k self.new }
+    {
+        self.swap_in(k);
+        // over 1 there is nothing to take off
+        if self.den != 1 {
+            self.reduce();
+        }
+    }
+
+    // The number at place k and the denominator change places.
+    fn swap_in(&mut self, k: usize)
+        requires place { k < length self.old.nums }
+        requires above { pos 0 <ℤ num_at self.old k }
+        ensures swapped { self.new ≡ swapped self.old k }
+        ensures small { AreSmallCells self.new }
+    {
+        let num = self.nums[k];
+        self.nums[k] = self.den;
+        self.den = num;
+    }
+
+    // Divides all numbers by their greatest common divisor. None becomes greater, so the bound stays as it is.
+    fn reduce(&mut self)
+        ensures same { IsSameRow self.old self.new }
+        ensures small { AreSmallCells self.new }
+        ensures lowest { IsReduced self.new }
+    {
+        let (limit, den) = divide_parts(&mut self.nums, self.limit, self.den);
+        self.limit = limit;
+        self.den = den;
+    }
+
+    // A bound on the sizes of its numbers, its limit and its denominator.
+    fn bound(&self) -> u64
+        ensures { IsBounded self.now result }
+    {
+        self.most
+    }
+
+    // The same, and measures all numbers anew. Gives the greatest size.
+    fn tighten(&mut self) -> u64
+        ensures same { IsSameRow self.old self.new }
+        ensures lowest { IsReduced self.new }
+        ensures bounded { IsBounded self.new result }
+        ensures attained { IsSizeIn self.new result }
+    {
+        self.reduce();
+        let first = self.limit.unsigned_abs().max(self.den.unsigned_abs());
+        self.most = greatest_size(&self.nums, first);
+        self.most
+    }
+
+    /// Takes its cell at place k times a divided row away. There what was 0 is taken from, the cell of the variable that leaves. Large
+    /// comes only where a bound on what is left passes 2^63 - 1 even with all common divisors taken off: a size of the row times p, and a
+    /// size of the pivot times that of f, where f / p is the cell over the pivot's denominator.
+    pub fn take(&mut self, k: usize, pivot: &Pivot) -> Result<(), Large>
+        requires place { k < length self.old.nums }
+        requires below { AreBelow (length self.old.nums) pivot.now.entries }
+        ensures left { (divided : RowDef) → IsPivotOf pivot.now divided → LeavesRow result self.old k divided self.new }
+        ensures as_many { length self.new.nums ≡ length self.old.nums }
+        ensures large { OnErr result (IsTooLarge self.old k pivot.now) }
+    {
+        let most = self.bound();
+        match self.take_within(k, pivot, most) {
+            Ok(()) => Ok(()),
+            Err(Large) => {
+                let most = self.tighten();
+                self.take_within(k, pivot, most)
+            }
+        }
+    }
+
+    // The same where the bound on what is left fits, with `most` for a bound on the row. Where it doesn't the row stays as it is.
+    fn take_within(&mut self, k: usize, pivot: &Pivot, most: u64) -> Result<(), Large>
+        requires place { k < length self.old.nums }
+        requires below { AreBelow (length self.old.nums) pivot.now.entries }
+        requires bounded { IsBounded self.old most }
+        ensures left { (divided : RowDef) → IsPivotOf pivot.now divided → LeavesRow result self.old k divided self.new }
+        ensures as_many { length self.new.nums ≡ length self.old.nums }
+        ensures stays { OnErr result (self.new ≡ self.old) }
+        ensures large { OnErr result (IsPast self.old k most pivot.now) }
+    {
+        let (f, p) = cancelled(self.nums[k], pivot.den());
+        let bound = match bound_after(most, p, f, pivot.most()) {
+            Some(bound) => bound,
+            None => return Err(Large),
+        };
+        take_from(&mut self.nums, k, p, f, pivot.entries());
+        self.limit = less_times(self.limit, p, f, pivot.limit());
+        self.den = self.den * p;
+        self.most = bound;
+        Ok(())
+    }
+}
+
+// A number taken p times less f times another.
+#[inline(always)]
+fn less_times(num: i64, p: i64, f: i64, other: i64) -> i64
+    requires { unsigned_abs num * unsigned_abs p + unsigned_abs f * unsigned_abs other < 2 ^ 63 }
+    ensures { result ≡ (num *ℤ p) -ℤ (f *ℤ other) }
+{
+    num * p - f * other
+}
+
+// A bound on numbers taken p times less f times others, where `most` and `others` bound both; None where it passes 2^63 - 1.
+fn bound_after(most: u64, p: i64, f: i64, others: u64) -> Option<u64>
+    ensures value { IfSome result (λ bound. bound ≡ most * unsigned_abs p + unsigned_abs f * others) }
+    ensures fits { IfSome result (λ bound. bound < 2 ^ 63) }
+    ensures large { IfNone result (2 ^ 63 ≤ most * unsigned_abs p + unsigned_abs f * others) }
+{
+    let first = most.checked_mul(p.unsigned_abs())?;
+    let second = f.unsigned_abs().checked_mul(others)?;
+    let bound = first.checked_add(second)?;
+    if bound <= MOST { Some(bound) } else { None }
+}

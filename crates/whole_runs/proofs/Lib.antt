@@ -1,0 +1,17 @@
+pub mod Seen
+pub mod Causes
+pub mod RowNumbers
+pub mod Starting
+pub mod FirstTable
+pub mod ColumnReading
+pub mod Choosing
+pub mod Smalls
+pub mod Standing
+pub mod Exchanging
+pub mod Marking
+pub mod Taking
+pub mod Following
+pub mod Stepping
+pub mod Running
+pub mod Ending
+pub mod Halting

@@ -1,0 +1,92 @@
+-- Small fractions in an exchange: what is zero or one, and what nothing is taken from.
+use Rattle.std.proofs.Common.{◌≡◌, ◌≢◌, ◌⊎◌, inl, inr, ℕ, zero, suc, ◌<◌, ◌^◌, ℤ, pos, negsuc, ◌-ℤ◌, ◌*ℤ◌, refl, ap, sym, ◌∙◌, arith}
+use Rattle.std.proofs.lemmas.Int.{ints}
+use Rattle.number_laws.proofs.Ring.{mul-one, mul-comm, mul-zero, zero-mul, one-mul}
+use Rattle.fraction128.specs.Fraction.{Fraction, IsQuotient, IsProduct, IsDifference, whole}
+use Rattle.exchange_runs.specs.Exchange.{IsLessOver}
+use Rattle.small_runs.specs.SmallRuns.{IsSmall}
+
+pub small_zero : IsSmall (whole (pos 0))
+small_zero = record { positive = omega (arith, ints); small_num = omega arith; small_den = omega arith }
+
+pub small_one : IsSmall (whole (pos 1))
+small_one = record { positive = omega (arith, ints); small_num = omega arith; small_den = omega arith }
+
+pub small_whole : (n : ℕ) → n < 2 ^ 63 → IsSmall (whole (pos n))
+small_whole n l = record { positive = omega (arith, ints); small_num = l; small_den = omega arith }
+
+pub zero_or_not : (z : ℤ) → (z ≡ pos 0) ⊎ (z ≢ pos 0)
+zero_or_not (pos zero) = inl refl
+zero_or_not (pos (suc n)) = inr (λ e. omega (arith, ints))
+zero_or_not (negsuc n) = inr (λ e. omega (arith, ints))
+
+-- a value over itself is one
+pub one_of_same : (a : Fraction) → IsQuotient a a (whole (pos 1))
+one_of_same a = record { same = one-mul (a.den *ℤ a.num) ∙ (mul-comm a.den a.num ∙ sym (mul-one (a.num *ℤ a.den))) }
+
+-- and over one itself
+pub over_one_same : (a : Fraction) → IsQuotient a (whole (pos 1)) a
+over_one_same a = record { same = ap (λ x. a.num *ℤ x) (mul-one a.den) ∙ ap (λ x. x *ℤ a.den) (sym (mul-one a.num)) }
+
+pub zero_over : (b : Fraction) → IsQuotient (whole (pos 0)) b (whole (pos 0))
+zero_over b = record { same = zeros (pos 1 *ℤ b.num) b.den }
+  where
+    zeros : (x y : ℤ) → pos 0 *ℤ x ≡ (pos 0 *ℤ y) *ℤ pos 1
+    zeros x y = omega (arith, ints)
+
+no_product : (f y : Fraction) → f.num *ℤ y.num ≡ pos 0 → IsProduct f y (whole (pos 0))
+no_product f y none = record { same = rw none (zeros (f.den *ℤ y.den) (pos 1)) }
+  where
+    zeros : (a b : ℤ) → pos 0 *ℤ a ≡ pos 0 *ℤ b
+    zeros a b = omega (arith, ints)
+
+less_nothing : (a : Fraction) → IsDifference a (whole (pos 0)) a
+less_nothing a = record { same = nothing a.num a.den }
+  where
+    nothing : (n d : ℤ) → n *ℤ (d *ℤ pos 1) ≡ ((n *ℤ pos 1) -ℤ (pos 0 *ℤ d)) *ℤ d
+    nothing n d = ap (λ x. n *ℤ x) (mul-one d) ∙ ap (λ x. x *ℤ d) (back n d)
+      where
+        back : (x y : ℤ) → x ≡ (x *ℤ pos 1) -ℤ (pos 0 *ℤ y)
+        back x y = omega (arith, ints)
+
+-- Nothing is taken away where the product is zero.
+kept : (a f y : Fraction) → f.num *ℤ y.num ≡ pos 0 → IsSmall a → IsLessOver IsSmall a f y a
+kept a f y none small = record {
+  product = whole (pos 0);
+  product_form = small_zero;
+  is_product = no_product f y none;
+  form = small;
+  is_difference = less_nothing a;
+}
+
+pub less_of_zero : (a f y : Fraction) → f.num ≡ pos 0 → IsSmall a → IsLessOver IsSmall a f y a
+less_of_zero a f y none small = kept a f y (ap (λ x. x *ℤ y.num) none ∙ zero-mul y.num) small
+
+pub less_at_zero : (a f : Fraction) → IsSmall a → IsLessOver IsSmall a f (whole (pos 0)) a
+less_at_zero a f small = kept a f (whole (pos 0)) (mul-zero f.num) small
+
+-- A value less itself times one is zero.
+pub less_itself : (a : Fraction) → IsSmall a → IsLessOver IsSmall a a (whole (pos 1)) (whole (pos 0))
+less_itself a small = record {
+  product = a;
+  product_form = small;
+  is_product = record { same = ap (λ x. a.num *ℤ x) (mul-one a.den) ∙ ap (λ x. x *ℤ a.den) (sym (mul-one a.num)) };
+  form = small_zero;
+  is_difference = record { same = gone (a.num *ℤ a.den) (a.den *ℤ a.den) };
+}
+  where
+    gone : (x y : ℤ) → pos 0 *ℤ y ≡ (x -ℤ x) *ℤ pos 1
+    gone x y = omega (arith, ints)
+
+-- Where the factor is zero, zero stays zero over any denominator.
+pub zero_less : (f y : Fraction) → f.num ≡ pos 0 → IsSmall f → IsLessOver IsSmall (whole (pos 0)) f y f
+zero_less f y none small = record {
+  product = whole (pos 0);
+  product_form = small_zero;
+  is_product = no_product f y (ap (λ x. x *ℤ y.num) none ∙ zero-mul y.num);
+  form = small;
+  is_difference = record { same = rw none (gone f.den) };
+}
+  where
+    gone : (d : ℤ) → pos 0 *ℤ (pos 1 *ℤ pos 1) ≡ ((pos 0 *ℤ pos 1) -ℤ (pos 0 *ℤ pos 1)) *ℤ d
+    gone d = omega (arith, ints)

@@ -1,0 +1,19 @@
+use Rattle.std.proofs.Common.{◌<◌}
+use Rattle.small_runs.specs.SmallRuns.{SmallReached}
+use Rattle.whole_runs.specs.States.{table_seen, HasSize, AreStands, ArePlaced}
+use Rattle.whole_runs.specs.Choice.{IsFrom}
+use Rattle.whole_runs.specs.Columns.{AreMarked}
+use Rattle.whole_runs.specs.Exchanges.{AreSmallRows}
+use Rattle.whole_runs.proofs.run_whole.Given as goal
+
+abbrev pub invariant-loop-exchanges : goal.invariant-loop-exchanges
+invariant-loop-exchanges l = record {
+  size : HasSize l.program l.rows.items l.basis.items l.stands.items;
+  stands : AreStands l.program l.basis.items l.stands.items;
+  small : AreSmallRows l.program l.rows.items;
+  marked : AreMarked l.program l.rows.items l.marks;
+  placed : ArePlaced l.program l.outside.items l.stands.items;
+  earlier : IsFrom l.program l.rows.items l.stands.items l.from;
+  left : 0 < l.units → l.exchanges < l.units;
+  reached : SmallReached l.program l.exchanges (table_seen l.program l.rows.items l.basis.items l.stands.items);
+}

@@ -1,0 +1,63 @@
+-- What a whole run answers.
+use Rattle.std.specs.Prelude.{◌≡◌, ℕ, ◌<◌, List, length, Result, Ok, Err, Some, pos}
+use Rattle.std.specs.declared.option.Option.{Option}
+use Rattle.fraction128.specs.Fraction.{Fraction, whole}
+use Rattle.fraction128.specs.Scaling.{fraction_at}
+use Rattle.program_form.specs.Program.{ProgramDef, columns, height}
+use Rattle.program_form.specs.Certificate.{dual_seen}
+use Rattle.exchange_runs.specs.Table.{Table, slack}
+use Rattle.exchange_runs.specs.Readings.{minus, IsReadOff, IsWideEnd}
+use Rattle.exchange_runs.specs.Outcomes.{EndsWithin, NeedsMoreThan}
+use Rattle.small_runs.specs.SmallRuns.{IsLowestOf}
+use Rattle.whole_rows.specs.Rows.{RowDef}
+use Rattle.whole_runs.specs.States.{row_at, limit_seen, stand_at, stand_cell}
+use Rattle.whole_runs.specs.Large.{IsLargeWithin}
+use Rattle.whole_runs.specs.declared.Ended.{Ended}
+use Rattle.whole_runs.specs.declared.stands.Stand.{Stand}
+use Rattle.whole_runs.specs.declared.stands.Stand.TheVariants.{Outside, Basic}
+use Rattle.whole_runs.specs.declared.stops.Halt.{Halt}
+use Rattle.whole_runs.specs.declared.stops.Halt.TheVariants.{Memory, Large, Units}
+
+-- The end of the exchange run, or Units exactly where it needs more of them, or Large where whole numbers don't serve it. Memory says
+-- nothing.
+abbrev pub Runs : Result Ended Halt → ProgramDef → ℕ → Type 0
+Runs (Ok e) p units = EndsWithin p units e.exchanges e.value e.primal.items (dual_seen e.dual)
+Runs (Err Memory) p units = Unit {0}
+Runs (Err Large) p units = IsLargeWithin p units
+Runs (Err Units) p units = NeedsMoreThan p units
+
+-- What is asked for, or Large for the given cause. Memory says nothing, and Units isn't an answer.
+abbrev pub GivesOrStops : {X : Type 0} → Result X Halt → (X → Type 0) → Type 0 → Type 0
+GivesOrStops (Ok x) is cause = is x
+GivesOrStops (Err Memory) is cause = Unit {0}
+GivesOrStops (Err Large) is cause = cause
+GivesOrStops (Err Units) is cause = ⊥
+
+-- What is read off the last table, or Large where its end is wide.
+abbrev pub Finishes : Result Ended Halt → ProgramDef → Table → ℕ → Type 0
+Finishes result p t k =
+    GivesOrStops result (λ e. (e.exchanges ≡ k) × IsReadOff p t e.value e.primal.items (dual_seen e.dual)) (IsWideEnd p t)
+
+-- Which cell has the objective row where a variable stands so?
+abbrev pub objective_cell : ProgramDef → RowDef → Stand → Fraction
+objective_cell p objective stand = stand_cell p (Some objective) (height p) stand
+
+-- Are these the duals that the objective row gives, each in lowest terms?
+pub record AreLowestDuals (p : ProgramDef) (objective : RowDef) (stands : List Stand) (duals : List Fraction) : Type 0 where
+  pub dual_each : length duals ≡ height p
+  pub each : (r : ℕ) → r < height p → IsLowestOf (minus (objective_cell p objective (stand_at stands (slack p r)))) (fraction_at duals r)
+
+-- Is f, in lowest terms, the value of a variable that stands so: the limit of its row, or zero where it has none?
+abbrev pub IsLowestValue : ProgramDef → List (Option RowDef) → Stand → Fraction → Type 0
+IsLowestValue p rows (Outside k) f = f ≡ whole (pos 0)
+IsLowestValue p rows (Basic j) f = IsLowestOf (limit_seen p (row_at rows j) j) f
+
+-- Are these the values of the columns?
+pub record AreLowestValues (p : ProgramDef) (rows : List (Option RowDef)) (stands : List Stand) (values : List Fraction) : Type 0 where
+  pub value_each : length values ≡ columns p
+  pub each : (c : ℕ) → c < columns p → IsLowestValue p rows (stand_at stands c) (fraction_at values c)
+
+-- Has the stand a place for a column, or a row of the program?
+abbrev pub IsStandOf : ProgramDef → Stand → Type 0
+IsStandOf p (Outside k) = k < columns p
+IsStandOf p (Basic j) = j < height p

@@ -1,0 +1,9 @@
+pub mod States
+pub mod Columns
+pub mod Starts
+pub mod Exchanges
+pub mod Choice
+pub mod Takings
+pub mod Large
+pub mod Stepping
+pub mod Ends

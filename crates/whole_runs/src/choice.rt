@@ -1,0 +1,242 @@
+//! Which variable enters the basis, and which row leaves it. In one function with the run the loops of `first_above`, `least_above` and
+//! `read_column` would lack registers, so they aren't inlined.
+
+ghost use Rattle.std.specs.Prelude.{◌≡◌, ℕ, ◌+◌, ◌<◌, ◌≤◌, List, length, slice_index, pos, ◌*ℤ◌, ◌<ℤ◌, IfOk, IfSome};
+ghost use Rattle.program_form.specs.Program.{height, columns};
+ghost use Rattle.exchange_runs.specs.Table.{Table, variables};
+ghost use Rattle.whole_rows.specs.Rows.{entry_at, num_at, AreBelow};
+ghost use Rattle.whole_runs.specs.States.{row_at, stand_at, table_seen, HasPlaces, HasSize, AreStands};
+ghost use Rattle.whole_runs.specs.Columns.{num_seen, IsColumn, AreMarked};
+ghost use Rattle.whole_runs.specs.Exchanges.{Enters, Leaves};
+ghost use Rattle.whole_runs.specs.Choice.{AreNoneAbove, IsFrom, IsFirstAbove, ReadsRatio, IsRatioOf, Comes, IsLeastOf, IsLeastSoFar};
+ghost use Rattle.whole_runs.specs.declared.stands.Stand.{Stand};
+ghost use Rattle.whole_runs.specs.declared.stands.Stand.TheVariants.{Outside};
+
+use crate::reading::{limit_of, num_of, objective};
+use crate::stands::Stand;
+use program_form::SparseProgram;
+use row_marks::RowMarks;
+use std::alloc::AllocError;
+use std::cmp::Ordering;
+use whole_rows::{Entry, WholeRow, push_num};
+
+// The first variable outside the basis whose number in the row is above zero, with its place. None below `from` has such a number.
+#[inline(never)]
+fn first_above(row: &WholeRow, stands: &[Stand], from: usize) -> Option<(usize, usize)>
+    requires places { (v k : ℕ) → v < length stands.now → stand_at stands.now v ≡ Outside k → k < length row.now.nums }
+    requires earlier { AreNoneAbove row.now stands.now from }
+    ensures { IsFirstAbove result row.now stands.now }
+{
+    for v in from..stands.len() {
+        if let Stand::Outside(k) = stands[v] {
+            if row.num(k) > 0 {
+                return Some((v, k));
+            }
+        }
+    }
+    None
+}
+
+// The same for the objective row: the variable that enters.
+pub(crate) fn entering(
+    program: &SparseProgram,
+    rows: &[Option<WholeRow>],
+    stands: &[Stand],
+    from: usize,
+) -> Option<(usize, usize)>
+    requires table { (basis : List ℕ) × HasSize program.now rows.now basis stands.now × AreStands program.now basis stands.now }
+    requires earlier { IsFrom program.now rows.now stands.now from }
+    ensures { (basis : List ℕ) → Enters result program.now rows.now basis stands.now }
+{
+    first_above(objective(program, rows), stands, from)
+}
+
+// The least of a variable and of those at the places of the entries whose number in the row is above zero.
+#[inline(never)]
+pub(crate) fn least_above(
+    row: &WholeRow,
+    outside: &[usize],
+    entries: &[Entry],
+    first: usize,
+) -> usize
+    requires places { AreBelow (length row.now.nums) entries.now }
+    requires outside { AreBelow (length outside.now) entries.now }
+    ensures first { result ≤ first }
+    ensures each { (m : ℕ) → m < length entries.now → pos 0 <ℤ num_at row.now (entry_at entries.now m).place
+        → result ≤ slice_index outside.now (entry_at entries.now m).place }
+{
+    let mut least = first;
+    for entry in entries {
+        if row.num(entry.place) > 0 {
+            least = least.min(outside[entry.place]);
+        }
+    }
+    least
+}
+
+// Takes the mark of row i at place k away where the row's number there is zero, so that the row isn't looked at again.
+fn unmark_zero(
+    marks: &mut RowMarks,
+    program: &SparseProgram,
+    rows: &[Option<WholeRow>],
+    k: usize,
+    i: usize,
+    num: i64,
+)
+    requires place { k < columns program.now }
+    requires row { i < length rows.now }
+    requires number { num ≡ num_seen program.now (row_at rows.now i) i k }
+    requires marked { AreMarked program.now rows.now marks.old }
+    ensures { AreMarked program.now rows.now marks.new }
+{
+    if num == 0 {
+        marks.unmark(k, i);
+    }
+}
+
+// Reads the numbers at place k that aren't zero, in order of their rows.
+#[inline(never)]
+pub(crate) fn read_column(
+    column: &mut Vec<Entry>,
+    program: &SparseProgram,
+    rows: &[Option<WholeRow>],
+    marks: &mut RowMarks,
+    k: usize,
+) -> Result<(), AllocError>
+    requires places { (i : ℕ) → i < length rows.now → HasPlaces program.now i (row_at rows.now i) }
+    requires place { k < columns program.now }
+    requires marked { AreMarked program.now rows.now marks.old }
+    ensures column { IfOk result (λ _. IsColumn program.now rows.now k column.new.items) }
+    ensures marked { AreMarked program.now rows.now marks.new }
+{
+    column.clear();
+    let mut i = marks.next(k, 0, rows.len());
+    while i < rows.len() {
+        let num = num_of(program, rows, i, k);
+        unmark_zero(marks, program, rows, k, i, num);
+        push_num(column, i, num)?;
+        i = marks.next(k, i + 1, rows.len());
+    }
+    Ok(())
+}
+
+// The ratio of a row: its limit over its number in the column, which is above zero. The denominator of both is the row's.
+#[derive(Clone, Copy)]
+struct Ratio {
+    row: usize,
+    limit: i64,
+    num: i64,
+}
+
+// The ratio of the row of a cell. There is none where the cell's number isn't above zero.
+fn ratio_of(program: &SparseProgram, rows: &[Option<WholeRow>], cell: Entry) -> Option<Ratio>
+    requires row { cell.place < length rows.now }
+    requires within { cell.place < height program.now }
+    ensures { ReadsRatio result program.now rows.now cell }
+{
+    if cell.num <= 0 {
+        return None;
+    }
+    Some(Ratio {
+        row: cell.place,
+        limit: limit_of(program, rows, cell.place),
+        num: cell.num,
+    })
+}
+
+// The limit of a ratio times the number of another, which 128 bits hold.
+fn cross(a: Ratio, b: Ratio) -> i128
+    ensures { result ≡ a.limit *ℤ b.num }
+{
+    a.limit as i128 * b.num as i128
+}
+
+// Whether a ratio comes before another.
+fn comes_before(next: Ratio, best: Ratio, basis: &[usize]) -> bool
+    requires next { next.row < length basis.now }
+    requires best { best.row < length basis.now }
+    ensures { Comes result next best basis.now }
+{
+    match cross(next, best).cmp(&cross(best, next)) {
+        Ordering::Less => true,
+        Ordering::Equal => basis[next.row] < basis[best.row],
+        Ordering::Greater => false,
+    }
+}
+
+// The least ratio so far, or that of a row behind it.
+fn better(best: Ratio, next: Ratio, basis: &[usize]) -> Ratio
+    requires earlier { best.row < next.row }
+    requires within { next.row < length basis.now }
+    ensures least { (t : Table) (place e : ℕ) → ((i : ℕ) → t.basic i ≡ slice_index basis.now i) → IsLeastOf place t e next.row best
+        → IsRatioOf place t e next → IsLeastOf place t e (next.row + 1) result }
+    ensures within { result.row < next.row + 1 }
+{
+    if comes_before(next, best, basis) {
+        next
+    } else {
+        best
+    }
+}
+
+// The same, where there may be no ratio so far.
+fn chosen(best: Option<Ratio>, next: Ratio, basis: &[usize]) -> Ratio
+    requires earlier { IfSome best (λ b. b.row < next.row) }
+    requires within { next.row < length basis.now }
+    ensures least { (t : Table) (place e : ℕ) → ((i : ℕ) → t.basic i ≡ slice_index basis.now i) → IsLeastSoFar place t e next.row best
+        → IsRatioOf place t e next → IsLeastOf place t e (next.row + 1) result }
+    ensures within { result.row < next.row + 1 }
+{
+    match best {
+        Some(best) => better(best, next, basis),
+        None => next,
+    }
+}
+
+// The least ratio of the column's rows but the objective, which is the last.
+fn least_ratio(
+    program: &SparseProgram,
+    rows: &[Option<WholeRow>],
+    basis: &[usize],
+    column: &[Entry],
+) -> Option<Ratio>
+    requires rows { length rows.now ≡ height program.now + 1 }
+    requires basis { length basis.now ≡ height program.now }
+    requires column { (k : ℕ) × IsColumn program.now rows.now k column.now }
+    ensures least { (e k : ℕ) (stands : List Stand) → IsColumn program.now rows.now k column.now → e < variables program.now
+        → stand_at stands e ≡ Outside k
+        → IsLeastSoFar (variables program.now) (table_seen program.now rows.now basis.now stands) e (height program.now) result }
+    ensures within { IfSome result (λ best. best.row < height program.now) }
+{
+    let mut best = None;
+    for j in 0..column.len() {
+        let cell = column[j];
+        if cell.place >= basis.len() {
+            return best;
+        }
+        if let Some(ratio) = ratio_of(program, rows, cell) {
+            best = Some(chosen(best, ratio, basis));
+        }
+    }
+    best
+}
+
+// The row that leaves where the variable of the column enters, or None where no row has a number above zero.
+pub(crate) fn leaving(
+    program: &SparseProgram,
+    rows: &[Option<WholeRow>],
+    basis: &[usize],
+    column: &[Entry],
+) -> Option<usize>
+    requires rows { length rows.now ≡ height program.now + 1 }
+    requires basis { length basis.now ≡ height program.now }
+    requires column { (k : ℕ) × IsColumn program.now rows.now k column.now }
+    ensures least { (e k : ℕ) (stands : List Stand) → IsColumn program.now rows.now k column.now → e < variables program.now
+        → stand_at stands e ≡ Outside k → Leaves result program.now (table_seen program.now rows.now basis.now stands) e }
+    ensures within { IfSome result (λ r. r < height program.now) }
+{
+    match least_ratio(program, rows, basis, column) {
+        Some(best) => Some(best.row),
+        None => None,
+    }
+}

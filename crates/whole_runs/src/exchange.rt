@@ -1,0 +1,248 @@
+//! One exchange of a table.
+
+ghost use Rattle.std.specs.Prelude.{◌≡◌, ◌≢◌, ℕ, ◌+◌, ◌<◌, ◌/◌, ◌%◌, List, length, pos, ◌<ℤ◌, IfOk};
+ghost use Rattle.std.specs.Int.{bit_at};
+ghost use Rattle.program_form.specs.Program.{IsProgram, columns, height};
+ghost use Rattle.row_marks.specs.Marks.{HasWords, HasRow, IsMarked, AreKept};
+ghost use Rattle.whole_rows.specs.Rows.{entry_at, AreSparse, AreBelow};
+ghost use Rattle.exchange_runs.specs.Exchange.{IsEntering};
+ghost use Rattle.small_runs.specs.SmallRuns.{SmallReached};
+ghost use Rattle.whole_runs.specs.States.{row_at, stand_at, table_seen, HasPlaces, HasSize, AreStands, ArePlaced};
+ghost use Rattle.whole_runs.specs.Columns.{num_seen, IsColumn, AreMarked};
+ghost use Rattle.whole_runs.specs.Choice.{IsFrom};
+ghost use Rattle.whole_runs.specs.Exchanges.{AreSmallRows};
+ghost use Rattle.whole_runs.specs.Large.{IsTooLargeFor, IsSomeTooLarge, AreTooLarge};
+ghost use Rattle.whole_runs.specs.Stepping.{Steps};
+ghost use Rattle.whole_runs.specs.declared.stands.Stand.TheVariants.{Outside};
+ghost use Rattle.whole_runs.specs.Ends.{GivesOrStops};
+ghost use Rattle.whole_runs.specs.Takings.{Touches, Divides, IsTaken, AreTakenTo, ExchangesRows};
+
+use crate::choice::{least_above, leaving, read_column};
+use crate::reading::{coefficient_at, objective};
+use crate::stands::Stand;
+use crate::start::first_row;
+use crate::stops::Halt;
+use program_form::SparseProgram;
+use row_marks::RowMarks;
+use std::alloc::{AllocError, Global};
+use whole_rows::{Entry, Pivot, WholeRow};
+
+// Makes row i, where no exchange has changed it. Mostly one has.
+#[inline(always)]
+fn touch(
+    alloc: Global,
+    program: &SparseProgram,
+    row: &mut Option<WholeRow>,
+    i: usize,
+) -> Result<(), AllocError>
+    requires { HasPlaces program.now i row.old }
+    ensures { IfOk result (λ _. Touches program.now i row.old row.new) }
+{
+    if row.is_none() {
+        *row = Some(first_row(alloc, program, i)?);
+    }
+    Ok(())
+}
+
+// Divides row r by its cell at k, and reads it as the pivot. It is made for that, where no exchange has changed it.
+fn divide_touched(
+    alloc: Global,
+    program: &SparseProgram,
+    row: &mut Option<WholeRow>,
+    r: usize,
+    k: usize,
+    pivot: &mut Pivot,
+) -> Result<(), AllocError>
+    requires places { HasPlaces program.now r row.old }
+    requires place { k < columns program.now }
+    requires above { pos 0 <ℤ num_seen program.now row.old r k }
+    ensures { IfOk result (λ _. Divides program.now r row.old k row.new pivot.new) }
+{
+    touch(alloc, program, row, r)?;
+    match row {
+        Some(row) => {
+            row.enter(k);
+            pivot.read(row)?;
+        }
+        None => unreachable!(),
+    }
+    Ok(())
+}
+
+// The same. A row that no exchange has changed, and whose number at k is 1, isn't made: divided by that its numbers are the same, and the
+// variable that leaves takes place k with its own 1.
+fn divide(
+    alloc: Global,
+    program: &SparseProgram,
+    row: &mut Option<WholeRow>,
+    r: usize,
+    k: usize,
+    pivot: &mut Pivot,
+) -> Result<(), AllocError>
+    requires places { HasPlaces program.now r row.old }
+    requires row { r < height program.now }
+    requires place { k < columns program.now }
+    requires above { pos 0 <ℤ num_seen program.now row.old r k }
+    ensures { IfOk result (λ _. Divides program.now r row.old k row.new pivot.new) }
+{
+    if row.is_none() {
+        let coefficients = program.coefficients(r);
+        if coefficient_at(coefficients, k) == 1 {
+            return pivot.read_coefficients(coefficients, program.limit(r as u32));
+        }
+    }
+    divide_touched(alloc, program, row, r, k, pivot)
+}
+
+// Takes from row i its cell at k times the pivot row. Large comes where the row is too large for that.
+fn take_from(
+    alloc: Global,
+    program: &SparseProgram,
+    row: &mut Option<WholeRow>,
+    i: usize,
+    k: usize,
+    pivot: &Pivot,
+) -> Result<(), Halt>
+    requires places { HasPlaces program.now i row.old }
+    requires place { k < columns program.now }
+    requires below { AreBelow (columns program.now) pivot.now.entries }
+    ensures { GivesOrStops result (λ _. IsTaken program.now i row.old k pivot.now row.new)
+        (IsTooLargeFor program.now i row.old k pivot.now) }
+{
+    touch(alloc, program, row, i)?;
+    match row {
+        Some(row) => row.take(k, pivot)?,
+        None => unreachable!(),
+    }
+    Ok(())
+}
+
+// Takes from each row but r its cell at k times the pivot row. Rows that the column doesn't list aren't touched.
+fn take_all(
+    alloc: Global,
+    program: &SparseProgram,
+    rows: &mut [Option<WholeRow>],
+    column: &[Entry],
+    k: usize,
+    r: usize,
+    pivot: &Pivot,
+) -> Result<(), Halt>
+    requires sparse { AreSparse column.now }
+    requires rows { AreBelow (length rows.old) column.now }
+    requires places { (i : ℕ) → i < length rows.old → HasPlaces program.now i (row_at rows.old i) }
+    requires place { k < columns program.now }
+    requires below { AreBelow (columns program.now) pivot.now.entries }
+    ensures { GivesOrStops result (λ _. AreTakenTo (length column.now) program.now rows.old rows.new column.now k r pivot.now)
+        (IsSomeTooLarge program.now rows.old k r pivot.now) }
+{
+    for j in 0..column.len() {
+        let cell = column[j];
+        if cell.place != r {
+            take_from(alloc, program, &mut rows[cell.place], cell.place, k, pivot)?;
+        }
+    }
+    Ok(())
+}
+
+// Divides row r by its cell at k, and takes it from each other row its cell there times.
+fn exchange(
+    alloc: Global,
+    program: &SparseProgram,
+    rows: &mut [Option<WholeRow>],
+    column: &[Entry],
+    k: usize,
+    r: usize,
+    pivot: &mut Pivot,
+) -> Result<(), Halt>
+    requires row_each { length rows.old ≡ height program.now + 1 }
+    requires places { (i : ℕ) → i < length rows.old → HasPlaces program.now i (row_at rows.old i) }
+    requires small { AreSmallRows program.now rows.old }
+    requires column { IsColumn program.now rows.old k column.now }
+    requires place { k < columns program.now }
+    requires row { r < height program.now }
+    requires above { pos 0 <ℤ num_seen program.now (row_at rows.old r) r k }
+    ensures { GivesOrStops result (λ _. ExchangesRows program.now rows.old rows.new k r pivot.new)
+        (AreTooLarge program.now rows.old k r) }
+{
+    divide(alloc, program, &mut rows[r], r, k, pivot)?;
+    take_all(alloc, program, rows, column, k, r, pivot)?;
+    Ok(())
+}
+
+// Marks at the place of each entry the rows of word w whose bits are set here. In one function with the run the loop would lack
+// registers, so it isn't inlined.
+#[inline(never)]
+fn join_word(marks: &mut RowMarks, entries: &[Entry], w: usize, bits: u64)
+    requires words { (m : ℕ) → m < length entries.now → HasWords marks.old (entry_at entries.now m).place }
+    requires word { w < marks.old.words }
+    ensures kept { AreKept marks.old marks.new }
+    ensures joined { (m i : ℕ) → m < length entries.now → i / 64 ≡ w → bit_at bits (i % 64) ≡ 1
+        → IsMarked marks.new (entry_at entries.now m).place i }
+{
+    for entry in entries {
+        marks.join(entry.place, w, bits);
+    }
+}
+
+// Marks at the place of each entry the rows that are marked at k.
+fn join_marks(marks: &mut RowMarks, entries: &[Entry], k: usize)
+    requires words { (m : ℕ) → m < length entries.now → HasWords marks.old (entry_at entries.now m).place }
+    requires from { HasWords marks.old k }
+    ensures kept { AreKept marks.old marks.new }
+    ensures joined { (m i : ℕ) → m < length entries.now → HasRow marks.old i → IsMarked marks.old k i
+        → IsMarked marks.new (entry_at entries.now m).place i }
+{
+    for w in 0..marks.words() {
+        let bits = marks.word(k, w);
+        // mostly there are none
+        if bits != 0 {
+            join_word(marks, entries, w, bits);
+        }
+    }
+}
+
+// The exchange of the run where variable e enters, which stands outside at place k. Its column is read into `column`, and the row that
+// is taken from the others into `pivot`. The answer is where to look for the next variable that enters: none below it does. No program is
+// unbounded, so in a run some row leaves.
+pub(crate) fn step(
+    alloc: Global,
+    program: &SparseProgram,
+    rows: &mut [Option<WholeRow>],
+    marks: &mut RowMarks,
+    basis: &mut [usize],
+    stands: &mut [Stand],
+    outside: &mut [usize],
+    e: usize,
+    k: usize,
+    column: &mut Vec<Entry>,
+    pivot: &mut Pivot,
+) -> Result<usize, Halt>
+    requires program { IsProgram program.now }
+    requires size { HasSize program.now rows.old basis.old stands.old }
+    requires stands { AreStands program.now basis.old stands.old }
+    requires small { AreSmallRows program.now rows.old }
+    requires marked { AreMarked program.now rows.old marks.old }
+    requires enters { IsEntering program.now (table_seen program.now rows.old basis.old stands.old) e }
+    requires place { stand_at stands.old e ≡ Outside k }
+    requires placed { ArePlaced program.now outside.old stands.old }
+    requires reached { (n : ℕ) × SmallReached program.now n (table_seen program.now rows.old basis.old stands.old) }
+    ensures next { Steps result program.now e rows.old basis.old stands.old rows.new basis.new stands.new }
+    ensures small { IfOk result (λ _. AreSmallRows program.now rows.new) }
+    ensures marked { IfOk result (λ _. AreMarked program.now rows.new marks.new) }
+    ensures placed { IfOk result (λ _. ArePlaced program.now outside.new stands.new) }
+    ensures earlier { IfOk result (λ from. IsFrom program.now rows.new stands.new from) }
+{
+    read_column(column, program, rows, marks, k)?;
+    let r = match leaving(program, rows, basis, column) {
+        Some(r) => r,
+        None => unreachable!(),
+    };
+    exchange(alloc, program, rows, column, k, r, pivot)?;
+    join_marks(marks, pivot.entries(), k);
+    let left = basis[r];
+    stands[e] = Stand::Basic(r);
+    stands[left] = Stand::Outside(k);
+    basis[r] = e;
+    outside[k] = left;
+    Ok(least_above(objective(program, rows), outside, pivot.entries(), e))
+}

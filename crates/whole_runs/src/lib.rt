@@ -1,0 +1,83 @@
+//! The exchange run of a blocking program over whole numbers: each row has one denominator, and only variables outside the basis have a
+//! place in it.
+//!
+//! Most runs never need a number above 2^63 - 1 so. Where one does, [`Halt::Large`] says that this way of keeping the rows doesn't serve;
+//! whether an exchange of the run itself is wide is for others to say.
+#![tactic(auto)]
+
+ghost use Rattle.whole_runs.specs.Ends.{Runs};
+
+use fraction128::Frac;
+use program_form::{Dual, SparseProgram};
+use std::alloc::Global;
+use whole_rows::Pivot;
+
+mod choice;
+mod end;
+mod exchange;
+mod reading;
+mod stands;
+mod start;
+mod stops;
+
+use choice::entering;
+use end::finish;
+use exchange::step;
+use start::{first_basis, first_marks, first_outside, first_rows, first_stands};
+pub use stops::Halt;
+
+/// The end of an exchange run.
+#[derive(Debug, Drop)]
+pub struct Ended {
+    /// The optimum.
+    pub value: Frac,
+    /// The value of each column at a best point.
+    pub primal: Vec<Frac>,
+    /// A best dual, over its least common denominator.
+    pub dual: Dual,
+    /// How many exchanges the run made.
+    pub exchanges: u64,
+}
+
+/// Makes the exchange run of a program. It takes 1 unit, and 1 more for each exchange begun.
+///
+/// `Units` comes exactly where the run needs more of them and all numbers fit up to there. `Large` comes only where whole numbers don't
+/// serve the run within the units: a row is too large for an exchange, or the dual at the end is wide.
+// Inlined into its caller the loops would lack registers.
+#[inline(never)]
+pub fn run_whole(alloc: Global, program: &SparseProgram, units: u64) -> Result<Ended, Halt>
+    ensures { Runs result program.now units }
+{
+    let mut rows = first_rows(alloc, program)?;
+    let mut marks = first_marks(alloc, program)?;
+    let mut basis = first_basis(alloc, program)?;
+    let mut stands = first_stands(alloc, program)?;
+    let mut outside = first_outside(alloc, program)?;
+    let mut column = Vec::with_capacity(alloc, program.rows() as usize + 1)?;
+    let mut pivot = Pivot::none(alloc);
+    // no variable below it has a number above zero in the objective row
+    let mut from = 0;
+    for exchanges in 0..units {
+        let (e, k) = match entering(program, &rows, &stands, from) {
+            Some(found) => found,
+            None => return finish(alloc, program, &rows, &stands, exchanges),
+        };
+        if exchanges + 1 == units {
+            return Err(Halt::Units);
+        }
+        from = step(
+            alloc,
+            program,
+            &mut rows,
+            &mut marks,
+            &mut basis,
+            &mut stands,
+            &mut outside,
+            e,
+            k,
+            &mut column,
+            &mut pivot,
+        )?;
+    }
+    Err(Halt::Units)
+}

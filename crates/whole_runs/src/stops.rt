@@ -1,0 +1,52 @@
+//! Why a run was not made.
+
+ghost use Rattle.std.specs.Prelude.{◌≡◌};
+
+use std::alloc::{AllocError, AllocFailed};
+use thiserror::Error;
+use whole_rows::Large as LargeRow;
+
+/// Why a run was not made to its end.
+#[derive(Clone, Copy, Debug, PartialEq, Eq, Error)]
+pub enum Halt {
+    /// There is no memory for the table.
+    #[error("there is no memory for the table")]
+    Memory,
+    /// Whole numbers over one denominator a row don't serve: at some exchange a row is too large for what is taken from it, or at the end
+    /// the dual is wide, as its least common denominator or a number over that passes 2^63 - 1.
+    #[error("a number over its row's denominator, or one of the dual, passes 2^63 - 1")]
+    Large,
+    /// The run takes more units than it was given.
+    #[error("the exchange run takes more units than it was given")]
+    Units,
+}
+
+impl From<AllocError> for Halt {
+    ghost use Rattle.whole_runs.specs.declared.stops.Halt.TheVariants.{Memory};
+
+    ghost from_gives = { λ _ halt. halt ≡ Memory };
+
+    fn from(_error: AllocError) -> Halt {
+        Halt::Memory
+    }
+}
+
+impl<T: Drop> From<AllocFailed<T>> for Halt {
+    ghost use Rattle.whole_runs.specs.declared.stops.Halt.TheVariants.{Memory};
+
+    ghost from_gives = { λ _ halt. halt ≡ Memory };
+
+    fn from(_refused: AllocFailed<T>) -> Halt {
+        Halt::Memory
+    }
+}
+
+impl From<LargeRow> for Halt {
+    ghost use Rattle.whole_runs.specs.declared.stops.Halt.TheVariants.{Large};
+
+    ghost from_gives = { λ _ halt. halt ≡ Large };
+
+    fn from(_large: LargeRow) -> Halt {
+        Halt::Large
+    }
+}
