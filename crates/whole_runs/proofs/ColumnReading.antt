@@ -3,7 +3,7 @@ use Rattle.std.proofs.Common.{◌≡◌, ◌≢◌, ◌⊎◌, inl, inr, ℕ, �
 use Rattle.std.proofs.Common.{sym, subst, ◌∙◌, arith}
 use Rattle.std.specs.declared.option.Option.{Option}
 use Rattle.std.specs.List.{range_with_len}
-use Rattle.std.proofs.lemmas.Bool.{cases_eq, cases_lt}
+use Rattle.std.proofs.lemmas.Bool.{cases_eq}
 use Rattle.std.proofs.lemmas.List.FromFn.{get_or-map-range_with_len}
 use Rattle.program_form.specs.Program.{ProgramDef, columns}
 use Rattle.row_marks.specs.Marks.{HasRow, IsMarked, HaveSameRoom}
@@ -12,7 +12,7 @@ use Rattle.whole_rows.specs.Rows.{RowDef, entry_at}
 use Rattle.whole_rows.specs.EntrySteps.{IsPushed}
 use Rattle.whole_rows.specs.Numbers.{number_at}
 use Rattle.whole_rows.specs.declared.entries.Entry.{Entry}
-use Rattle.whole_rows.proofs.Listed.{AreListedTo, listed_past, listed_more, listed_same}
+use Rattle.whole_rows.proofs.Listed.{AreListedTo, listed_zeros, listed_more, listed_same}
 use Rattle.whole_runs.specs.States.{row_at}
 use Rattle.whole_runs.specs.Columns.{num_seen, IsColumn, AreMarked}
 use Rattle.whole_runs.proofs.Smalls.{zero_or_not}
@@ -49,19 +49,6 @@ one_read n p rows k column after num l h is pushed =
       | inr some ↦ rw some.1 (listed_more n (column_nums p rows k) column num h own some.0)
     ]
 
--- rows more, all of whose numbers are zero
-zeros_read : (n m : ℕ) (nums : List ℤ) (es : List Entry) → n ≤ m → ((i : ℕ) → n ≤ i → i < m → number_at nums i ≡ pos 0)
-    → AreListedTo n nums es → AreListedTo m nums es
-zeros_read n m nums es up none h = record {
-  sparse = h.sparse;
-  below = λ j l. let b : (entry_at es j).place < n = h.below j l in omega arith;
-  own = h.own;
-  each = λ i l. elim (cases_lt i n) [
-    | inl earlier ↦ h.each i earlier
-    | inr later ↦ listed_past es n i h.below later ∙ sym (none i later l)
-  ];
-}
-
 -- where a row isn't marked its number is zero
 unmarked_none : (p : ProgramDef) (rows : List (Option RowDef)) (marks : RowMarks) (k i : ℕ) → AreMarked p rows marks → k < columns p
     → i < length rows → (IsMarked marks k i → ⊥) → num_seen p (row_at rows i) i k ≡ pos 0
@@ -75,10 +62,10 @@ pub read_to : (n m : ℕ) (p : ProgramDef) (rows : List (Option RowDef)) (k : �
     → AreMarked p rows marks → k < columns p → n ≤ m → m ≤ length rows → ((i : ℕ) → n ≤ i → i < m → IsMarked marks k i → ⊥)
     → IsReadTo n p rows k column → IsReadTo m p rows k column
 read_to n m p rows k marks column marked lk up within un h =
-    zeros_read n m (column_nums p rows k) column up
+    listed_zeros n m (column_nums p rows k) column up h
     (λ i l li.
     let inside : i < length rows = omega arith in
-    column_num p rows k i inside ∙ unmarked_none p rows marks k i marked lk inside (un i l li)) h
+    column_num p rows k i inside ∙ unmarked_none p rows marks k i marked lk inside (un i l li))
 
 pub all_read : (n : ℕ) (p : ProgramDef) (rows : List (Option RowDef)) (k : ℕ) (column : List Entry) → n ≤ length rows → length rows ≤ n
     → IsReadTo n p rows k column → IsColumn p rows k column

@@ -18,7 +18,7 @@ use Rattle.whole_runs.specs.declared.stands.Stand.TheVariants.{Outside, Basic}
 use Rattle.whole_runs.specs.declared.stops.Halt.{Halt}
 use Rattle.whole_runs.specs.declared.stops.Halt.TheVariants.{Memory, Large, Units}
 
--- The end of the exchange run, or Units exactly where it needs more of them, or Large where whole numbers don't serve it. Memory says
+-- The end of the exchange run, or Units only where it needs more of them, or Large only where whole numbers don't serve it. Memory says
 -- nothing.
 abbrev pub Runs : Result Ended Halt → ProgramDef → ℕ → Type 0
 Runs (Ok e) p units = EndsWithin p units e.exchanges e.value e.primal.items (dual_seen e.dual)

@@ -41,8 +41,8 @@ pub struct Ended {
 
 /// Makes the exchange run of a program. It takes 1 unit, and 1 more for each exchange begun.
 ///
-/// `Units` comes exactly where the run needs more of them and all numbers fit up to there. `Large` comes only where whole numbers don't
-/// serve the run within the units: a row is too large for an exchange, or the dual at the end is wide.
+/// `Units` comes only where the run needs more of them. `Large` comes only where whole numbers don't serve the run: at some exchange a row
+/// is too large for what is taken from it, or at the end the dual is wide.
 // Inlined into its caller the loops would lack registers.
 #[inline(never)]
 pub fn run_whole(alloc: Global, program: &SparseProgram, units: u64) -> Result<Ended, Halt>
