@@ -14,7 +14,7 @@ use crate::queues::add_queues;
 use direct_constraints::{add_common, add_turn_rows};
 use fragments::{
     ColumnTest, Fragment, RowTaker, asked_beside, blocks_at_home, fragments_where,
-    passing_stand_in_order, uses,
+    passing_stand_in_order,
 };
 use preempt_constraints::add_interval_rows;
 use program_form::{Program, SparseProgram};
@@ -42,9 +42,7 @@ impl ColumnTest for DflpColumns {
     ghost fits = { λ k set i x. AreAskedBeside set i k.beside.items };
 
     fn test(&self, set: &TaskSet, i: TaskId, column: Fragment) -> bool {
-        column.task != i
-            && uses(set, column.task, column.resource)
-            && blocks_at_home(set, i, column, &self.beside)
+        column.task != i && blocks_at_home(set, i, column, &self.beside)
     }
 }
 
@@ -63,10 +61,10 @@ fn add_rows<T: RowTaker>(
     requires order { AreInOrder columns.now }
     ensures { OnOk result (T.takes taker.old (map column_seen columns.now) (dflp_rows set.now i.0) bounds.now taker.new) }
 {
-    add_common(alloc, taker, set, i, bounds, columns)?;
-    add_interval_rows(alloc, taker, set, i, bounds, columns)?;
-    add_turn_rows(alloc, taker, set, i, bounds, columns)?;
-    add_queues(alloc, taker, set, i, bounds, columns)?;
+    let places = add_common(alloc, taker, set, i, bounds, columns)?;
+    add_interval_rows(alloc, taker, set, i, bounds, columns, &places)?;
+    add_turn_rows(alloc, taker, set, i, bounds, columns, &places)?;
+    add_queues(alloc, taker, set, i, bounds, columns, &places)?;
     Ok(())
 }
 

@@ -1,15 +1,17 @@
 //! The rows of queues at each processor.
 
-ghost use Rattle.std.specs.Prelude.{◌<◌, ◌+◌, [], ◌∷◌, map, length, OnOk};
+ghost use Rattle.std.specs.Prelude.{◌≡◌, ◌<◌, ◌+◌, [], ◌∷◌, map, length, slice_index, OnOk};
+ghost use Rattle.std.specs.List.{AllWithin};
 ghost use Rattle.program_sources.specs.Bounds.{AreWithinDeadlines};
 ghost use Rattle.fragments.specs.ColumnDef.{column_seen, AreKnown};
 ghost use Rattle.fragments.specs.Constraints.{per, per_pair};
 ghost use Rattle.fragments.specs.Stretches.{AreInOrder, IsStretch};
+ghost use Rattle.fragments.specs.TaskPlaces.{ArePlaces};
 ghost use Rattle.dflp_laws.specs.Programs.{home_queue_row};
 
 use fragments::{
-    Constraint, Fragment, PerNumber, PerTask, RowKind, RowTaker, add_per_number, add_per_task,
-    add_row_within, home, requests_at,
+    Constraint, Fragment, PerNumber, PerTask, RowKind, RowTaker, TaskPlace, add_per_number,
+    add_per_task, add_row_within, home, requests_at,
 };
 use sporadic_model::{TaskId, TaskSet};
 use std::alloc::{AllocError, Global};
@@ -26,11 +28,10 @@ impl RowKind for HomeQueueRow {
 
     ghost fits = { λ k set. k.task.0 < length set.tasks };
 
+    ghost over = { λ k set i c. c.task ≡ k.task.0 };
+
     fn coefficient(&self, set: &TaskSet, _i: TaskId, column: Fragment) -> u64 {
-        if column.task == self.task
-            && !column.class.is_preemption()
-            && home(set, column.resource) == self.processor
-        {
+        if !column.class.is_preemption() && home(set, column.resource) == self.processor {
             1
         } else {
             0
@@ -55,7 +56,8 @@ impl PerNumber for QueuesWith {
     ghost rows_of = { λ k set i n. home_queue_row set i k.task.0 (n + 1) ∷ [] };
 
     ghost fits = { λ k set i columns n. (k.task.0 < length set.tasks) × (n < set.processors)
-        × IsStretch (home_queue_row set i k.task.0 (n + 1)) columns k.stretch.0 k.stretch.1 };
+        × IsStretch (home_queue_row set i k.task.0 (n + 1)) columns k.stretch.0 k.stretch.1
+        × AllWithin (λ c. (column_seen c).task ≡ k.task.0) columns k.stretch.0 k.stretch.1 };
 
     fn add<T: RowTaker>(
         &self,
@@ -93,6 +95,7 @@ impl PerTask for Queues {
         set: &TaskSet,
         i: TaskId,
         x: TaskId,
+        _jobs: u64,
         bounds: &[u64],
         columns: &[Fragment],
         stretch: (usize, usize),
@@ -113,13 +116,15 @@ pub(crate) fn add_queues<T: RowTaker>(
     i: TaskId,
     bounds: &[u64],
     columns: &[Fragment],
+    places: &[TaskPlace],
 ) -> Result<(), AllocError>
     requires task { i.0 < length set.now.tasks }
     requires within { AreWithinDeadlines set.now bounds.now }
     requires known { AreKnown (length set.now.tasks) (length set.now.resources) columns.now }
     requires order { AreInOrder columns.now }
+    requires places { ArePlaces set.now (slice_index bounds.now) i.0 (length set.now.tasks) columns.now places.now }
     ensures { OnOk result (T.takes taker.old (map column_seen columns.now)
         (per_pair (length set.now.tasks) set.now.processors (λ x k. home_queue_row set.now i.0 x (k + 1))) bounds.now taker.new) }
 {
-    add_per_task(alloc, taker, &Queues, set, i, bounds, columns)
+    add_per_task(alloc, taker, &Queues, set, i, bounds, columns, places)
 }

@@ -1,5 +1,6 @@
 -- The columns of a task are of requests that are made, and rows of others are not there.
 use Rattle.std.proofs.Common.{◌≡◌, ℕ, ◌==◌, ◌&&◌, not, true, false, List, [], ◌∷◌, map, refl, nat_lt, inl, inr}
+use Rattle.std.proofs.Math.Bool.{and-false}
 use Rattle.std.proofs.lemmas.Bool.{and_parts, cases_Bool, both_ways, eqb-true}
 use Rattle.std.proofs.lemmas.List.Elements.{All-head, All-tail, All-same, All-weaker}
 use Rattle.sporadic_model.specs.SetDef.{SetDef, is_higher_local}
@@ -60,3 +61,7 @@ lower_holder_fails set i q unused c asked = elim (cases_Bool (((c.resource == q)
 pub no_lower_holders : (set : SetDef) (i q : ℕ) → is_user set q i ≡ false → (cs : List Fragment) → AreAskedFor set i cs
     → holds_some (map column_seen cs) (lower_holder_row set i q) ≡ false
 no_lower_holders set i q unused cs asked = none_held set i (lower_holder_row set i q) (lower_holder_fails set i q unused) cs asked
+
+-- No column of a task that isn't lower has a coefficient in a row of lower holders.
+pub lower_holders_alone : (set : SetDef) (i q : ℕ) (c : ColumnDef) → nat_lt i c.task ≡ false → (lower_holder_row set i q).coefficient c ≡ 0
+lower_holders_alone set i q c other = rw (other, and-false) refl

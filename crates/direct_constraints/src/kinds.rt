@@ -1,17 +1,17 @@
 //! The kinds of rows, each with its row for every task, request or resource.
 
-ghost use Rattle.std.specs.Prelude.{◌<◌, ◌&&◌, [], ◌∷◌, length};
+ghost use Rattle.std.specs.Prelude.{◌<◌, ◌+◌, ◌&&◌, [], ◌∷◌, length};
 ghost use Rattle.std.proofs.Common.{ap};
 ghost use Rattle.bounded_sums.specs.Sums.{flag, only_if};
 ghost use Rattle.sporadic_model.specs.Users.{length_of};
 ghost use Rattle.fragments.specs.declared.columns.Class.TheVariants.{Direct};
 ghost use Rattle.fragments.specs.ColumnDef.{is_class};
+ghost use Rattle.fragments.specs.Stretches.{slot, BeginsAt};
 ghost use Rattle.direct_constraints.specs.Asked.{AreAskedFor};
 ghost use Rattle.direct_constraints.specs.Rows.{request_row, time_row, turn_row, lower_holder_row};
 
 use fragments::{
-    Constraint, Fragment, PerNumber, RequestRow, RowKind, RowTaker, TaskRow, add_row, cnt, jobs,
-    uses,
+    Constraint, Fragment, PerNumber, RequestRow, RowKind, RowTaker, TaskRow, add_row_within, uses,
 };
 use sporadic_model::{ResourceId, TaskId, TaskSet};
 use std::alloc::{AllocError, Global};
@@ -30,19 +30,23 @@ impl RequestRow for Requests {
         &self,
         _set: &TaskSet,
         _i: TaskId,
-        x: TaskId,
-        q: ResourceId,
-        column: Fragment,
+        _x: TaskId,
+        _q: ResourceId,
+        _column: Fragment,
     ) -> u64 {
-        if column.task == x && column.resource == q {
-            1
-        } else {
-            0
-        }
+        1
     }
 
-    fn limit(&self, set: &TaskSet, i: TaskId, x: TaskId, q: ResourceId, bounds: &[u64]) -> u64 {
-        cnt(set, i, x, q, bounds)
+    fn limit(
+        &self,
+        set: &TaskSet,
+        _i: TaskId,
+        x: TaskId,
+        q: ResourceId,
+        jobs: u64,
+        _bounds: &[u64],
+    ) -> u64 {
+        set.count(x, q) * jobs
     }
 }
 
@@ -58,15 +62,11 @@ impl TaskRow for Times {
     ghost alone = { λ k set i x c other. ap (λ b. only_if b (length_of set x c.resource)) other };
 
     fn coefficient(&self, set: &TaskSet, _i: TaskId, x: TaskId, column: Fragment) -> u64 {
-        if column.task == x {
-            set.length(x, column.resource)
-        } else {
-            0
-        }
+        set.length(x, column.resource)
     }
 
-    fn limit(&self, set: &TaskSet, i: TaskId, x: TaskId, bounds: &[u64]) -> u64 {
-        set.cost(x) * jobs(set, i, x, bounds)
+    fn limit(&self, set: &TaskSet, _i: TaskId, x: TaskId, jobs: u64, _bounds: &[u64]) -> u64 {
+        set.cost(x) * jobs
     }
 }
 
@@ -83,18 +83,22 @@ impl RequestRow for Turns {
         &self,
         _set: &TaskSet,
         _i: TaskId,
-        x: TaskId,
-        q: ResourceId,
+        _x: TaskId,
+        _q: ResourceId,
         column: Fragment,
     ) -> u64 {
-        if column.task == x && column.resource == q && column.class.is_direct() {
-            1
-        } else {
-            0
-        }
+        if column.class.is_direct() { 1 } else { 0 }
     }
 
-    fn limit(&self, set: &TaskSet, i: TaskId, _x: TaskId, q: ResourceId, _bounds: &[u64]) -> u64 {
+    fn limit(
+        &self,
+        set: &TaskSet,
+        i: TaskId,
+        _x: TaskId,
+        q: ResourceId,
+        _jobs: u64,
+        _bounds: &[u64],
+    ) -> u64 {
         set.count(i, q)
     }
 }
@@ -110,8 +114,10 @@ impl RowKind for LowerHolderRow {
 
     ghost fits = { λ k set. k.resource.0 < length set.resources };
 
-    fn coefficient(&self, _set: &TaskSet, i: TaskId, column: Fragment) -> u64 {
-        if column.resource == self.resource && column.class.is_direct() && i < column.task {
+    ghost over = { λ k set i c. i < c.task };
+
+    fn coefficient(&self, _set: &TaskSet, _i: TaskId, column: Fragment) -> u64 {
+        if column.class.is_direct() && column.resource == self.resource {
             1
         } else {
             0
@@ -127,12 +133,15 @@ impl Constraint for LowerHolderRow {
 
 /// The rows of lower holders of each resource. No column is in one where the analysed task doesn't use the resource.
 #[derive(Drop)]
-pub(crate) struct LowerHolders;
+pub(crate) struct LowerHolders {
+    /// The place where the columns of tasks lower than the analysed one begin.
+    pub(crate) from: usize,
+}
 
 impl PerNumber for LowerHolders {
     ghost rows_of = { λ k set i q. lower_holder_row set i q ∷ [] };
 
-    ghost fits = { λ k set i columns q. (q < length set.resources) × AreAskedFor set i columns };
+    ghost fits = { λ k set i columns q. (q < length set.resources) × AreAskedFor set i columns × BeginsAt (slot (i + 1) 0) columns k.from };
 
     fn add<T: RowTaker>(
         &self,
@@ -144,11 +153,14 @@ impl PerNumber for LowerHolders {
         bounds: &[u64],
         columns: &[Fragment],
     ) -> Result<(), AllocError> {
+        // a set has at most 32 resources, so the slots of a task end before those of the next one
+        let _resources = set.resources();
         let resource = ResourceId(number);
         if !uses(set, i, resource) {
             return Ok(());
         }
         let row = LowerHolderRow { resource };
-        add_row(alloc, taker, &row, set, i, bounds, columns)
+        let lower = (self.from, columns.len());
+        add_row_within(alloc, taker, &row, set, i, bounds, columns, lower)
     }
 }

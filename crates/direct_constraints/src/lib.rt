@@ -2,7 +2,7 @@
 //! under MPCP.
 #![tactic(auto)]
 
-ghost use Rattle.std.specs.Prelude.{◌≡◌, ◌<◌, map, length, IfOk, OnOk};
+ghost use Rattle.std.specs.Prelude.{◌≡◌, ◌<◌, map, length, slice_index, IfOk, OnOk};
 ghost use Rattle.program_form.specs.RowBlock.{block_seen};
 ghost use Rattle.program_sources.specs.Bounds.{AreWithinDeadlines};
 ghost use Rattle.sporadic_model.specs.Homes.{HasHomesFor};
@@ -10,12 +10,13 @@ ghost use Rattle.fragments.specs.ColumnDef.{column_seen, AreKnown};
 ghost use Rattle.fragments.specs.Columns.{columns_of};
 ghost use Rattle.fragments.specs.Constraints.{per, per_pair, block_of};
 ghost use Rattle.fragments.specs.Stretches.{AreInOrder};
+ghost use Rattle.fragments.specs.TaskPlaces.{ArePlaces};
 ghost use Rattle.direct_constraints.specs.Asked.{AreAskedFor};
 ghost use Rattle.direct_constraints.specs.Rows.{request_row, time_row, turn_row, lower_holder_row, common_rows, own_rows};
 
 use fragments::{
-    EachRequest, EachTask, Fragment, RowTaker, add_per_number, add_per_request, add_per_task,
-    columns_stand_in_order,
+    EachRequest, EachTask, Fragment, RowTaker, TaskPlace, add_per_number, add_per_request,
+    add_per_request_at, add_per_task, columns_stand_in_order, task_places,
 };
 use kinds::{LowerHolders, Requests, Times, Turns};
 use program_form::RowBlock;
@@ -24,7 +25,8 @@ use std::alloc::{AllocError, Global};
 
 mod kinds;
 
-/// Adds the rows of the requests by each task behind those that the taker has, over any columns that stand in order.
+/// Adds the rows of the requests by each task behind those that the taker has, over any columns that stand in order. Answers the
+/// places of all tasks.
 pub fn add_request_rows<T: RowTaker>(
     alloc: Global,
     taker: &mut T,
@@ -32,13 +34,14 @@ pub fn add_request_rows<T: RowTaker>(
     i: TaskId,
     bounds: &[u64],
     columns: &[Fragment],
-) -> Result<(), AllocError>
+) -> Result<Vec<TaskPlace>, AllocError>
     requires task { i.0 < length set.now.tasks }
     requires within { AreWithinDeadlines set.now bounds.now }
     requires known { AreKnown (length set.now.tasks) (length set.now.resources) columns.now }
     requires order { AreInOrder columns.now }
-    ensures { OnOk result (T.takes taker.old (map column_seen columns.now)
+    ensures rows { OnOk result (T.takes taker.old (map column_seen columns.now)
         (per_pair (length set.now.tasks) (length set.now.resources) (request_row set.now i.0)) bounds.now taker.new) }
+    ensures places { IfOk result (λ v. ArePlaces set.now (slice_index bounds.now) i.0 (length set.now.tasks) columns.now v.items) }
 {
     add_per_request(
         alloc,
@@ -60,15 +63,26 @@ pub fn add_time_rows<T: RowTaker>(
     i: TaskId,
     bounds: &[u64],
     columns: &[Fragment],
+    places: &[TaskPlace],
 ) -> Result<(), AllocError>
     requires task { i.0 < length set.now.tasks }
     requires within { AreWithinDeadlines set.now bounds.now }
     requires known { AreKnown (length set.now.tasks) (length set.now.resources) columns.now }
     requires order { AreInOrder columns.now }
+    requires places { ArePlaces set.now (slice_index bounds.now) i.0 (length set.now.tasks) columns.now places.now }
     ensures { OnOk result (T.takes taker.old (map column_seen columns.now)
         (per (length set.now.tasks) (time_row set.now i.0)) bounds.now taker.new) }
 {
-    add_per_task(alloc, taker, &EachTask(Times), set, i, bounds, columns)
+    add_per_task(
+        alloc,
+        taker,
+        &EachTask(Times),
+        set,
+        i,
+        bounds,
+        columns,
+        places,
+    )
 }
 
 /// Adds the rows of turns with each task behind those that the taker has, over any columns that stand in order.
@@ -79,15 +93,17 @@ pub fn add_turn_rows<T: RowTaker>(
     i: TaskId,
     bounds: &[u64],
     columns: &[Fragment],
+    places: &[TaskPlace],
 ) -> Result<(), AllocError>
     requires task { i.0 < length set.now.tasks }
     requires within { AreWithinDeadlines set.now bounds.now }
     requires known { AreKnown (length set.now.tasks) (length set.now.resources) columns.now }
     requires order { AreInOrder columns.now }
+    requires places { ArePlaces set.now (slice_index bounds.now) i.0 (length set.now.tasks) columns.now places.now }
     ensures { OnOk result (T.takes taker.old (map column_seen columns.now)
         (per_pair (length set.now.tasks) (length set.now.resources) (turn_row set.now i.0)) bounds.now taker.new) }
 {
-    add_per_request(
+    add_per_request_at(
         alloc,
         taker,
         &EachRequest(Turns),
@@ -96,6 +112,7 @@ pub fn add_turn_rows<T: RowTaker>(
         i,
         bounds,
         columns,
+        places,
     )
 }
 
@@ -107,29 +124,26 @@ fn add_lower_holder_rows<T: RowTaker>(
     i: TaskId,
     bounds: &[u64],
     columns: &[Fragment],
+    places: &[TaskPlace],
 ) -> Result<(), AllocError>
     requires task { i.0 < length set.now.tasks }
     requires within { AreWithinDeadlines set.now bounds.now }
     requires known { AreKnown (length set.now.tasks) (length set.now.resources) columns.now }
+    requires order { AreInOrder columns.now }
     requires asked { AreAskedFor set.now i.0 columns.now }
+    requires places { ArePlaces set.now (slice_index bounds.now) i.0 (length set.now.tasks) columns.now places.now }
     ensures { OnOk result (T.takes taker.old (map column_seen columns.now)
         (per (length set.now.resources) (lower_holder_row set.now i.0)) bounds.now taker.new) }
 {
     let resources = set.resources();
-    add_per_number(
-        alloc,
-        taker,
-        &LowerHolders,
-        set,
-        resources,
-        i,
-        bounds,
-        columns,
-    )
+    let rows = LowerHolders {
+        from: places[i.0 as usize + 1].from,
+    };
+    add_per_number(alloc, taker, &rows, set, resources, i, bounds, columns)
 }
 
 /// Adds the rows of every protocol behind those that the taker has, over any columns that stand in order: those of requests, then
-/// those of time.
+/// those of time. Answers the places of all tasks.
 pub fn add_common<T: RowTaker>(
     alloc: Global,
     taker: &mut T,
@@ -137,15 +151,17 @@ pub fn add_common<T: RowTaker>(
     i: TaskId,
     bounds: &[u64],
     columns: &[Fragment],
-) -> Result<(), AllocError>
+) -> Result<Vec<TaskPlace>, AllocError>
     requires task { i.0 < length set.now.tasks }
     requires within { AreWithinDeadlines set.now bounds.now }
     requires known { AreKnown (length set.now.tasks) (length set.now.resources) columns.now }
     requires order { AreInOrder columns.now }
-    ensures { OnOk result (T.takes taker.old (map column_seen columns.now) (common_rows set.now i.0) bounds.now taker.new) }
+    ensures rows { OnOk result (T.takes taker.old (map column_seen columns.now) (common_rows set.now i.0) bounds.now taker.new) }
+    ensures places { IfOk result (λ v. ArePlaces set.now (slice_index bounds.now) i.0 (length set.now.tasks) columns.now v.items) }
 {
-    add_request_rows(alloc, taker, set, i, bounds, columns)?;
-    add_time_rows(alloc, taker, set, i, bounds, columns)
+    let places = add_request_rows(alloc, taker, set, i, bounds, columns)?;
+    add_time_rows(alloc, taker, set, i, bounds, columns, &places)?;
+    Ok(places)
 }
 
 /// Adds the rows of direct blocking behind those that the taker has: turns under FMLP+, lower holders under MPCP, none under DPCP.
@@ -157,16 +173,18 @@ pub fn add_own<T: RowTaker>(
     i: TaskId,
     bounds: &[u64],
     columns: &[Fragment],
+    places: &[TaskPlace],
 ) -> Result<(), AllocError>
     requires task { i.0 < length set.now.tasks }
     requires within { AreWithinDeadlines set.now bounds.now }
     requires columns { map column_seen columns.now ≡ columns_of protocol set.now i.0 }
+    requires places { ArePlaces set.now (slice_index bounds.now) i.0 (length set.now.tasks) columns.now places.now }
     ensures { OnOk result (T.takes taker.old (map column_seen columns.now) (own_rows protocol set.now i.0) bounds.now taker.new) }
 {
     columns_stand_in_order(set, protocol, i, columns);
     match protocol {
-        Protocol::FmlpPlus => add_turn_rows(alloc, taker, set, i, bounds, columns)?,
-        Protocol::Mpcp => add_lower_holder_rows(alloc, taker, set, i, bounds, columns)?,
+        Protocol::FmlpPlus => add_turn_rows(alloc, taker, set, i, bounds, columns, places)?,
+        Protocol::Mpcp => add_lower_holder_rows(alloc, taker, set, i, bounds, columns, places)?,
         Protocol::Dpcp => {}
     }
     Ok(())
@@ -219,6 +237,10 @@ pub fn own(
         rows: Vec::new(alloc),
         limits: Vec::new(alloc),
     };
-    add_own(alloc, &mut block, set, protocol, i, bounds, columns)?;
+    columns_stand_in_order(set, protocol, i, columns);
+    let places = task_places(alloc, set, i, bounds, columns)?;
+    add_own(
+        alloc, &mut block, set, protocol, i, bounds, columns, &places,
+    )?;
     Ok(block)
 }

@@ -45,6 +45,18 @@ task_stops n m x a cs p e known few order from later l other before =
       | inr not_above ↦ absurd (other (omega (arith, not_above, here, q)))
     ]) before
 
+-- A column of requests of q by x, at the place where these begin, stands before the next resource's.
+pub requests_begun : (x q p : ℕ) (cs : List Fragment) → BeginsAt (slot x q) cs p → AllWithin (λ c. slot_of c ≡ slot x q) cs p (p + 1)
+    → AllWithin (λ c. slot_of c < slot x (q + 1)) cs 0 (p + 1)
+requests_begun x q p cs from here j d a b = elim (cases_lt j p) [
+  | inl before ↦
+      let low : slot_of (get_or cs j d) < slot x q = from.before j d a before in
+      omega (arith, low)
+  | inr not_before ↦
+      let there : slot_of (get_or cs j d) ≡ slot x q = here j d (omega (arith, not_before)) b in
+      omega (arith, there)
+]
+
 -- The same of one resource of the task.
 pub requests_more : (x q : ℕ) (cs : List Fragment) (p : ℕ) (e : Fragment) → p < length cs → (get_or cs p e).task.0 ≡ x
     → (get_or cs p e).resource.0 ≡ q

@@ -1,17 +1,16 @@
--- Paths, and other resources of one home, looked for among the links alone.
-use Rattle.std.proofs.Common.{◌≡◌, ℕ, ◌==◌, ◌&&◌, not, Bool, true, false, List, length, refl, sym, ap, ◌∙◌}
+-- Paths, looked for among the links alone.
+use Rattle.std.proofs.Common.{◌≡◌, ℕ, ◌==◌, ◌&&◌, not, Bool, true, false, List, [], ◌∷◌, length, refl, sym, ap, subst, ◌∙◌, arith}
 use Rattle.std.proofs.Math.ListN.{get_or}
 use Rattle.std.specs.List.{list_any}
+use Rattle.std.proofs.lemmas.Bool.{eqb-true}
 use Rattle.bounded_sums.specs.Tests.{any_below}
 use Rattle.bounded_sums.proofs.TestLaws.{any_below-agree}
 use Rattle.sporadic_model.specs.SetDef.{SetDef, task_at}
 use Rattle.sporadic_model.specs.Users.{is_user}
-use Rattle.sporadic_model.specs.Homes.{home_in}
 use Rattle.sporadic_model.specs.declared.ids.Protocol.{Protocol}
 use Rattle.sporadic_model.specs.declared.ids.Protocol.TheVariants as protocol
-use Rattle.sporadic_model.specs.declared.ids.ResourceId.{ResourceId}
-use Rattle.fragments.specs.Columns.{is_path, has_path, may_run_before, requests_beside}
-use Rattle.fragments.specs.Links.{is_used_beside, is_link, AreAsked, AreLinks, AreSeenFrom}
+use Rattle.fragments.specs.Columns.{is_path, has_path, may_run_before}
+use Rattle.fragments.specs.Links.{is_used_beside, is_link, AreLinks, AreSeenFrom}
 use Rattle.fragments.specs.Ceilings.{place_in, may_precede}
 use Rattle.fragments.specs.declared.linking.Rival.{Rival}
 use Rattle.fragments.proofs.Paths.{any_below-swap, paths_by}
@@ -32,12 +31,6 @@ never_parts true beside true = refl
 never_parts true beside false = refl
 never_parts false beside true = refl
 never_parts false beside false = refl
-
-home_parts : (mine apart here : Bool) → (mine && (apart && here)) ≡ (apart && (mine && here))
-home_parts true true here = refl
-home_parts true false here = refl
-home_parts false true here = refl
-home_parts false false here = refl
 
 -- A link, and what else makes a path of it.
 link_parts : (p : Protocol) (set : SetDef) (i x q r : ℕ)
@@ -62,6 +55,18 @@ linked_paths p set i x q es links =
     (λ r. any_below (length set.tasks) (λ y. is_path p set i x q y r)) (λ r l. link_parts p set i x q r) in
     links x refl test ∙ (below ∙ sym (any_below-swap (length set.tasks) (length set.resources) (is_path p set i x q)))
 
+is_nothing : {X : Type 0} (xs : List X) → (length xs == 0) ≡ true → xs ≡ []
+is_nothing [] h = refl
+is_nothing (x ∷ xs) h = absurd (omega (arith, eqb-true (length (x ∷ xs)) 0 h))
+
+-- Without links there is no path.
+pub no_paths : (p : Protocol) (set : SetDef) (i x q : ℕ) (es : List Rival) → AreLinks p set i (task_at set x).processor es
+    → (length es == 0) ≡ true → false ≡ has_path p set i x q
+no_paths p set i x q es links none =
+    subst (λ (fs : List Rival). list_any (λ (e : Rival). not (e.task.0 == x)
+    && (not (e.resource.0 == q) && may_run_before p set (task_at set x).processor q e.resource.0)) fs ≡ has_path p set i x q)
+    (is_nothing es none) (linked_paths p set i x q es links)
+
 may_precede_as_seen : (p : Protocol) (set : SetDef) (k q r a b : ℕ) → a ≡ place_in p set k q → b ≡ place_in p set k r
     → may_precede p a b ≡ may_run_before p set k q r
 may_precede_as_seen protocol.Mpcp set k q r a b mine its = rw (mine, its) refl
@@ -79,13 +84,3 @@ seen_paths p set i x q place es links mine seen =
     (λ n d l. ap (λ (b : Bool). not ((get_or es n d).task.0 == x) && (not ((get_or es n d).resource.0 == q) && b))
     (may_precede_as_seen p set k q (get_or es n d).resource.0 place (get_or es n d).place mine (seen n d l)))
     ∙ linked_paths p set i x q es links
-
-pub linked_homes : (set : SetDef) (i q : ℕ) (rs : List ResourceId) → AreAsked set i rs
-    → list_any (λ r. not (r.0 == q) && (home_in set r.0 == home_in set q)) rs ≡ requests_beside set i q
-linked_homes set i q rs links =
-    let test : ℕ → Bool = λ r. not (r == q) && (home_in set r == home_in set q) in
-    let below : any_below (length set.resources) (λ r. is_user set r i && test r) ≡ requests_beside set i q
-    = any_below-agree (length set.resources) (λ r. is_user set r i && test r)
-    (λ r. not (r == q) && (is_user set r i && (home_in set r == home_in set q))) (λ r l.
-    home_parts (is_user set r i) (not (r == q)) (home_in set r == home_in set q)) in
-    links test ∙ below

@@ -1,8 +1,9 @@
 -- A walk along a task's columns from one requested resource to the next, and the rows of those between, which no column is in.
 use Rattle.std.proofs.Common.{◌≡◌, ℕ, zero, suc, ◌+◌, ◌<◌, ◌≤◌, ◌==◌, ◌&&◌, Bool, true, false, List, [], ◌∷◌, ◌++◌}
-use Rattle.std.proofs.Common.{map, length, nat_lt, refl, subst, ◌∙◌, arith, inl, inr}
+use Rattle.std.proofs.Common.{map, length, nat_lt, refl, ap, subst, ◌∙◌, arith, inl, inr}
 use Rattle.std.proofs.Math.ListN.{get_or}
 use Rattle.std.proofs.lemmas.Bool.{cases_lt, cases_Bool, eqb-true}
+use Rattle.std.proofs.lemmas.List.{get_or_default}
 use Rattle.sporadic_model.proofs.Mapped.{list_any-map}
 use Rattle.fragments.specs.declared.columns.Fragment.{Fragment}
 use Rattle.fragments.specs.ColumnDef.{ColumnDef, column_seen, AreKnown}
@@ -22,6 +23,9 @@ pub next_request : (n m x p : ℕ) (cs : List Fragment) (e : Fragment) → AreKn
 next_request n m x p cs e known order l same = record {
   known = (known p e l).1;
   within = l;
+  here = λ j d a b.
+      let at : j ≡ p = omega (arith, a, b) in
+      ap slot_of (ap (λ n. get_or cs n d) at ∙ get_or_default cs p d e l) ∙ ap (λ t. slot t (get_or cs p e).resource.0) same;
   further = λ end at. elim (cases_lt p end) [
     | inl before ↦ before
     | inr behind ↦

@@ -1,33 +1,32 @@
 -- Rivals and links as they are listed one after another.
-use Rattle.std.proofs.Common.{◌≡◌, ℕ, ◌+◌, ◌==◌, ◌&&◌, ◌||◌, not, Bool, true, false, List, [], ◌∷◌, ◌++◌}
-use Rattle.std.proofs.Common.{length, refl, add-one, sym, ap, ◌∙◌, if◌then◌else◌, inl, inr}
+use Rattle.std.proofs.Common.{◌≡◌, ℕ, ◌==◌, ◌&&◌, ◌||◌, not, Bool, true, false, List, [], ◌∷◌, ◌++◌}
+use Rattle.std.proofs.Common.{map, length, refl, sym, ap, ◌∙◌, if◌then◌else◌, inl, inr}
 use Rattle.std.proofs.Math.ListN.{get_or}
 use Rattle.std.proofs.lemmas.List.Folds.{list_any-append}
 use Rattle.std.proofs.lemmas.List.Elements.{All-nil, All-cons, All-head, All-tail, All-same, All-append, All-filter, filter_passes}
 use Rattle.std.specs.List.{All, list_any, filter}
 use Rattle.std.proofs.Math.Bool.{or-false}
 use Rattle.bounded_sums.specs.Tests.{any_below}
-use Rattle.bounded_sums.proofs.TestLaws.{any_below-agree, any_below-none_from}
+use Rattle.bounded_sums.proofs.TestLaws.{any_below-agree}
 use Rattle.sporadic_model.specs.SetDef.{SetDef, task_at}
-use Rattle.sporadic_model.specs.Users.{is_user}
+use Rattle.sporadic_model.specs.Users.{is_user, used_by, users_of}
 use Rattle.sporadic_model.specs.declared.ids.Protocol.{Protocol}
 use Rattle.sporadic_model.specs.declared.ids.Protocol.TheVariants as protocol
 use Rattle.sporadic_model.specs.declared.ids.ResourceId.{ResourceId}
+use Rattle.sporadic_model.specs.declared.ids.TaskId.{TaskId}
 use Rattle.fragments.specs.declared.linking.Rival.{Rival}
 use Rattle.fragments.specs.Columns.{have_one_processor}
 use Rattle.fragments.specs.Ceilings.{place_in}
-use Rattle.fragments.specs.Links.{is_used_beside, ArePassing, AreLinks, is_rival, AreRivalsAt, AreRivalsBelow, AreRivals, is_beside}
+use Rattle.fragments.specs.Links.{is_used_beside, AreLinks, is_rival, AreRivals, AreRivalsOf, AreRivalsAt, AreRivalsAmong, is_beside}
+use Rattle.fragments.specs.Links.{rival_at, passes_another}
 use Rattle.fragments.specs.Links.{IsKnownRival, AreKnownRivals, AreSeenFrom, is_at}
 use Rattle.std.proofs.lemmas.Bool.{cases_Bool, eqb-true}
 use Rattle.fragments.proofs.Paths.{any_below-both}
+use Rattle.fragments.proofs.KeptNumbers.{any_if, any_of_kept}
 
 or_assoc : (a b c : Bool) → ((a || b) || c) ≡ (a || (b || c))
 or_assoc true b c = refl
 or_assoc false b c = refl
-
-any_if : {X : Type 0} (p : X → Bool) (b : Bool) (x : X) → list_any p (if b then x ∷ [] else []) ≡ (b && p x)
-any_if p false x = refl
-any_if p true x = or-false (p x)
 
 -- A test passes in a list with one more element, which is there where b says so, where it did or passes there.
 pub any_with : {X : Type 0} (p : X → Bool) (b : Bool) (x : X) (xs ys : List X) → ys ≡ xs ++ (if b then x ∷ [] else [])
@@ -44,53 +43,62 @@ all_with P b x xs ys before here now = All-same P ys (xs ++ (if b then x ∷ [] 
       one true = All-cons P x [] here (All-nil P)
       one false = All-nil P
 
--- One more resource, where it passes.
-pub next_passing : (is_one : ℕ → Bool) (n : ℕ) (xs ys : List ResourceId) → ArePassing is_one n xs
-    → ys ≡ xs ++ (if is_one n then record { 0 = n } ∷ [] else []) → ArePassing is_one (n + 1) ys
-next_passing is_one n xs ys before now test =
-    let one : ResourceId = record { 0 = n } in
-    rw (add-one) (any_with (λ (r : ResourceId). test r.0) (is_one n) one xs ys now
-    ∙ ap (λ (c : Bool). c || (is_one n && test n)) (before test))
+any_behind : {X : Type 0} (p : X → Bool) (xs : List X) (x : X) → (list_any p xs || p x) ≡ list_any p (xs ++ x ∷ [])
+any_behind p xs x = sym (list_any-append p xs (x ∷ []) ∙ ap (λ (b : Bool). list_any p xs || b) (or-false (p x)))
 
-pub no_rivals_at : (set : SetDef) (i r : ℕ) (xs : List Rival) → AreRivalsAt set i r 0 xs xs
-no_rivals_at set i r xs test = sym (or-false (list_any (λ (e : Rival). test e.task.0 e.resource.0) xs))
+pub no_rivals_among : (i r : ℕ) (xs : List Rival) → AreRivalsAmong i r [] xs xs
+no_rivals_among i r xs test = sym (or-false (list_any (λ (e : Rival). test e.task.0 e.resource.0) xs))
 
-pub next_rival_at : (set : SetDef) (i : ℕ) (e : Rival) (old xs ys : List Rival) → AreRivalsAt set i e.resource.0 e.task.0 old xs
-    → ys ≡ xs ++ (if not (e.task.0 == i) && is_user set e.resource.0 e.task.0 then e ∷ [] else [])
-    → AreRivalsAt set i e.resource.0 (e.task.0 + 1) old ys
-next_rival_at set i e old xs ys before now test =
-    let here : Bool = not (e.task.0 == i) && is_user set e.resource.0 e.task.0 in
-    let seen : Rival → Bool = λ f. test f.task.0 f.resource.0 in
-    let below : Bool = any_below e.task.0 (λ y. (not (y == i) && is_user set e.resource.0 y) && test y e.resource.0) in
-    rw (add-one) (any_with seen here e xs ys now ∙ (ap (λ (c : Bool). c || (here && seen e)) (before test)
-    ∙ or_assoc (list_any seen old) below (here && seen e)))
+-- One more task.
+pub next_rival_among : (p : Protocol) (set : SetDef) (i : ℕ) (y : TaskId) (r : ResourceId) (tasks : List TaskId) (old xs ys : List Rival)
+    → AreRivalsAmong i r.0 tasks old xs → ys ≡ xs ++ (if not (y.0 == i) then rival_at p set y r ∷ [] else [])
+    → AreRivalsAmong i r.0 (tasks ++ y ∷ []) old ys
+next_rival_among p set i y r tasks old xs ys before now test =
+    let seen : Rival → Bool = λ e. test e.task.0 e.resource.0 in
+    let passes : TaskId → Bool = λ y. not (y.0 == i) && test y.0 r.0 in
+    any_with seen (not (y.0 == i)) (rival_at p set y r) xs ys now
+    ∙ (ap (λ (c : Bool). c || passes y) (before test) ∙ (or_assoc (list_any seen old) (list_any passes tasks) (passes y)
+    ∙ ap (λ (c : Bool). list_any seen old || c) (any_behind passes tasks y)))
 
-asked_parts : (apart mine its test : Bool) → mine ≡ true → ((apart && its) && test) ≡ ((apart && (mine && its)) && test)
-asked_parts apart mine its test h = rw h refl
+-- The users of a resource are all tasks that use it.
+pub rivals_at : (set : SetDef) (i r : ℕ) (tasks : List TaskId) (old xs : List Rival) → map (λ y. y.0) tasks ≡ users_of set r
+    → AreRivalsAmong i r tasks old xs → AreRivalsAt set i r old xs
+rivals_at set i r tasks old xs same among test =
+    let seen : Rival → Bool = λ e. test e.task.0 e.resource.0 in
+    among test ∙ ap (λ (c : Bool). list_any seen old || c)
+    (any_of_kept (λ (y : TaskId). y.0) tasks (is_user set r) (λ y. not (y == i) && test y r) (length set.tasks) same)
 
-unasked_parts : (apart mine its test : Bool) → mine ≡ false → ((apart && (mine && its)) && test) ≡ false
-unasked_parts true mine its test h = rw h refl
-unasked_parts false mine its test h = refl
+pub no_rivals : (set : SetDef) (i : ℕ) → AreRivalsOf set i [] []
+no_rivals set i test = refl
 
-pub next_rivals : (set : SetDef) (i r : ℕ) (xs ys : List Rival) → is_user set r i ≡ true → AreRivalsBelow set i r xs
-    → AreRivalsAt set i r (length set.tasks) xs ys → AreRivalsBelow set i (r + 1) ys
-next_rivals set i r xs ys asked before now test =
-    let below : Bool = any_below r (λ r. any_below (length set.tasks) (λ y. is_rival set i y r && test y r)) in
-    let here : any_below (length set.tasks) (λ y. (not (y == i) && is_user set r y) && test y r)
-    ≡ any_below (length set.tasks) (λ y. is_rival set i y r && test y r) =
-    any_below-agree (length set.tasks) (λ y. (not (y == i) && is_user set r y) && test y r) (λ y. is_rival set i y r && test y r)
-    (λ y l. asked_parts (not (y == i)) (is_user set r i) (is_user set r y) (test y r) asked) in
-    rw (add-one) (now test ∙ (ap (λ (c : Bool). c || any_below (length set.tasks) (λ y. (not (y == i) && is_user set r y) && test y r))
-    (before test) ∙ ap (λ (c : Bool). below || c) here))
+-- One more resource.
+pub next_rivals : (set : SetDef) (i : ℕ) (rs : List ResourceId) (r : ResourceId) (xs ys : List Rival) → AreRivalsOf set i rs xs
+    → AreRivalsAt set i r.0 xs ys → AreRivalsOf set i (rs ++ r ∷ []) ys
+next_rivals set i rs r xs ys before now test =
+    let passes : ResourceId → Bool = λ r. passes_another set i test r.0 in
+    now test ∙ (ap (λ (c : Bool). c || passes r) (before test) ∙ any_behind passes rs r)
 
-pub no_more_rivals : (set : SetDef) (i r : ℕ) (xs : List Rival) → is_user set r i ≡ false → AreRivalsBelow set i r xs
-    → AreRivalsBelow set i (r + 1) xs
-no_more_rivals set i r xs unasked before test =
-    let below : Bool = any_below r (λ r. any_below (length set.tasks) (λ y. is_rival set i y r && test y r)) in
-    let here : any_below (length set.tasks) (λ y. is_rival set i y r && test y r) ≡ false =
-    any_below-none_from (length set.tasks) (λ y. is_rival set i y r && test y r)
-    (λ y l. unasked_parts (not (y == i)) (is_user set r i) (is_user set r y) (test y r) unasked) in
-    rw (add-one) (before test ∙ (sym (or-false below) ∙ ap (λ (c : Bool). below || c) (sym here)))
+used_parts : (mine its apart test : Bool) → (mine && (its && (apart && test))) ≡ ((apart && (mine && its)) && test)
+used_parts false its true test = refl
+used_parts false its false test = refl
+used_parts true false true test = refl
+used_parts true false false test = refl
+used_parts true true true test = refl
+used_parts true true false test = refl
+
+-- Those of the resources that i uses are all.
+pub all_rivals : (set : SetDef) (i : ℕ) (rs : List ResourceId) (xs : List Rival) → map (λ r. r.0) rs ≡ used_by set i
+    → AreRivalsOf set i rs xs → AreRivals set i xs
+all_rivals set i rs xs same of test =
+    let each : (r : ℕ) → (is_user set r i && passes_another set i test r)
+    ≡ any_below (length set.tasks) (λ y. is_rival set i y r && test y r) = λ r.
+    sym (any_below-both (is_user set r i) (length set.tasks) (λ y. is_user set r y && (not (y == i) && test y r)))
+    ∙ any_below-agree (length set.tasks) (λ y. is_user set r i && (is_user set r y && (not (y == i) && test y r)))
+    (λ y. is_rival set i y r && test y r) (λ y l.
+    used_parts (is_user set r i) (is_user set r y) (not (y == i)) (test y r)) in
+    of test ∙ (any_of_kept (λ (r : ResourceId). r.0) rs (λ r. is_user set r i) (passes_another set i test) (length set.resources) same
+    ∙ any_below-agree (length set.resources) (λ r. is_user set r i && passes_another set i test r)
+    (λ r. any_below (length set.tasks) (λ y. is_rival set i y r && test y r)) (λ r l. each r))
 
 pub any_agree : {X : Type 0} (f g : X → Bool) (xs : List X) → All (λ x. f x ≡ g x) xs → list_any f xs ≡ list_any g xs
 any_agree f g [] same = refl

@@ -1,11 +1,14 @@
 -- Rows over stretches of columns: where a row's columns stand, and that what stands outside is zero.
-use Rattle.std.proofs.Common.{◌≡◌, ℕ, ◌+◌, ◌<◌, ◌≤◌, ◌==◌, ◌&&◌, false, List, arith, inl, inr}
+use Rattle.std.proofs.Common.{◌≡◌, ℕ, ◌+◌, ◌<◌, ◌≤◌, ◌==◌, ◌&&◌, false, List, map, length, nat_lt, ◌∙◌, arith, inl, inr}
 use Rattle.std.proofs.Math.ListN.{get_or}
-use Rattle.std.proofs.lemmas.Bool.{cases_Bool, and_parts, eqb-true, ne_eqb}
+use Rattle.std.proofs.lemmas.Bool.{cases_Bool, and_parts, eqb-true, ne_eqb, le-ltb}
+use Rattle.std.specs.List.{AllWithin}
+use Rattle.sporadic_model.proofs.Mapped.{list_any-map}
 use Rattle.fragments.specs.ColumnDef.{ColumnDef, column_seen, AreKnown}
-use Rattle.fragments.specs.Constraints.{ConstraintDef}
+use Rattle.fragments.specs.Constraints.{ConstraintDef, holds_some}
 use Rattle.fragments.specs.declared.columns.Fragment.{Fragment}
 use Rattle.fragments.specs.Stretches.{slot, slot_of, BeginsAt, IsStretch}
+use Rattle.fragments.proofs.Zeros.{none_above}
 
 other_numbers : (a b c d : ℕ) → (a ≡ b → c ≡ d → ⊥) → ((a == b) && (c == d)) ≡ false
 other_numbers a b c d apart = elim (cases_Bool ((a == b) && (c == d))) [
@@ -63,3 +66,48 @@ stretch_of_requests x q cs row a b from to order zero = record {
       zero (column_seen (get_or cs k d))
       (other_numbers (get_or cs k d).task.0 x (get_or cs k d).resource.0 q (λ e f. absurd (omega (arith, here, e, f))));
 }
+
+-- And one that counts columns of tasks lower than i alone those from where they begin.
+pub stretch_of_lower : (i : ℕ) (cs : List Fragment) (row : ConstraintDef) (a : ℕ) → BeginsAt (slot (i + 1) 0) cs a
+    → ((c : ColumnDef) → nat_lt i c.task ≡ false → row.coefficient c ≡ 0) → IsStretch row cs a (length cs)
+stretch_of_lower i cs row a from zero = record {
+  order = from.within;
+  within = omega arith;
+  before = λ k d l h.
+      let here : slot_of (get_or cs k d) < slot (i + 1) 0 = from.before k d l h in
+      zero (column_seen (get_or cs k d)) (le-ltb i (get_or cs k d).task.0 (omega (arith, here)));
+  behind = λ k d l h. absurd (omega (arith, l, h));
+}
+
+-- No column is in a row whose stretch has none.
+pub none_held : (row : ConstraintDef) (cs : List Fragment) (a b : ℕ) → IsStretch row cs a b → b ≤ a
+    → holds_some (map column_seen cs) row ≡ false
+none_held row cs a b h empty =
+    list_any-map column_seen (λ c. nat_lt 0 (row.coefficient c)) cs ∙ none_above row cs b a empty h.before h.behind
+
+-- Each column of these stretches is of the task; of the task and the resource; of a lower task.
+pub columns_of_task : (n m x : ℕ) (cs : List Fragment) (a b : ℕ) → AreKnown n m cs → m ≤ 4294967296
+    → BeginsAt (slot x 0) cs a → BeginsAt (slot (x + 1) 0) cs b → AllWithin (λ c. (column_seen c).task ≡ x) cs a b
+columns_of_task n m x cs a b known few from to k d l h =
+    let within : k < length cs = omega (arith, h, to.within) in
+    let low : slot x 0 ≤ slot_of (get_or cs k d) = from.behind k d l within in
+    let high : slot_of (get_or cs k d) < slot (x + 1) 0 = to.before k d (omega arith) h in
+    let r : (get_or cs k d).resource.0 < m = (known k d within).1 in
+    omega (arith, low, high, r, few)
+
+pub columns_of_requests : (n m x q : ℕ) (cs : List Fragment) (a b : ℕ) → AreKnown n m cs → m ≤ 4294967296 → q < m
+    → BeginsAt (slot x q) cs a → BeginsAt (slot x (q + 1)) cs b
+    → AllWithin (λ c. ((column_seen c).task ≡ x) × ((column_seen c).resource ≡ q)) cs a b
+columns_of_requests n m x q cs a b known few here from to k d l h =
+    let within : k < length cs = omega (arith, h, to.within) in
+    let low : slot x q ≤ slot_of (get_or cs k d) = from.behind k d l within in
+    let high : slot_of (get_or cs k d) < slot x (q + 1) = to.before k d (omega arith) h in
+    let r : (get_or cs k d).resource.0 < m = (known k d within).1 in
+    (omega (arith, low, high, r, few, here), omega (arith, low, high, r, few, here))
+
+pub columns_of_lower : (n m i : ℕ) (cs : List Fragment) (a : ℕ) → AreKnown n m cs → m ≤ 4294967296
+    → BeginsAt (slot (i + 1) 0) cs a → AllWithin (λ c. i < (column_seen c).task) cs a (length cs)
+columns_of_lower n m i cs a known few from k d l h =
+    let low : slot (i + 1) 0 ≤ slot_of (get_or cs k d) = from.behind k d l h in
+    let r : (get_or cs k d).resource.0 < m = (known k d h).1 in
+    omega (arith, low, r, few)

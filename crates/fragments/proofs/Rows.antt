@@ -1,5 +1,5 @@
 -- Rows that are there, and loops that add the rows of one number after another.
-use Rattle.std.proofs.Common.{◌≡◌, ℕ, true, List, [], ◌∷◌, ◌++◌, map, refl, ◌+◌, add-one}
+use Rattle.std.proofs.Common.{◌≡◌, ℕ, zero, suc, true, List, [], ◌∷◌, ◌++◌, map, refl, ◌+◌, ◌<◌, add-one, arith}
 use Rattle.std.specs.Prelude.{slice_index}
 use Rattle.bounded_sums.specs.Sums.{collect_below}
 use Rattle.program_form.specs.RowBlock.{RowBlockDef}
@@ -15,3 +15,8 @@ row_there b cs row bounds some = rw some refl
 pub next_number : (P : List ConstraintDef → Type 0) (rows : ℕ → List ConstraintDef) (n : ℕ)
     → P (collect_below n rows ++ rows n) → P (collect_below (n + 1) rows)
 next_number P rows n h = rw add-one h
+
+-- Numbers that have no rows have none together.
+pub no_rows_below : (n : ℕ) (rows : ℕ → List ConstraintDef) → ((k : ℕ) → k < n → rows k ≡ []) → collect_below n rows ≡ []
+no_rows_below zero rows none = refl
+no_rows_below (suc n) rows none = rw (none n (omega arith), no_rows_below n rows (λ k l. none k (omega (arith, l)))) refl

@@ -23,14 +23,6 @@ is_link protocol.Mpcp set i x r = is_user set r i && is_used_beside set i x r
 is_link protocol.FmlpPlus set i x r = is_user set r i && is_used_beside set i x r
 is_link protocol.Dpcp set i x r = is_user set r i
 
--- Are the resources those that pass the test? Any further test passes at one of them just where it does at one that passes this.
-abbrev pub ArePassing : (ℕ → Bool) → ℕ → List ResourceId → Type 0
-ArePassing is_one m resources = (test : ℕ → Bool) → list_any (λ r. test r.0) resources ≡ any_below m (λ r. is_one r && test r)
-
--- Are they those that i uses?
-abbrev pub AreAsked : SetDef → ℕ → List ResourceId → Type 0
-AreAsked set i resources = ArePassing (λ r. is_user set r i) (length set.resources) resources
-
 -- For each task x on processor k, are the resources of the rivals but x those by which requests by x can block i indirectly?
 abbrev pub AreLinks : Protocol → SetDef → ℕ → ℕ → List Rival → Type 0
 AreLinks p set i k links = (x : ℕ) → k ≡ (task_at set x).processor → (test : ℕ → Bool)
@@ -45,18 +37,29 @@ may_have_columns set i x = not (x == i) && not (is_higher_local set i x)
 abbrev pub is_rival : SetDef → ℕ → ℕ → ℕ → Bool
 is_rival set i y r = not (y == i) && (is_user set r i && is_user set r y)
 
--- Are these the tasks that do, each with its resource, where the resource is below n?
-abbrev pub AreRivalsBelow : SetDef → ℕ → ℕ → List Rival → Type 0
-AreRivalsBelow set i n rivals = (test : ℕ → ℕ → Bool) → list_any (λ e. test e.task.0 e.resource.0) rivals
-    ≡ any_below n (λ r. any_below (length set.tasks) (λ y. is_rival set i y r && test y r))
-
+-- Are these the tasks that do, each with its resource?
 abbrev pub AreRivals : SetDef → ℕ → List Rival → Type 0
-AreRivals set i rivals = AreRivalsBelow set i (length set.resources) rivals
+AreRivals set i rivals = (test : ℕ → ℕ → Bool) → list_any (λ e. test e.task.0 e.resource.0) rivals
+    ≡ any_below (length set.resources) (λ r. any_below (length set.tasks) (λ y. is_rival set i y r && test y r))
 
--- Are these the tasks below n, and none but i, that use resource r, besides those that were there before?
-abbrev pub AreRivalsAt : SetDef → ℕ → ℕ → ℕ → List Rival → List Rival → Type 0
-AreRivalsAt set i r n before now = (test : ℕ → ℕ → Bool) → list_any (λ e. test e.task.0 e.resource.0) now
-    ≡ (list_any (λ e. test e.task.0 e.resource.0) before || any_below n (λ y. (not (y == i) && is_user set r y) && test y r))
+-- Does another task than i use resource r, and pass the test with it?
+abbrev pub passes_another : SetDef → ℕ → (ℕ → ℕ → Bool) → ℕ → Bool
+passes_another set i test r = any_below (length set.tasks) (λ y. is_user set r y && (not (y == i) && test y r))
+
+-- Are these the other tasks than i that use one of the resources, each with it?
+abbrev pub AreRivalsOf : SetDef → ℕ → List ResourceId → List Rival → Type 0
+AreRivalsOf set i resources rivals = (test : ℕ → ℕ → Bool) → list_any (λ e. test e.task.0 e.resource.0) rivals
+    ≡ list_any (λ r. passes_another set i test r.0) resources
+
+-- Are these the other tasks than i that use resource r, besides those that were there before?
+abbrev pub AreRivalsAt : SetDef → ℕ → ℕ → List Rival → List Rival → Type 0
+AreRivalsAt set i r before now = (test : ℕ → ℕ → Bool) → list_any (λ e. test e.task.0 e.resource.0) now
+    ≡ (list_any (λ e. test e.task.0 e.resource.0) before || passes_another set i test r)
+
+-- Are these the other tasks than i of the list, each with resource r, besides those that were there before?
+abbrev pub AreRivalsAmong : ℕ → ℕ → List TaskId → List Rival → List Rival → Type 0
+AreRivalsAmong i r tasks before now = (test : ℕ → ℕ → Bool) → list_any (λ e. test e.task.0 e.resource.0) now
+    ≡ (list_any (λ e. test e.task.0 e.resource.0) before || list_any (λ y. not (y.0 == i) && test y.0 r) tasks)
 
 -- A task with a resource that it uses.
 abbrev pub rival_at : Protocol → SetDef → TaskId → ResourceId → Rival

@@ -46,6 +46,7 @@ pub record IsRequestStretch (x q : ℕ) (columns : List Fragment) (a b : ℕ) : 
 pub record IsNextRequest (m x q : ℕ) (columns : List Fragment) (place : ℕ) : Type 0 where
   pub known : q < m
   pub within : place < length columns
+  pub here : AllWithin (λ c. slot_of c ≡ slot x q) columns place (place + 1)
   pub further : (end : ℕ) → BeginsAt (slot x (q + 1)) columns end → place < end
   pub order : (k : ℕ) → BeginsAt (slot x k) columns place → k ≤ q
   pub begins : (k : ℕ) → BeginsAt (slot x k) columns place → BeginsAt (slot x q) columns place

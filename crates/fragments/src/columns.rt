@@ -1,15 +1,15 @@
-ghost use Rattle.std.specs.Prelude.{◌≡◌, ◌<◌, ◌++◌, map, length, OnOk, IfOk, not, ◌==◌, ◌&&◌, true, if◌then◌else◌, [], ◌∷◌};
+ghost use Rattle.std.specs.Prelude.{◌≡◌, ◌<◌, ◌≤◌, ◌*◌, ◌++◌, map, length, OnOk, IfOk, not, ◌==◌, ◌&&◌, true, if◌then◌else◌, [], ◌∷◌};
 ghost use Rattle.std.specs.List.{filter};
-ghost use Rattle.bounded_sums.specs.Sums.{collect_below};
+ghost use Rattle.bounded_sums.specs.Sums.{collect_below, sum_below};
 ghost use Rattle.sporadic_model.specs.SetDef.{task_at};
-ghost use Rattle.sporadic_model.specs.Users.{is_user};
+ghost use Rattle.sporadic_model.specs.Users.{is_user, users_of};
 ghost use Rattle.sporadic_model.specs.Homes.{HasHomesFor};
 ghost use Rattle.fragments.specs.Ceilings.{may_precede};
 ghost use Rattle.fragments.specs.ColumnDef.{column_seen, classes_of, is_direct, is_indirect, is_preemption};
-ghost use Rattle.fragments.specs.Columns.{has_path, is_column, columns_of};
+ghost use Rattle.fragments.specs.Columns.{has_path, is_column, is_lower_local, columns_of};
 ghost use Rattle.fragments.specs.Links.{AreLinks, AreSeenFrom, HaveLinks, may_have_columns};
 
-use crate::homes::{HomeTest, asked_beside};
+use crate::homes::{HomeTest, home_marks};
 use crate::linking::{Links, Rival, links_of};
 use crate::passing::fragments_where;
 use crate::places::{lower_local, may_precede, place_seen, uses};
@@ -71,7 +71,7 @@ pub struct Fragment {
 }
 
 // The column of requests of `q` by `x` that block in this way.
-fn column(x: TaskId, q: ResourceId, class: Class) -> Fragment
+pub(crate) fn column(x: TaskId, q: ResourceId, class: Class) -> Fragment
     ensures { column_seen result ≡ record { task = x.0; resource = q.0; class = class } }
 {
     Fragment {
@@ -82,10 +82,15 @@ fn column(x: TaskId, q: ResourceId, class: Class) -> Fragment
 }
 
 // Is the link another task than `x`, with another resource than `q`, and may its holder wait while one of `q`, whose place this is, runs?
-fn stands_behind(protocol: Protocol, x: TaskId, q: ResourceId, place: u32, link: Rival) -> bool
-    ensures { result ≡ (not (link.task.0 == x.0) && (not (link.resource.0 == q.0) && may_precede protocol place link.place)) }
+fn stands_behind(protocol: Protocol, x: TaskId, q: ResourceId, place: u32, link: &Rival) -> bool
+    ensures { result ≡ (not (link.now.task.0 == x.0)
+        && (not (link.now.resource.0 == q.0) && may_precede protocol place link.now.place)) }
 {
-    link.task != x && link.resource != q && may_precede(protocol, place, link.place)
+    // most links fail here, where any does
+    if !may_precede(protocol, place, link.place) {
+        return false;
+    }
+    link.task != x && link.resource != q
 }
 
 // Is there a path from `i` to requests of `q` by `x`?
@@ -104,10 +109,13 @@ fn reaches(
     requires seen { AreSeenFrom protocol set.now (task_at set.now x.0).processor links.now }
     ensures { result ≡ has_path protocol set.now i.0 x.0 q.0 }
 {
+    if links.is_empty() {
+        return false;
+    }
     let place = place_seen(set, protocol, set.processor(x), q);
     links
         .iter()
-        .any(|link| stands_behind(protocol, x, q, place, *link))
+        .any(|link| stands_behind(protocol, x, q, place, link))
 }
 
 // Adds the column, if it passes.
@@ -121,7 +129,7 @@ fn add_if(columns: &mut Vec<Fragment>, passes: bool, c: Fragment) -> Result<(), 
     Ok(())
 }
 
-// Under MPCP and FMLP+, adds the columns of requests of `q` by `x`, which uses it.
+// Under MPCP and FMLP+, adds the columns of requests of `q` by `x`, which uses it. Whether `x` is a lower task beside `i` is told.
 fn add_requests(
     columns: &mut Vec<Fragment>,
     links: &[Rival],
@@ -130,6 +138,7 @@ fn add_requests(
     i: TaskId,
     x: TaskId,
     q: ResourceId,
+    lower: bool,
 ) -> Result<(), AllocError>
     requires sharing { protocol ≡ Protocol.Dpcp → ⊥ }
     requires task { i.0 < length set.now.tasks }
@@ -137,6 +146,7 @@ fn add_requests(
     requires resource { q.0 < length set.now.resources }
     requires blocks { may_have_columns set.now i.0 x.0 ≡ true }
     requires used { is_user set.now q.0 x.0 ≡ true }
+    requires lower { lower ≡ is_lower_local set.now i.0 x.0 }
     requires links { AreLinks protocol set.now i.0 (task_at set.now x.0).processor links.now }
     requires seen { AreSeenFrom protocol set.now (task_at set.now x.0).processor links.now }
     ensures { OnOk result (map column_seen columns.new.items
@@ -144,36 +154,9 @@ fn add_requests(
 {
     let direct = uses(set, i, q);
     let indirect = reaches(set, protocol, i, x, q, links);
-    let preemption = lower_local(set, i, x);
     add_if(columns, direct, column(x, q, Class::Direct))?;
     add_if(columns, indirect, column(x, q, Class::Indirect))?;
-    add_if(columns, preemption, column(x, q, Class::Preemption))
-}
-
-// The same, where `x` may not use the resource.
-fn add_used(
-    columns: &mut Vec<Fragment>,
-    links: &[Rival],
-    set: &TaskSet,
-    protocol: Protocol,
-    i: TaskId,
-    x: TaskId,
-    q: ResourceId,
-) -> Result<(), AllocError>
-    requires sharing { protocol ≡ Protocol.Dpcp → ⊥ }
-    requires task { i.0 < length set.now.tasks }
-    requires other { x.0 < length set.now.tasks }
-    requires resource { q.0 < length set.now.resources }
-    requires blocks { may_have_columns set.now i.0 x.0 ≡ true }
-    requires links { AreLinks protocol set.now i.0 (task_at set.now x.0).processor links.now }
-    requires seen { AreSeenFrom protocol set.now (task_at set.now x.0).processor links.now }
-    ensures { OnOk result (map column_seen columns.new.items
-        ≡ map column_seen columns.old.items ++ filter (is_column protocol set.now i.0) (classes_of x.0 q.0)) }
-{
-    if !uses(set, x, q) {
-        return Ok(());
-    }
-    add_requests(columns, links, set, protocol, i, x, q)
+    add_if(columns, lower, column(x, q, Class::Preemption))
 }
 
 // Adds the columns of requests by `x`, which may have some.
@@ -194,8 +177,10 @@ fn add_requests_of(
     ensures { OnOk result (map column_seen columns.new.items ≡ map column_seen columns.old.items
         ++ filter (is_column protocol set.now i.0) (collect_below (length set.now.resources) (λ q. classes_of x.0 q))) }
 {
-    for q in 0..set.resources() {
-        add_used(columns, links, set, protocol, i, x, ResourceId(q))?;
+    let lower = lower_local(set, i, x);
+    let used = set.used_by(x);
+    for q in used {
+        add_requests(columns, links, set, protocol, i, x, *q, lower)?;
     }
     Ok(())
 }
@@ -232,6 +217,29 @@ fn add_requests_by(
     add_requests_of(columns, beside, set, protocol, i, x)
 }
 
+// How many tasks use the resource?
+fn number_of_users(set: &TaskSet, q: ResourceId) -> usize
+    requires { q.0 < length set.now.resources }
+    ensures value { result ≡ length (users_of set.now q.0) }
+    ensures most { result ≤ 64 }
+{
+    // no more than the set's tasks, which are few
+    let _tasks = set.tasks();
+    set.users(q).len()
+}
+
+/// Room for the columns of a task: three for each request entry of the set.
+pub fn most_columns(set: &TaskSet) -> usize
+    ensures value { result ≡ 3 * sum_below (length set.now.resources) (λ q. length (users_of set.now q)) }
+    ensures most { result ≤ 6144 }
+{
+    let mut entries = 0usize;
+    for q in 0..set.resources() {
+        entries += number_of_users(set, ResourceId(q));
+    }
+    3 * entries
+}
+
 // The columns under MPCP and FMLP+.
 fn shared_fragments(
     alloc: Global,
@@ -244,7 +252,7 @@ fn shared_fragments(
     ensures { IfOk result (λ v. map column_seen v.items ≡ columns_of protocol set.now i.0) }
 {
     let links = links_of(alloc, set, protocol, i)?;
-    let mut columns = Vec::new(alloc);
+    let mut columns = Vec::with_capacity(alloc, most_columns(set))?;
     for x in 0..set.tasks() {
         add_requests_by(&mut columns, &links, set, protocol, i, TaskId(x))?;
     }
@@ -256,8 +264,8 @@ fn home_fragments(alloc: Global, set: &TaskSet, i: TaskId) -> Result<Vec<Fragmen
     requires task { i.0 < length set.now.tasks }
     ensures { IfOk result (λ v. map column_seen v.items ≡ columns_of Protocol.Dpcp set.now i.0) }
 {
-    let beside = asked_beside(alloc, set, i)?;
-    fragments_where(alloc, &HomeTest { beside }, set, i)
+    let marks = home_marks(alloc, set, i)?;
+    fragments_where(alloc, &HomeTest { marks }, set, i)
 }
 
 /// The columns of task `i`'s blocking program: requests of other tasks, by resource and by how they block. They stand in

@@ -1,9 +1,9 @@
 ghost use Rattle.std.specs.Prelude.{◌≡◌, ℕ, ◌<◌, ◌≤◌, map, nat_lt, length, OnOk, IfOk, [], ◌∷◌, slice_index};
-ghost use Rattle.std.specs.List.{list_any};
+ghost use Rattle.std.specs.List.{AllWithin, list_any};
 ghost use Rattle.program_form.specs.RowBlock.{block_seen};
 ghost use Rattle.sporadic_model.specs.SetDef.{SetDef};
 ghost use Rattle.program_sources.specs.Bounds.{AreWithinDeadlines};
-ghost use Rattle.fragments.specs.ColumnDef.{column_seen, AreKnown};
+ghost use Rattle.fragments.specs.ColumnDef.{ColumnDef, column_seen, AreKnown};
 ghost use Rattle.fragments.specs.Constraints.{ConstraintDef, pushed_row};
 ghost use Rattle.fragments.specs.Stretches.{IsStretch};
 
@@ -21,12 +21,16 @@ pub trait RowKind {
     /// Does the row speak of tasks and resources of the set?
     ghost fits: { Self → SetDef → Type 0 };
 
+    /// Which columns is it asked for coefficients of?
+    ghost over: { Self → SetDef → ℕ → ColumnDef → Type 0 };
+
     /// The column's coefficient.
     fn coefficient(&self, set: &TaskSet, i: TaskId, column: Fragment) -> u64
         requires fits { fits self.now set.now }
         requires task { i.0 < length set.now.tasks }
         requires column { column.task.0 < length set.now.tasks }
         requires resource { column.resource.0 < length set.now.resources }
+        requires over { over self.now set.now i.0 (column_seen column) }
         ensures { result ≡ (row_of self.now set.now i.0).coefficient (column_seen column) };
 }
 
@@ -52,6 +56,7 @@ fn holds<K: RowKind>(
     requires task { i.0 < length set.now.tasks }
     requires known { AreKnown (length set.now.tasks) (length set.now.resources) columns.now }
     requires stretch { IsStretch (K.row_of kind.now set.now i.0) columns.now stretch.0 stretch.1 }
+    requires over { AllWithin (λ c. K.over kind.now set.now i.0 (column_seen c)) columns.now stretch.0 stretch.1 }
     ensures { result ≡ list_any (λ c. nat_lt 0 ((K.row_of kind.now set.now i.0).coefficient (column_seen c))) columns.now }
 {
     let (from, to) = stretch;
@@ -76,6 +81,7 @@ fn coefficients<K: RowKind>(
     requires task { i.0 < length set.now.tasks }
     requires known { AreKnown (length set.now.tasks) (length set.now.resources) columns.now }
     requires stretch { IsStretch (K.row_of kind.now set.now i.0) columns.now stretch.0 stretch.1 }
+    requires over { AllWithin (λ c. K.over kind.now set.now i.0 (column_seen c)) columns.now stretch.0 stretch.1 }
     ensures { IfOk result (λ v. v.items ≡ map (λ c. (K.row_of kind.now set.now i.0).coefficient (column_seen c)) columns.now) }
 {
     let (from, to) = stretch;
@@ -95,7 +101,7 @@ fn push_row(block: &mut RowBlock, list: Vec<u64>, limit: u64) -> Result<(), Allo
     Ok(())
 }
 
-/// Adds the row with this limit, where the columns outside the stretch have no coefficient in it.
+/// Adds the row with this limit, where it is asked for coefficients in the stretch, and the columns outside have none.
 pub(crate) fn push_kind<K: RowKind>(
     alloc: Global,
     block: &mut RowBlock,
@@ -110,6 +116,7 @@ pub(crate) fn push_kind<K: RowKind>(
     requires task { i.0 < length set.now.tasks }
     requires known { AreKnown (length set.now.tasks) (length set.now.resources) columns.now }
     requires stretch { IsStretch (K.row_of kind.now set.now i.0) columns.now stretch.0 stretch.1 }
+    requires over { AllWithin (λ c. K.over kind.now set.now i.0 (column_seen c)) columns.now stretch.0 stretch.1 }
     ensures { OnOk result (block_seen block.new ≡ pushed_row (block_seen block.old)
         (map (K.row_of kind.now set.now i.0).coefficient (map column_seen columns.now)) limit) }
 {
@@ -134,6 +141,7 @@ pub fn add_row_limited<T: RowTaker, K: RowKind>(
     requires task { i.0 < length set.now.tasks }
     requires known { AreKnown (length set.now.tasks) (length set.now.resources) columns.now }
     requires stretch { IsStretch (K.row_of kind.now set.now i.0) columns.now stretch.0 stretch.1 }
+    requires over { AllWithin (λ c. K.over kind.now set.now i.0 (column_seen c)) columns.now stretch.0 stretch.1 }
     requires limit { limit ≡ (K.row_of kind.now set.now i.0).limit (slice_index bounds.now) }
     ensures { OnOk result (T.takes taker.old (map column_seen columns.now) (K.row_of kind.now set.now i.0 ∷ []) bounds.now taker.new) }
 {
@@ -160,6 +168,7 @@ pub fn add_row_within<T: RowTaker, K: Constraint>(
     requires within { AreWithinDeadlines set.now bounds.now }
     requires known { AreKnown (length set.now.tasks) (length set.now.resources) columns.now }
     requires stretch { IsStretch (K.row_of kind.now set.now i.0) columns.now stretch.0 stretch.1 }
+    requires over { AllWithin (λ c. K.over kind.now set.now i.0 (column_seen c)) columns.now stretch.0 stretch.1 }
     ensures { OnOk result (T.takes taker.old (map column_seen columns.now) (K.row_of kind.now set.now i.0 ∷ []) bounds.now taker.new) }
 {
     if holds(kind, set, i, columns, stretch) {
@@ -169,7 +178,7 @@ pub fn add_row_within<T: RowTaker, K: Constraint>(
     Ok(())
 }
 
-/// Adds the row to what the taker has, if some column has a coefficient above zero in it.
+/// Adds the row to what the taker has, if some column has a coefficient above zero in it. It is asked for coefficients of all columns.
 pub fn add_row<T: RowTaker, K: Constraint>(
     alloc: Global,
     taker: &mut T,
@@ -183,6 +192,7 @@ pub fn add_row<T: RowTaker, K: Constraint>(
     requires task { i.0 < length set.now.tasks }
     requires within { AreWithinDeadlines set.now bounds.now }
     requires known { AreKnown (length set.now.tasks) (length set.now.resources) columns.now }
+    requires over { (c : ColumnDef) → K.over kind.now set.now i.0 c }
     ensures { OnOk result (T.takes taker.old (map column_seen columns.now) (K.row_of kind.now set.now i.0 ∷ []) bounds.now taker.new) }
 {
     let all = (0, columns.len());

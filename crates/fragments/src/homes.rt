@@ -1,45 +1,42 @@
 //! The test of columns where requests run on their resource's home.
 
-ghost use Rattle.std.specs.Prelude.{◌≡◌, ◌<◌, not, ◌==◌, ◌&&◌, ◌||◌, nat_lt, nat_le, false, length, IfOk};
-ghost use Rattle.std.specs.List.{All};
-ghost use Rattle.sporadic_model.specs.Homes.{home_in};
+ghost use Rattle.std.specs.Prelude.{◌≡◌, ℕ, ◌<◌, length, slice_index, IfOk};
 ghost use Rattle.sporadic_model.specs.declared.ids.Protocol.TheVariants as protocol;
-ghost use Rattle.fragments.specs.Ceilings.{ceiling_rank};
-ghost use Rattle.fragments.specs.ColumnDef.{column_seen, is_indirect};
+ghost use Rattle.sporadic_model.specs.declared.limits.TheConstants.{MOST_PROCESSORS};
+ghost use Rattle.sporadic_model.specs.SetDef.{task_at};
 ghost use Rattle.fragments.specs.Columns.{requests_beside, blocks_at_home, is_column};
-ghost use Rattle.fragments.specs.Links.{AreAsked};
-ghost use Rattle.fragments.specs.Asked.{AreAskedBeside};
+ghost use Rattle.fragments.specs.Asked.{AreAskedBeside, AreHomeCounts};
+ghost use Rattle.fragments.specs.HomeMarks.{mark_of, AreHomeMarks, blocks_marked};
 
 use crate::columns::{Class, Fragment};
-use crate::linking::asked_by;
 use crate::passing::ColumnTest;
 use crate::places::{ceiling_place, home, uses};
-use sporadic_model::{ResourceId, TaskId, TaskSet};
+use sporadic_model::{MOST_PROCESSORS, ResourceId, TaskId, TaskSet};
 use std::alloc::{AllocError, Global};
 
-// Is the resource `r` another one than `q`, of the home `k`?
-fn stands_at(set: &TaskSet, q: ResourceId, k: u32, r: ResourceId) -> bool
-    requires other { r.0 < length set.now.resources }
-    ensures { result ≡ (not (r.0 == q.0) && (home_in set.now r.0 == k)) }
+// Counts by home the resources that `i` uses. Those without a home count at 0.
+fn count_homes(set: &TaskSet, i: TaskId, counts: &mut [u8])
+    requires task { i.0 < length set.now.tasks }
+    requires room { MOST_PROCESSORS < length counts.old }
+    requires none { (k : ℕ) → k < length counts.old → slice_index counts.old k ≡ 0 }
+    ensures { AreHomeCounts set.now i.0 counts.new }
 {
-    r != q && home(set, r) == k
+    // the call says how many processors and resources there are at most
+    let _tasks = set.tasks();
+    let used = set.used_by(i);
+    for r in used {
+        counts[home(set, *r) as usize] += 1;
+    }
 }
 
 // Does `i` request another resource of the same home?
-fn asks_beside(set: &TaskSet, i: TaskId, q: ResourceId, links: &[ResourceId]) -> bool
+fn asks_beside(set: &TaskSet, i: TaskId, q: ResourceId, counts: &[u8]) -> bool
     requires task { i.0 < length set.now.tasks }
     requires resource { q.0 < length set.now.resources }
-    requires links { AreAsked set.now i.0 links.now }
-    requires known { All (λ r. r.0 < length set.now.resources) links.now }
+    requires counts { AreHomeCounts set.now i.0 counts.now }
     ensures { result ≡ requests_beside set.now i.0 q.0 }
 {
-    let there = home(set, q);
-    for r in links {
-        if stands_at(set, q, there, *r) {
-            return true;
-        }
-    }
-    false
+    counts[home(set, q) as usize] > uses(set, i, q) as u8
 }
 
 /// By resource, whether `i` requests another one of its home.
@@ -47,10 +44,11 @@ pub fn asked_beside(alloc: Global, set: &TaskSet, i: TaskId) -> Result<Vec<bool>
     requires { i.0 < length set.now.tasks }
     ensures { IfOk result (λ v. AreAskedBeside set.now i.0 v.items) }
 {
-    let links = asked_by(alloc, set, i)?;
+    let mut counts = [0u8; MOST_PROCESSORS as usize + 1];
+    count_homes(set, i, &mut counts);
     let mut beside = Vec::with_capacity(alloc, set.resources() as usize)?;
     for q in 0..set.resources() {
-        beside.push(asks_beside(set, i, ResourceId(q), &links))?;
+        beside.push(asks_beside(set, i, ResourceId(q), &counts))?;
     }
     Ok(beside)
 }
@@ -69,36 +67,72 @@ pub fn blocks_at_home(set: &TaskSet, i: TaskId, c: Fragment, beside: &[bool]) ->
     }
 }
 
-// Are they, where they are a lower task's and would block indirectly, of a resource whose ceiling is no lower than `i`?
-fn reaches_up(set: &TaskSet, i: TaskId, c: Fragment) -> bool
-    requires resource { c.resource.0 < length set.now.resources }
-    ensures { result ≡ (not (is_indirect c.class && nat_lt i.0 c.task.0) || nat_le (ceiling_rank set.now c.resource.0) i.0) }
+/// What a column's test asks of its resource, for an analysed task.
+#[derive(Clone, Copy)]
+pub(crate) struct HomeMark {
+    /// Does the task request it?
+    pub(crate) asked: bool,
+    /// Does the task request another resource of its home?
+    pub(crate) beside: bool,
+    /// Is its home the task's processor?
+    pub(crate) here: bool,
+    /// Is its ceiling no lower than the task?
+    pub(crate) high: bool,
+}
+
+// The mark of resource `q`, where `i` runs on processor `k`.
+fn mark(set: &TaskSet, i: TaskId, k: u32, q: ResourceId, counts: &[u8]) -> HomeMark
+    requires task { i.0 < length set.now.tasks }
+    requires processor { k ≡ (task_at set.now i.0).processor }
+    requires resource { q.0 < length set.now.resources }
+    requires counts { AreHomeCounts set.now i.0 counts.now }
+    ensures { result ≡ mark_of set.now i.0 q.0 }
 {
-    if c.class.is_indirect() && i < c.task {
-        ceiling_place(set, c.resource) <= i.0
-    } else {
-        true
+    let asked = uses(set, i, q);
+    let there = home(set, q);
+    HomeMark {
+        asked,
+        beside: counts[there as usize] > asked as u8,
+        here: there == k,
+        high: ceiling_place(set, q) <= i.0,
     }
 }
 
-// Is it a column of `i`'s program under DPCP?
-fn is_fragment(set: &TaskSet, i: TaskId, c: Fragment, beside: &[bool]) -> bool
-    requires task { i.0 < length set.now.tasks }
-    requires column { c.task.0 < length set.now.tasks }
-    requires resource { c.resource.0 < length set.now.resources }
-    requires beside { AreAskedBeside set.now i.0 beside.now }
-    ensures { result ≡ is_column protocol.Dpcp set.now i.0 (column_seen c) }
+/// By resource, what a column's test asks of it.
+pub(crate) fn home_marks(
+    alloc: Global,
+    set: &TaskSet,
+    i: TaskId,
+) -> Result<Vec<HomeMark>, AllocError>
+    requires { i.0 < length set.now.tasks }
+    ensures { IfOk result (λ v. AreHomeMarks set.now i.0 v.items) }
 {
-    c.task != i
-        && uses(set, c.task, c.resource)
-        && reaches_up(set, i, c)
-        && blocks_at_home(set, i, c, beside)
+    let mut counts = [0u8; MOST_PROCESSORS as usize + 1];
+    count_homes(set, i, &mut counts);
+    let k = set.processor(i);
+    let mut marks = Vec::with_capacity(alloc, set.resources() as usize)?;
+    for q in 0..set.resources() {
+        marks.push(mark(set, i, k, ResourceId(q), &counts))?;
+    }
+    Ok(marks)
 }
 
-/// The columns under DPCP: a test that has by resource whether the analysed task requests another one of its home.
+// Do requests by a task block in this way, where the resource has this mark? Those of a lower task block indirectly only where its
+// ceiling is no lower than `i`.
+fn blocks_at(mark: HomeMark, i: TaskId, x: TaskId, class: Class) -> bool
+    ensures { result ≡ blocks_marked mark i.0 x.0 class }
+{
+    match class {
+        Class::Direct => mark.asked,
+        Class::Indirect => mark.beside && (mark.high || i >= x),
+        Class::Preemption => mark.here,
+    }
+}
+
+/// The columns under DPCP: a test that has by resource what it asks of it.
 #[derive(Drop)]
 pub(crate) struct HomeTest {
-    pub(crate) beside: Vec<bool>,
+    pub(crate) marks: Vec<HomeMark>,
 }
 
 impl ColumnTest for HomeTest {
@@ -108,9 +142,15 @@ impl ColumnTest for HomeTest {
 
     ghost requests = { λ t set i. linked_requests protocol.Dpcp set i };
 
-    ghost fits = { λ k set i x. AreAskedBeside set i k.beside.items };
+    ghost fits = { λ k set i x. AreHomeMarks set i k.marks.items };
 
     fn test(&self, set: &TaskSet, i: TaskId, column: Fragment) -> bool {
-        is_fragment(set, i, column, &self.beside)
+        column.task != i
+            && blocks_at(
+                self.marks[column.resource.0 as usize],
+                i,
+                column.task,
+                column.class,
+            )
     }
 }

@@ -1,13 +1,12 @@
 //! The resources by which requests of another task can block the analysed one indirectly.
 
-ghost use Rattle.std.specs.Prelude.{◌≡◌, ℕ, ◌<◌, ◌≤◌, ◌+◌, ◌++◌, length, slice_index, OnOk, IfOk, [], ◌∷◌, not, ◌==◌, ◌&&◌};
+ghost use Rattle.std.specs.Prelude.{◌≡◌, ℕ, ◌<◌, ◌≤◌, ◌+◌, ◌++◌, length, slice_index, OnOk, IfOk, [], ◌∷◌, not, ◌==◌};
 ghost use Rattle.std.specs.Prelude.{if◌then◌else◌};
-ghost use Rattle.std.specs.List.{All, filter};
-ghost use Rattle.sporadic_model.specs.Users.{is_user};
-ghost use Rattle.fragments.specs.Links.{AreAsked, AreRivalsAt, AreRivalsBelow, AreRivals, AreKnownRivals, AreParted, HaveLinks};
+ghost use Rattle.std.specs.List.{filter};
+ghost use Rattle.fragments.specs.Links.{AreRivalsAt, AreRivals, AreKnownRivals, AreParted, HaveLinks};
 ghost use Rattle.fragments.specs.Links.{rival_at, is_at, part_at};
 
-use crate::places::{place_seen, uses};
+use crate::places::place_seen;
 use sporadic_model::{Protocol, ResourceId, TaskId, TaskSet};
 use std::alloc::{AllocError, Global};
 
@@ -22,41 +21,7 @@ pub(crate) struct Rival {
     pub(crate) place: u32,
 }
 
-// Adds the resource, if `i` uses it.
-fn add_asked(
-    list: &mut Vec<ResourceId>,
-    set: &TaskSet,
-    i: TaskId,
-    r: ResourceId,
-) -> Result<(), AllocError>
-    requires task { i.0 < length set.now.tasks }
-    requires by { r.0 < length set.now.resources }
-    ensures { OnOk result (list.new.items ≡ list.old.items ++ (if is_user set.now r.0 i.0 then r ∷ [] else [])) }
-{
-    if uses(set, i, r) {
-        list.push(r)?;
-    }
-    Ok(())
-}
-
-/// The resources that `i` uses.
-pub(crate) fn asked_by(
-    alloc: Global,
-    set: &TaskSet,
-    i: TaskId,
-) -> Result<Vec<ResourceId>, AllocError>
-    requires task { i.0 < length set.now.tasks }
-    ensures asked { IfOk result (λ v. AreAsked set.now i.0 v.items) }
-    ensures known { IfOk result (λ v. All (λ r. r.0 < length set.now.resources) v.items) }
-{
-    let mut list = Vec::new(alloc);
-    for r in 0..set.resources() {
-        add_asked(&mut list, set, i, ResourceId(r))?;
-    }
-    Ok(list)
-}
-
-// Adds the task with the resource, if it is another one than `i` and uses it.
+// Adds the task with the resource, if it is another one than `i`.
 fn add_rival(
     rivals: &mut Vec<Rival>,
     set: &TaskSet,
@@ -68,9 +33,9 @@ fn add_rival(
     requires task { y.0 < length set.now.tasks }
     requires by { r.0 < length set.now.resources }
     ensures { OnOk result (rivals.new.items ≡ rivals.old.items
-        ++ (if not (y.0 == i.0) && is_user set.now r.0 y.0 then rival_at protocol set.now y r ∷ [] else [])) }
+        ++ (if not (y.0 == i.0) then rival_at protocol set.now y r ∷ [] else [])) }
 {
-    if y != i && uses(set, y, r) {
+    if y != i {
         let processor = set.processor(y);
         rivals.push(Rival {
             task: y,
@@ -92,35 +57,13 @@ fn add_users(
 ) -> Result<(), AllocError>
     requires by { r.0 < length set.now.resources }
     requires known { AreKnownRivals protocol set.now rivals.old.items }
-    ensures users { OnOk result (AreRivalsAt set.now i.0 r.0 (length set.now.tasks) rivals.old.items rivals.new.items) }
+    ensures users { OnOk result (AreRivalsAt set.now i.0 r.0 rivals.old.items rivals.new.items) }
     ensures known { OnOk result (AreKnownRivals protocol set.now rivals.new.items) }
 {
-    for y in 0..set.tasks() {
-        add_rival(rivals, set, protocol, i, TaskId(y), r)?;
+    let users = set.users(r);
+    for y in users {
+        add_rival(rivals, set, protocol, i, *y, r)?;
     }
-    Ok(())
-}
-
-// Adds the rivals at the resource, which `i` may not use.
-#[tactic(auto, using(crate::proofs::Rivals::next_rivals, crate::proofs::Rivals::no_more_rivals))]
-fn add_rivals_at(
-    rivals: &mut Vec<Rival>,
-    set: &TaskSet,
-    protocol: Protocol,
-    i: TaskId,
-    r: ResourceId,
-) -> Result<(), AllocError>
-    requires task { i.0 < length set.now.tasks }
-    requires by { r.0 < length set.now.resources }
-    requires rivals { AreRivalsBelow set.now i.0 r.0 rivals.old.items }
-    requires known { AreKnownRivals protocol set.now rivals.old.items }
-    ensures rivals { OnOk result (AreRivalsBelow set.now i.0 (r.0 + 1) rivals.new.items) }
-    ensures known { OnOk result (AreKnownRivals protocol set.now rivals.new.items) }
-{
-    if !uses(set, i, r) {
-        return Ok(());
-    }
-    add_users(rivals, set, protocol, i, r)?;
     Ok(())
 }
 
@@ -135,9 +78,11 @@ pub(crate) fn rivals_of(
     ensures rivals { IfOk result (λ v. AreRivals set.now i.0 v.items) }
     ensures known { IfOk result (λ v. AreKnownRivals protocol set.now v.items) }
 {
-    let mut rivals = Vec::new(alloc);
-    for r in 0..set.resources() {
-        add_rivals_at(&mut rivals, set, protocol, i, ResourceId(r))?;
+    let used = set.used_by(i);
+    // room to begin with; the list grows where there are more
+    let mut rivals = Vec::with_capacity(alloc, 64)?;
+    for r in used {
+        add_users(&mut rivals, set, protocol, i, *r)?;
     }
     Ok(rivals)
 }

@@ -1,12 +1,12 @@
-ghost use Rattle.std.specs.Prelude.{◌≡◌, ℕ, ◌<◌, ◌++◌, map, length, OnOk, IfOk, Bool, [], ◌∷◌};
+ghost use Rattle.std.specs.Prelude.{◌≡◌, ℕ, ◌<◌, ◌++◌, map, length, OnOk, IfOk, Bool, true, [], ◌∷◌};
 ghost use Rattle.std.specs.List.{filter};
 ghost use Rattle.bounded_sums.specs.Sums.{collect_below};
 ghost use Rattle.sporadic_model.specs.SetDef.{SetDef};
+ghost use Rattle.sporadic_model.specs.Users.{is_user};
 ghost use Rattle.fragments.specs.ColumnDef.{ColumnDef, column_seen, classes_of, all_columns};
 ghost use Rattle.fragments.specs.Columns.{columns_where, AreRequests};
 
-use crate::columns::{Class, Fragment};
-use crate::places::uses;
+use crate::columns::{Class, Fragment, column, most_columns};
 use sporadic_model::{ResourceId, TaskId, TaskSet};
 use std::alloc::{AllocError, Global};
 
@@ -27,6 +27,7 @@ pub trait ColumnTest {
         requires task { i.0 < length set.now.tasks }
         requires column { column.task.0 < length set.now.tasks }
         requires resource { column.resource.0 < length set.now.resources }
+        requires used { is_user set.now column.resource.0 column.task.0 ≡ true }
         ensures { result ≡ passes self.now set.now i.0 (column_seen column) };
 }
 
@@ -42,6 +43,7 @@ fn add_column<T: ColumnTest>(
     requires task { i.0 < length set.now.tasks }
     requires column { c.task.0 < length set.now.tasks }
     requires resource { c.resource.0 < length set.now.resources }
+    requires used { is_user set.now c.resource.0 c.task.0 ≡ true }
     ensures { OnOk result (map column_seen columns.new.items
         ≡ map column_seen columns.old.items ++ filter (T.passes test.now set.now i.0) (column_seen c ∷ [])) }
 {
@@ -51,52 +53,26 @@ fn add_column<T: ColumnTest>(
     Ok(())
 }
 
-// Adds the columns of the requests of `resource` by `task` that pass.
+// Adds the columns of the requests of `q` by `x`, which uses it, that pass.
 fn add_classes<T: ColumnTest>(
     columns: &mut Vec<Fragment>,
     test: &T,
     set: &TaskSet,
     i: TaskId,
-    of: (TaskId, ResourceId),
+    x: TaskId,
+    q: ResourceId,
 ) -> Result<(), AllocError>
-    requires fits { T.fits test.now set.now i.0 of.0.0 }
+    requires fits { T.fits test.now set.now i.0 x.0 }
     requires task { i.0 < length set.now.tasks }
-    requires other { of.0.0 < length set.now.tasks }
-    requires resource { of.1.0 < length set.now.resources }
+    requires other { x.0 < length set.now.tasks }
+    requires resource { q.0 < length set.now.resources }
+    requires used { is_user set.now q.0 x.0 ≡ true }
     ensures { OnOk result (map column_seen columns.new.items
-        ≡ map column_seen columns.old.items ++ filter (T.passes test.now set.now i.0) (classes_of of.0.0 of.1.0)) }
+        ≡ map column_seen columns.old.items ++ filter (T.passes test.now set.now i.0) (classes_of x.0 q.0)) }
 {
-    let (task, resource) = of;
-    for class in [Class::Direct, Class::Indirect, Class::Preemption] {
-        let column = Fragment {
-            task,
-            resource,
-            class,
-        };
-        add_column(columns, test, set, i, column)?;
-    }
-    Ok(())
-}
-
-// The same, where the task may not use the resource.
-fn add_used<T: ColumnTest>(
-    columns: &mut Vec<Fragment>,
-    test: &T,
-    set: &TaskSet,
-    i: TaskId,
-    of: (TaskId, ResourceId),
-) -> Result<(), AllocError>
-    requires fits { T.fits test.now set.now i.0 of.0.0 }
-    requires task { i.0 < length set.now.tasks }
-    requires other { of.0.0 < length set.now.tasks }
-    requires resource { of.1.0 < length set.now.resources }
-    ensures { OnOk result (map column_seen columns.new.items
-        ≡ map column_seen columns.old.items ++ filter (T.passes test.now set.now i.0) (classes_of of.0.0 of.1.0)) }
-{
-    if !uses(set, of.0, of.1) {
-        return Ok(());
-    }
-    add_classes(columns, test, set, i, of)
+    add_column(columns, test, set, i, column(x, q, Class::Direct))?;
+    add_column(columns, test, set, i, column(x, q, Class::Indirect))?;
+    add_column(columns, test, set, i, column(x, q, Class::Preemption))
 }
 
 // Adds the columns of the requests by task `x` that pass.
@@ -113,8 +89,9 @@ fn add_task<T: ColumnTest>(
     ensures { OnOk result (map column_seen columns.new.items ≡ map column_seen columns.old.items
         ++ filter (T.passes test.now set.now i.0) (collect_below (length set.now.resources) (λ q. classes_of x.0 q))) }
 {
-    for q in 0..set.resources() {
-        add_used(columns, test, set, i, (x, ResourceId(q)))?;
+    let used = set.used_by(x);
+    for q in used {
+        add_classes(columns, test, set, i, x, *q)?;
     }
     Ok(())
 }
@@ -130,7 +107,7 @@ pub fn fragments_where<T: ColumnTest>(
     requires task { i.0 < length set.now.tasks }
     ensures { IfOk result (λ v. map column_seen v.items ≡ columns_where (T.passes test.now set.now i.0) set.now) }
 {
-    let mut columns = Vec::new(alloc);
+    let mut columns = Vec::with_capacity(alloc, most_columns(set))?;
     for x in 0..set.tasks() {
         add_task(&mut columns, test, set, i, TaskId(x))?;
     }

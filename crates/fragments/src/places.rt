@@ -67,12 +67,6 @@ fn boost_place(set: &TaskSet, q: ResourceId, k: u32) -> u32
     requires { q.0 < length set.now.resources }
     ensures { result ≡ remote_ceiling_rank set.now q.0 k }
 {
-    if let Some(highest) = set.ceiling(q) {
-        // the highest of all users is the highest of those that aren't on `k`, where it isn't
-        if set.processor(highest) != k {
-            return highest.0;
-        }
-    }
     place_of(set, set.boost(q, k))
 }
 

@@ -1,14 +1,15 @@
 //! Rows of which each task, or each task and resource, has one, over its own columns alone.
 
-ghost use Rattle.std.specs.Prelude.{◌≡◌, ℕ, ◌<◌, ◌==◌, ◌&&◌, false, List, [], ◌∷◌, map, length, OnOk, slice_index};
+ghost use Rattle.std.specs.Prelude.{◌≡◌, ℕ, ◌<◌, ◌≤◌, ◌==◌, ◌&&◌, false, List, [], ◌∷◌, map, length, OnOk, slice_index};
 ghost use Rattle.sporadic_model.specs.SetDef.{SetDef};
 ghost use Rattle.program_sources.specs.Bounds.{AreWithinDeadlines};
 ghost use Rattle.fragments.specs.ColumnDef.{ColumnDef, column_seen, AreKnown};
 ghost use Rattle.fragments.specs.Constraints.{ConstraintDef};
 ghost use Rattle.fragments.specs.Stretches.{IsTaskStretch};
+ghost use Rattle.fragments.specs.Windows.{jobs_in};
 
 use crate::columns::Fragment;
-use crate::constraints::{Constraint, RowKind, add_row_limited, add_row_within};
+use crate::constraints::{RowKind, add_row_limited};
 use crate::taking::RowTaker;
 use crate::walks::{PerRequest, PerTask};
 use sporadic_model::{ResourceId, TaskId, TaskSet};
@@ -22,19 +23,22 @@ pub trait TaskRow {
     /// Are the rows those of the set and the analysed task at these bounds, where they are made of further numbers?
     ghost fits: { Self → SetDef → ℕ → List ℕ → Type 0 };
 
-    /// The column's coefficient in the row of task `x`.
+    /// The coefficient of a column of task `x` in that task's row.
     fn coefficient(&self, set: &TaskSet, i: TaskId, x: TaskId, column: Fragment) -> u64
         requires task { i.0 < length set.now.tasks }
         requires other { x.0 < length set.now.tasks }
-        requires column { column.task.0 < length set.now.tasks }
+        requires of_task { column.task.0 ≡ x.0 }
         requires resource { column.resource.0 < length set.now.resources }
         ensures { result ≡ (row_of self.now set.now i.0 x.0).coefficient (column_seen column) };
 
-    /// What the sum of that row may be at most, where these are the bounds.
-    fn limit(&self, set: &TaskSet, i: TaskId, x: TaskId, bounds: &[u64]) -> u64
+    /// What the sum of that row may be at most, where these are the bounds, and so many jobs of `x` can run within the bound of a job
+    /// of `i`.
+    fn limit(&self, set: &TaskSet, i: TaskId, x: TaskId, jobs: u64, bounds: &[u64]) -> u64
         requires fits { fits self.now set.now i.0 bounds.now }
         requires task { i.0 < length set.now.tasks }
         requires other { x.0 < length set.now.tasks }
+        requires jobs { jobs ≡ jobs_in set.now (slice_index bounds.now) i.0 x.0 }
+        requires most { jobs ≤ 2000000000 }
         requires within { AreWithinDeadlines set.now bounds.now }
         ensures { result ≡ (row_of self.now set.now i.0 x.0).limit (slice_index bounds.now) };
 
@@ -54,13 +58,15 @@ impl<'a, K: TaskRow> RowKind for RowOfTask<'a, K> {
 
     ghost fits = { λ r set. r.task.0 < length set.tasks };
 
+    ghost over = { λ r set i c. c.task ≡ r.task.0 };
+
     fn coefficient(&self, set: &TaskSet, i: TaskId, column: Fragment) -> u64 {
         self.kind.coefficient(set, i, self.task, column)
     }
 }
 
 /// Adds the row of task `x`, whose columns are those of the stretch, to what the taker has, if some column has a coefficient above
-/// zero in it.
+/// zero in it. So many jobs of `x` can run within the bound of a job of `i`.
 pub fn add_row_of_task<T: RowTaker, K: TaskRow>(
     alloc: Global,
     taker: &mut T,
@@ -68,6 +74,7 @@ pub fn add_row_of_task<T: RowTaker, K: TaskRow>(
     set: &TaskSet,
     i: TaskId,
     x: TaskId,
+    jobs: u64,
     bounds: &[u64],
     columns: &[Fragment],
     stretch: (usize, usize),
@@ -75,6 +82,8 @@ pub fn add_row_of_task<T: RowTaker, K: TaskRow>(
     requires fits { K.fits kind.now set.now i.0 bounds.now }
     requires task { i.0 < length set.now.tasks }
     requires other { x.0 < length set.now.tasks }
+    requires jobs { jobs ≡ jobs_in set.now (slice_index bounds.now) i.0 x.0 }
+    requires most { jobs ≤ 2000000000 }
     requires within { AreWithinDeadlines set.now bounds.now }
     requires known { AreKnown (length set.now.tasks) (length set.now.resources) columns.now }
     requires stretch { IsTaskStretch x.0 columns.now stretch.0 stretch.1 }
@@ -82,8 +91,12 @@ pub fn add_row_of_task<T: RowTaker, K: TaskRow>(
 {
     // a set has at most 32 resources, so the slots of a task end before those of the next one
     let _resources = set.resources();
+    // a row without columns needs no limit
+    if stretch.0 == stretch.1 {
+        return Ok(());
+    }
     let row = RowOfTask { kind, task: x };
-    let limit = kind.limit(set, i, x, bounds);
+    let limit = kind.limit(set, i, x, jobs, bounds);
     add_row_limited(alloc, taker, &row, set, i, bounds, columns, stretch, limit)
 }
 
@@ -103,11 +116,14 @@ impl<K: TaskRow> PerTask for EachTask<K> {
         set: &TaskSet,
         i: TaskId,
         x: TaskId,
+        jobs: u64,
         bounds: &[u64],
         columns: &[Fragment],
         stretch: (usize, usize),
     ) -> Result<(), AllocError> {
-        add_row_of_task(alloc, taker, &self.0, set, i, x, bounds, columns, stretch)
+        add_row_of_task(
+            alloc, taker, &self.0, set, i, x, jobs, bounds, columns, stretch,
+        )
     }
 }
 
@@ -116,7 +132,7 @@ pub trait RequestRow {
     /// The row of a task and a resource, for a set and the analysed task.
     ghost row_of: { Self → SetDef → ℕ → ℕ → ℕ → ConstraintDef };
 
-    /// The column's coefficient in the row of task `x` and resource `q`.
+    /// The coefficient of a column of the requests of `q` by task `x` in the row of these.
     fn coefficient(
         &self,
         set: &TaskSet,
@@ -128,15 +144,26 @@ pub trait RequestRow {
         requires task { i.0 < length set.now.tasks }
         requires other { x.0 < length set.now.tasks }
         requires asked { q.0 < length set.now.resources }
-        requires column { column.task.0 < length set.now.tasks }
-        requires resource { column.resource.0 < length set.now.resources }
+        requires of_task { column.task.0 ≡ x.0 }
+        requires of_resource { column.resource.0 ≡ q.0 }
         ensures { result ≡ (row_of self.now set.now i.0 x.0 q.0).coefficient (column_seen column) };
 
-    /// What the sum of that row may be at most, where these are the bounds.
-    fn limit(&self, set: &TaskSet, i: TaskId, x: TaskId, q: ResourceId, bounds: &[u64]) -> u64
+    /// What the sum of that row may be at most, where these are the bounds, and so many jobs of `x` can run within the bound of a job
+    /// of `i`.
+    fn limit(
+        &self,
+        set: &TaskSet,
+        i: TaskId,
+        x: TaskId,
+        q: ResourceId,
+        jobs: u64,
+        bounds: &[u64],
+    ) -> u64
         requires task { i.0 < length set.now.tasks }
         requires other { x.0 < length set.now.tasks }
         requires asked { q.0 < length set.now.resources }
+        requires jobs { jobs ≡ jobs_in set.now (slice_index bounds.now) i.0 x.0 }
+        requires most { jobs ≤ 2000000000 }
         requires within { AreWithinDeadlines set.now bounds.now }
         ensures { result ≡ (row_of self.now set.now i.0 x.0 q.0).limit (slice_index bounds.now) };
 
@@ -158,15 +185,11 @@ impl<'a, K: RequestRow> RowKind for RowOfRequests<'a, K> {
 
     ghost fits = { λ r set. (r.task.0 < length set.tasks) × (r.resource.0 < length set.resources) };
 
+    ghost over = { λ r set i c. (c.task ≡ r.task.0) × (c.resource ≡ r.resource.0) };
+
     fn coefficient(&self, set: &TaskSet, i: TaskId, column: Fragment) -> u64 {
         self.kind
             .coefficient(set, i, self.task, self.resource, column)
-    }
-}
-
-impl<'a, K: RequestRow> Constraint for RowOfRequests<'a, K> {
-    fn limit(&self, set: &TaskSet, i: TaskId, bounds: &[u64]) -> u64 {
-        self.kind.limit(set, i, self.task, self.resource, bounds)
     }
 }
 
@@ -189,15 +212,19 @@ impl<K: RequestRow> PerRequest for EachRequest<K> {
         i: TaskId,
         x: TaskId,
         q: ResourceId,
+        jobs: u64,
         bounds: &[u64],
         columns: &[Fragment],
         stretch: (usize, usize),
     ) -> Result<(), AllocError> {
+        // a set has at most 32 resources, so the slots of a task end before those of the next one
+        let _resources = set.resources();
+        let limit = self.0.limit(set, i, x, q, jobs, bounds);
         let row = RowOfRequests {
             kind: &self.0,
             task: x,
             resource: q,
         };
-        add_row_within(alloc, taker, &row, set, i, bounds, columns, stretch)
+        add_row_limited(alloc, taker, &row, set, i, bounds, columns, stretch, limit)
     }
 }

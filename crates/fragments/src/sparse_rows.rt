@@ -14,7 +14,7 @@ use std::alloc::{AllocError, Global};
 fn column_number(place: usize) -> u32
     ensures { place < 2 ^ 32 → result ≡ place }
 {
-    place.min(u32::MAX as usize) as u32
+    (place % 4_294_967_296) as u32
 }
 
 // Adds the coefficient of the column at the place to the last row, if it isn't zero.

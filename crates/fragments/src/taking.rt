@@ -1,6 +1,7 @@
 //! What takes the rows of a program as they are walked.
 
 ghost use Rattle.std.specs.Prelude.{◌≡◌, ℕ, ◌<◌, List, [], ◌∷◌, ◌++◌, true, false, map, length, OnOk, slice_index};
+ghost use Rattle.std.specs.List.{AllWithin};
 ghost use Rattle.sporadic_model.specs.SetDef.{SetDef};
 ghost use Rattle.fragments.specs.ColumnDef.{ColumnDef, column_seen, AreKnown};
 ghost use Rattle.fragments.specs.Constraints.{ConstraintDef, holds_some};
@@ -17,7 +18,8 @@ pub trait RowTaker {
     /// Does the second hold what the first does, and behind that what is taken of these rows, over these columns and at these bounds?
     ghost takes: { Self → List ColumnDef → List ConstraintDef → List ℕ → Self → Type 0 };
 
-    /// Takes the row, in which some column has a coefficient above zero and none outside the stretch, with its limit at the bounds.
+    /// Takes the row, in which some column has a coefficient above zero and none outside the stretch, with its limit at the bounds. It is
+    /// asked for coefficients of the stretch's columns alone.
     fn take<K: RowKind>(
         &mut self,
         alloc: Global,
@@ -33,6 +35,7 @@ pub trait RowTaker {
         requires task { i.0 < length set.now.tasks }
         requires known { AreKnown (length set.now.tasks) (length set.now.resources) columns.now }
         requires stretch { IsStretch (K.row_of kind.now set.now i.0) columns.now stretch.0 stretch.1 }
+        requires over { AllWithin (λ c. K.over kind.now set.now i.0 (column_seen c)) columns.now stretch.0 stretch.1 }
         requires there { holds_some (map column_seen columns.now) (K.row_of kind.now set.now i.0) ≡ true }
         requires limit { limit ≡ (K.row_of kind.now set.now i.0).limit (slice_index bounds.now) }
         ensures { OnOk result (takes self.old (map column_seen columns.now) (K.row_of kind.now set.now i.0 ∷ []) bounds.now self.new) };

@@ -1,17 +1,20 @@
 //! Walks over the rows of all tasks or of all requests, each over the stretch of its columns, and over rows by number.
 
-ghost use Rattle.std.specs.Prelude.{◌≡◌, ℕ, ◌<◌, ◌≤◌, ◌+◌, ◌==◌, ◌&&◌, false, List, [], ◌∷◌, map, length, IfOk, OnOk, IfSome, IfNone};
+ghost use Rattle.std.specs.Prelude.{◌≡◌, ℕ, ◌<◌, ◌≤◌, ◌+◌, ◌==◌, ◌&&◌, false, List, [], ◌∷◌, map, length, slice_index, IfOk, OnOk, IfSome, IfNone};
 ghost use Rattle.bounded_sums.specs.Sums.{collect_below};
 ghost use Rattle.sporadic_model.specs.SetDef.{SetDef};
 ghost use Rattle.program_sources.specs.Bounds.{AreWithinDeadlines};
 ghost use Rattle.fragments.specs.ColumnDef.{ColumnDef, column_seen, AreKnown};
 ghost use Rattle.fragments.specs.Constraints.{ConstraintDef, per, per_pair};
 ghost use Rattle.fragments.specs.Stretches.{slot, AreInOrder, BeginsAt, IsTaskStretch, IsRequestStretch, IsNextRequest, ArePast};
+ghost use Rattle.fragments.specs.TaskPlaces.{ArePlaces};
+ghost use Rattle.fragments.specs.Windows.{jobs_in};
 ghost use Rattle.fragments.specs.declared.columns.Fragment.{Fragment};
 
 use crate::columns::Fragment;
-use crate::stretches::{requests_end, task_end};
+use crate::stretches::{TaskPlace, requests_end};
 use crate::taking::RowTaker;
+use crate::windows::jobs;
 use sporadic_model::{ResourceId, TaskId, TaskSet};
 use std::alloc::{AllocError, Global};
 
@@ -23,7 +26,7 @@ pub trait PerTask {
     /// Are the rows those of the set and the analysed task at these bounds, where they are made of further numbers?
     ghost fits: { Self → SetDef → ℕ → List ℕ → Type 0 };
 
-    /// Adds the rows of task `x`, whose columns are those of the stretch.
+    /// Adds the rows of task `x`, whose columns are those of the stretch. So many jobs of `x` can run within the bound of a job of `i`.
     fn add<T: RowTaker>(
         &self,
         alloc: Global,
@@ -31,6 +34,7 @@ pub trait PerTask {
         set: &TaskSet,
         i: TaskId,
         x: TaskId,
+        jobs: u64,
         bounds: &[u64],
         columns: &[Fragment],
         stretch: (usize, usize),
@@ -38,6 +42,8 @@ pub trait PerTask {
         requires fits { fits self.now set.now i.0 bounds.now }
         requires task { i.0 < length set.now.tasks }
         requires other { x.0 < length set.now.tasks }
+        requires jobs { jobs ≡ jobs_in set.now (slice_index bounds.now) i.0 x.0 }
+        requires most { jobs ≤ 2000000000 }
         requires within { AreWithinDeadlines set.now bounds.now }
         requires known { AreKnown (length set.now.tasks) (length set.now.resources) columns.now }
         requires stretch { IsTaskStretch x.0 columns.now stretch.0 stretch.1 }
@@ -53,29 +59,71 @@ pub fn add_per_task<T: RowTaker, R: PerTask>(
     i: TaskId,
     bounds: &[u64],
     columns: &[Fragment],
+    places: &[TaskPlace],
 ) -> Result<(), AllocError>
     requires fits { R.fits rows.now set.now i.0 bounds.now }
     requires task { i.0 < length set.now.tasks }
     requires within { AreWithinDeadlines set.now bounds.now }
     requires known { AreKnown (length set.now.tasks) (length set.now.resources) columns.now }
     requires order { AreInOrder columns.now }
+    requires places { ArePlaces set.now (slice_index bounds.now) i.0 (length set.now.tasks) columns.now places.now }
     ensures { OnOk result (T.takes taker.old (map column_seen columns.now)
         (collect_below (length set.now.tasks) (R.rows_of rows.now set.now i.0)) bounds.now taker.new) }
 {
-    let mut place = 0;
     for x in 0..set.tasks() {
-        let end = task_end(set, columns, place, TaskId(x));
+        let place = places[x as usize];
+        let end = places[x as usize + 1].from;
         rows.add(
             alloc,
             taker,
             set,
             i,
             TaskId(x),
+            place.jobs,
             bounds,
             columns,
-            (place, end),
+            (place.from, end),
         )?;
-        place = end;
+    }
+    Ok(())
+}
+
+/// The same of rows that only tasks lower than `i` have. It looks at their columns alone.
+pub fn add_per_lower_task<T: RowTaker, R: PerTask>(
+    alloc: Global,
+    taker: &mut T,
+    rows: &R,
+    set: &TaskSet,
+    i: TaskId,
+    bounds: &[u64],
+    columns: &[Fragment],
+    places: &[TaskPlace],
+) -> Result<(), AllocError>
+    requires fits { R.fits rows.now set.now i.0 bounds.now }
+    requires none { (x : ℕ) → x ≤ i.0 → R.rows_of rows.now set.now i.0 x ≡ [] }
+    requires task { i.0 < length set.now.tasks }
+    requires within { AreWithinDeadlines set.now bounds.now }
+    requires known { AreKnown (length set.now.tasks) (length set.now.resources) columns.now }
+    requires order { AreInOrder columns.now }
+    requires places { ArePlaces set.now (slice_index bounds.now) i.0 (length set.now.tasks) columns.now places.now }
+    ensures { OnOk result (T.takes taker.old (map column_seen columns.now)
+        (collect_below (length set.now.tasks) (R.rows_of rows.now set.now i.0)) bounds.now taker.new) }
+{
+    let tasks = set.tasks();
+    for x in i.0 + 1..tasks {
+        let place = places[x as usize];
+        let end = places[x as usize + 1].from;
+        rows.add(
+            alloc,
+            taker,
+            set,
+            i,
+            TaskId(x),
+            place.jobs,
+            bounds,
+            columns,
+            (place.from, end),
+        )?;
     }
     Ok(())
 }
@@ -88,7 +136,8 @@ pub trait PerRequest {
     /// Are the rows those of the set and the analysed task at these bounds, where they are made of further numbers?
     ghost fits: { Self → SetDef → ℕ → List ℕ → Type 0 };
 
-    /// Adds the row of task `x` and resource `q`, whose columns are those of the stretch.
+    /// Adds the row of task `x` and resource `q`, whose columns are those of the stretch. So many jobs of `x` can run within the bound
+    /// of a job of `i`.
     fn add<T: RowTaker>(
         &self,
         alloc: Global,
@@ -97,6 +146,7 @@ pub trait PerRequest {
         i: TaskId,
         x: TaskId,
         q: ResourceId,
+        jobs: u64,
         bounds: &[u64],
         columns: &[Fragment],
         stretch: (usize, usize),
@@ -105,6 +155,8 @@ pub trait PerRequest {
         requires task { i.0 < length set.now.tasks }
         requires other { x.0 < length set.now.tasks }
         requires resource { q.0 < length set.now.resources }
+        requires jobs { jobs ≡ jobs_in set.now (slice_index bounds.now) i.0 x.0 }
+        requires most { jobs ≤ 2000000000 }
         requires within { AreWithinDeadlines set.now bounds.now }
         requires known { AreKnown (length set.now.tasks) (length set.now.resources) columns.now }
         requires stretch { IsRequestStretch x.0 q.0 columns.now stretch.0 stretch.1 }
@@ -131,14 +183,16 @@ fn requested_at(set: &TaskSet, columns: &[Fragment], place: usize, x: TaskId) ->
     Some(columns[place].resource)
 }
 
-// Adds the rows of the requests by task `x`, whose columns begin at `from`. Answers where they end.
-fn add_requests_of<T: RowTaker, R: PerRequest>(
+// Adds the rows of the requests by task `x`, whose columns begin at `from`, where so many of its jobs can run within the bound of a job
+// of `i`. Answers where they end.
+fn add_requests_from<T: RowTaker, R: PerRequest>(
     alloc: Global,
     taker: &mut T,
     rows: &R,
     set: &TaskSet,
     i: TaskId,
     x: TaskId,
+    jobs: u64,
     bounds: &[u64],
     columns: &[Fragment],
     from: usize,
@@ -146,6 +200,8 @@ fn add_requests_of<T: RowTaker, R: PerRequest>(
     requires fits { R.fits rows.now set.now i.0 bounds.now }
     requires task { i.0 < length set.now.tasks }
     requires other { x.0 < length set.now.tasks }
+    requires jobs { jobs ≡ jobs_in set.now (slice_index bounds.now) i.0 x.0 }
+    requires most { jobs ≤ 2000000000 }
     requires within { AreWithinDeadlines set.now bounds.now }
     requires known { AreKnown (length set.now.tasks) (length set.now.resources) columns.now }
     requires order { AreInOrder columns.now }
@@ -159,14 +215,25 @@ fn add_requests_of<T: RowTaker, R: PerRequest>(
     let mut place = from;
     while let Some(q) = requested_at(set, columns, place, x) {
         let end = requests_end(set, columns, place, x, q);
-        rows.add(alloc, taker, set, i, x, q, bounds, columns, (place, end))?;
+        rows.add(
+            alloc,
+            taker,
+            set,
+            i,
+            x,
+            q,
+            jobs,
+            bounds,
+            columns,
+            (place, end),
+        )?;
         place = end;
     }
     Ok(place)
 }
 
 /// Adds the row of each of the first `tasks` tasks and each resource behind those that the taker has, over any columns that stand in
-/// order.
+/// order. Answers the places of these tasks, with one more behind them that says where the columns of the last one end.
 pub fn add_per_request<T: RowTaker, R: PerRequest>(
     alloc: Global,
     taker: &mut T,
@@ -176,6 +243,53 @@ pub fn add_per_request<T: RowTaker, R: PerRequest>(
     i: TaskId,
     bounds: &[u64],
     columns: &[Fragment],
+) -> Result<Vec<TaskPlace>, AllocError>
+    requires fits { R.fits rows.now set.now i.0 bounds.now }
+    requires tasks { tasks ≤ length set.now.tasks }
+    requires task { i.0 < length set.now.tasks }
+    requires within { AreWithinDeadlines set.now bounds.now }
+    requires known { AreKnown (length set.now.tasks) (length set.now.resources) columns.now }
+    requires order { AreInOrder columns.now }
+    ensures rows { OnOk result (T.takes taker.old (map column_seen columns.now)
+        (per_pair tasks (length set.now.resources) (R.row_of rows.now set.now i.0)) bounds.now taker.new) }
+    ensures places { IfOk result (λ v. ArePlaces set.now (slice_index bounds.now) i.0 tasks columns.now v.items) }
+{
+    let mut places = Vec::with_capacity(alloc, tasks as usize + 1)?;
+    let mut place = 0;
+    for x in 0..tasks {
+        let jobs = jobs(set, i, TaskId(x), bounds);
+        places.push(TaskPlace { from: place, jobs })?;
+        place = add_requests_from(
+            alloc,
+            taker,
+            rows,
+            set,
+            i,
+            TaskId(x),
+            jobs,
+            bounds,
+            columns,
+            place,
+        )?;
+    }
+    places.push(TaskPlace {
+        from: place,
+        jobs: 0,
+    })?;
+    Ok(places)
+}
+
+/// The same rows, where the places of all tasks are known.
+pub fn add_per_request_at<T: RowTaker, R: PerRequest>(
+    alloc: Global,
+    taker: &mut T,
+    rows: &R,
+    set: &TaskSet,
+    tasks: u32,
+    i: TaskId,
+    bounds: &[u64],
+    columns: &[Fragment],
+    places: &[TaskPlace],
 ) -> Result<(), AllocError>
     requires fits { R.fits rows.now set.now i.0 bounds.now }
     requires tasks { tasks ≤ length set.now.tasks }
@@ -183,21 +297,23 @@ pub fn add_per_request<T: RowTaker, R: PerRequest>(
     requires within { AreWithinDeadlines set.now bounds.now }
     requires known { AreKnown (length set.now.tasks) (length set.now.resources) columns.now }
     requires order { AreInOrder columns.now }
+    requires places { ArePlaces set.now (slice_index bounds.now) i.0 (length set.now.tasks) columns.now places.now }
     ensures { OnOk result (T.takes taker.old (map column_seen columns.now)
         (per_pair tasks (length set.now.resources) (R.row_of rows.now set.now i.0)) bounds.now taker.new) }
 {
-    let mut place = 0;
     for x in 0..tasks {
-        place = add_requests_of(
+        let place = places[x as usize];
+        let _end = add_requests_from(
             alloc,
             taker,
             rows,
             set,
             i,
             TaskId(x),
+            place.jobs,
             bounds,
             columns,
-            place,
+            place.from,
         )?;
     }
     Ok(())

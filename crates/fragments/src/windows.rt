@@ -27,9 +27,12 @@ pub fn requests_of(set: &TaskSet, i: TaskId) -> u64
     ensures value { result ≡ all_requests set.now i.0 }
     ensures most { result ≤ 32000 }
 {
+    // a task uses no more resources than the set has, and that has few
+    let _resources = set.resources();
+    let used = set.used_by(i);
     let mut total = 0;
-    for q in 0..set.resources() {
-        total += set.count(i, ResourceId(q));
+    for q in used {
+        total += set.count(i, *q);
     }
     total
 }
@@ -39,10 +42,13 @@ pub fn requests_at(set: &TaskSet, i: TaskId, k: u32) -> u64
     requires { i.0 < length set.now.tasks }
     ensures { result ≡ requests_at set.now i.0 k }
 {
+    // a task uses no more resources than the set has, and that has few
+    let _resources = set.resources();
+    let used = set.used_by(i);
     let mut total = 0;
-    for q in 0..set.resources() {
-        if home(set, ResourceId(q)) == k {
-            total += set.count(i, ResourceId(q));
+    for q in used {
+        if home(set, *q) == k {
+            total += set.count(i, *q);
         }
     }
     total

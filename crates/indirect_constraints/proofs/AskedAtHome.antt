@@ -1,6 +1,7 @@
 -- The columns of a task under DPCP are of homes where it makes requests, and rows of other homes are not there.
 use Rattle.std.proofs.Common.{◌≡◌, ℕ, ◌<◌, ◌==◌, ◌&&◌, ◌||◌, not, true, false, List, [], ◌∷◌, map, length, refl}
 use Rattle.std.proofs.Common.{◌∙◌, nat_lt, nat_le, inl, inr}
+use Rattle.std.proofs.Math.Bool.{and-false}
 use Rattle.std.proofs.lemmas.Bool.{and_parts, cases_Bool, both_ways, eqb-true, eq-eqb, not-true}
 use Rattle.std.proofs.lemmas.List.Elements.{All-head, All-tail, All-same}
 use Rattle.bounded_sums.specs.Sums.{sum_below, only_if}
@@ -74,3 +75,7 @@ no_home set i k none [] h = refl
 no_home set i k none (c ∷ cs) h =
     let P : Fragment → Type 0 = λ f. IsAskedAtHome set i (column_seen f) in
     rw (home_fails set i k none (column_seen c) (All-head P c cs h)) (no_home set i k none cs (All-tail P c cs h))
+
+-- No column of a task that isn't lower has a coefficient in the row of a home.
+pub home_alone : (set : SetDef) (i k : ℕ) (c : ColumnDef) → nat_lt i c.task ≡ false → (home_row set i k).coefficient c ≡ 0
+home_alone set i k c other = rw (other, and-false) refl

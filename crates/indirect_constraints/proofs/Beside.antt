@@ -1,32 +1,28 @@
--- Sums over the tasks beside a task, and tables that grow by one number after the other.
-use Rattle.std.proofs.Common.{◌≡◌, ℕ, zero, suc, ◌+◌, ◌<◌, ◌≤◌, ◌==◌, ◌&&◌, Bool, true, false, nat_lt, List, length, set}
-use Rattle.std.proofs.Common.{refl, sym, ap, ◌∙◌, add-one, arith, inl, inr}
+-- Sums over the tasks beside a task, and a table in which one number is raised.
+use Rattle.std.proofs.Common.{◌≡◌, ℕ, zero, suc, ◌+◌, ◌<◌, ◌==◌, ◌&&◌, Bool, true, false, nat_lt, List, length, set}
+use Rattle.std.proofs.Common.{refl, sym, ap, ◌∙◌, arith, inl, inr}
 use Rattle.std.specs.Prelude.{slice_index}
 use Rattle.std.proofs.lemmas.List.{get_or-set_same, get_or-set_other}
 use Rattle.std.proofs.lemmas.Bool.{cases_Bool, cases_eq, eq-eqb, ne_eqb, lt-ltb, le-ltb, ltb-true, ltb-false}
 use Rattle.bounded_sums.specs.Sums.{sum_below, only_if, flag}
 use Rattle.bounded_sums.specs.Tests.{any_below, count_below}
 use Rattle.bounded_sums.proofs.SumLaws.{sum_below-agree}
-use Rattle.bounded_sums.proofs.OnlyIfLaws.{only_if-rises}
 use Rattle.bounded_sums.proofs.CountLaws.{count_below-from, count_below-none}
 use Rattle.bounded_sums.proofs.TestLaws.{any_below-some, any_below-none}
 use Rattle.sporadic_model.specs.SetDef.{SetDef, task_at}
 use Rattle.fragments.specs.Columns.{have_one_processor}
 use Rattle.sporadic_model.specs.Users.{is_user, count_of}
 use Rattle.indirect_constraints.specs.Rows.{is_beside, lower_holdings}
-use Rattle.indirect_constraints.specs.Tables.{AreSums, sum_beside}
+use Rattle.indirect_constraints.specs.Tables.{lower_user}
+
+-- The sum of f's numbers of the tasks beside x, as far as those below n go.
+abbrev pub sum_beside : SetDef → (ℕ → ℕ) → ℕ → ℕ → ℕ
+sum_beside set f n x = sum_below n (λ y. only_if (is_beside set x y) (f y))
 
 other_below : (k y : ℕ) → (y ≡ k → ⊥) → nat_lt k (suc y) ≡ nat_lt k y
 other_below k y apart = elim (cases_Bool (nat_lt k y)) [
   | inl below ↦ lt-ltb k (suc y) (omega (arith, ltb-true k y below)) ∙ sym below
   | inr above ↦ le-ltb k (suc y) (omega (arith, ltb-false k y above, apart)) ∙ sym above
-]
-
--- The numbers below y are added, and now that of y.
-pub next_added : (k y : ℕ) (f : ℕ → ℕ) → only_if (nat_lt k y) (f k) + only_if (y == k) (f y) ≡ only_if (nat_lt k (y + 1)) (f k)
-next_added k y f = elim (cases_eq y k) [
-  | inl same ↦ rw same (rw (le-ltb k k (omega arith), eq-eqb k k refl, lt-ltb k (k + 1) (omega arith)) (omega arith))
-  | inr apart ↦ rw (ne_eqb y k apart) (omega (arith, ap (λ (b : Bool). only_if b (f k)) (other_below k y apart), ap (λ (n : ℕ). only_if (nat_lt k n) (f k)) (add-one y)))
 ]
 
 -- The sum over the tasks of a processor is that over the tasks beside one of them, and its own.
@@ -83,34 +79,14 @@ added_at table place number k l = elim (cases_eq place k) [
       rw (ne_eqb place k apart) (omega (arith, kept))
 ]
 
--- Numbers that are f's have f's sum beside a task.
-pub beside_same : (set : SetDef) (numbers : List ℕ) (x n : ℕ) (f : ℕ → ℕ) → length numbers ≡ n
-    → ((y : ℕ) → y < n → slice_index numbers y ≡ f y)
-    → sum_beside set numbers x ≡ sum_below n (λ y. only_if (is_beside set x y) (f y))
-beside_same set numbers x n f size each = rw size (sum_below-agree n (λ y. only_if (is_beside set x y) (slice_index numbers y))
-    (λ y. only_if (is_beside set x y) (f y)) (λ y l. ap (only_if (is_beside set x y)) (each y l)))
-
--- A table to which f's numbers are added place by place, where they are at most so many.
-pub next_at : (table : ℕ → ℕ) (k y start number : ℕ) (f : ℕ → ℕ) → table k ≡ start + only_if (nat_lt k y) (f k) → number ≡ f y
-    → table k + only_if (y == k) number ≡ start + only_if (nat_lt k (y + 1)) (f k)
-next_at table k y start number f before now =
-    omega (arith, before, ap (only_if (y == k)) now, next_added k y f)
-
-pub next_room : (table : ℕ → ℕ) (k y start number most : ℕ) → table k ≤ start + only_if (nat_lt k y) most → number ≤ most
-    → table k + only_if (y == k) number ≤ start + only_if (nat_lt k (y + 1)) most
-next_room table k y start number most before now =
-    omega (arith, before, only_if-rises (y == k) number most (λ _. now), next_added k y (λ k. most))
-
--- What a processor's sum is but for the number of one of its tasks.
-pub own_left : (set : SetDef) (numbers sums : List ℕ) (x p : ℕ) → AreSums set numbers sums → p ≡ (task_at set x).processor
-    → p ≤ set.processors → slice_index sums p ≡ sum_beside set numbers x + only_if (nat_lt x (length numbers)) (slice_index numbers x)
-own_left set numbers sums x p are here below =
-    are.each p below ∙ (rw here (beside_and_own set x (length numbers) (slice_index numbers)))
+-- Numbers that agree have one sum beside a task.
+pub beside_same : (set : SetDef) (f g : ℕ → ℕ) (m n x : ℕ) → m ≡ n → ((y : ℕ) → y < n → f y ≡ g y)
+    → sum_beside set f m x ≡ sum_beside set g n x
+beside_same set f g m n x size each = rw size (sum_below-agree n (λ y. only_if (is_beside set x y) (f y))
+    (λ y. only_if (is_beside set x y) (g y)) (λ y l. ap (only_if (is_beside set x y)) (each y l)))
 
 -- Lower tasks beside x hold requests of q just where the sum of the users beside it isn't zero.
-pub lower_there : (set : SetDef) (i x q : ℕ) (users : List ℕ) → length users ≡ length set.tasks
-    → ((y : ℕ) → y < length set.tasks → slice_index users y ≡ flag (nat_lt i y && is_user set q y))
-    → lower_holdings set i x q ≡ only_if (nat_lt 0 (sum_beside set users x)) (count_of set i q)
-lower_there set i x q users size each =
-    ap (λ (b : Bool). only_if b (count_of set i q)) (any_beside (length set.tasks) (nat_lt i) (is_beside set x) (is_user set q)
-    ∙ ap (nat_lt 0) (sym (beside_same set users x (length set.tasks) (λ y. flag (nat_lt i y && is_user set q y)) size each)))
+pub lower_there : (set : SetDef) (i x q : ℕ)
+    → lower_holdings set i x q ≡ only_if (nat_lt 0 (sum_beside set (lower_user set i q) (length set.tasks) x)) (count_of set i q)
+lower_there set i x q = ap (λ (b : Bool). only_if b (count_of set i q))
+    (any_beside (length set.tasks) (nat_lt i) (is_beside set x) (is_user set q))

@@ -1,14 +1,18 @@
 -- Holdings, summed up by task first.
-use Rattle.std.proofs.Common.{◌≡◌, ℕ, ◌+◌, ◌<◌, Bool, true, false, length, refl, sym, ap, ◌∙◌}
+use Rattle.std.proofs.Common.{◌≡◌, ℕ, ◌+◌, Bool, true, false, length, refl, sym, ap, ◌∙◌}
 use Rattle.bounded_sums.specs.Sums.{sum_below, only_if}
 use Rattle.bounded_sums.proofs.SumLaws.{sum_below-agree, sum_below-plus, sum_below-swap, sum_below-zero}
 use Rattle.sporadic_model.specs.SetDef.{SetDef}
 use Rattle.sporadic_model.specs.Users.{is_user}
 use Rattle.fragments.specs.Windows.{requests_in}
 use Rattle.indirect_constraints.specs.Rows.{is_beside, higher_holdings, lower_holdings, holdings}
-use Rattle.indirect_constraints.specs.Tables.{awaited, awaited_beside}
+use Rattle.indirect_constraints.specs.Tables.{awaited}
 
-only_if_plus : (b : Bool) (m n : ℕ) → only_if b (m + n) ≡ only_if b m + only_if b n
+-- How many requests of all resources can the tasks beside x make that are higher than i?
+abbrev pub awaited_beside : SetDef → (ℕ → ℕ) → ℕ → ℕ → ℕ
+awaited_beside set bounds i x = sum_below i (λ y. only_if (is_beside set x y) (awaited set bounds i (length set.resources) y))
+
+pub only_if_plus : (b : Bool) (m n : ℕ) → only_if b (m + n) ≡ only_if b m + only_if b n
 only_if_plus true m n = refl
 only_if_plus false m n = refl
 

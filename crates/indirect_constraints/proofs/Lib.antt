@@ -1,3 +1,5 @@
 mod AskedAtHome
 mod Beside
 mod ByTask
+mod ByUser
+mod Held

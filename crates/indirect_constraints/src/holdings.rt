@@ -1,55 +1,37 @@
 //! How many requests that a job may wait for can be held beside each task.
 
-ghost use Rattle.std.specs.Prelude.{◌≡◌, ℕ, ◌+◌, ◌<◌, ◌≤◌, ◌*◌, ◌&&◌, length, slice_index, nat_lt, IfOk, OnOk};
-ghost use Rattle.bounded_sums.specs.Sums.{flag};
-ghost use Rattle.sporadic_model.specs.Users.{is_user};
+ghost use Rattle.std.specs.Prelude.{◌≡◌, ℕ, ◌+◌, ◌<◌, ◌≤◌, length, slice_index, IfOk, OnOk};
+ghost use Rattle.sporadic_model.specs.Users.{count_of};
 ghost use Rattle.program_sources.specs.Bounds.{AreWithinDeadlines};
 ghost use Rattle.fragments.specs.Windows.{requests_in};
-ghost use Rattle.indirect_constraints.specs.Rows.{lower_holdings};
-ghost use Rattle.indirect_constraints.specs.Tables.{AreHoldings, AreSums, awaited, awaited_beside};
+ghost use Rattle.indirect_constraints.specs.Tables.{AreHoldings, AreSums, awaited, held_on, held_alone, lower_user, over_used};
 
-use crate::tables::{add_at, sum_beside, sums_of};
-use fragments::{cnt, uses};
+use crate::tables::{add_at, leave_own, sum_lower, sums_of, where_passed};
+use fragments::cnt;
 use sporadic_model::{ResourceId, TaskId, TaskSet};
 use std::alloc::{AllocError, Global};
-
-// How many requests of `q` can `y` make while a job of `i` runs?
-fn requests_by(set: &TaskSet, i: TaskId, y: TaskId, q: ResourceId, bounds: &[u64]) -> u64
-    requires task { i.0 < length set.now.tasks }
-    requires other { y.0 < length set.now.tasks }
-    requires resource { q.0 < length set.now.resources }
-    requires within { AreWithinDeadlines set.now bounds.now }
-    ensures value { result ≡ requests_in set.now (slice_index bounds.now) i.0 y.0 q.0 }
-    ensures most { result ≤ 2000000000000 }
-{
-    // most tasks don't use it, and jobs of those needn't be counted
-    if set.count(y, q) == 0 {
-        return 0;
-    }
-    cnt(set, i, y, q, bounds)
-}
 
 // Adds the requests of `q` by each higher task to those of the resources before.
 fn add_requests_of(numbers: &mut [u64], set: &TaskSet, i: TaskId, q: ResourceId, bounds: &[u64])
     requires task { i.0 < length set.now.tasks }
     requires resource { q.0 < length set.now.resources }
     requires within { AreWithinDeadlines set.now bounds.now }
-    requires one_each { length numbers.old ≡ i.0 }
-    requires room { (y : ℕ) → y < i.0 → slice_index numbers.old y ≤ q.0 * 2000000000000 }
-    ensures one_each { length numbers.new ≡ i.0 }
+    requires one_each { length numbers.old ≡ length set.now.tasks }
+    requires room { (y : ℕ) → y < i.0 → slice_index numbers.old y ≤ 62000000000000 }
+    ensures one_each { length numbers.new ≡ length set.now.tasks }
     ensures each { (y : ℕ) → y < i.0
         → slice_index numbers.new y ≡ slice_index numbers.old y + requests_in set.now (slice_index bounds.now) i.0 y q.0 }
-    ensures room { (y : ℕ) → y < i.0 → slice_index numbers.new y ≤ (q.0 + 1) * 2000000000000 }
+    ensures most { (y : ℕ) → y < i.0 → slice_index numbers.new y ≤ slice_index numbers.old y + 2000000000000 }
+    ensures others { (y : ℕ) → i.0 ≤ y → slice_index numbers.new y ≡ slice_index numbers.old y }
 {
-    // a set has at most 32 resources, so the sums fit
-    let _resources = set.resources();
-    for y in 0..i.0 {
-        let number = requests_by(set, i, TaskId(y), q, bounds);
-        add_at(numbers, y as usize, number);
+    for y in set.users(q) {
+        if y.0 < i.0 {
+            add_at(numbers, y.0 as usize, cnt(set, i, *y, q, bounds));
+        }
     }
 }
 
-// How many requests that `i` may wait for can each higher task make while a job of `i` runs?
+// By task, how many requests that `i` may wait for can each higher one make while a job of `i` runs? Others have none.
 fn awaited_of(
     alloc: Global,
     set: &TaskSet,
@@ -58,123 +40,105 @@ fn awaited_of(
 ) -> Result<Vec<u64>, AllocError>
     requires task { i.0 < length set.now.tasks }
     requires within { AreWithinDeadlines set.now bounds.now }
-    ensures one_each { IfOk result (λ v. length v.items ≡ i.0) }
+    ensures one_each { IfOk result (λ v. length v.items ≡ length set.now.tasks) }
     ensures each { IfOk result (λ v. (y : ℕ) → y < i.0
         → slice_index v.items y ≡ awaited set.now (slice_index bounds.now) i.0 (length set.now.resources) y) }
     ensures small { IfOk result (λ v. (y : ℕ) → y < i.0 → slice_index v.items y ≤ 64000000000000) }
+    ensures others { IfOk result (λ v. (y : ℕ) → i.0 ≤ y → y < length set.now.tasks → slice_index v.items y ≡ 0) }
 {
     // a set has at most 32 resources, so the sums fit
     let _resources = set.resources();
-    let mut numbers = vec![in alloc; 0u64; i.0 as usize]?;
-    for q in 0..set.resources() {
-        if uses(set, i, ResourceId(q)) {
-            add_requests_of(&mut numbers, set, i, ResourceId(q), bounds);
-        }
+    let mut numbers = vec![in alloc; 0u64; set.tasks() as usize]?;
+    for q in set.used_by(i) {
+        add_requests_of(&mut numbers, set, i, *q, bounds);
     }
     Ok(numbers)
 }
 
-// How many of them can be held by higher tasks beside each task?
-fn higher_counts(
-    alloc: Global,
-    set: &TaskSet,
-    i: TaskId,
-    bounds: &[u64],
-) -> Result<Vec<u64>, AllocError>
-    requires task { i.0 < length set.now.tasks }
-    requires within { AreWithinDeadlines set.now bounds.now }
-    ensures one_each { IfOk result (λ v. length v.items ≡ length set.now.tasks) }
-    ensures each { IfOk result (λ v. (x : ℕ) → x < length set.now.tasks
-        → slice_index v.items x ≡ awaited_beside set.now (slice_index bounds.now) i.0 x) }
-    ensures small { IfOk result (λ v. (x : ℕ) → x < length set.now.tasks → slice_index v.items x ≤ 4096000000000000) }
-{
-    let numbers = awaited_of(alloc, set, i, bounds)?;
-    let sums = sums_of(alloc, set, &numbers)?;
-    let mut counts = Vec::with_capacity(alloc, set.tasks() as usize)?;
-    for x in 0..set.tasks() {
-        counts.push(sum_beside(set, &numbers, &sums, TaskId(x)))?;
-    }
-    Ok(counts)
-}
-
-// One where `y` is a lower task than `i` that uses `q`, else none.
-fn lower_user(set: &TaskSet, i: TaskId, q: ResourceId, y: TaskId) -> u64
-    requires resource { q.0 < length set.now.resources }
-    requires by { y.0 < length set.now.tasks }
-    ensures { result ≡ flag (nat_lt i.0 y.0 && is_user set.now q.0 y.0) }
-{
-    if i < y && uses(set, y, q) { 1 } else { 0 }
-}
-
-// The same of each task.
-fn lower_users(
-    alloc: Global,
+// Adds to the number of each lower user of `q` that is alone on its processor what it holds there.
+fn add_alone(
+    numbers: &mut [u64],
     set: &TaskSet,
     i: TaskId,
     q: ResourceId,
-) -> Result<Vec<u64>, AllocError>
-    requires resource { q.0 < length set.now.resources }
-    ensures one_each { IfOk result (λ v. length v.items ≡ length set.now.tasks) }
-    ensures each { IfOk result (λ v. (y : ℕ) → y < length set.now.tasks
-        → slice_index v.items y ≡ flag (nat_lt i.0 y && is_user set.now q.0 y)) }
-    ensures small { IfOk result (λ v. (y : ℕ) → y < length set.now.tasks → slice_index v.items y ≤ 1) }
-{
-    let mut users = Vec::with_capacity(alloc, set.tasks() as usize)?;
-    for y in 0..set.tasks() {
-        users.push(lower_user(set, i, q, TaskId(y)))?;
-    }
-    Ok(users)
-}
-
-// How many requests of `q` can lower tasks beside `x` hold while `i` waits?
-fn lower_count(
-    set: &TaskSet,
-    i: TaskId,
-    x: TaskId,
-    q: ResourceId,
+    count: u64,
     users: &[u64],
-    sums: &[u64],
-) -> u64
-    requires task { i.0 < length set.now.tasks }
-    requires other { x.0 < length set.now.tasks }
+)
     requires resource { q.0 < length set.now.resources }
-    requires one_each { length users.now ≡ length set.now.tasks }
-    requires users { (y : ℕ) → y < length set.now.tasks → slice_index users.now y ≡ flag (nat_lt i.0 y && is_user set.now q.0 y) }
-    requires sums { AreSums set.now users.now sums.now }
-    ensures value { result ≡ lower_holdings set.now i.0 x.0 q.0 }
-    ensures most { result ≤ 1000 }
+    requires one_each { length numbers.old ≡ length set.now.tasks }
+    requires count { count ≡ count_of set.now i.0 q.0 }
+    requires small { count ≤ 1000 }
+    requires users { AreSums set.now (lower_user set.now i.0 q.0) (length set.now.tasks) users.now }
+    requires room { (x : ℕ) → x < length set.now.tasks → slice_index numbers.old x ≤ 64000000031000 }
+    ensures one_each { length numbers.new ≡ length set.now.tasks }
+    ensures each { (x : ℕ) → x < length set.now.tasks
+        → slice_index numbers.new x ≡ slice_index numbers.old x + held_alone set.now i.0 x q.0 }
 {
-    if sum_beside(set, users, sums, x) > 0 {
-        set.count(i, q)
-    } else {
-        0
+    for y in set.users(q) {
+        if i.0 < y.0 {
+            let alone = users[set.processor(*y) as usize] == 1;
+            add_at(numbers, y.0 as usize, where_passed(alone, count));
+        }
     }
 }
 
-// Adds the requests of `q` that lower tasks can hold beside each task.
+// Adds the requests of `q` that lower tasks can hold, by processor, and those that a task can hold there alone. The table of
+// users serves this alone, and is made anew.
 fn add_lower(
-    alloc: Global,
-    counts: &mut [u64],
+    totals: &mut [u64],
+    numbers: &mut [u64],
+    users: &mut [u64],
     set: &TaskSet,
     i: TaskId,
     q: ResourceId,
+)
+    requires task { i.0 < length set.now.tasks }
+    requires resource { q.0 < length set.now.resources }
+    requires totals { length totals.old ≡ set.now.processors + 1 }
+    requires one_each { length numbers.old ≡ length set.now.tasks }
+    requires users { length users.old ≡ set.now.processors + 1 }
+    requires room { (k : ℕ) → k ≤ set.now.processors → slice_index totals.old k ≤ 4096000000031000 }
+    requires place { (x : ℕ) → x < length set.now.tasks → slice_index numbers.old x ≤ 64000000031000 }
+    ensures totals { length totals.new ≡ set.now.processors + 1 }
+    ensures one_each { length numbers.new ≡ length set.now.tasks }
+    ensures users { length users.new ≡ set.now.processors + 1 }
+    ensures each { (k : ℕ) → k ≤ set.now.processors
+        → slice_index totals.new k ≡ slice_index totals.old k + held_on set.now i.0 k q.0 }
+    ensures alone { (x : ℕ) → x < length set.now.tasks
+        → slice_index numbers.new x ≡ slice_index numbers.old x + held_alone set.now i.0 x q.0 }
+    ensures few { count_of set.now i.0 q.0 ≤ 1000 }
+{
+    let count = set.count(i, q);
+    if sum_lower(users, totals, set, i, q, count) > 0 {
+        add_alone(numbers, set, i, q, count, users);
+    }
+}
+
+// Adds those of all resources that `i` uses.
+fn add_all_lower(
+    alloc: Global,
+    totals: &mut [u64],
+    numbers: &mut [u64],
+    set: &TaskSet,
+    i: TaskId,
 ) -> Result<(), AllocError>
     requires task { i.0 < length set.now.tasks }
-    requires resource { q.0 < length set.now.resources }
-    requires one_each { length counts.old ≡ length set.now.tasks }
-    requires room { (x : ℕ) → x < length set.now.tasks → slice_index counts.old x ≤ 4096000000000000 + q.0 * 1000 }
-    ensures one_each { OnOk result (length counts.new ≡ length set.now.tasks) }
-    ensures each { OnOk result ((x : ℕ) → x < length set.now.tasks
-        → slice_index counts.new x ≡ slice_index counts.old x + lower_holdings set.now i.0 x q.0) }
-    ensures room { OnOk result ((x : ℕ) → x < length set.now.tasks → slice_index counts.new x ≤ 4096000000000000 + (q.0 + 1) * 1000) }
+    requires totals { length totals.old ≡ set.now.processors + 1 }
+    requires one_each { length numbers.old ≡ length set.now.tasks }
+    requires room { (k : ℕ) → k ≤ set.now.processors → slice_index totals.old k ≤ 4096000000000000 }
+    requires place { (x : ℕ) → x < length set.now.tasks → slice_index numbers.old x ≤ 64000000000000 }
+    ensures totals { length totals.new ≡ set.now.processors + 1 }
+    ensures one_each { length numbers.new ≡ length set.now.tasks }
+    ensures each { OnOk result ((k : ℕ) → k ≤ set.now.processors
+        → slice_index totals.new k ≡ slice_index totals.old k + over_used set.now i.0 (held_on set.now i.0 k)) }
+    ensures alone { OnOk result ((x : ℕ) → x < length set.now.tasks
+        → slice_index numbers.new x ≡ slice_index numbers.old x + over_used set.now i.0 (held_alone set.now i.0 x)) }
 {
     // a set has at most 32 resources, so the sums fit
     let _resources = set.resources();
-    let users = lower_users(alloc, set, i, q)?;
-    let sums = sums_of(alloc, set, &users)?;
-    for x in 0..set.tasks() {
-        let count = lower_count(set, i, TaskId(x), q, &users, &sums);
-        add_at(counts, x as usize, count);
+    let mut users = vec![in alloc; 0u64; set.processors() as usize + 1]?;
+    for q in set.used_by(i) {
+        add_lower(totals, numbers, &mut users, set, i, *q);
     }
     Ok(())
 }
@@ -190,13 +154,12 @@ pub(crate) fn holdings_of(
     requires within { AreWithinDeadlines set.now bounds.now }
     ensures { IfOk result (λ v. AreHoldings set.now (slice_index bounds.now) i.0 v.items) }
 {
-    // a set has at most 32 resources, so the sums fit
-    let _resources = set.resources();
-    let mut counts = higher_counts(alloc, set, i, bounds)?;
-    for q in 0..set.resources() {
-        if uses(set, i, ResourceId(q)) {
-            add_lower(alloc, &mut counts, set, i, ResourceId(q))?;
-        }
-    }
-    Ok(counts)
+    // the processor of each task is one of the set's
+    let _tasks = set.tasks();
+    // each task's number is the part of its processor's total that it has itself
+    let mut numbers = awaited_of(alloc, set, i, bounds)?;
+    let mut totals = sums_of(alloc, set, i, &numbers)?;
+    add_all_lower(alloc, &mut totals, &mut numbers, set, i)?;
+    leave_own(&mut numbers, set, &totals);
+    Ok(numbers)
 }

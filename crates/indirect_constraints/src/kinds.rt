@@ -5,13 +5,14 @@ ghost use Rattle.std.proofs.Common.{ap};
 ghost use Rattle.bounded_sums.specs.Sums.{flag};
 ghost use Rattle.fragments.specs.declared.columns.Class.TheVariants.{Indirect, Preemption};
 ghost use Rattle.fragments.specs.ColumnDef.{is_class};
+ghost use Rattle.fragments.specs.Stretches.{slot, BeginsAt};
 ghost use Rattle.fragments.specs.Windows.{all_requests};
 ghost use Rattle.indirect_constraints.specs.Asked.{AreAskedAtHome};
 ghost use Rattle.indirect_constraints.specs.Rows.{queue_row, holding_row, home_row};
 ghost use Rattle.indirect_constraints.specs.Tables.{AreHoldings};
 
 use fragments::{
-    Constraint, Fragment, PerNumber, RowKind, RowTaker, TaskRow, add_row, home, requests_at,
+    Fragment, PerNumber, RowKind, RowTaker, TaskRow, add_row_limited, home, requests_at,
 };
 use sporadic_model::{TaskId, TaskSet};
 use std::alloc::{AllocError, Global};
@@ -30,15 +31,11 @@ impl TaskRow for Queues {
 
     ghost alone = { λ k set i x c other. ap (λ b. flag (b && not (is_class Preemption c.class))) other };
 
-    fn coefficient(&self, _set: &TaskSet, _i: TaskId, x: TaskId, column: Fragment) -> u64 {
-        if column.task == x && !column.class.is_preemption() {
-            1
-        } else {
-            0
-        }
+    fn coefficient(&self, _set: &TaskSet, _i: TaskId, _x: TaskId, column: Fragment) -> u64 {
+        if column.class.is_preemption() { 0 } else { 1 }
     }
 
-    fn limit(&self, _set: &TaskSet, _i: TaskId, _x: TaskId, _bounds: &[u64]) -> u64 {
+    fn limit(&self, _set: &TaskSet, _i: TaskId, _x: TaskId, _jobs: u64, _bounds: &[u64]) -> u64 {
         self.requests
     }
 }
@@ -57,15 +54,11 @@ impl TaskRow for Holdings {
 
     ghost alone = { λ k set i x c other. ap (λ b. flag (b && is_class Indirect c.class)) other };
 
-    fn coefficient(&self, _set: &TaskSet, _i: TaskId, x: TaskId, column: Fragment) -> u64 {
-        if column.task == x && column.class.is_indirect() {
-            1
-        } else {
-            0
-        }
+    fn coefficient(&self, _set: &TaskSet, _i: TaskId, _x: TaskId, column: Fragment) -> u64 {
+        if column.class.is_indirect() { 1 } else { 0 }
     }
 
-    fn limit(&self, _set: &TaskSet, _i: TaskId, x: TaskId, _bounds: &[u64]) -> u64 {
+    fn limit(&self, _set: &TaskSet, _i: TaskId, x: TaskId, _jobs: u64, _bounds: &[u64]) -> u64 {
         self.counts[x.0 as usize]
     }
 }
@@ -81,11 +74,10 @@ impl RowKind for HomeRow {
 
     ghost fits = { λ k set. k.processor ≤ set.processors };
 
-    fn coefficient(&self, set: &TaskSet, i: TaskId, column: Fragment) -> u64 {
-        if !column.class.is_preemption()
-            && i < column.task
-            && home(set, column.resource) == self.processor
-        {
+    ghost over = { λ k set i c. i < c.task };
+
+    fn coefficient(&self, set: &TaskSet, _i: TaskId, column: Fragment) -> u64 {
+        if !column.class.is_preemption() && home(set, column.resource) == self.processor {
             1
         } else {
             0
@@ -93,20 +85,17 @@ impl RowKind for HomeRow {
     }
 }
 
-impl Constraint for HomeRow {
-    fn limit(&self, set: &TaskSet, i: TaskId, _bounds: &[u64]) -> u64 {
-        requests_at(set, i, self.processor)
-    }
-}
-
 /// The rows of each processor's resources. No column is in one where the analysed task requests none of them.
 #[derive(Drop)]
-pub(crate) struct Homes;
+pub(crate) struct Homes {
+    /// The place where the columns of tasks lower than the analysed one begin.
+    pub(crate) from: usize,
+}
 
 impl PerNumber for Homes {
     ghost rows_of = { λ k set i n. home_row set i (n + 1) ∷ [] };
 
-    ghost fits = { λ k set i columns n. (n < set.processors) × AreAskedAtHome set i columns };
+    ghost fits = { λ k set i columns n. (n < set.processors) × AreAskedAtHome set i columns × BeginsAt (slot (i + 1) 0) columns k.from };
 
     fn add<T: RowTaker>(
         &self,
@@ -118,6 +107,8 @@ impl PerNumber for Homes {
         bounds: &[u64],
         columns: &[Fragment],
     ) -> Result<(), AllocError> {
+        // a set has at most 32 resources, so the slots of a task end before those of the next one
+        let _resources = set.resources();
         // processors are numbered from 1, and a set has few
         let _processors = set.processors();
         let processor = number + 1;
@@ -126,6 +117,7 @@ impl PerNumber for Homes {
             return Ok(());
         }
         let row = HomeRow { processor };
-        add_row(alloc, taker, &row, set, i, bounds, columns)
+        let lower = (self.from, columns.len());
+        add_row_limited(alloc, taker, &row, set, i, bounds, columns, lower, asked)
     }
 }

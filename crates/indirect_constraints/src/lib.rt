@@ -1,7 +1,7 @@
 //! The rows of indirect blocking: queues under FMLP+, holdings under MPCP, homes under DPCP.
 #![tactic(auto)]
 
-ghost use Rattle.std.specs.Prelude.{◌≡◌, ◌<◌, ◌+◌, map, length, IfOk, OnOk};
+ghost use Rattle.std.specs.Prelude.{◌≡◌, ◌<◌, ◌+◌, map, length, slice_index, IfOk, OnOk};
 ghost use Rattle.program_form.specs.RowBlock.{block_seen};
 ghost use Rattle.program_sources.specs.Bounds.{AreWithinDeadlines};
 ghost use Rattle.sporadic_model.specs.Homes.{HasHomesFor};
@@ -9,11 +9,13 @@ ghost use Rattle.fragments.specs.ColumnDef.{column_seen, AreKnown};
 ghost use Rattle.fragments.specs.Columns.{columns_of};
 ghost use Rattle.fragments.specs.Constraints.{per, block_of};
 ghost use Rattle.fragments.specs.Stretches.{AreInOrder};
+ghost use Rattle.fragments.specs.TaskPlaces.{ArePlaces};
 ghost use Rattle.indirect_constraints.specs.Asked.{AreAskedAtHome};
 ghost use Rattle.indirect_constraints.specs.Rows.{queue_row, holding_row, home_row, indirect_rows};
 
 use fragments::{
-    EachTask, Fragment, RowTaker, add_per_number, add_per_task, columns_stand_in_order, requests_of,
+    EachTask, Fragment, RowTaker, TaskPlace, add_per_number, add_per_task, columns_stand_in_order,
+    requests_of, task_places,
 };
 use holdings::holdings_of;
 use kinds::{Holdings, Homes, Queues};
@@ -33,17 +35,19 @@ fn add_queue_rows<T: RowTaker>(
     i: TaskId,
     bounds: &[u64],
     columns: &[Fragment],
+    places: &[TaskPlace],
 ) -> Result<(), AllocError>
     requires task { i.0 < length set.now.tasks }
     requires within { AreWithinDeadlines set.now bounds.now }
     requires known { AreKnown (length set.now.tasks) (length set.now.resources) columns.now }
     requires order { AreInOrder columns.now }
+    requires places { ArePlaces set.now (slice_index bounds.now) i.0 (length set.now.tasks) columns.now places.now }
     ensures { OnOk result (T.takes taker.old (map column_seen columns.now)
         (per (length set.now.tasks) (queue_row set.now i.0)) bounds.now taker.new) }
 {
     let requests = requests_of(set, i);
     let rows = EachTask(Queues { requests });
-    add_per_task(alloc, taker, &rows, set, i, bounds, columns)
+    add_per_task(alloc, taker, &rows, set, i, bounds, columns, places)
 }
 
 // Adds the row of holdings of each task.
@@ -54,17 +58,19 @@ fn add_holding_rows<T: RowTaker>(
     i: TaskId,
     bounds: &[u64],
     columns: &[Fragment],
+    places: &[TaskPlace],
 ) -> Result<(), AllocError>
     requires task { i.0 < length set.now.tasks }
     requires within { AreWithinDeadlines set.now bounds.now }
     requires known { AreKnown (length set.now.tasks) (length set.now.resources) columns.now }
     requires order { AreInOrder columns.now }
+    requires places { ArePlaces set.now (slice_index bounds.now) i.0 (length set.now.tasks) columns.now places.now }
     ensures { OnOk result (T.takes taker.old (map column_seen columns.now)
         (per (length set.now.tasks) (holding_row set.now i.0)) bounds.now taker.new) }
 {
     let counts = holdings_of(alloc, set, i, bounds)?;
     let rows = EachTask(Holdings { counts });
-    add_per_task(alloc, taker, &rows, set, i, bounds, columns)
+    add_per_task(alloc, taker, &rows, set, i, bounds, columns, places)
 }
 
 // Adds the rows of each processor's resources.
@@ -75,16 +81,22 @@ fn add_home_rows<T: RowTaker>(
     i: TaskId,
     bounds: &[u64],
     columns: &[Fragment],
+    places: &[TaskPlace],
 ) -> Result<(), AllocError>
     requires task { i.0 < length set.now.tasks }
     requires within { AreWithinDeadlines set.now bounds.now }
     requires known { AreKnown (length set.now.tasks) (length set.now.resources) columns.now }
+    requires order { AreInOrder columns.now }
     requires asked { AreAskedAtHome set.now i.0 columns.now }
+    requires places { ArePlaces set.now (slice_index bounds.now) i.0 (length set.now.tasks) columns.now places.now }
     ensures { OnOk result (T.takes taker.old (map column_seen columns.now)
         (per set.now.processors (λ k. home_row set.now i.0 (k + 1))) bounds.now taker.new) }
 {
     let processors = set.processors();
-    add_per_number(alloc, taker, &Homes, set, processors, i, bounds, columns)
+    let rows = Homes {
+        from: places[i.0 as usize + 1].from,
+    };
+    add_per_number(alloc, taker, &rows, set, processors, i, bounds, columns)
 }
 
 /// Adds the rows of indirect blocking behind those that the taker has: queues under FMLP+, holdings under MPCP, homes under DPCP.
@@ -96,17 +108,19 @@ pub fn add_rows<T: RowTaker>(
     i: TaskId,
     bounds: &[u64],
     columns: &[Fragment],
+    places: &[TaskPlace],
 ) -> Result<(), AllocError>
     requires task { i.0 < length set.now.tasks }
     requires within { AreWithinDeadlines set.now bounds.now }
     requires columns { map column_seen columns.now ≡ columns_of protocol set.now i.0 }
+    requires places { ArePlaces set.now (slice_index bounds.now) i.0 (length set.now.tasks) columns.now places.now }
     ensures { OnOk result (T.takes taker.old (map column_seen columns.now) (indirect_rows protocol set.now i.0) bounds.now taker.new) }
 {
     columns_stand_in_order(set, protocol, i, columns);
     match protocol {
-        Protocol::FmlpPlus => add_queue_rows(alloc, taker, set, i, bounds, columns),
-        Protocol::Mpcp => add_holding_rows(alloc, taker, set, i, bounds, columns),
-        Protocol::Dpcp => add_home_rows(alloc, taker, set, i, bounds, columns),
+        Protocol::FmlpPlus => add_queue_rows(alloc, taker, set, i, bounds, columns, places),
+        Protocol::Mpcp => add_holding_rows(alloc, taker, set, i, bounds, columns, places),
+        Protocol::Dpcp => add_home_rows(alloc, taker, set, i, bounds, columns, places),
     }
 }
 
@@ -134,6 +148,10 @@ pub fn rows(
         rows: Vec::new(alloc),
         limits: Vec::new(alloc),
     };
-    add_rows(alloc, &mut block, set, protocol, i, bounds, columns)?;
+    columns_stand_in_order(set, protocol, i, columns);
+    let places = task_places(alloc, set, i, bounds, columns)?;
+    add_rows(
+        alloc, &mut block, set, protocol, i, bounds, columns, &places,
+    )?;
     Ok(block)
 }

@@ -1,10 +1,12 @@
 //! A number for each task, and the sums of these by processor.
 
 ghost use Rattle.std.specs.Prelude.{◌≡◌, ℕ, ◌+◌, ◌<◌, ◌≤◌, ◌^◌, ◌==◌, length, slice_index, IfOk};
-ghost use Rattle.bounded_sums.specs.Sums.{only_if};
-ghost use Rattle.indirect_constraints.specs.Tables.{AreSums, sum_beside};
+ghost use Rattle.bounded_sums.specs.Sums.{only_if, sum_below};
+ghost use Rattle.sporadic_model.specs.SetDef.{task_at};
+ghost use Rattle.sporadic_model.specs.Users.{count_of};
+ghost use Rattle.indirect_constraints.specs.Tables.{AreSums, held_on, lower_user};
 
-use sporadic_model::{TaskId, TaskSet};
+use sporadic_model::{ResourceId, TaskId, TaskSet};
 use std::alloc::{AllocError, Global};
 
 /// Adds to the number at the place.
@@ -17,33 +19,93 @@ pub(crate) fn add_at(table: &mut [u64], place: usize, number: u64)
     table[place] += number;
 }
 
-/// By processor, which are numbered from 1, the sum of the numbers of its tasks. Tasks behind the numbers have none.
-pub(crate) fn sums_of(alloc: Global, set: &TaskSet, numbers: &[u64]) -> Result<Vec<u64>, AllocError>
-    requires few { length numbers.now ≤ length set.now.tasks }
-    requires small { (y : ℕ) → y < length numbers.now → slice_index numbers.now y ≤ 64000000000000 }
-    ensures { IfOk result (λ v. AreSums set.now numbers.now v.items) }
+/// The number where the test is passed, else none.
+pub(crate) fn where_passed(passed: bool, number: u64) -> u64
+    ensures { result ≡ only_if passed number }
+{
+    if passed { number } else { 0 }
+}
+
+// Makes each number zero.
+fn clear(table: &mut [u64])
+    ensures size { length table.new ≡ length table.old }
+    ensures each { (k : ℕ) → slice_index table.new k ≡ 0 }
+{
+    table.fill(0);
+}
+
+/// By processor, which are numbered from 1, the sum of the numbers of its tasks that are higher than `i`.
+pub(crate) fn sums_of(
+    alloc: Global,
+    set: &TaskSet,
+    i: TaskId,
+    numbers: &[u64],
+) -> Result<Vec<u64>, AllocError>
+    requires task { i.0 < length set.now.tasks }
+    requires one_each { length numbers.now ≡ length set.now.tasks }
+    requires small { (y : ℕ) → y < i.0 → slice_index numbers.now y ≤ 64000000000000 }
+    ensures { IfOk result (λ v. AreSums set.now (slice_index numbers.now) i.0 v.items) }
 {
     // a set has at most 64 tasks, so the sums fit
     let _tasks = set.tasks();
     let mut sums = vec![in alloc; 0u64; set.processors() as usize + 1]?;
-    for y in 0..numbers.len() {
-        let processor = set.processor(TaskId(y as u32));
-        add_at(&mut sums, processor as usize, numbers[y]);
+    for y in 0..i.0 {
+        let processor = set.processor(TaskId(y));
+        add_at(&mut sums, processor as usize, numbers[y as usize]);
     }
     Ok(sums)
 }
 
-/// The sum of the numbers of the tasks beside `x`: those of its processor but for its own.
-pub(crate) fn sum_beside(set: &TaskSet, numbers: &[u64], sums: &[u64], x: TaskId) -> u64
-    requires task { x.0 < length set.now.tasks }
-    requires sums { AreSums set.now numbers.now sums.now }
-    ensures value { result ≡ sum_beside set.now numbers.now x.0 }
-    ensures most { result ≤ 4096000000000000 }
+/// Puts into the table, by processor, how many lower tasks than `i` use `q`, and adds the count to the total of each processor
+/// that has one. Answers how many do in all.
+pub(crate) fn sum_lower(
+    sums: &mut [u64],
+    totals: &mut [u64],
+    set: &TaskSet,
+    i: TaskId,
+    q: ResourceId,
+    count: u64,
+) -> u64
+    requires resource { q.0 < length set.now.resources }
+    requires one_each { length sums.old ≡ set.now.processors + 1 }
+    requires totals { length totals.old ≡ set.now.processors + 1 }
+    requires room { (k : ℕ) → k ≤ set.now.processors → slice_index totals.old k ≤ 4096000000031000 }
+    requires count { count ≡ count_of set.now i.0 q.0 }
+    requires small { count ≤ 1000 }
+    ensures sums { AreSums set.now (lower_user set.now i.0 q.0) (length set.now.tasks) sums.new }
+    ensures all { result ≡ sum_below (length set.now.tasks) (lower_user set.now i.0 q.0) }
+    ensures totals { length totals.new ≡ set.now.processors + 1 }
+    ensures each { (k : ℕ) → k ≤ set.now.processors
+        → slice_index totals.new k ≡ slice_index totals.old k + held_on set.now i.0 k q.0 }
 {
-    let all = sums[set.processor(x) as usize];
-    if (x.0 as usize) < numbers.len() {
-        all - numbers[x.0 as usize]
-    } else {
-        all
+    // a set has at most 64 tasks, so the sums fit
+    let _tasks = set.tasks();
+    clear(sums);
+    let mut all = 0;
+    for y in set.users(q) {
+        if i.0 < y.0 {
+            let processor = set.processor(*y) as usize;
+            let first = sums[processor] == 0;
+            add_at(sums, processor, 1);
+            add_at(totals, processor, where_passed(first, count));
+            all += 1;
+        }
+    }
+    all
+}
+
+/// Puts in place of each task's number what the sum of its processor is without it.
+pub(crate) fn leave_own(numbers: &mut [u64], set: &TaskSet, sums: &[u64])
+    requires one_each { length numbers.old ≡ length set.now.tasks }
+    requires sums { length sums.now ≡ set.now.processors + 1 }
+    requires part { (x : ℕ) → x < length set.now.tasks
+        → slice_index numbers.old x ≤ slice_index sums.now (task_at set.now x).processor }
+    ensures one_each { length numbers.new ≡ length set.now.tasks }
+    ensures each { (x : ℕ) → x < length set.now.tasks
+        → slice_index numbers.new x + slice_index numbers.old x ≡ slice_index sums.now (task_at set.now x).processor }
+{
+    for x in 0..set.tasks() {
+        let all = sums[set.processor(TaskId(x)) as usize];
+        numbers[x as usize] = all - numbers[x as usize];
     }
 }

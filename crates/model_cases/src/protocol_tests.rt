@@ -3,7 +3,7 @@ ghost use Rattle.program_sources.specs.Bounds.{AreWithinDeadlines};
 
 use crate::protocol_rows::{CASES, Case, LOCAL, PATHS};
 use crate::threads::may_cross_threads;
-use fragments::{Class, Fragment, cnt};
+use fragments::{Class, Fragment, TaskPlace, cnt, columns_stand_in_order, task_places};
 use program_form::{Coefficient, Program, RowBlock, SparseProgram};
 use protocol_programs::{ProgramSource, Written};
 use request_windows::DpcpWindows;
@@ -204,6 +204,35 @@ fn gives_common_rows_and_those_of_preemption(rt: HostRuntime) -> Result<(), Fail
     assert_eq!(rt; common.limits.as_slice(), limits.as_slice());
     let preemption = preempt_constraints::rows(alloc, &set, mpcp, i, &PATH_BOUNDS, &columns)?;
     assert!(rt; is_block(&preemption, &[], &[]));
+    Ok(())
+}
+
+fn place(from: usize, jobs: u64) -> TaskPlace {
+    TaskPlace { from, jobs }
+}
+
+// The first two tasks and the last two have a column each.
+#[test]
+fn gives_the_places_of_tasks(rt: HostRuntime) -> Result<(), Fail> {
+    let alloc = rt.alloc();
+    let set = set_of(alloc, PATHS)?;
+    if set.tasks() != 6 || !are_within(&set, &PATH_BOUNDS) {
+        return Err("out of range".into());
+    }
+    let (i, mpcp) = (TaskId(3), Protocol::Mpcp);
+    let columns = fragments::fragments(alloc, &set, mpcp, i)?;
+    columns_stand_in_order(&set, mpcp, i, &columns);
+    let places = task_places(alloc, &set, i, &PATH_BOUNDS, &columns)?;
+    let wanted = [
+        place(0, 1),
+        place(1, 1),
+        place(2, 1),
+        place(2, 1),
+        place(2, 1),
+        place(3, 1),
+        place(4, 0),
+    ];
+    assert_eq!(rt; places.as_slice(), wanted.as_slice());
     Ok(())
 }
 

@@ -63,5 +63,25 @@ fn answers_the_boosts(rt: HostRuntime) -> Result<(), Fail> {
         [Some(TaskId(2)), Some(TaskId(1))]
     );
     assert_eq!(rt; set.boost(u, 1), None);
+    // no task is on a processor that the set hasn't
+    assert_eq!(rt;
+        [set.boost(r, 3), set.boost(s, 3), set.boost(u, 3)],
+        [set.ceiling(r), set.ceiling(s), set.ceiling(u)]
+    );
+    Ok(())
+}
+
+#[test]
+fn answers_who_uses_what(rt: HostRuntime) -> Result<(), Fail> {
+    let set = set_from(rt.alloc(), SHARED)?;
+    let (t1, t2, t3) = (TaskId(0), TaskId(1), TaskId(2));
+    let (r, s, u) = (ResourceId(0), ResourceId(1), ResourceId(2));
+    assert!(rt; set.tasks() == 3 && set.resources() == 3);
+    assert_eq!(rt; set.used_by(t1), [r].as_slice());
+    assert_eq!(rt; set.used_by(t2), [r, s].as_slice());
+    assert_eq!(rt; set.used_by(t3), [s].as_slice());
+    assert_eq!(rt; set.users(r), [t1, t2].as_slice());
+    assert_eq!(rt; set.users(s), [t2, t3].as_slice());
+    assert!(rt; set.users(u).is_empty());
     Ok(())
 }

@@ -1,7 +1,7 @@
 //! The rows of preemption blocking: what requests of lower tasks on the analysed task's processor can do to it.
 #![tactic(auto)]
 
-ghost use Rattle.std.specs.Prelude.{◌≡◌, ◌<◌, ◌+◌, map, length, IfOk, OnOk, [], ◌∷◌, if◌then◌else◌, ◌&&◌};
+ghost use Rattle.std.specs.Prelude.{◌≡◌, ◌<◌, ◌+◌, map, length, slice_index, IfOk, OnOk, [], ◌∷◌, if◌then◌else◌, ◌&&◌};
 ghost use Rattle.std.proofs.Common.{ap};
 ghost use Rattle.bounded_sums.specs.Sums.{flag};
 ghost use Rattle.program_form.specs.RowBlock.{block_seen};
@@ -13,11 +13,12 @@ ghost use Rattle.fragments.specs.Columns.{columns_of, is_lower_local};
 ghost use Rattle.fragments.specs.Windows.{all_requests};
 ghost use Rattle.fragments.specs.Constraints.{block_of};
 ghost use Rattle.fragments.specs.Stretches.{AreInOrder};
+ghost use Rattle.fragments.specs.TaskPlaces.{ArePlaces};
 ghost use Rattle.preempt_constraints.specs.Rows.{interval_row, preemption_rows};
 
 use fragments::{
-    Fragment, PerTask, RowTaker, TaskRow, add_per_task, add_row_of_task, columns_stand_in_order,
-    lower_local, requests_of,
+    Fragment, PerTask, RowTaker, TaskPlace, TaskRow, add_per_lower_task, add_row_of_task,
+    columns_stand_in_order, lower_local, requests_of, task_places,
 };
 use program_form::RowBlock;
 use sporadic_model::{Protocol, TaskId, TaskSet};
@@ -37,15 +38,11 @@ impl TaskRow for Interval {
 
     ghost alone = { λ k set i x c other. ap (λ b. flag (b && is_class Preemption c.class)) other };
 
-    fn coefficient(&self, _set: &TaskSet, _i: TaskId, x: TaskId, column: Fragment) -> u64 {
-        if column.task == x && column.class.is_preemption() {
-            1
-        } else {
-            0
-        }
+    fn coefficient(&self, _set: &TaskSet, _i: TaskId, _x: TaskId, column: Fragment) -> u64 {
+        if column.class.is_preemption() { 1 } else { 0 }
     }
 
-    fn limit(&self, _set: &TaskSet, _i: TaskId, _x: TaskId, _bounds: &[u64]) -> u64 {
+    fn limit(&self, _set: &TaskSet, _i: TaskId, _x: TaskId, _jobs: u64, _bounds: &[u64]) -> u64 {
         self.intervals
     }
 }
@@ -66,6 +63,7 @@ impl PerTask for Intervals {
         set: &TaskSet,
         i: TaskId,
         x: TaskId,
+        jobs: u64,
         bounds: &[u64],
         columns: &[Fragment],
         stretch: (usize, usize),
@@ -73,7 +71,9 @@ impl PerTask for Intervals {
         if !lower_local(set, i, x) {
             return Ok(());
         }
-        add_row_of_task(alloc, taker, &self.0, set, i, x, bounds, columns, stretch)
+        add_row_of_task(
+            alloc, taker, &self.0, set, i, x, jobs, bounds, columns, stretch,
+        )
     }
 }
 
@@ -86,17 +86,19 @@ pub fn add_interval_rows<T: RowTaker>(
     i: TaskId,
     bounds: &[u64],
     columns: &[Fragment],
+    places: &[TaskPlace],
 ) -> Result<(), AllocError>
     requires task { i.0 < length set.now.tasks }
     requires within { AreWithinDeadlines set.now bounds.now }
     requires known { AreKnown (length set.now.tasks) (length set.now.resources) columns.now }
     requires order { AreInOrder columns.now }
+    requires places { ArePlaces set.now (slice_index bounds.now) i.0 (length set.now.tasks) columns.now places.now }
     ensures { OnOk result (T.takes taker.old (map column_seen columns.now) (preemption_rows set.now i.0) bounds.now taker.new) }
 {
     let rows = Intervals(Interval {
         intervals: 1 + requests_of(set, i),
     });
-    add_per_task(alloc, taker, &rows, set, i, bounds, columns)
+    add_per_lower_task(alloc, taker, &rows, set, i, bounds, columns, places)
 }
 
 /// The rows of preemption blocking, the same under every protocol.
@@ -119,6 +121,7 @@ pub fn rows(
         limits: Vec::new(alloc),
     };
     columns_stand_in_order(set, protocol, i, columns);
-    add_interval_rows(alloc, &mut block, set, i, bounds, columns)?;
+    let places = task_places(alloc, set, i, bounds, columns)?;
+    add_interval_rows(alloc, &mut block, set, i, bounds, columns, &places)?;
     Ok(block)
 }

@@ -1,6 +1,6 @@
 //! Rows of a program by their nonzero coefficients.
 
-ghost use Rattle.std.specs.Prelude.{◌≡◌, ℕ, ◌+◌, ◌-◌, ◌<◌, ◌≤◌, List, [], ◌∷◌, ◌++◌, length, take, drop, slice_index_or, OnOk};
+ghost use Rattle.std.specs.Prelude.{◌≡◌, ℕ, ◌+◌, ◌-◌, ◌<◌, ◌≤◌, List, [], ◌∷◌, ◌++◌, length, take, drop, slice_index_or, IfOk, OnOk};
 ghost use Rattle.program_form.specs.SparseRows.{SparseRowsDef, list_at};
 
 use std::alloc::{AllocError, Global};
@@ -49,6 +49,22 @@ impl SparseRows {
             starts: Vec::new(alloc),
             limits: Vec::new(alloc),
         }
+    }
+
+    /// No rows either, but room for so many rows and coefficients, so that none is moved as they are added. It refuses for want of memory
+    /// alone.
+    pub fn with_room(
+        alloc: Global,
+        rows: usize,
+        coefficients: usize,
+    ) -> Result<SparseRows, AllocError>
+        ensures { IfOk result (λ taken. taken ≡ record { rows = []; limits = [] }) }
+    {
+        Ok(SparseRows {
+            coefficients: Vec::with_capacity(alloc, coefficients)?,
+            starts: Vec::with_capacity(alloc, rows)?,
+            limits: Vec::with_capacity(alloc, rows)?,
+        })
     }
 
     /// Begins a row of this limit behind the others. It has no coefficient so far.

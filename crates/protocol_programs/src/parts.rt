@@ -11,7 +11,7 @@ ghost use Rattle.fragments.specs.Constraints.{ConstraintDef};
 ghost use Rattle.program_laws.specs.Programs.{cost_of, program_with};
 ghost use Rattle.protocol_programs.specs.Lists.{lists_of};
 
-use fragments::{Fragment, RowLimits, RowTaker};
+use fragments::{Fragment, RowLimits, RowTaker, most_columns};
 use program_form::{Program, RowBlock, SparseProgram, SparseRows, refusals_are_exact};
 use sporadic_model::{TaskId, TaskSet};
 use std::alloc::{AllocError, Global};
@@ -114,7 +114,10 @@ pub fn sparse_program_with<P: ProgramParts>(
 {
     // every set is lawful, so its columns and rows make a program
     let _tasks = set.tasks();
-    let mut taken = SparseRows::new(alloc);
+    // the room is for three columns of each request entry, of which about one is there: it stands in three or four rows, and most rows
+    // have two columns or more
+    let room = most_columns(set);
+    let mut taken = SparseRows::with_room(alloc, room / 2, room / 2 * 3)?;
     let columns = parts.take_rows(alloc, &mut taken, set, i, bounds)?;
     let costs = costs(alloc, set, &columns)?;
     Ok(SparseProgram::over(costs, taken))
@@ -135,7 +138,7 @@ pub fn limits_with<P: ProgramParts>(
         ≡ (program_with set.now (P.columns parts.now set.now i.0) (P.rows parts.now set.now i.0) bounds.now).limits) }
 {
     let mut taken = RowLimits {
-        limits: Vec::new(alloc),
+        limits: Vec::with_capacity(alloc, most_columns(set) / 2)?,
     };
     parts.take_rows(alloc, &mut taken, set, i, bounds)?;
     Ok(taken.limits)

@@ -1,19 +1,20 @@
-ghost use Rattle.std.specs.Prelude.{◌≡◌, ◌<◌, map, length, IfOk, OnOk};
+ghost use Rattle.std.specs.Prelude.{◌≡◌, ◌<◌, map, length, slice_index, IfOk, OnOk};
 ghost use Rattle.sporadic_model.specs.Homes.{HasHomesFor};
 ghost use Rattle.program_sources.specs.Bounds.{AreWithinDeadlines};
 ghost use Rattle.fragments.specs.ColumnDef.{column_seen};
 ghost use Rattle.fragments.specs.Columns.{columns_of};
+ghost use Rattle.fragments.specs.TaskPlaces.{ArePlaces};
 ghost use Rattle.program_laws.specs.Programs.{rows_of, program_of};
 
 use crate::{Written, limits_with, program_with, sparse_program_with};
 use direct_constraints::{add_common, add_own};
-use fragments::{Fragment, RowTaker, columns_stand_in_order};
+use fragments::{Fragment, RowTaker, TaskPlace, columns_stand_in_order};
 use preempt_constraints::add_interval_rows;
 use program_form::{Program, SparseProgram};
 use sporadic_model::{Protocol, TaskId, TaskSet};
 use std::alloc::{AllocError, Global};
 
-/// Adds all rows of the protocol, in their order, behind those that the taker has.
+/// Adds all rows of the protocol, in their order, behind those that the taker has. Answers the places of all tasks.
 pub fn add_rows<T: RowTaker>(
     alloc: Global,
     taker: &mut T,
@@ -22,18 +23,19 @@ pub fn add_rows<T: RowTaker>(
     i: TaskId,
     bounds: &[u64],
     columns: &[Fragment],
-) -> Result<(), AllocError>
+) -> Result<Vec<TaskPlace>, AllocError>
     requires task { i.0 < length set.now.tasks }
     requires within { AreWithinDeadlines set.now bounds.now }
     requires columns { map column_seen columns.now ≡ columns_of protocol set.now i.0 }
-    ensures { OnOk result (T.takes taker.old (map column_seen columns.now) (rows_of protocol set.now i.0) bounds.now taker.new) }
+    ensures rows { OnOk result (T.takes taker.old (map column_seen columns.now) (rows_of protocol set.now i.0) bounds.now taker.new) }
+    ensures places { IfOk result (λ v. ArePlaces set.now (slice_index bounds.now) i.0 (length set.now.tasks) columns.now v.items) }
 {
     columns_stand_in_order(set, protocol, i, columns);
-    add_common(alloc, taker, set, i, bounds, columns)?;
-    add_interval_rows(alloc, taker, set, i, bounds, columns)?;
-    add_own(alloc, taker, set, protocol, i, bounds, columns)?;
-    indirect_constraints::add_rows(alloc, taker, set, protocol, i, bounds, columns)?;
-    Ok(())
+    let places = add_common(alloc, taker, set, i, bounds, columns)?;
+    add_interval_rows(alloc, taker, set, i, bounds, columns, &places)?;
+    add_own(alloc, taker, set, protocol, i, bounds, columns, &places)?;
+    indirect_constraints::add_rows(alloc, taker, set, protocol, i, bounds, columns, &places)?;
+    Ok(places)
 }
 
 /// The blocking program of task `i` under the protocol, where these are the bounds, in ticks. It refuses for want of memory

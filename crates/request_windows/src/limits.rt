@@ -4,10 +4,11 @@ ghost use Rattle.std.specs.Prelude.{◌≡◌, ◌<◌, ◌≤◌, ◌*◌, true
 ghost use Rattle.bounded_sums.specs.Sums.{only_if};
 ghost use Rattle.sporadic_model.specs.Users.{is_user, count_of};
 ghost use Rattle.program_sources.specs.Bounds.{AreWithinDeadlines};
+ghost use Rattle.fragments.specs.Windows.{jobs_in};
 ghost use Rattle.window_laws.specs.WindowRows.{meets_there, requests_there, requests_met, window_row};
 ghost use Rattle.request_windows.specs.Windows.{AreWindows};
 
-use fragments::{cnt, home, uses};
+use fragments::{home, uses};
 use sporadic_model::{ResourceId, TaskId, TaskSet, jobs_in};
 
 // Does `i` request `q`, whose home is that of `r`?
@@ -98,22 +99,25 @@ fn requests_met(
     total
 }
 
-/// The limit of the row of windows for requests of the resource by the task: as many as it can make while a job of `i` runs, and no
-/// more than run within the windows of that job's requests there.
+/// The limit of the row of windows for requests of the resource by the task, of which so many jobs can run while a job of `i` does: as
+/// many as these can make, and no more than run within the windows of that job's requests there.
 pub(crate) fn limit(
     set: &TaskSet,
     i: TaskId,
     x: TaskId,
     r: ResourceId,
+    jobs: u64,
     bounds: &[u64],
     windows: &[Option<u64>],
 ) -> u64
     requires task { i.0 < length set.now.tasks }
     requires other { x.0 < length set.now.tasks }
     requires resource { r.0 < length set.now.resources }
+    requires jobs { jobs ≡ jobs_in set.now (slice_index bounds.now) i.0 x.0 }
+    requires most { jobs ≤ 2000000000 }
     requires within { AreWithinDeadlines set.now bounds.now }
     requires windows { AreWindows set.now (slice_index bounds.now) i.0 windows.now }
     ensures { result ≡ (window_row set.now i.0 x.0 r.0).limit (slice_index bounds.now) }
 {
-    cnt(set, i, x, r, bounds).min(requests_met(set, i, x, r, bounds, windows))
+    (set.count(x, r) * jobs).min(requests_met(set, i, x, r, bounds, windows))
 }

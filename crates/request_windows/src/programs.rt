@@ -33,8 +33,16 @@ fn add_rows<T: RowTaker>(
     ensures { OnOk result (T.takes taker.old (map column_seen columns.now) (windowed_rows set.now i.0) bounds.now taker.new) }
 {
     columns_stand_in_order(set, Protocol::Dpcp, i, columns);
-    protocol_programs::add_rows(alloc, taker, set, Protocol::Dpcp, i, bounds, columns)?;
-    add_window_rows(alloc, taker, set, i, bounds, columns)?;
+    let places = protocol_programs::add_rows(
+        alloc,
+        taker,
+        set,
+        Protocol::Dpcp,
+        i,
+        bounds,
+        columns,
+    )?;
+    add_window_rows(alloc, taker, set, i, bounds, columns, &places)?;
     Ok(())
 }
 

@@ -5,12 +5,15 @@ ghost use Rattle.sporadic_model.specs.Homes.{EachHasHome};
 ghost use Rattle.program_sources.specs.Bounds.{AreWithinDeadlines};
 ghost use Rattle.fragments.specs.ColumnDef.{column_seen, AreKnown};
 ghost use Rattle.fragments.specs.Stretches.{AreInOrder};
+ghost use Rattle.fragments.specs.TaskPlaces.{ArePlaces};
 ghost use Rattle.window_laws.specs.WindowRows.{window_row, window_rows};
 ghost use Rattle.request_windows.specs.Windows.{AreWindows};
 
 use crate::kept::windows_of;
 use crate::limits::limit;
-use fragments::{Fragment, PerRequest, RowKind, RowTaker, add_per_request, add_row_limited};
+use fragments::{
+    Fragment, PerRequest, RowKind, RowTaker, TaskPlace, add_per_request_at, add_row_limited,
+};
 use sporadic_model::{ResourceId, TaskId, TaskSet};
 use std::alloc::{AllocError, Global};
 
@@ -26,15 +29,10 @@ impl RowKind for WindowRow {
 
     ghost fits = { λ k set. (k.task.0 < length set.tasks) × (k.resource.0 < length set.resources) };
 
+    ghost over = { λ k set i c. (c.task ≡ k.task.0) × (c.resource ≡ k.resource.0) };
+
     fn coefficient(&self, _set: &TaskSet, _i: TaskId, column: Fragment) -> u64 {
-        if column.task == self.task
-            && column.resource == self.resource
-            && !column.class.is_preemption()
-        {
-            1
-        } else {
-            0
-        }
+        if column.class.is_preemption() { 0 } else { 1 }
     }
 }
 
@@ -61,15 +59,18 @@ impl PerRequest for WindowRows {
         i: TaskId,
         x: TaskId,
         q: ResourceId,
+        jobs: u64,
         bounds: &[u64],
         columns: &[Fragment],
         stretch: (usize, usize),
     ) -> Result<(), AllocError> {
+        // a set has at most 32 resources, so the slots of a task end before those of the next one
+        let _resources = set.resources();
         let row = WindowRow {
             task: x,
             resource: q,
         };
-        let most = limit(set, i, x, q, bounds, &self.windows);
+        let most = limit(set, i, x, q, jobs, bounds, &self.windows);
         add_row_limited(alloc, taker, &row, set, i, bounds, columns, stretch, most)
     }
 }
@@ -83,15 +84,17 @@ pub(crate) fn add_window_rows<T: RowTaker>(
     i: TaskId,
     bounds: &[u64],
     columns: &[Fragment],
+    places: &[TaskPlace],
 ) -> Result<(), AllocError>
     requires task { i.0 < length set.now.tasks }
     requires suits { EachHasHome set.now }
     requires within { AreWithinDeadlines set.now bounds.now }
     requires known { AreKnown (length set.now.tasks) (length set.now.resources) columns.now }
     requires order { AreInOrder columns.now }
+    requires places { ArePlaces set.now (slice_index bounds.now) i.0 (length set.now.tasks) columns.now places.now }
     ensures { OnOk result (T.takes taker.old (map column_seen columns.now) (window_rows set.now i.0) bounds.now taker.new) }
 {
     let windows = windows_of(alloc, set, i, bounds)?;
     let rows = WindowRows { windows };
-    add_per_request(alloc, taker, &rows, set, i.0, i, bounds, columns)
+    add_per_request_at(alloc, taker, &rows, set, i.0, i, bounds, columns, places)
 }

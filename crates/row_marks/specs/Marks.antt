@@ -3,6 +3,10 @@ use Rattle.std.specs.Prelude.{◌≡◌, ℕ, ◌+◌, ◌*◌, ◌/◌, ◌%◌
 use Rattle.std.specs.Int.{bit_at}
 use Rattle.row_marks.specs.declared.RowMarks.{RowMarks}
 
+-- How many words of 64 rows do a variable's marks take?
+abbrev pub words_of : RowMarks → ℕ
+words_of marks = marks.words
+
 -- Which word has the bit of row i at variable v?
 abbrev pub word_of : RowMarks → ℕ → ℕ → ℕ
 word_of marks v i = v * marks.words + i / 64

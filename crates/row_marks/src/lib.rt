@@ -4,7 +4,7 @@
 
 ghost use Rattle.std.specs.Prelude.{◌≡◌, ◌≢◌, ◌⊎◌, ℕ, ◌<◌, ◌≤◌, ◌/◌, ◌%◌, IfOk};
 ghost use Rattle.std.specs.Int.{bit_at};
-ghost use Rattle.row_marks.specs.Marks.{HasWord, HasWords, HasRow, IsMarked, HaveRoom, HaveSameRoom, AreKept};
+ghost use Rattle.row_marks.specs.Marks.{words_of, HasWord, HasWords, HasRow, IsMarked, HaveRoom, HaveSameRoom, AreKept};
 
 use std::alloc::{AllocError, Global};
 
@@ -61,7 +61,7 @@ impl RowMarks {
 
     /// How many words each variable has. Word w has the bits of the rows from 64 w to 64 w + 63.
     pub fn words(&self) -> usize
-        ensures { result ≡ self.now.words }
+        ensures { result ≡ words_of self.now }
     {
         self.words
     }
@@ -69,7 +69,7 @@ impl RowMarks {
     /// Word w of variable v: a bit is set for each of its rows that is marked there.
     pub fn word(&self, v: usize, w: usize) -> u64
         requires words { HasWords self.now v }
-        requires word { w < self.now.words }
+        requires word { w < words_of self.now }
         ensures { (i : ℕ) → i / 64 ≡ w → IsMarked self.now v i → bit_at result (i % 64) ≡ 1 }
     {
         self.bits[v * self.words + w]
@@ -78,7 +78,7 @@ impl RowMarks {
     /// Marks at variable v each row of word w whose bit is set in `bits`.
     pub fn join(&mut self, v: usize, w: usize, bits: u64)
         requires words { HasWords self.old v }
-        requires word { w < self.old.words }
+        requires word { w < words_of self.old }
         ensures kept { AreKept self.old self.new }
         ensures joined { (i : ℕ) → i / 64 ≡ w → bit_at bits (i % 64) ≡ 1 → IsMarked self.new v i }
     {

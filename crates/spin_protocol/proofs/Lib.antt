@@ -2,3 +2,4 @@ mod SpinVerdict
 mod SpinChosen
 mod SpinNow
 mod SpinNextRow
+mod UsersBeside

@@ -7,7 +7,6 @@ ghost use Rattle.fragments.specs.ColumnDef.{column_seen, AreKnown};
 ghost use Rattle.fragments.specs.Stretches.{AreInOrder};
 ghost use Rattle.fragments.specs.Columns.{have_one_processor};
 ghost use Rattle.fragments.specs.Constraints.{per_pair};
-ghost use Rattle.sporadic_model.specs.Users.{is_user};
 ghost use Rattle.spin_charging.specs.SpinPrograms.{is_used_beside, blocks_by_spinning, is_spin_column};
 ghost use Rattle.spin_charging.specs.SpinPrograms.{spin_columns, spinning_rows, spin_rows};
 ghost use Rattle.spin_charging.proofs.SpinPrograms.{spin_is_program};
@@ -25,14 +24,13 @@ use protocol_programs::ProgramParts;
 use sporadic_model::{ResourceId, TaskId, TaskSet};
 use std::alloc::{AllocError, Global};
 
-/// Is `z` another task of `i`'s processor that uses the resource?
-fn is_user_beside(set: &TaskSet, i: TaskId, q: ResourceId, z: TaskId) -> bool
+/// Is `z` another task of `i`'s processor?
+fn is_beside(set: &TaskSet, i: TaskId, z: TaskId) -> bool
     requires task { i.0 < length set.now.tasks }
-    requires resource { q.0 < length set.now.resources }
     requires other { z.0 < length set.now.tasks }
-    ensures { result ≡ ((not (z.0 == i.0) && have_one_processor set.now z.0 i.0) && is_user set.now q.0 z.0) }
+    ensures { result ≡ (not (z.0 == i.0) && have_one_processor set.now z.0 i.0) }
 {
-    (z != i && share_processor(set, z, i)) && uses(set, z, q)
+    z != i && share_processor(set, z, i)
 }
 
 /// Does another task of `i`'s processor use the resource?
@@ -41,8 +39,9 @@ fn is_used_beside(set: &TaskSet, i: TaskId, q: ResourceId) -> bool
     requires resource { q.0 < length set.now.resources }
     ensures { result ≡ is_used_beside set.now i.0 q.0 }
 {
-    for z in 0..set.tasks() {
-        if is_user_beside(set, i, q, TaskId(z)) {
+    let users = set.users(q);
+    for z in users {
+        if is_beside(set, i, *z) {
             return true;
         }
     }
@@ -95,8 +94,7 @@ impl ColumnTest for SpinColumns {
     ghost fits = { λ k set i x. AreUsedBeside set i k.used.items };
 
     fn test(&self, set: &TaskSet, i: TaskId, column: Fragment) -> bool {
-        (column.task != i && uses(set, column.task, column.resource))
-            && blocks_by_spinning(set, i, column, &self.used)
+        column.task != i && blocks_by_spinning(set, i, column, &self.used)
     }
 }
 

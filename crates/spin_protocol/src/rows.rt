@@ -29,6 +29,8 @@ impl RowKind for LowerRequestRow {
 
     ghost fits = { λ k set. Unit {0} };
 
+    ghost over = { λ k set i c. Unit {0} };
+
     fn coefficient(&self, _set: &TaskSet, _i: TaskId, column: Fragment) -> u64 {
         if column.class.is_preemption() { 1 } else { 0 }
     }
@@ -45,7 +47,8 @@ fn is_from(set: &TaskSet, processor: u32, resource: ResourceId, column: Fragment
     requires { column.task.0 < length set.now.tasks }
     ensures { result ≡ is_from set.now processor resource.0 (column_seen column) }
 {
-    set.processor(column.task) == processor && column.resource == resource
+    // most columns are of another resource
+    column.resource == resource && set.processor(column.task) == processor
 }
 
 /// Is `x` a lower task of `i`'s processor that uses the resource?
@@ -134,6 +137,8 @@ impl RowKind for SpinningRow {
     ghost row_of = { λ k set i. row_of_kind k.spinning set i k.processor k.resource.0 };
 
     ghost fits = { λ k set. k.resource.0 < length set.resources };
+
+    ghost over = { λ k set i c. Unit {0} };
 
     fn coefficient(&self, set: &TaskSet, _i: TaskId, column: Fragment) -> u64 {
         let from_there = is_from(set, self.processor, self.resource, column);

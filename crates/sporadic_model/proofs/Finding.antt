@@ -77,16 +77,6 @@ each_fails p [] k d h none = absurd (omega arith)
 each_fails p (x ∷ xs) zero d h none = first_fails p x xs none
 each_fails p (x ∷ xs) (suc k) d h none = each_fails p xs k d (omega arith) (rest_fails p x xs none)
 
-pub find_next : (p : ℕ → Bool) (x n : ℕ) → x < n → p x ≡ false
-    → find p (range_with_len x (n - x)) ≡ find p (range_with_len (x + 1) (n - (x + 1)))
-find_next p x n h t = let e : n - x ≡ suc (n - (x + 1)) = omega arith in rw (e, t) refl
-
-pub find_now : (p : ℕ → Bool) (x n : ℕ) → x < n → p x ≡ true → find p (range_with_len x (n - x)) ≡ Some x
-find_now p x n h t = let e : n - x ≡ suc (n - (x + 1)) = omega arith in rw (e, t) refl
-
-pub find_done : (p : ℕ → Bool) (x n : ℕ) → n ≤ x → find p (range_with_len x (n - x)) ≡ None
-find_done p x n h = let e : n - x ≡ 0 = omega arith in rw e refl
-
 -- The number found is in the range, it passes, and none before it does.
 pub record IsFirstOf (p : ℕ → Bool) (a n x : ℕ) : Type 0 where
   pub from : a ≤ x
@@ -130,6 +120,13 @@ none_in_range p a zero e y h i = absurd (omega arith)
 none_in_range p a (suc n) e y h i =
     before_more p a (a + suc n) y (first_fails p a (range_with_len (a + 1) n) e)
     (λ z j k. none_in_range p (a + 1) n (rest_fails p a (range_with_len (a + 1) n) e) z j (omega arith)) h i
+
+-- Two tests that agree on the numbers of a range find the same one.
+pub find_alike : (p r : ℕ → Bool) (a n : ℕ) → ((x : ℕ) → a ≤ x → x < a + n → p x ≡ r x)
+    → find p (range_with_len a n) ≡ find r (range_with_len a n)
+find_alike p r a zero h = refl
+find_alike p r a (suc n) h =
+    rw (h a (omega arith) (omega arith), find_alike p r (a + 1) n (λ x from to. h x (omega arith) (omega arith))) refl
 
 -- Where no element of two lists passes, none of the joined list does.
 pub none_joined : {R : Type 0} (p : R → Bool) (xs ys : List R) → find p xs ≡ None → find p ys ≡ None → find p (xs ++ ys) ≡ None

@@ -1,19 +1,20 @@
 -- What follows from a set's being accepted, in the words of the field.
 use Rattle.std.proofs.Common.{◌≡◌, ◌≢◌, ℕ, ◌+◌, ◌<◌, ◌≤◌, ◌↔◌, Bool, true, false, cond, not, List, [], ◌∷◌, length, arith, Option}
-use Rattle.std.proofs.Common.{Some, None, suc, subst, nat_lt, ◌&&◌, ◌==◌, ◌⊎◌, inl, inr, sym, IfSome}
+use Rattle.std.proofs.Common.{Some, None, suc, subst, nat_lt, ◌&&◌, ◌==◌, ◌⊎◌, inl, inr, sym, IfSome, refl, ap, ◌∙◌}
 use Rattle.std.specs.List.{find, slice_index_or}
-use Rattle.std.specs.Option.{option_map}
+use Rattle.std.specs.Option.{option_map, option_or}
 use Rattle.std.specs.Str.{bytes_eq}
 use Rattle.std.proofs.lemmas.Bool.{ltb-true}
 use Rattle.std.proofs.lemmas.Bool.Decides.{nat_tests}
 use Rattle.std.proofs.lemmas.List.Quantifiers.{position-Some}
 use Rattle.std.proofs.lemmas.Slice.Eq.{bytes_eq-Decides}
 use Rattle.sporadic_model.specs.SetDef.{SetDef, RequestDef, latest_bound, task_at, resource_at, no_task, no_resource, no_request}
-use Rattle.sporadic_model.specs.Users.{numbers, count_of, is_user, is_remote_user, ceiling_of, task_with_name, resource_with_name}
+use Rattle.sporadic_model.specs.Users.{numbers, count_of, is_user, is_remote_user, ceiling_of, remote_ceiling_of}
+use Rattle.sporadic_model.specs.Users.{task_with_name, resource_with_name}
 use Rattle.sporadic_model.specs.Accepted.{IsAccepted, SetSizes, TaskNumbers, RequestNumbers, EntryNumbers, AreNamed}
 use Rattle.sporadic_model.specs.Accepted.{AreEntries, AreHomes, IsHighestUser, HasNoUser, IsHighestRemoteUser}
-use Rattle.sporadic_model.specs.Accepted.{HasNoRemoteUser}
-use Rattle.sporadic_model.proofs.Finding.{first_of_range, none_in_range}
+use Rattle.sporadic_model.specs.Accepted.{HasNoRemoteUser, IsBoost}
+use Rattle.sporadic_model.proofs.Finding.{first_of_range, none_in_range, find_alike}
 
 pub found_or : {A : Type 0} (b : Bool) (x e : A) (o : Option A) → cond b (Some x) o ≡ Some e → (x ≡ e) ⊎ (o ≡ Some e)
 found_or true x e o h = inl (cc)
@@ -138,3 +139,30 @@ pub no_remote_user : (set : SetDef) (q k : ℕ) → find (is_remote_user set q k
 no_remote_user set q k e = λ x h apart.
     let none = none_in_range (is_remote_user set q k) 0 (length set.tasks) e x (omega arith) (omega arith) in
     remote_false (count_of set x q) (task_at set x).processor k none apart
+
+-- What is found of the remote users, and else of all users, is the boost, and where it is nothing, no task uses the resource.
+pub boost_of_found : (set : SetDef) (q k x : ℕ) (o : Option ℕ) → find (is_remote_user set q k) (numbers (length set.tasks)) ≡ o
+    → option_or o (ceiling_of set q) ≡ Some x → IsBoost set q k x
+boost_of_found set q k x None found e = inr (no_remote_user set q k found, highest_user set q x e)
+boost_of_found set q k x (Some y) found e = inl (highest_remote_user set q k x (found ∙ e))
+
+pub no_user_found : (set : SetDef) (q : ℕ) (o : Option ℕ) → option_or o (ceiling_of set q) ≡ None → HasNoUser set q
+no_user_found set q None e = no_user set q e
+no_user_found set q (Some y) e = absurd (cc)
+
+pub boost_is_task : (set : SetDef) (q k x : ℕ) → IsBoost set q k x → x < length set.tasks
+boost_is_task set q k x boost = elim boost [ inl remote ↦ remote.task | inr all ↦ all.1.task ]
+
+-- No task is on a processor above the set's, so what that processor sees is the ceiling itself.
+pub remote_beyond : (n p k : ℕ) → p < k → (nat_lt 0 n && not (p == k)) ≡ nat_lt 0 n
+remote_beyond n p k h = grind (arith, nat_tests)
+
+pub or_itself : {A : Type 0} (o : Option A) → option_or o o ≡ o
+or_itself None = refl
+or_itself (Some x) = refl
+
+pub ceiling_beyond : (set : SetDef) (q k : ℕ) → IsAccepted set → set.processors < k → remote_ceiling_of set q k ≡ ceiling_of set q
+ceiling_beyond set q k accepted beyond =
+    ap (λ o. option_or o (ceiling_of set q)) (find_alike (is_remote_user set q k) (is_user set q) 0 (length set.tasks)
+    (λ x from to. remote_beyond (count_of set x q) (task_at set x).processor k
+    (omega (arith, (numbers_of_accepted set x accepted (omega arith)).processor_to)))) ∙ or_itself (ceiling_of set q)

@@ -1,5 +1,6 @@
 pub mod Mapped
 pub mod Finding
+pub mod Filtered
 pub mod Ranges
 pub mod Acceptance
 pub mod Laws

@@ -1,6 +1,6 @@
 -- Who uses a resource, and the ceilings that follow from it.
 use Rattle.std.specs.Prelude.{ℕ, ◌==◌, ◌&&◌, not, Bool, nat_lt, List, length, Option, find, position}
-use Rattle.std.specs.List.{range_with_len}
+use Rattle.std.specs.List.{range_with_len, filter}
 use Rattle.std.specs.Option.{option_or, option_map_or}
 use Rattle.std.specs.Str.{bytes_eq}
 use Rattle.sporadic_model.specs.SetDef.{SetDef, RequestDef, task_at, resource_at}
@@ -28,6 +28,14 @@ is_user set q x = nat_lt 0 (count_of set x q)
 -- Is task x a user of resource q that isn't on processor k?
 abbrev pub is_remote_user : SetDef → ℕ → ℕ → ℕ → Bool
 is_remote_user set q k x = is_user set q x && not ((task_at set x).processor == k)
+
+-- The resources that task x uses, in order.
+abbrev pub used_by : SetDef → ℕ → List ℕ
+used_by set x = filter (λ q. is_user set q x) (numbers (length set.resources))
+
+-- The tasks that use resource q, from the highest to the lowest.
+abbrev pub users_of : SetDef → ℕ → List ℕ
+users_of set q = filter (is_user set q) (numbers (length set.tasks))
 
 -- The ceiling of resource q: its highest user.
 abbrev pub ceiling_of : SetDef → ℕ → Option ℕ

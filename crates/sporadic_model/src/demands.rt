@@ -1,11 +1,7 @@
-ghost use Rattle.std.specs.Prelude.{◌≡◌, ℕ, ◌<◌, [], length, map, slice_index_or, option_map, None, IfOk};
-ghost use Rattle.sporadic_model.specs.SetDef.{task_at, resource_at};
+ghost use Rattle.std.specs.Prelude.{◌≡◌, ℕ, ◌<◌, [], length, map, slice_index_or, IfOk};
 ghost use Rattle.sporadic_model.specs.Seen.{parts_seen, task_seen, resource_seen};
-ghost use Rattle.sporadic_model.specs.Users.{ceiling_of};
-ghost use Rattle.sporadic_model.specs.Accepted.{IsAccepted};
-ghost use Rattle.sporadic_model.specs.Demands.{demand_for, demands_in, demand_in, AreCeilings};
+ghost use Rattle.sporadic_model.specs.Demands.{demand_for, demands_in, demand_in};
 
-use crate::ids::TaskId;
 use crate::lookup::entry_for;
 use crate::parts::{Parts, ResourcePart, TaskPart};
 use std::alloc::{AllocError, Global};
@@ -67,44 +63,4 @@ pub(crate) fn demand_at(demands: &[Vec<Demand>], x: usize, q: usize) -> Demand
     ensures { result ≡ demand_in (map (λ row. row.items) demands.now) x q }
 {
     demands[x][q]
-}
-
-/// The highest task that uses resource `q`.
-fn highest_user(parts: &Parts, demands: &[Vec<Demand>], q: usize) -> Option<TaskId>
-    requires accepted { IsAccepted (parts_seen parts.now) }
-    requires kept { map (λ row. row.items) demands.now ≡ demands_in (parts_seen parts.now) }
-    requires resource { q < length (parts_seen parts.now).resources }
-    ensures { option_map (λ x. x.0) result ≡ ceiling_of (parts_seen parts.now) q }
-{
-    for x in 0..parts.tasks.len() {
-        if demand_at(demands, x, q).count > 0 {
-            return Some(TaskId(x as u32));
-        }
-    }
-    None
-}
-
-/// The ceiling of each resource.
-pub(crate) fn ceilings_of(
-    alloc: Global,
-    parts: &Parts,
-    demands: &[Vec<Demand>],
-) -> Result<Vec<Option<TaskId>>, AllocError>
-    requires accepted { IsAccepted (parts_seen parts.now) }
-    requires kept { map (λ row. row.items) demands.now ≡ demands_in (parts_seen parts.now) }
-    ensures { IfOk result (λ v. AreCeilings (parts_seen parts.now) v.items) }
-{
-    let mut ceilings = Vec::with_capacity(alloc, parts.resources.len())?;
-    for q in 0..parts.resources.len() {
-        ceilings.push(highest_user(parts, demands, q))?;
-    }
-    Ok(ceilings)
-}
-
-/// The ceiling of resource `q`.
-pub(crate) fn ceiling_at(ceilings: &[Option<TaskId>], q: usize) -> Option<TaskId>
-    requires { q < length ceilings.now }
-    ensures { result ≡ slice_index_or ceilings.now q None }
-{
-    ceilings[q]
 }

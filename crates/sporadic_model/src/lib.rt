@@ -2,6 +2,7 @@
 //! accepted set answers. Tasks stand from the highest base priority to the lowest.
 #![tactic(auto)]
 
+mod boosts;
 mod demands;
 mod ids;
 mod jobs;
@@ -13,6 +14,7 @@ mod parts;
 mod refusal;
 mod set_laws;
 mod task_set;
+mod users;
 
 pub use ids::{Protocol, ResourceId, TaskId};
 pub use jobs::jobs_in;

@@ -1,21 +1,24 @@
-ghost use Rattle.std.specs.Prelude.{◌≡◌, ℕ, ◌+◌, ◌<◌, ◌≤◌, length, IfOk, IfErr, IfSome, IfNone, IsTrue, option_map, find};
+ghost use Rattle.std.specs.Prelude.{◌≡◌, ℕ, ◌+◌, ◌<◌, ◌≤◌, length, IfOk, IfErr, IfSome, IfNone, IsTrue, option_map, map};
+ghost use Rattle.std.specs.List.{All};
 ghost use Rattle.sporadic_model.specs.SetDef.{task_at, resource_at, is_higher_local, latest_bound};
-ghost use Rattle.sporadic_model.specs.Users.{numbers, entry_of, count_of, length_of, is_remote_user, ceiling_of};
+ghost use Rattle.sporadic_model.specs.Users.{count_of, length_of, used_by, users_of, ceiling_of};
 ghost use Rattle.sporadic_model.specs.Users.{remote_ceiling_of, task_with_name, resource_with_name};
 ghost use Rattle.sporadic_model.specs.Seen.{parts_seen, task_seen, resource_seen, request_seen};
 ghost use Rattle.sporadic_model.specs.Refusals.{Judged};
 ghost use Rattle.sporadic_model.specs.Demands.{IsDemand};
 ghost use Rattle.sporadic_model.specs.Accepted.{IsAccepted, TaskNumbers, RequestNumbers, EntryNumbers, SetSizes};
 ghost use Rattle.sporadic_model.specs.Accepted.{AreNamed, AreHomes, AreEntries, IsHighestUser, HasNoUser};
-ghost use Rattle.sporadic_model.specs.Accepted.{IsHighestRemoteUser, HasNoRemoteUser, IsBoost};
+ghost use Rattle.sporadic_model.specs.Accepted.{IsBoost};
 
-use crate::demands::{Demand, ceiling_at, ceilings_of, demand_at, demands_of};
+use crate::boosts::{boost_at, boosts_of_processors};
+use crate::demands::{Demand, demand_at, demands_of};
 use crate::ids::{ResourceId, TaskId};
 use crate::judging::first_refusal;
 use crate::limits::{MOST_COUNT, MOST_PROCESSORS, MOST_RESOURCES, MOST_TASKS, MOST_TICKS};
 use crate::lookup::{place_of_resource, place_of_task, resource_part, task_part};
 use crate::parts::{Parts, ResourcePart, TaskPart};
 use crate::refusal::ModelRefusal;
+use crate::users::{used_at, used_by_tasks, users_at, users_of_resources};
 use std::alloc::Global;
 use std::marker::Model;
 
@@ -27,8 +30,12 @@ pub struct TaskSet {
     parts: Parts,
     // What each task may ask of each resource: a row per task, and in it a demand per resource.
     demands: Vec<Vec<Demand>>,
-    // The highest user of each resource.
-    ceilings: Vec<Option<TaskId>>,
+    // The resources that each task uses, in order.
+    used: Vec<Vec<ResourceId>>,
+    // The tasks that use each resource, from the highest to the lowest.
+    users: Vec<Vec<TaskId>>,
+    // The ceilings as each processor sees them: a row per processor, from 0, and in it an entry per resource.
+    boosts: Vec<Vec<Option<TaskId>>>,
 }
 
 impl Model for TaskSet {
@@ -47,8 +54,9 @@ impl TaskSet {
     /// Accepts the parts, or names the first refusal that is due. The refusals are tried in the order
     /// in which they stand in [`ModelRefusal`], each over the whole set, and each names the first place
     /// in the order of resources, then tasks, then a task's request entries. The set keeps the parts as
-    /// they are. Only what is accepted takes memory: for what each task may ask of each resource, and for
-    /// the ceilings of the resources; where that is refused, the answer is `Memory`.
+    /// they are. Only what is accepted takes memory: for what each task may ask of each resource, for the
+    /// resources that each task uses, for the tasks that use each resource, and for the ceiling of each
+    /// resource as each processor sees it; where that is refused, the answer is `Memory`.
     pub fn new(alloc: Global, parts: Parts) -> Result<TaskSet, ModelRefusal>
         ensures { Judged result (parts_seen parts) }
     {
@@ -65,11 +73,15 @@ impl TaskSet {
         ensures err { IfErr result (λ refusal. refusal ≡ ModelRefusal.Memory) }
     {
         let demands = demands_of(alloc, &parts)?;
-        let ceilings = ceilings_of(alloc, &parts, &demands)?;
+        let used = used_by_tasks(alloc, &parts, &demands)?;
+        let users = users_of_resources(alloc, &parts, &demands)?;
+        let boosts = boosts_of_processors(alloc, &parts, &users)?;
         Ok(TaskSet {
             parts,
             demands,
-            ceilings,
+            used,
+            users,
+            boosts,
         })
     }
 
@@ -251,6 +263,24 @@ impl TaskSet {
         self.demand(x, q).length
     }
 
+    /// The resources that the task's jobs may request, in order.
+    pub fn used_by(&self, x: TaskId) -> &[ResourceId]
+        requires { x.0 < length self.now.tasks }
+        ensures value { map (λ q. q.0) result.now ≡ used_by self.now x.0 }
+        ensures within { All (λ q. q.0 < length self.now.resources) result.now }
+    {
+        used_at(&self.used, x.0 as usize)
+    }
+
+    /// The tasks whose jobs may request the resource, from the highest to the lowest.
+    pub fn users(&self, q: ResourceId) -> &[TaskId]
+        requires { q.0 < length self.now.resources }
+        ensures value { map (λ x. x.0) result.now ≡ users_of self.now q.0 }
+        ensures within { All (λ x. x.0 < length self.now.tasks) result.now }
+    {
+        users_at(&self.users, q.0 as usize)
+    }
+
     /// The processor at which the resource's requests run, where one was given.
     pub fn home(&self, q: ResourceId) -> Option<u32>
         requires { q.0 < length self.now.resources }
@@ -272,31 +302,16 @@ impl TaskSet {
         ensures within { IfSome result (λ x. x.0 < length self.now.tasks) }
         ensures none { IfNone result (HasNoUser self.now q.0) }
     {
-        ceiling_at(&self.ceilings, q.0 as usize)
+        self.users(q).first().copied()
     }
 
-    /// Does the task use the resource, from another processor than `k`?
-    fn is_user_beyond(&self, x: TaskId, q: ResourceId, k: u32) -> bool
-        requires task { x.0 < length self.now.tasks }
+    /// The ceiling of the resource as processor `k` sees it, where the set has it or it is 0.
+    fn kept_boost(&self, q: ResourceId, k: u32) -> Option<TaskId>
         requires resource { q.0 < length self.now.resources }
-        ensures { result ≡ is_remote_user self.now q.0 k x.0 }
+        requires processor { k ≤ self.now.processors }
+        ensures { option_map (λ x. x.0) result ≡ remote_ceiling_of self.now q.0 k }
     {
-        self.count(x, q) > 0 && self.processor(x) != k
-    }
-
-    /// The highest task that uses the resource and isn't on processor `k`.
-    fn remote_ceiling(&self, q: ResourceId, k: u32) -> Option<TaskId>
-        requires { q.0 < length self.now.resources }
-        ensures value { option_map (λ x. x.0) result ≡ find (is_remote_user self.now q.0 k) (numbers (length self.now.tasks)) }
-        ensures highest { IfSome result (λ x. IsHighestRemoteUser self.now q.0 k x.0) }
-        ensures none { IfNone result (HasNoRemoteUser self.now q.0 k) }
-    {
-        for x in 0..self.tasks() {
-            if self.is_user_beyond(TaskId(x), q, k) {
-                return Some(TaskId(x));
-            }
-        }
-        None
+        boost_at(&self.boosts, k as usize, q.0 as usize)
     }
 
     /// The ceiling at which a job on processor `k` that holds the resource runs: the highest task that
@@ -309,10 +324,11 @@ impl TaskSet {
         ensures within { IfSome result (λ x. x.0 < length self.now.tasks) }
         ensures none { IfNone result (HasNoUser self.now q.0) }
     {
-        match self.remote_ceiling(q, k) {
-            Some(x) => Some(x),
-            None => self.ceiling(q),
+        // no task is on a processor that the set doesn't have
+        if k as u64 > self.parts.processors {
+            return self.ceiling(q);
         }
+        self.kept_boost(q, k)
     }
 
     /// The task of this name; none exactly where no task has it.

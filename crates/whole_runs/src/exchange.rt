@@ -3,7 +3,7 @@
 ghost use Rattle.std.specs.Prelude.{◌≡◌, ◌≢◌, ℕ, ◌+◌, ◌<◌, ◌/◌, ◌%◌, List, length, pos, ◌<ℤ◌, IfOk};
 ghost use Rattle.std.specs.Int.{bit_at};
 ghost use Rattle.program_form.specs.Program.{IsProgram, columns, height};
-ghost use Rattle.row_marks.specs.Marks.{HasWords, HasRow, IsMarked, AreKept};
+ghost use Rattle.row_marks.specs.Marks.{words_of, HasWords, HasRow, IsMarked, AreKept};
 ghost use Rattle.whole_rows.specs.Rows.{entry_at, AreSparse, AreBelow};
 ghost use Rattle.exchange_runs.specs.Exchange.{IsEntering};
 ghost use Rattle.small_runs.specs.SmallRuns.{SmallReached};
@@ -22,6 +22,7 @@ use crate::reading::{coefficient_at, objective};
 use crate::stands::Stand;
 use crate::start::first_row;
 use crate::stops::Halt;
+use crate::tableau::{Lines, Tableau};
 use program_form::SparseProgram;
 use row_marks::RowMarks;
 use std::alloc::{AllocError, Global};
@@ -122,23 +123,30 @@ fn take_all(
     alloc: Global,
     program: &SparseProgram,
     rows: &mut [Option<WholeRow>],
-    column: &[Entry],
+    lines: &Lines,
     k: usize,
     r: usize,
-    pivot: &Pivot,
 ) -> Result<(), Halt>
-    requires sparse { AreSparse column.now }
-    requires rows { AreBelow (length rows.old) column.now }
+    requires sparse { AreSparse lines.now.column.items }
+    requires rows { AreBelow (length rows.old) lines.now.column.items }
     requires places { (i : ℕ) → i < length rows.old → HasPlaces program.now i (row_at rows.old i) }
     requires place { k < columns program.now }
-    requires below { AreBelow (columns program.now) pivot.now.entries }
-    ensures { GivesOrStops result (λ _. AreTakenTo (length column.now) program.now rows.old rows.new column.now k r pivot.now)
-        (IsSomeTooLarge program.now rows.old k r pivot.now) }
+    requires below { AreBelow (columns program.now) lines.now.pivot.entries }
+    ensures { GivesOrStops result
+        (λ _. AreTakenTo (length lines.now.column.items) program.now rows.old rows.new lines.now.column.items k r lines.now.pivot)
+        (IsSomeTooLarge program.now rows.old k r lines.now.pivot) }
 {
-    for j in 0..column.len() {
-        let cell = column[j];
+    for j in 0..lines.column.len() {
+        let cell = lines.column[j];
         if cell.place != r {
-            take_from(alloc, program, &mut rows[cell.place], cell.place, k, pivot)?;
+            take_from(
+                alloc,
+                program,
+                &mut rows[cell.place],
+                cell.place,
+                k,
+                &lines.pivot,
+            )?;
         }
     }
     Ok(())
@@ -149,23 +157,22 @@ fn exchange(
     alloc: Global,
     program: &SparseProgram,
     rows: &mut [Option<WholeRow>],
-    column: &[Entry],
+    lines: &mut Lines,
     k: usize,
     r: usize,
-    pivot: &mut Pivot,
 ) -> Result<(), Halt>
     requires row_each { length rows.old ≡ height program.now + 1 }
     requires places { (i : ℕ) → i < length rows.old → HasPlaces program.now i (row_at rows.old i) }
     requires small { AreSmallRows program.now rows.old }
-    requires column { IsColumn program.now rows.old k column.now }
+    requires column { IsColumn program.now rows.old k lines.old.column.items }
     requires place { k < columns program.now }
     requires row { r < height program.now }
     requires above { pos 0 <ℤ num_seen program.now (row_at rows.old r) r k }
-    ensures { GivesOrStops result (λ _. ExchangesRows program.now rows.old rows.new k r pivot.new)
+    ensures { GivesOrStops result (λ _. ExchangesRows program.now rows.old rows.new k r lines.new.pivot)
         (AreTooLarge program.now rows.old k r) }
 {
-    divide(alloc, program, &mut rows[r], r, k, pivot)?;
-    take_all(alloc, program, rows, column, k, r, pivot)?;
+    divide(alloc, program, &mut rows[r], r, k, &mut lines.pivot)?;
+    take_all(alloc, program, rows, lines, k, r)?;
     Ok(())
 }
 
@@ -174,7 +181,7 @@ fn exchange(
 #[inline(never)]
 fn join_word(marks: &mut RowMarks, entries: &[Entry], w: usize, bits: u64)
     requires words { (m : ℕ) → m < length entries.now → HasWords marks.old (entry_at entries.now m).place }
-    requires word { w < marks.old.words }
+    requires word { w < words_of marks.old }
     ensures kept { AreKept marks.old marks.new }
     ensures joined { (m i : ℕ) → m < length entries.now → i / 64 ≡ w → bit_at bits (i % 64) ≡ 1
         → IsMarked marks.new (entry_at entries.now m).place i }
@@ -201,48 +208,56 @@ fn join_marks(marks: &mut RowMarks, entries: &[Entry], k: usize)
     }
 }
 
-// The exchange of the run where variable e enters, which stands outside at place k. Its column is read into `column`, and the row that
-// is taken from the others into `pivot`. The answer is where to look for the next variable that enters: none below it does. No program is
-// unbounded, so in a run some row leaves.
+// The exchange of the run where variable e enters, which stands outside at place k. The answer is where to look for the next variable that
+// enters: none below it does. No program is unbounded, so in a run some row leaves.
 pub(crate) fn step(
     alloc: Global,
     program: &SparseProgram,
-    rows: &mut [Option<WholeRow>],
-    marks: &mut RowMarks,
-    basis: &mut [usize],
-    stands: &mut [Stand],
-    outside: &mut [usize],
+    tableau: &mut Tableau,
+    lines: &mut Lines,
     e: usize,
     k: usize,
-    column: &mut Vec<Entry>,
-    pivot: &mut Pivot,
 ) -> Result<usize, Halt>
     requires program { IsProgram program.now }
-    requires size { HasSize program.now rows.old basis.old stands.old }
-    requires stands { AreStands program.now basis.old stands.old }
-    requires small { AreSmallRows program.now rows.old }
-    requires marked { AreMarked program.now rows.old marks.old }
-    requires enters { IsEntering program.now (table_seen program.now rows.old basis.old stands.old) e }
-    requires place { stand_at stands.old e ≡ Outside k }
-    requires placed { ArePlaced program.now outside.old stands.old }
-    requires reached { (n : ℕ) × SmallReached program.now n (table_seen program.now rows.old basis.old stands.old) }
-    ensures next { Steps result program.now e rows.old basis.old stands.old rows.new basis.new stands.new }
-    ensures small { IfOk result (λ _. AreSmallRows program.now rows.new) }
-    ensures marked { IfOk result (λ _. AreMarked program.now rows.new marks.new) }
-    ensures placed { IfOk result (λ _. ArePlaced program.now outside.new stands.new) }
-    ensures earlier { IfOk result (λ from. IsFrom program.now rows.new stands.new from) }
+    requires size { HasSize program.now tableau.old.rows.items tableau.old.basis.items tableau.old.stands.items }
+    requires stands { AreStands program.now tableau.old.basis.items tableau.old.stands.items }
+    requires small { AreSmallRows program.now tableau.old.rows.items }
+    requires marked { AreMarked program.now tableau.old.rows.items tableau.old.marks }
+    requires enters { IsEntering program.now
+        (table_seen program.now tableau.old.rows.items tableau.old.basis.items tableau.old.stands.items) e }
+    requires place { stand_at tableau.old.stands.items e ≡ Outside k }
+    requires placed { ArePlaced program.now tableau.old.outside.items tableau.old.stands.items }
+    requires reached { (n : ℕ)
+        × SmallReached program.now n (table_seen program.now tableau.old.rows.items tableau.old.basis.items tableau.old.stands.items) }
+    ensures next { Steps result program.now e tableau.old.rows.items tableau.old.basis.items tableau.old.stands.items
+        tableau.new.rows.items tableau.new.basis.items tableau.new.stands.items }
+    ensures small { IfOk result (λ _. AreSmallRows program.now tableau.new.rows.items) }
+    ensures marked { IfOk result (λ _. AreMarked program.now tableau.new.rows.items tableau.new.marks) }
+    ensures placed { IfOk result (λ _. ArePlaced program.now tableau.new.outside.items tableau.new.stands.items) }
+    ensures earlier { IfOk result (λ from. IsFrom program.now tableau.new.rows.items tableau.new.stands.items from) }
 {
-    read_column(column, program, rows, marks, k)?;
-    let r = match leaving(program, rows, basis, column) {
+    read_column(
+        &mut lines.column,
+        program,
+        &tableau.rows,
+        &mut tableau.marks,
+        k,
+    )?;
+    let r = match leaving(program, &tableau.rows, &tableau.basis, &lines.column) {
         Some(r) => r,
         None => unreachable!(),
     };
-    exchange(alloc, program, rows, column, k, r, pivot)?;
-    join_marks(marks, pivot.entries(), k);
-    let left = basis[r];
-    stands[e] = Stand::Basic(r);
-    stands[left] = Stand::Outside(k);
-    basis[r] = e;
-    outside[k] = left;
-    Ok(least_above(objective(program, rows), outside, pivot.entries(), e))
+    exchange(alloc, program, &mut tableau.rows, lines, k, r)?;
+    join_marks(&mut tableau.marks, lines.pivot.entries(), k);
+    let left = tableau.basis[r];
+    tableau.stands[e] = Stand::Basic(r);
+    tableau.stands[left] = Stand::Outside(k);
+    tableau.basis[r] = e;
+    tableau.outside[k] = left;
+    Ok(least_above(
+        objective(program, &tableau.rows),
+        &tableau.outside,
+        lines.pivot.entries(),
+        e,
+    ))
 }

@@ -19,12 +19,14 @@ mod reading;
 mod stands;
 mod start;
 mod stops;
+mod tableau;
 
 use choice::entering;
 use end::finish;
 use exchange::step;
-use start::{first_basis, first_marks, first_outside, first_rows, first_stands};
+use start::first_tableau;
 pub use stops::Halt;
+use tableau::Lines;
 
 /// The end of an exchange run.
 #[derive(Debug, Drop)]
@@ -48,36 +50,22 @@ pub struct Ended {
 pub fn run_whole(alloc: Global, program: &SparseProgram, units: u64) -> Result<Ended, Halt>
     ensures { Runs result program.now units }
 {
-    let mut rows = first_rows(alloc, program)?;
-    let mut marks = first_marks(alloc, program)?;
-    let mut basis = first_basis(alloc, program)?;
-    let mut stands = first_stands(alloc, program)?;
-    let mut outside = first_outside(alloc, program)?;
-    let mut column = Vec::with_capacity(alloc, program.rows() as usize + 1)?;
-    let mut pivot = Pivot::none(alloc);
+    let mut tableau = first_tableau(alloc, program)?;
+    let mut lines = Lines {
+        column: Vec::with_capacity(alloc, program.rows() as usize + 1)?,
+        pivot: Pivot::none(alloc),
+    };
     // no variable below it has a number above zero in the objective row
     let mut from = 0;
     for exchanges in 0..units {
-        let (e, k) = match entering(program, &rows, &stands, from) {
+        let (e, k) = match entering(program, &tableau.rows, &tableau.stands, from) {
             Some(found) => found,
-            None => return finish(alloc, program, &rows, &stands, exchanges),
+            None => return finish(alloc, program, &tableau.rows, &tableau.stands, exchanges),
         };
         if exchanges + 1 == units {
             return Err(Halt::Units);
         }
-        from = step(
-            alloc,
-            program,
-            &mut rows,
-            &mut marks,
-            &mut basis,
-            &mut stands,
-            &mut outside,
-            e,
-            k,
-            &mut column,
-            &mut pivot,
-        )?;
+        from = step(alloc, program, &mut tableau, &mut lines, e, k)?;
     }
     Err(Halt::Units)
 }

@@ -1,4 +1,4 @@
-//! The rows, the basis, the stands and the marks of the first table.
+//! The first tableau: its rows, its basis, its stands and its marks.
 
 ghost use Rattle.std.specs.Prelude.{◌≡◌, ◌≢◌, ℕ, ◌<◌, ◌≤◌, ◌^◌, [], pos, length, slice_index_or, IfOk, OnOk};
 ghost use Rattle.program_form.specs.Program.{columns, height, cost};
@@ -10,6 +10,7 @@ ghost use Rattle.whole_runs.specs.Starts.{IsFirstRow, IsCostRow, AreFirstRows, I
 ghost use Rattle.whole_runs.specs.Starts.{AreFirstOutside, AreFirstMarks};
 
 use crate::stands::Stand;
+use crate::tableau::Tableau;
 use program_form::{Coefficient, SparseProgram};
 use row_marks::RowMarks;
 use std::alloc::{AllocError, Global};
@@ -95,10 +96,7 @@ fn cost_row(alloc: Global, program: &SparseProgram) -> Result<WholeRow, AllocErr
 }
 
 // The rows of the first table: none of the program's is touched, and the objective row is the last.
-pub(crate) fn first_rows(
-    alloc: Global,
-    program: &SparseProgram,
-) -> Result<Vec<Option<WholeRow>>, AllocError>
+fn first_rows(alloc: Global, program: &SparseProgram) -> Result<Vec<Option<WholeRow>>, AllocError>
     ensures { IfOk result (λ rows. AreFirstRows program.now rows.items) }
 {
     let mut rows = Vec::with_capacity(alloc, program.rows() as usize + 1)?;
@@ -110,7 +108,7 @@ pub(crate) fn first_rows(
 }
 
 // The slacks, which are the first basis.
-pub(crate) fn first_basis(alloc: Global, program: &SparseProgram) -> Result<Vec<usize>, AllocError>
+fn first_basis(alloc: Global, program: &SparseProgram) -> Result<Vec<usize>, AllocError>
     ensures { IfOk result (λ basis. IsFirstBasis program.now basis.items) }
 {
     let mut basis = Vec::with_capacity(alloc, program.rows() as usize)?;
@@ -121,10 +119,7 @@ pub(crate) fn first_basis(alloc: Global, program: &SparseProgram) -> Result<Vec<
 }
 
 // The columns, each at its own place.
-pub(crate) fn first_outside(
-    alloc: Global,
-    program: &SparseProgram,
-) -> Result<Vec<usize>, AllocError>
+fn first_outside(alloc: Global, program: &SparseProgram) -> Result<Vec<usize>, AllocError>
     ensures { IfOk result (λ outside. AreFirstOutside program.now outside.items) }
 {
     let mut outside = Vec::with_capacity(alloc, program.columns() as usize)?;
@@ -147,7 +142,7 @@ fn push_columns(stands: &mut Vec<Stand>, count: usize) -> Result<(), AllocError>
 }
 
 // The stands of the first table.
-pub(crate) fn first_stands(alloc: Global, program: &SparseProgram) -> Result<Vec<Stand>, AllocError>
+fn first_stands(alloc: Global, program: &SparseProgram) -> Result<Vec<Stand>, AllocError>
     ensures { IfOk result (λ stands. AreFirstStands program.now stands.items) }
 {
     let columns = program.columns() as usize;
@@ -186,7 +181,7 @@ fn mark_costs(marks: &mut RowMarks, program: &SparseProgram)
 }
 
 // The marks of the first rows, the objective row among them.
-pub(crate) fn first_marks(alloc: Global, program: &SparseProgram) -> Result<RowMarks, AllocError>
+fn first_marks(alloc: Global, program: &SparseProgram) -> Result<RowMarks, AllocError>
     ensures { IfOk result (AreFirstMarks program.now) }
 {
     let rows = program.rows() as usize;
@@ -196,4 +191,21 @@ pub(crate) fn first_marks(alloc: Global, program: &SparseProgram) -> Result<RowM
         mark_all(&mut marks, program.coefficients(i), i);
     }
     Ok(marks)
+}
+
+// The first tableau.
+pub(crate) fn first_tableau(alloc: Global, program: &SparseProgram) -> Result<Tableau, AllocError>
+    ensures rows { IfOk result (λ t. AreFirstRows program.now t.rows.items) }
+    ensures marks { IfOk result (λ t. AreFirstMarks program.now t.marks) }
+    ensures basis { IfOk result (λ t. IsFirstBasis program.now t.basis.items) }
+    ensures stands { IfOk result (λ t. AreFirstStands program.now t.stands.items) }
+    ensures outside { IfOk result (λ t. AreFirstOutside program.now t.outside.items) }
+{
+    Ok(Tableau {
+        rows: first_rows(alloc, program)?,
+        marks: first_marks(alloc, program)?,
+        basis: first_basis(alloc, program)?,
+        stands: first_stands(alloc, program)?,
+        outside: first_outside(alloc, program)?,
+    })
 }

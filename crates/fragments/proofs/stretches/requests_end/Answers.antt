@@ -1,7 +1,14 @@
 use Rattle.std.proofs.Common.{length, arith, sym, ◌∙◌}
 use Rattle.std.proofs.lemmas.Bool.{eqb-true, eqb-false}
-use Rattle.fragments.proofs.Beginnings.{requests_more, requests_stop}
+use Rattle.fragments.proofs.Beginnings.{requests_begun, requests_more, requests_stop}
 use Rattle.fragments.proofs.stretches.requests_end.Goals as goal
+
+pub loop-place-init : goal.loop-place-init
+loop-place-init c = record {
+  from = omega arith;
+  within = omega (arith, c.requires.first.within);
+  before = requests_begun c.args.x.0 c.args.q.0 c.args.from c.args.columns.now c.requires.from c.requires.first.here;
+}
 
 pub loop-place-preserved : goal.loop-place-preserved
 loop-place-preserved c = record {

@@ -1,12 +1,8 @@
 use Rattle.std.proofs.Common.{map}
 use Rattle.bounded_sums.specs.Sums.{collect_below}
 use Rattle.fragments.specs.ColumnDef.{column_seen}
-use Rattle.fragments.specs.Stretches.{slot, BeginsAt}
 use Rattle.fragments.proofs.walks.add_per_task.Given as goal
 
 abbrev pub invariant-loop-x : goal.invariant-loop-x
-invariant-loop-x g l = record {
-  rows : g.T.RowTaker.takes l.initial.taker (map column_seen l.columns)
-      (collect_below l.x (g.R.PerTask.rows_of l.rows l.set l.i.0)) l.bounds l.taker;
-  place : BeginsAt (slot l.x 0) l.columns l.place;
-}
+invariant-loop-x g l = g.T.RowTaker.takes l.initial.taker (map column_seen l.columns)
+    (collect_below l.x (g.R.PerTask.rows_of l.rows l.set l.i.0)) l.bounds l.taker

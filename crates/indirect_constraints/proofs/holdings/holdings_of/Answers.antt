@@ -1,16 +1,36 @@
-use Rattle.std.proofs.Common.{◌≡◌, length, ◌∙◌, arith}
+use Rattle.std.proofs.Common.{arith, rules}
 use Rattle.std.specs.Prelude.{slice_index}
-use Rattle.indirect_constraints.proofs.ByTask.{holdings_parts}
-use Rattle.indirect_constraints.specs.Tables.{AreHoldings}
+use Rattle.std.specs.Vec.{with_items}
+use Rattle.std.proofs.lemmas.List.{with_items_is}
+use Rattle.indirect_constraints.proofs.Held.{own_in_total}
 use Rattle.indirect_constraints.proofs.holdings.holdings_of.Goals as goal
+
+pub leave_own-requires-clause-part : goal.leave_own-requires-clause-part
+leave_own-requires-clause-part c = λ x l.
+    let set = c.args.set.now in
+    let made = c.add_all_lower.new in
+    let numbers = with_items_is c.in_ok-numbers.numbers made.numbers (search rules) in
+    let totals = with_items_is c.in_ok-totals.totals made.totals (search rules) in
+    let parts = own_in_total set (slice_index c.args.bounds.now) c.args.i.0 x c.in_ok-numbers.numbers.items made.numbers
+    c.in_ok-totals.totals.items made.totals l (c.tasks-tasks.ensures.numbers x l).processor_to c.in_ok-numbers.ensures.each c.in_ok-numbers.ensures.others
+    (rw c.deref.ensures.value at c.in_ok-totals.ensures) (rw c.deref_mut.ensures.value at c.in_ok-add_all_lower.ensures.each)
+    (rw c.deref_mut-2.ensures.value at c.in_ok-add_all_lower.ensures.alone) in
+    rw (c.deref_mut-3.ensures.value, c.deref-2.ensures.value, numbers, totals) (omega (arith, parts))
 
 pub returns : goal.returns
 returns c =
     let set = c.args.set.now in
-    let end : c.loop-q.q ≡ length set.resources = omega (arith, c.loop-q-test.false, c.loop-q.auto.q-end, c.resources-q-end.ensures.value) in
-    record {
-      one_each = c.loop-q.invariant.one_each;
+    let made = c.add_all_lower.new in
+    let numbers = with_items_is c.in_ok-numbers.numbers made.numbers (search rules) in
+    let totals = with_items_is c.in_ok-totals.totals made.totals (search rules) in
+    let left = rw (c.deref_mut-3.ensures.value, c.deref-2.ensures.value, numbers, totals) at c.leave_own.ensures.each in
+    let written = with_items_is (with_items c.in_ok-numbers.numbers made.numbers) c.leave_own.new.numbers (search rules) in
+    rw written (record {
+      one_each = c.leave_own.ensures.one_each;
       each = λ x l.
-          let here = c.loop-q.invariant.each x l in
-          rw end at here ∙ holdings_parts set (slice_index c.args.bounds.now) c.args.i.0 x;
-    }
+          let parts = own_in_total set (slice_index c.args.bounds.now) c.args.i.0 x c.in_ok-numbers.numbers.items made.numbers
+          c.in_ok-totals.totals.items made.totals l (c.tasks-tasks.ensures.numbers x l).processor_to c.in_ok-numbers.ensures.each c.in_ok-numbers.ensures.others
+          (rw c.deref.ensures.value at c.in_ok-totals.ensures) (rw c.deref_mut.ensures.value at c.in_ok-add_all_lower.ensures.each)
+          (rw c.deref_mut-2.ensures.value at c.in_ok-add_all_lower.ensures.alone) in
+          omega (arith, parts, left x l);
+    })

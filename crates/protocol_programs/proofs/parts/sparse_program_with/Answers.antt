@@ -14,8 +14,8 @@ over-requires-clause-listed g c =
     let is = g.met.P.ProgramParts.is_program parts set i c.args.bounds.now c.requires.serves c.tasks-tasks.ensures.accepted c.requires.task
     c.requires.within in
     (sparse_is_program set seen (g.P.ProgramParts.columns parts set i) (g.P.ProgramParts.rows parts set i) c.args.bounds.now
-    c.in_ok-costs.costs.items c.new-taken.result c.take_rows.new.taker
-    c.in_ok-columns.ensures.columns worth c.new-taken.ensures c.in_ok-columns.ensures.rows is).0
+    c.in_ok-costs.costs.items c.in_ok-taken.taken c.take_rows.new.taker
+    c.in_ok-columns.ensures.columns worth c.in_ok-taken.ensures c.in_ok-columns.ensures.rows is).0
 
 pub over-requires-clause-program : goal.over-requires-clause-program
 over-requires-clause-program g c =
@@ -27,5 +27,5 @@ over-requires-clause-program g c =
     let is = g.met.P.ProgramParts.is_program parts set i c.args.bounds.now c.requires.serves c.tasks-tasks.ensures.accepted c.requires.task
     c.requires.within in
     (sparse_is_program set seen (g.P.ProgramParts.columns parts set i) (g.P.ProgramParts.rows parts set i) c.args.bounds.now
-    c.in_ok-costs.costs.items c.new-taken.result c.take_rows.new.taker
-    c.in_ok-columns.ensures.columns worth c.new-taken.ensures c.in_ok-columns.ensures.rows is).1
+    c.in_ok-costs.costs.items c.in_ok-taken.taken c.take_rows.new.taker
+    c.in_ok-columns.ensures.columns worth c.in_ok-taken.ensures c.in_ok-columns.ensures.rows is).1

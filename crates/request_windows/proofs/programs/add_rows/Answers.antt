@@ -10,4 +10,4 @@ returns g c =
     let set = c.args.set.now in
     let i = c.args.i.0 in
     g.met.T.RowTaker.behind c.args.taker.now c.add_rows.new.taker c.add_window_rows.new.taker (map column_seen c.args.columns.now)
-    (rows_of protocol.Dpcp set i) (window_rows set i) c.args.bounds.now c.in_ok-add_rows.ensures c.in_ok-add_window_rows.ensures
+    (rows_of protocol.Dpcp set i) (window_rows set i) c.args.bounds.now c.in_ok-places.ensures.rows c.in_ok-add_window_rows.ensures

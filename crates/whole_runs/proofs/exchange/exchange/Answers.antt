@@ -43,7 +43,7 @@ returns-in_err-take_all c =
     let stop = err_from_is_err_and c.from_residual-in_err-take_all.result c.from_residual-in_err-take_all.ensures.1 in
     rw (stop.1, stop.2)
     (stop_of c.in_err-take_all.field-0.0
-    (λ (u : Unit {0}). AreTakenTo (length c.args.column.now) p divided c.take_all.new.rows c.args.column.now c.args.k c.args.r
+    (λ (u : Unit {0}). AreTakenTo (length c.args.lines.now.column.items) p divided c.take_all.new.rows c.args.lines.now.column.items c.args.k c.args.r
     c.divide.new.pivot) _
     (IsSomeTooLarge p (set c.args.rows.now c.args.r c.divide.new.row) c.args.k c.args.r c.divide.new.pivot)
     (AreTooLarge p c.args.rows.now c.args.k c.args.r)
@@ -55,5 +55,5 @@ returns c =
     let inside : c.args.r < length c.args.rows.now = omega (arith, c.requires.row, c.requires.row_each) in
     let divides : Divides c.args.program.now c.args.r (row_at c.args.rows.now c.args.r) c.args.k c.divide.new.row c.divide.new.pivot
     = rw (get_or_default c.args.rows.now c.args.r c.index-rows-r.result None inside) at c.in_ok-divide.ensures in
-    exchanged_rows c.args.program.now c.args.rows.now c.take_all.new.rows c.args.column.now c.args.k c.args.r c.divide.new.pivot
+    exchanged_rows c.args.program.now c.args.rows.now c.take_all.new.rows c.args.lines.now.column.items c.args.k c.args.r c.divide.new.pivot
     c.divide.new.row inside c.requires.places c.requires.small c.requires.column divides c.in_ok-take_all.ensures

@@ -1,89 +1,174 @@
-use Rattle.std.proofs.Common.{length}
+use Rattle.std.proofs.Common.{◌≡◌, length, slice_index, ◌∙◌, arith, rules}
+use Rattle.std.proofs.lemmas.List.{get_or_default, with_items_is}
 use Rattle.std.proofs.lemmas.Result.{err_from_is_err_and}
 use Rattle.exchange_runs.specs.Exchange.{IsLeavingOver}
 use Rattle.small_runs.specs.SmallRuns.{IsSmall}
 use Rattle.row_marks.proofs.Marking.{words_within}
 use Rattle.program_form.specs.Program.{columns}
+use Rattle.whole_rows.specs.Rows.{entry_at}
 use Rattle.whole_runs.specs.States.{table_seen}
-use Rattle.whole_runs.specs.Columns.{IsColumn}
+use Rattle.whole_runs.specs.Columns.{IsColumn, AreMarked}
 use Rattle.whole_runs.specs.Takings.{ExchangesRows}
 use Rattle.whole_runs.proofs.Halting.{some_leaves, step_stop}
 use Rattle.whole_runs.proofs.Following.{step_placed, step_from}
-use Rattle.whole_runs.proofs.Stepping.{step_done, step_marked}
+use Rattle.whole_runs.proofs.Stepping.{pivot_places, step_done, step_marked}
 use Rattle.whole_runs.proofs.exchange.step.Goals as goal
 
 pub unreachable-requires : goal.unreachable-requires
 unreachable-requires c =
-    let column : IsColumn c.args.program.now c.args.rows.now c.args.k c.deref.result.now
-    = rw c.deref.ensures.value c.in_ok-read_column.ensures.column in
-    some_leaves c.args.program.now c.requires.reached.0 (table_seen c.args.program.now c.args.rows.now c.args.basis.now c.args.stands.now)
-    c.args.e c.requires.program c.requires.reached.1 c.requires.enters.within
-    (c.in-None.ensures.least c.args.e c.args.k c.args.stands.now column c.requires.enters.within c.requires.place)
+    let p = c.args.program.now in
+    let t = c.args.tableau.now in
+    let column : IsColumn c.args.program.now c.args.tableau.now.rows.items c.args.k c.read_column.new.column.items
+    = rw c.deref.ensures.value at c.in_ok-read_column.ensures.column in
+    some_leaves p c.requires.reached.0 (table_seen p t.rows.items t.basis.items t.stands.items) c.args.e c.requires.program
+    c.requires.reached.1 c.requires.enters.within
+    ((rw (c.deref-2.ensures.value, c.deref-3.ensures.value, c.deref-4.ensures.value) at c.in-None.ensures.least)
+    c.args.e c.args.k c.args.tableau.now.stands.items column c.requires.enters.within c.requires.place)
 
 pub returns-in_err-exchange-clause-next : goal.returns-in_err-exchange-clause-next
 returns-in_err-exchange-clause-next c =
     let p = c.args.program.now in
-    let column : IsColumn c.args.program.now c.args.rows.now c.args.k c.deref.result.now
-    = rw c.deref.ensures.value c.in_ok-read_column.ensures.column in
+    let t = c.args.tableau.now in
+    let column : IsColumn c.args.program.now c.args.tableau.now.rows.items c.args.k c.read_column.new.column.items
+    = rw c.deref.ensures.value at c.in_ok-read_column.ensures.column in
     let leaves : IsLeavingOver IsSmall c.args.program.now
-    (table_seen c.args.program.now c.args.rows.now c.args.basis.now c.args.stands.now) c.args.e c.in-Some.r
-    = c.in-Some.ensures.least c.args.e c.args.k c.args.stands.now column c.requires.enters.within c.requires.place in
+    (table_seen c.args.program.now c.args.tableau.now.rows.items c.args.tableau.now.basis.items c.args.tableau.now.stands.items)
+    c.args.e c.in-Some.r
+    = (rw (c.deref-2.ensures.value, c.deref-3.ensures.value, c.deref-4.ensures.value) at c.in-Some.ensures.least)
+    c.args.e c.args.k c.args.tableau.now.stands.items column c.requires.enters.within c.requires.place in
     let stop = err_from_is_err_and c.from_residual-in_err-exchange.result c.from_residual-in_err-exchange.ensures.1 in
     rw (stop.1, stop.2)
     (step_stop c.in_err-exchange.field-0.0
-    (λ (u : Unit {0}). ExchangesRows p c.args.rows.now c.exchange.new.rows c.args.k c.in-Some.r c.exchange.new.pivot)
-    p c.args.rows.now c.exchange.new.rows c.args.basis.now c.args.basis.now c.args.stands.now c.args.stands.now
-    c.args.e c.args.k c.in-Some.r c.requires.enters c.requires.place leaves c.in_err-exchange.ensures)
+    (λ (u : Unit {0}). ExchangesRows p c.args.tableau.now.rows.items c.exchange.new.rows c.args.k c.in-Some.r c.exchange.new.lines.pivot)
+    p t.rows.items _ t.basis.items t.basis.items t.stands.items t.stands.items
+    c.args.e c.args.k c.in-Some.r c.requires.enters c.requires.place leaves
+    (rw c.deref_mut.ensures.value at c.in_err-exchange.ensures))
+
+pub join_marks-requires-clause-words : goal.join_marks-requires-clause-words
+join_marks-requires-clause-words c =
+    let exchanged : ExchangesRows c.args.program.now c.args.tableau.now.rows.items c.exchange.new.rows c.args.k c.in-Some.r
+    c.exchange.new.lines.pivot
+    = rw c.deref_mut.ensures.value at c.in_ok-exchange.ensures in
+    let marked : AreMarked c.args.program.now c.args.tableau.now.rows.items c.read_column.new.marks
+    = rw c.deref.ensures.value at c.in_ok-read_column.ensures.marked in
+    let p = c.args.program.now in
+    let rows = c.args.tableau.now.rows.items in
+    rw c.entries.ensures.value
+    (λ m l. words_within (columns p) (length rows) (entry_at c.exchange.new.lines.pivot.entries m).place c.read_column.new.marks marked.room
+    (pivot_places p rows c.exchange.new.rows c.args.k c.in-Some.r c.exchange.new.lines.pivot exchanged m l))
 
 pub join_marks-requires-clause-from : goal.join_marks-requires-clause-from
 join_marks-requires-clause-from c =
-    words_within (columns c.args.program.now) (length c.args.rows.now) c.args.k c.read_column.new.marks
-    c.in_ok-read_column.ensures.marked.room (c.requires.stands.place c.args.e c.args.k c.requires.enters.within c.requires.place)
+    let marked : AreMarked c.args.program.now c.args.tableau.now.rows.items c.read_column.new.marks
+    = rw c.deref.ensures.value at c.in_ok-read_column.ensures.marked in
+    words_within (columns c.args.program.now) (length c.args.tableau.now.rows.items) c.args.k c.read_column.new.marks
+    marked.room (c.requires.stands.place c.args.e c.args.k c.requires.enters.within c.requires.place)
+
+pub index_mut-requires-2 : goal.index_mut-requires-2
+index_mut-requires-2 c =
+    let left : c.index-left.result.now ≡ slice_index c.args.tableau.now.basis.items c.in-Some.r =
+    c.index-left.ensures ∙ get_or_default c.args.tableau.now.basis.items c.in-Some.r c.index-left.result.now 0
+    (omega (arith, c.in-Some.ensures.within, c.requires.size.basic_each)) in
+    omega (
+      arith,
+      left,
+      c.requires.stands.basic_within c.in-Some.r c.in-Some.ensures.within,
+      c.requires.size.stand_each,
+    )
 
 pub returns-clause-next : goal.returns-clause-next
 returns-clause-next c =
     let p = c.args.program.now in
-    let column : IsColumn c.args.program.now c.args.rows.now c.args.k c.deref.result.now
-    = rw c.deref.ensures.value c.in_ok-read_column.ensures.column in
+    let t = c.args.tableau.now in
+    let column : IsColumn c.args.program.now c.args.tableau.now.rows.items c.args.k c.read_column.new.column.items
+    = rw c.deref.ensures.value at c.in_ok-read_column.ensures.column in
     let leaves : IsLeavingOver IsSmall c.args.program.now
-    (table_seen c.args.program.now c.args.rows.now c.args.basis.now c.args.stands.now) c.args.e c.in-Some.r
-    = c.in-Some.ensures.least c.args.e c.args.k c.args.stands.now column c.requires.enters.within c.requires.place in
-    step_done p c.args.rows.now c.exchange.new.rows c.args.basis.now c.args.stands.now c.args.e c.args.k c.in-Some.r
-    c.requires.size c.requires.stands c.requires.small c.requires.enters c.requires.place leaves c.in_ok-exchange.ensures.0
+    (table_seen c.args.program.now c.args.tableau.now.rows.items c.args.tableau.now.basis.items c.args.tableau.now.stands.items)
+    c.args.e c.in-Some.r
+    = (rw (c.deref-2.ensures.value, c.deref-3.ensures.value, c.deref-4.ensures.value) at c.in-Some.ensures.least)
+    c.args.e c.args.k c.args.tableau.now.stands.items column c.requires.enters.within c.requires.place in
+    let exchanged : ExchangesRows c.args.program.now c.args.tableau.now.rows.items c.exchange.new.rows c.args.k c.in-Some.r
+    c.exchange.new.lines.pivot
+    = rw c.deref_mut.ensures.value at c.in_ok-exchange.ensures in
+    let same = with_items_is c.args.tableau.now.rows c.exchange.new.rows
+    (c.in_ok-exchange.ensures.0.as_many ∙ c.deref_mut.ensures.len) in
+    let left : c.index-left.result.now ≡ slice_index c.args.tableau.now.basis.items c.in-Some.r =
+    c.index-left.ensures ∙ get_or_default c.args.tableau.now.basis.items c.in-Some.r c.index-left.result.now 0
+    (omega (arith, c.in-Some.ensures.within, c.requires.size.basic_each)) in
+    rw (same, left)
+    (step_done p t.rows.items c.exchange.new.rows t.basis.items t.stands.items c.args.e c.args.k c.in-Some.r
+    c.requires.size c.requires.stands c.requires.small c.requires.enters c.requires.place leaves exchanged.0)
+
+pub returns-clause-small : goal.returns-clause-small
+returns-clause-small c =
+    let same = with_items_is c.args.tableau.now.rows c.exchange.new.rows
+    (c.in_ok-exchange.ensures.0.as_many ∙ c.deref_mut.ensures.len) in
+    rw same (search rules)
 
 pub returns-clause-marked : goal.returns-clause-marked
 returns-clause-marked c =
     let p = c.args.program.now in
-    let column : IsColumn c.args.program.now c.args.rows.now c.args.k c.deref.result.now
-    = rw c.deref.ensures.value c.in_ok-read_column.ensures.column in
+    let t = c.args.tableau.now in
+    let column : IsColumn c.args.program.now c.args.tableau.now.rows.items c.args.k c.read_column.new.column.items
+    = rw c.deref.ensures.value at c.in_ok-read_column.ensures.column in
     let leaves : IsLeavingOver IsSmall c.args.program.now
-    (table_seen c.args.program.now c.args.rows.now c.args.basis.now c.args.stands.now) c.args.e c.in-Some.r
-    = c.in-Some.ensures.least c.args.e c.args.k c.args.stands.now column c.requires.enters.within c.requires.place in
-    step_marked p c.args.rows.now c.exchange.new.rows c.args.basis.now c.args.stands.now c.read_column.new.marks c.join_marks.new.marks
-    c.exchange.new.pivot c.args.e c.args.k c.in-Some.r
-    c.requires.size c.requires.stands c.requires.small c.requires.enters c.requires.place leaves c.in_ok-exchange.ensures
-    c.in_ok-read_column.ensures.marked c.join_marks.ensures.kept (rw (← c.entries.ensures.value) c.join_marks.ensures.joined)
+    (table_seen c.args.program.now c.args.tableau.now.rows.items c.args.tableau.now.basis.items c.args.tableau.now.stands.items)
+    c.args.e c.in-Some.r
+    = (rw (c.deref-2.ensures.value, c.deref-3.ensures.value, c.deref-4.ensures.value) at c.in-Some.ensures.least)
+    c.args.e c.args.k c.args.tableau.now.stands.items column c.requires.enters.within c.requires.place in
+    let exchanged : ExchangesRows c.args.program.now c.args.tableau.now.rows.items c.exchange.new.rows c.args.k c.in-Some.r
+    c.exchange.new.lines.pivot
+    = rw c.deref_mut.ensures.value at c.in_ok-exchange.ensures in
+    let marked : AreMarked c.args.program.now c.args.tableau.now.rows.items c.read_column.new.marks
+    = rw c.deref.ensures.value at c.in_ok-read_column.ensures.marked in
+    let same = with_items_is c.args.tableau.now.rows c.exchange.new.rows
+    (c.in_ok-exchange.ensures.0.as_many ∙ c.deref_mut.ensures.len) in
+    rw same
+    (step_marked p t.rows.items c.exchange.new.rows t.basis.items t.stands.items c.read_column.new.marks c.join_marks.new.marks
+    c.exchange.new.lines.pivot c.args.e c.args.k c.in-Some.r
+    c.requires.size c.requires.stands c.requires.small c.requires.enters c.requires.place leaves exchanged
+    marked c.join_marks.ensures.kept (rw (← c.entries.ensures.value) c.join_marks.ensures.joined))
 
 pub returns-clause-placed : goal.returns-clause-placed
 returns-clause-placed c =
     let p = c.args.program.now in
-    let column : IsColumn c.args.program.now c.args.rows.now c.args.k c.deref.result.now
-    = rw c.deref.ensures.value c.in_ok-read_column.ensures.column in
+    let t = c.args.tableau.now in
+    let column : IsColumn c.args.program.now c.args.tableau.now.rows.items c.args.k c.read_column.new.column.items
+    = rw c.deref.ensures.value at c.in_ok-read_column.ensures.column in
     let leaves : IsLeavingOver IsSmall c.args.program.now
-    (table_seen c.args.program.now c.args.rows.now c.args.basis.now c.args.stands.now) c.args.e c.in-Some.r
-    = c.in-Some.ensures.least c.args.e c.args.k c.args.stands.now column c.requires.enters.within c.requires.place in
-    step_placed p c.args.rows.now c.args.basis.now c.args.stands.now c.args.outside.now c.args.e c.args.k c.in-Some.r
-    c.requires.size c.requires.stands c.requires.enters c.requires.place leaves c.requires.placed
+    (table_seen c.args.program.now c.args.tableau.now.rows.items c.args.tableau.now.basis.items c.args.tableau.now.stands.items)
+    c.args.e c.in-Some.r
+    = (rw (c.deref-2.ensures.value, c.deref-3.ensures.value, c.deref-4.ensures.value) at c.in-Some.ensures.least)
+    c.args.e c.args.k c.args.tableau.now.stands.items column c.requires.enters.within c.requires.place in
+    let left : c.index-left.result.now ≡ slice_index c.args.tableau.now.basis.items c.in-Some.r =
+    c.index-left.ensures ∙ get_or_default c.args.tableau.now.basis.items c.in-Some.r c.index-left.result.now 0
+    (omega (arith, c.in-Some.ensures.within, c.requires.size.basic_each)) in
+    rw left
+    (step_placed p t.rows.items t.basis.items t.stands.items t.outside.items c.args.e c.args.k c.in-Some.r
+    c.requires.size c.requires.stands c.requires.enters c.requires.place leaves c.requires.placed)
 
 pub returns-clause-earlier : goal.returns-clause-earlier
 returns-clause-earlier c =
     let p = c.args.program.now in
-    let column : IsColumn c.args.program.now c.args.rows.now c.args.k c.deref.result.now
-    = rw c.deref.ensures.value c.in_ok-read_column.ensures.column in
+    let t = c.args.tableau.now in
+    let column : IsColumn c.args.program.now c.args.tableau.now.rows.items c.args.k c.read_column.new.column.items
+    = rw c.deref.ensures.value at c.in_ok-read_column.ensures.column in
     let leaves : IsLeavingOver IsSmall c.args.program.now
-    (table_seen c.args.program.now c.args.rows.now c.args.basis.now c.args.stands.now) c.args.e c.in-Some.r
-    = c.in-Some.ensures.least c.args.e c.args.k c.args.stands.now column c.requires.enters.within c.requires.place in
-    step_from p c.args.rows.now c.exchange.new.rows c.args.basis.now c.args.stands.now c.args.outside.now c.exchange.new.pivot
+    (table_seen c.args.program.now c.args.tableau.now.rows.items c.args.tableau.now.basis.items c.args.tableau.now.stands.items)
+    c.args.e c.in-Some.r
+    = (rw (c.deref-2.ensures.value, c.deref-3.ensures.value, c.deref-4.ensures.value) at c.in-Some.ensures.least)
+    c.args.e c.args.k c.args.tableau.now.stands.items column c.requires.enters.within c.requires.place in
+    let exchanged : ExchangesRows c.args.program.now c.args.tableau.now.rows.items c.exchange.new.rows c.args.k c.in-Some.r
+    c.exchange.new.lines.pivot
+    = rw c.deref_mut.ensures.value at c.in_ok-exchange.ensures in
+    let same = with_items_is c.args.tableau.now.rows c.exchange.new.rows
+    (c.in_ok-exchange.ensures.0.as_many ∙ c.deref_mut.ensures.len) in
+    let left : c.index-left.result.now ≡ slice_index c.args.tableau.now.basis.items c.in-Some.r =
+    c.index-left.ensures ∙ get_or_default c.args.tableau.now.basis.items c.in-Some.r c.index-left.result.now 0
+    (omega (arith, c.in-Some.ensures.within, c.requires.size.basic_each)) in
+    rw (same, left)
+    (step_from p t.rows.items c.exchange.new.rows t.basis.items t.stands.items t.outside.items c.exchange.new.lines.pivot
     c.objective.result.now c.args.e c.args.k c.in-Some.r c.least_above.result
-    c.requires.size c.requires.stands c.requires.small c.requires.enters c.requires.place leaves c.in_ok-exchange.ensures
-    c.requires.placed c.objective.ensures.row c.least_above.ensures.first (rw (← c.entries-2.ensures.value) c.least_above.ensures.each)
+    c.requires.size c.requires.stands c.requires.small c.requires.enters c.requires.place leaves exchanged
+    c.requires.placed (rw (c.deref-5.ensures.value, same) at c.objective.ensures.row) c.least_above.ensures.first
+    (rw (c.entries-2.ensures.value, c.deref-6.ensures.value, left) at c.least_above.ensures.each))

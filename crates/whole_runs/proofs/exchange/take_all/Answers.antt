@@ -1,4 +1,4 @@
-use Rattle.std.proofs.Common.{◌<◌, length, None, arith}
+use Rattle.std.proofs.Common.{◌≡◌, ◌<◌, length, None, pos, ◌∙◌, arith}
 use Rattle.std.proofs.lemmas.List.{get_or_default}
 use Rattle.std.proofs.lemmas.Result.{err_from_is_err_and}
 use Rattle.whole_rows.specs.Rows.{entry_at}
@@ -13,42 +13,54 @@ use Rattle.whole_runs.proofs.exchange.take_all.Goals.{then-cell-r+in_ok-take_fro
 
 pub take_from-requires-clause-places : goal.take_from-requires-clause-places
 take_from-requires-clause-places c =
-    let i = (entry_at c.args.column.now c.loop-j.j).place in
-    let row = c.requires.rows c.loop-j.j c.loop-j-test.true in
+    let i = (entry_at c.args.lines.now.column.items c.loop-j.j).place in
+    let listed : c.loop-j.j < length c.args.lines.now.column.items = omega (arith, c.loop-j-test.true) in
+    let cell : c.index-cell.result.now ≡ entry_at c.args.lines.now.column.items c.loop-j.j =
+    c.index-cell.ensures ∙ get_or_default c.args.lines.now.column.items c.loop-j.j c.index-cell.result.now
+    (record { place = 0; num = pos 0 }) listed in
+    let row = c.requires.rows c.loop-j.j listed in
     let inside : i < length c.loop-j.rows = omega (arith, row, c.loop-j.invariant.as_many) in
-    rw (get_or_default c.loop-j.rows i c.index-rows-cell.result None inside)
-    (next_places c.loop-j.j c.args.program.now c.args.rows.now c.loop-j.rows c.args.column.now c.args.k c.args.r c.args.pivot.now
-    c.requires.sparse c.requires.rows c.loop-j-test.true c.requires.places c.loop-j.invariant)
+    rw (cell, get_or_default c.loop-j.rows i c.index-rows-cell.result None inside)
+    (next_places c.loop-j.j c.args.program.now c.args.rows.now c.loop-j.rows c.args.lines.now.column.items c.args.k c.args.r c.args.lines.now.pivot
+    c.requires.sparse c.requires.rows listed c.requires.places c.loop-j.invariant)
 
 pub returns-in_err-take_from : goal.returns-in_err-take_from
 returns-in_err-take_from c =
     let p = c.args.program.now in
-    let i = (entry_at c.args.column.now c.loop-j.j).place in
-    let row = c.requires.rows c.loop-j.j c.loop-j-test.true in
+    let i = (entry_at c.args.lines.now.column.items c.loop-j.j).place in
+    let listed : c.loop-j.j < length c.args.lines.now.column.items = omega (arith, c.loop-j-test.true) in
+    let cell : c.index-cell.result.now ≡ entry_at c.args.lines.now.column.items c.loop-j.j =
+    c.index-cell.ensures ∙ get_or_default c.args.lines.now.column.items c.loop-j.j c.index-cell.result.now
+    (record { place = 0; num = pos 0 }) listed in
+    let row = c.requires.rows c.loop-j.j listed in
     let inside : i < length c.loop-j.rows = omega (arith, row, c.loop-j.invariant.as_many) in
     let stop = err_from_is_err_and c.from_residual.result c.from_residual.ensures.1 in
     rw (stop.1, stop.2)
     (stop_of c.in_err-take_from.field-0.0
-    (λ (u : Unit {0}). IsTaken p i (row_at c.loop-j.rows i) c.args.k c.args.pivot.now c.take_from.new.row) _
-    (IsTooLargeFor p i (row_at c.loop-j.rows i) c.args.k c.args.pivot.now)
-    (IsSomeTooLarge p c.args.rows.now c.args.k c.args.r c.args.pivot.now)
-    (λ large. large_listed c.loop-j.j p c.args.rows.now c.loop-j.rows c.args.column.now c.args.k c.args.r c.args.pivot.now
-    c.requires.sparse c.requires.rows c.loop-j-test.true c.if-cell-r.true c.loop-j.invariant large)
-    (rw (get_or_default c.loop-j.rows i c.index-rows-cell.result None inside) at c.in_err-take_from.ensures))
+    (λ (u : Unit {0}). IsTaken p i (row_at c.loop-j.rows i) c.args.k c.args.lines.now.pivot c.take_from.new.row) _
+    (IsTooLargeFor p i (row_at c.loop-j.rows i) c.args.k c.args.lines.now.pivot)
+    (IsSomeTooLarge p c.args.rows.now c.args.k c.args.r c.args.lines.now.pivot)
+    (λ large. large_listed c.loop-j.j p c.args.rows.now c.loop-j.rows c.args.lines.now.column.items c.args.k c.args.r c.args.lines.now.pivot
+    c.requires.sparse c.requires.rows listed (rw cell at c.if-cell-r.true) c.loop-j.invariant large)
+    (rw (cell, get_or_default c.loop-j.rows i c.index-rows-cell.result None inside) at c.in_err-take_from.ensures))
 
 pub loop-j-preserved : goal.loop-j-preserved
 loop-j-preserved c =
-    let i = (entry_at c.args.column.now c.loop-j.j).place in
-    let row = c.requires.rows c.loop-j.j c.loop-j-test.true in
+    let i = (entry_at c.args.lines.now.column.items c.loop-j.j).place in
+    let listed : c.loop-j.j < length c.args.lines.now.column.items = omega (arith, c.loop-j-test.true) in
+    let cell : c.index-cell.result.now ≡ entry_at c.args.lines.now.column.items c.loop-j.j =
+    c.index-cell.ensures ∙ get_or_default c.args.lines.now.column.items c.loop-j.j c.index-cell.result.now
+    (record { place = 0; num = pos 0 }) listed in
+    let row = c.requires.rows c.loop-j.j listed in
     let inside : i < length c.loop-j.rows = omega (arith, row, c.loop-j.invariant.as_many) in
     elim c.if-cell-r.branch [
       | then-cell-r+in_ok-take_from w ↦
-          rw w.rows-is
-          (taken_more c.loop-j.j c.args.program.now c.args.rows.now c.loop-j.rows w.take_from.new.row c.args.column.now c.args.k
-          c.args.r c.args.pivot.now c.requires.sparse c.requires.rows c.loop-j-test.true w.if-cell-r.true c.loop-j.invariant
-          (rw (get_or_default c.loop-j.rows i w.index-rows-cell.result None inside) at w.in_ok-take_from.ensures))
+          rw (w.rows-is, cell)
+          (taken_more c.loop-j.j c.args.program.now c.args.rows.now c.loop-j.rows w.take_from.new.row c.args.lines.now.column.items c.args.k
+          c.args.r c.args.lines.now.pivot c.requires.sparse c.requires.rows listed (rw cell at w.if-cell-r.true) c.loop-j.invariant
+          (rw (cell, get_or_default c.loop-j.rows i w.index-rows-cell.result None inside) at w.in_ok-take_from.ensures))
       | else-cell-r w ↦
           rw w.rows-is
-          (taken_past c.loop-j.j c.args.program.now c.args.rows.now c.loop-j.rows c.args.column.now c.args.k c.args.r c.args.pivot.now
-          w.if-cell-r.false c.loop-j.invariant)
+          (taken_past c.loop-j.j c.args.program.now c.args.rows.now c.loop-j.rows c.args.lines.now.column.items c.args.k c.args.r c.args.lines.now.pivot
+          (rw cell at w.if-cell-r.false) c.loop-j.invariant)
     ]

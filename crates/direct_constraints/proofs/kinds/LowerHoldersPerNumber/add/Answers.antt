@@ -1,7 +1,8 @@
-use Rattle.std.proofs.Common.{map, sym, ◌∙◌}
+use Rattle.std.proofs.Common.{◌∙◌, map, length, sym, arith}
 use Rattle.fragments.specs.ColumnDef.{column_seen}
+use Rattle.fragments.proofs.RowStretches.{stretch_of_lower, columns_of_lower}
 use Rattle.direct_constraints.specs.Rows.{lower_holder_row}
-use Rattle.direct_constraints.proofs.AskedColumns.{no_lower_holders}
+use Rattle.direct_constraints.proofs.AskedColumns.{no_lower_holders, lower_holders_alone}
 use Rattle.direct_constraints.proofs.kinds.LowerHoldersPerNumber.add.Goals as goal
 
 pub returns-then-not-uses : goal.returns-then-not-uses
@@ -10,3 +11,15 @@ returns-then-not-uses g c =
     g.met.T.RowTaker.missing c.args.taker.now (map column_seen c.args.columns.now) (lower_holder_row set c.args.i.0 c.args.number)
     c.args.bounds.now
     (no_lower_holders set c.args.i.0 c.args.number (sym c.uses.ensures ∙ c.if-not-uses.true) c.args.columns.now c.requires.fits.1)
+
+pub add_row_within-requires-clause-stretch : goal.add_row_within-requires-clause-stretch
+add_row_within-requires-clause-stretch g c =
+    let set = c.args.set.now in
+    let i = c.args.i.0 in
+    let q = c.args.number in
+    stretch_of_lower i c.args.columns.now (lower_holder_row set i q) c.args.self.now.from c.requires.fits.2 (lower_holders_alone set i q)
+
+pub add_row_within-requires-clause-over : goal.add_row_within-requires-clause-over
+add_row_within-requires-clause-over g c = columns_of_lower (length c.args.set.now.tasks) (length c.args.set.now.resources) c.args.i.0
+    c.args.columns.now c.args.self.now.from c.requires.known
+    (omega (arith, c.resources-resources.ensures.most, c.resources-resources.ensures.value)) c.requires.fits.2

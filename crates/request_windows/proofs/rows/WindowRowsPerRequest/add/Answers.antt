@@ -1,5 +1,5 @@
-use Rattle.std.proofs.Common.{refl}
-use Rattle.fragments.proofs.RowStretches.{stretch_of_requests}
+use Rattle.std.proofs.Common.{length, refl, arith}
+use Rattle.fragments.proofs.RowStretches.{stretch_of_requests, columns_of_requests}
 use Rattle.window_laws.specs.WindowRows.{window_row}
 use Rattle.request_windows.proofs.rows.WindowRowsPerRequest.add.Goals as goal
 
@@ -9,3 +9,9 @@ add_row_limited-requires-clause-stretch g c =
     let q = c.args.q.0 in
     stretch_of_requests x q c.args.columns.now (window_row c.args.set.now c.args.i.0 x q) c.args.stretch.0 c.args.stretch.1
     c.requires.stretch.from c.requires.stretch.to c.requires.stretch.order (λ column other. rw other refl)
+
+pub add_row_limited-requires-clause-over : goal.add_row_limited-requires-clause-over
+add_row_limited-requires-clause-over g c = columns_of_requests (length c.args.set.now.tasks) (length c.args.set.now.resources)
+    c.args.x.0 c.args.q.0 c.args.columns.now c.args.stretch.0 c.args.stretch.1 c.requires.known
+    (omega (arith, c.resources-resources.ensures.most, c.resources-resources.ensures.value)) c.requires.resource
+    c.requires.stretch.from c.requires.stretch.to

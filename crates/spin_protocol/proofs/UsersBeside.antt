@@ -1,0 +1,19 @@
+-- A resource is used beside a task where one of its users is there.
+use Rattle.std.proofs.Common.{◌≡◌, ℕ, ◌==◌, ◌&&◌, not, Bool, List, map, length, ◌∙◌}
+use Rattle.std.proofs.Math.Bool.{and_comm}
+use Rattle.std.specs.List.{list_any}
+use Rattle.bounded_sums.proofs.TestLaws.{any_below-agree}
+use Rattle.sporadic_model.specs.SetDef.{SetDef}
+use Rattle.sporadic_model.specs.Users.{is_user, users_of}
+use Rattle.sporadic_model.specs.declared.ids.TaskId.{TaskId}
+use Rattle.fragments.specs.Columns.{have_one_processor}
+use Rattle.fragments.proofs.KeptNumbers.{any_of_kept}
+use Rattle.spin_charging.specs.SpinPrograms.{is_used_beside}
+
+pub used_beside : (set : SetDef) (i q : ℕ) (users : List TaskId) → map (λ z. z.0) users ≡ users_of set q
+    → list_any (λ z. not (z.0 == i) && have_one_processor set z.0 i) users ≡ is_used_beside set i q
+used_beside set i q users same =
+    let beside : ℕ → Bool = λ z. not (z == i) && have_one_processor set z i in
+    any_of_kept (λ (z : TaskId). z.0) users (is_user set q) beside (length set.tasks) same
+    ∙ any_below-agree (length set.tasks) (λ z. is_user set q z && beside z) (λ z. beside z && is_user set q z)
+    (λ z l. and_comm (is_user set q z) (beside z))
