@@ -126,7 +126,8 @@ fn largest(alloc: Global) -> Result<String, AllocError> {
 fn reads_a_set_at_all_its_limits(rt: HostRuntime) -> Result<(), Fail> {
     let text = largest(rt.alloc())?;
     let set = set_from(rt.alloc(), text.as_str())?;
-    assert!(rt; set.tasks() == 64 && set.resources() == 32);
+    assert!(rt; set.tasks() == 64);
+    assert!(rt; set.resources() == 32);
     let (x, q) = (TaskId(63), ResourceId(31));
     assert_eq!(rt; set.task_name(x), "a_task_whose_name_has_32_bytes73");
     assert_eq!(rt; [set.period(x), set.cost(x)], [1_000_000_000; 2]);
