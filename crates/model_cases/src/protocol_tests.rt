@@ -221,8 +221,9 @@ fn gives_the_places_of_tasks(rt: HostRuntime) -> Result<(), Fail> {
     }
     let (i, mpcp) = (TaskId(3), Protocol::Mpcp);
     let columns = fragments::fragments(alloc, &set, mpcp, i)?;
-    columns_stand_in_order(&set, mpcp, i, &columns);
-    let places = task_places(alloc, &set, i, &PATH_BOUNDS, &columns)?;
+    let columns = columns.as_slice();
+    columns_stand_in_order(&set, mpcp, i, columns);
+    let places = task_places(alloc, &set, i, &PATH_BOUNDS, columns)?;
     let wanted = [
         place(0, 1),
         place(1, 1),
