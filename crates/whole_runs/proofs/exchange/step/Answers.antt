@@ -1,4 +1,5 @@
 use Rattle.std.proofs.Common.{◌≡◌, length, slice_index, ◌∙◌, arith, rules}
+use Rattle.std.specs.Vec.{with_items}
 use Rattle.std.proofs.lemmas.List.{get_or_default, with_items_is}
 use Rattle.std.proofs.lemmas.Result.{err_from_is_err_and}
 use Rattle.exchange_runs.specs.Exchange.{IsLeavingOver}
@@ -7,62 +8,55 @@ use Rattle.row_marks.proofs.Marking.{words_within}
 use Rattle.program_form.specs.Program.{columns}
 use Rattle.whole_rows.specs.Rows.{entry_at}
 use Rattle.whole_runs.specs.States.{table_seen}
-use Rattle.whole_runs.specs.Columns.{IsColumn, AreMarked}
 use Rattle.whole_runs.specs.Takings.{ExchangesRows}
 use Rattle.whole_runs.proofs.Halting.{some_leaves, step_stop}
 use Rattle.whole_runs.proofs.Following.{step_placed, step_from}
 use Rattle.whole_runs.proofs.Stepping.{pivot_places, step_done, step_marked}
+use Rattle.whole_runs.proofs.exchange.step.Tie.{the-claims, handed_clauses}
+use Rattle.whole_runs.proofs.exchange.step.Reads.{Pre, Post}
+use Rattle.whole_runs.proofs.exchange.step.Lts.{After-least_above}
 use Rattle.whole_runs.proofs.exchange.step.Goals as goal
 
 pub unreachable-requires : goal.unreachable-requires
 unreachable-requires c =
     let p = c.args.program.now in
     let t = c.args.tableau.now in
-    let column : IsColumn c.args.program.now c.args.tableau.now.rows.items c.args.k c.read_column.new.column.items
-    = rw c.deref.ensures.value at c.in_ok-read_column.ensures.column in
     some_leaves p c.requires.reached.0 (table_seen p t.rows.items t.basis.items t.stands.items) c.args.e c.requires.program
     c.requires.reached.1 c.requires.enters.within
     ((rw (c.deref-2.ensures.value, c.deref-3.ensures.value, c.deref-4.ensures.value) at c.in-None.ensures.least)
-    c.args.e c.args.k c.args.tableau.now.stands.items column c.requires.enters.within c.requires.place)
+    c.args.e c.args.k c.args.tableau.now.stands.items (rw c.deref.ensures.value at c.in_ok-read_column.ensures.column)
+    c.requires.enters.within c.requires.place)
 
 pub returns-in_err-exchange-clause-next : goal.returns-in_err-exchange-clause-next
 returns-in_err-exchange-clause-next c =
     let p = c.args.program.now in
     let t = c.args.tableau.now in
-    let column : IsColumn c.args.program.now c.args.tableau.now.rows.items c.args.k c.read_column.new.column.items
-    = rw c.deref.ensures.value at c.in_ok-read_column.ensures.column in
-    let leaves : IsLeavingOver IsSmall c.args.program.now
-    (table_seen c.args.program.now c.args.tableau.now.rows.items c.args.tableau.now.basis.items c.args.tableau.now.stands.items)
-    c.args.e c.in-Some.r
-    = (rw (c.deref-2.ensures.value, c.deref-3.ensures.value, c.deref-4.ensures.value) at c.in-Some.ensures.least)
-    c.args.e c.args.k c.args.tableau.now.stands.items column c.requires.enters.within c.requires.place in
     let stop = err_from_is_err_and c.from_residual-in_err-exchange.result c.from_residual-in_err-exchange.ensures.1 in
     rw (stop.1, stop.2)
     (step_stop c.in_err-exchange.field-0.0
     (λ (u : Unit {0}). ExchangesRows p c.args.tableau.now.rows.items c.exchange.new.rows c.args.k c.in-Some.r c.exchange.new.lines.pivot)
     p t.rows.items _ t.basis.items t.basis.items t.stands.items t.stands.items
-    c.args.e c.args.k c.in-Some.r c.requires.enters c.requires.place leaves
+    c.args.e c.args.k c.in-Some.r c.requires.enters c.requires.place
+    ((rw (c.deref-2.ensures.value, c.deref-3.ensures.value, c.deref-4.ensures.value) at c.in-Some.ensures.least)
+    c.args.e c.args.k c.args.tableau.now.stands.items (rw c.deref.ensures.value at c.in_ok-read_column.ensures.column)
+    c.requires.enters.within c.requires.place)
     (rw c.deref_mut.ensures.value at c.in_err-exchange.ensures))
 
 pub join_marks-requires-clause-words : goal.join_marks-requires-clause-words
 join_marks-requires-clause-words c =
-    let exchanged : ExchangesRows c.args.program.now c.args.tableau.now.rows.items c.exchange.new.rows c.args.k c.in-Some.r
-    c.exchange.new.lines.pivot
-    = rw c.deref_mut.ensures.value at c.in_ok-exchange.ensures in
-    let marked : AreMarked c.args.program.now c.args.tableau.now.rows.items c.read_column.new.marks
-    = rw c.deref.ensures.value at c.in_ok-read_column.ensures.marked in
     let p = c.args.program.now in
     let rows = c.args.tableau.now.rows.items in
     rw c.entries.ensures.value
-    (λ m l. words_within (columns p) (length rows) (entry_at c.exchange.new.lines.pivot.entries m).place c.read_column.new.marks marked.room
-    (pivot_places p rows c.exchange.new.rows c.args.k c.in-Some.r c.exchange.new.lines.pivot exchanged m l))
+    (λ m l. words_within (columns p) (length rows) (entry_at c.exchange.new.lines.pivot.entries m).place c.read_column.new.marks
+    (rw c.deref.ensures.value at c.in_ok-read_column.ensures.marked).room
+    (pivot_places p rows c.exchange.new.rows c.args.k c.in-Some.r c.exchange.new.lines.pivot
+    (rw c.deref_mut.ensures.value at c.in_ok-exchange.ensures) m l))
 
 pub join_marks-requires-clause-from : goal.join_marks-requires-clause-from
 join_marks-requires-clause-from c =
-    let marked : AreMarked c.args.program.now c.args.tableau.now.rows.items c.read_column.new.marks
-    = rw c.deref.ensures.value at c.in_ok-read_column.ensures.marked in
     words_within (columns c.args.program.now) (length c.args.tableau.now.rows.items) c.args.k c.read_column.new.marks
-    marked.room (c.requires.stands.place c.args.e c.args.k c.requires.enters.within c.requires.place)
+    (rw c.deref.ensures.value at c.in_ok-read_column.ensures.marked).room
+    (c.requires.stands.place c.args.e c.args.k c.requires.enters.within c.requires.place)
 
 pub index_mut-requires-2 : goal.index_mut-requires-2
 index_mut-requires-2 c =
@@ -76,99 +70,69 @@ index_mut-requires-2 c =
       c.requires.size.stand_each,
     )
 
+-- Where the state is given back.
+abbrev AtReturn : Type 0
+AtReturn = After-least_above the-claims Pre Post handed_clauses
+
+-- What the answers about the state given back share: what the calls before it gave, said of the arguments.
+leaves : (c : AtReturn) → IsLeavingOver IsSmall c.args.program.now
+    (table_seen c.args.program.now c.args.tableau.now.rows.items c.args.tableau.now.basis.items c.args.tableau.now.stands.items)
+    c.args.e c.in-Some.r
+leaves c =
+    (rw (c.deref-2.ensures.value, c.deref-3.ensures.value, c.deref-4.ensures.value) at c.in-Some.ensures.least)
+    c.args.e c.args.k c.args.tableau.now.stands.items (rw c.deref.ensures.value at c.in_ok-read_column.ensures.column)
+    c.requires.enters.within c.requires.place
+
+exchanged : (c : AtReturn) → ExchangesRows c.args.program.now c.args.tableau.now.rows.items c.exchange.new.rows c.args.k
+    c.in-Some.r c.exchange.new.lines.pivot
+exchanged c = rw c.deref_mut.ensures.value at c.in_ok-exchange.ensures
+
+same_rows : (c : AtReturn) → (with_items c.args.tableau.now.rows c.exchange.new.rows).items ≡ c.exchange.new.rows
+same_rows c = with_items_is c.args.tableau.now.rows c.exchange.new.rows
+    (c.in_ok-exchange.ensures.0.as_many ∙ c.deref_mut.ensures.len)
+
+left : (c : AtReturn) → c.index-left.result.now ≡ slice_index c.args.tableau.now.basis.items c.in-Some.r
+left c = c.index-left.ensures ∙ get_or_default c.args.tableau.now.basis.items c.in-Some.r c.index-left.result.now 0
+    (omega (arith, c.in-Some.ensures.within, c.requires.size.basic_each))
+
 pub returns-clause-next : goal.returns-clause-next
 returns-clause-next c =
     let p = c.args.program.now in
     let t = c.args.tableau.now in
-    let column : IsColumn c.args.program.now c.args.tableau.now.rows.items c.args.k c.read_column.new.column.items
-    = rw c.deref.ensures.value at c.in_ok-read_column.ensures.column in
-    let leaves : IsLeavingOver IsSmall c.args.program.now
-    (table_seen c.args.program.now c.args.tableau.now.rows.items c.args.tableau.now.basis.items c.args.tableau.now.stands.items)
-    c.args.e c.in-Some.r
-    = (rw (c.deref-2.ensures.value, c.deref-3.ensures.value, c.deref-4.ensures.value) at c.in-Some.ensures.least)
-    c.args.e c.args.k c.args.tableau.now.stands.items column c.requires.enters.within c.requires.place in
-    let exchanged : ExchangesRows c.args.program.now c.args.tableau.now.rows.items c.exchange.new.rows c.args.k c.in-Some.r
-    c.exchange.new.lines.pivot
-    = rw c.deref_mut.ensures.value at c.in_ok-exchange.ensures in
-    let same = with_items_is c.args.tableau.now.rows c.exchange.new.rows
-    (c.in_ok-exchange.ensures.0.as_many ∙ c.deref_mut.ensures.len) in
-    let left : c.index-left.result.now ≡ slice_index c.args.tableau.now.basis.items c.in-Some.r =
-    c.index-left.ensures ∙ get_or_default c.args.tableau.now.basis.items c.in-Some.r c.index-left.result.now 0
-    (omega (arith, c.in-Some.ensures.within, c.requires.size.basic_each)) in
-    rw (same, left)
+    rw (same_rows c, left c)
     (step_done p t.rows.items c.exchange.new.rows t.basis.items t.stands.items c.args.e c.args.k c.in-Some.r
-    c.requires.size c.requires.stands c.requires.small c.requires.enters c.requires.place leaves exchanged.0)
+    c.requires.size c.requires.stands c.requires.small c.requires.enters c.requires.place (leaves c) (exchanged c).0)
 
 pub returns-clause-small : goal.returns-clause-small
 returns-clause-small c =
-    let same = with_items_is c.args.tableau.now.rows c.exchange.new.rows
-    (c.in_ok-exchange.ensures.0.as_many ∙ c.deref_mut.ensures.len) in
-    rw same (search rules)
+    rw (same_rows c) (search rules)
 
 pub returns-clause-marked : goal.returns-clause-marked
 returns-clause-marked c =
     let p = c.args.program.now in
     let t = c.args.tableau.now in
-    let column : IsColumn c.args.program.now c.args.tableau.now.rows.items c.args.k c.read_column.new.column.items
-    = rw c.deref.ensures.value at c.in_ok-read_column.ensures.column in
-    let leaves : IsLeavingOver IsSmall c.args.program.now
-    (table_seen c.args.program.now c.args.tableau.now.rows.items c.args.tableau.now.basis.items c.args.tableau.now.stands.items)
-    c.args.e c.in-Some.r
-    = (rw (c.deref-2.ensures.value, c.deref-3.ensures.value, c.deref-4.ensures.value) at c.in-Some.ensures.least)
-    c.args.e c.args.k c.args.tableau.now.stands.items column c.requires.enters.within c.requires.place in
-    let exchanged : ExchangesRows c.args.program.now c.args.tableau.now.rows.items c.exchange.new.rows c.args.k c.in-Some.r
-    c.exchange.new.lines.pivot
-    = rw c.deref_mut.ensures.value at c.in_ok-exchange.ensures in
-    let marked : AreMarked c.args.program.now c.args.tableau.now.rows.items c.read_column.new.marks
-    = rw c.deref.ensures.value at c.in_ok-read_column.ensures.marked in
-    let same = with_items_is c.args.tableau.now.rows c.exchange.new.rows
-    (c.in_ok-exchange.ensures.0.as_many ∙ c.deref_mut.ensures.len) in
-    rw same
+    rw (same_rows c)
     (step_marked p t.rows.items c.exchange.new.rows t.basis.items t.stands.items c.read_column.new.marks c.join_marks.new.marks
     c.exchange.new.lines.pivot c.args.e c.args.k c.in-Some.r
-    c.requires.size c.requires.stands c.requires.small c.requires.enters c.requires.place leaves exchanged
-    marked c.join_marks.ensures.kept (rw (← c.entries.ensures.value) c.join_marks.ensures.joined))
+    c.requires.size c.requires.stands c.requires.small c.requires.enters c.requires.place (leaves c) (exchanged c)
+    (rw c.deref.ensures.value at c.in_ok-read_column.ensures.marked) c.join_marks.ensures.kept
+    (rw (← c.entries.ensures.value) c.join_marks.ensures.joined))
 
 pub returns-clause-placed : goal.returns-clause-placed
 returns-clause-placed c =
     let p = c.args.program.now in
     let t = c.args.tableau.now in
-    let column : IsColumn c.args.program.now c.args.tableau.now.rows.items c.args.k c.read_column.new.column.items
-    = rw c.deref.ensures.value at c.in_ok-read_column.ensures.column in
-    let leaves : IsLeavingOver IsSmall c.args.program.now
-    (table_seen c.args.program.now c.args.tableau.now.rows.items c.args.tableau.now.basis.items c.args.tableau.now.stands.items)
-    c.args.e c.in-Some.r
-    = (rw (c.deref-2.ensures.value, c.deref-3.ensures.value, c.deref-4.ensures.value) at c.in-Some.ensures.least)
-    c.args.e c.args.k c.args.tableau.now.stands.items column c.requires.enters.within c.requires.place in
-    let left : c.index-left.result.now ≡ slice_index c.args.tableau.now.basis.items c.in-Some.r =
-    c.index-left.ensures ∙ get_or_default c.args.tableau.now.basis.items c.in-Some.r c.index-left.result.now 0
-    (omega (arith, c.in-Some.ensures.within, c.requires.size.basic_each)) in
-    rw left
+    rw (left c)
     (step_placed p t.rows.items t.basis.items t.stands.items t.outside.items c.args.e c.args.k c.in-Some.r
-    c.requires.size c.requires.stands c.requires.enters c.requires.place leaves c.requires.placed)
+    c.requires.size c.requires.stands c.requires.enters c.requires.place (leaves c) c.requires.placed)
 
 pub returns-clause-earlier : goal.returns-clause-earlier
 returns-clause-earlier c =
     let p = c.args.program.now in
     let t = c.args.tableau.now in
-    let column : IsColumn c.args.program.now c.args.tableau.now.rows.items c.args.k c.read_column.new.column.items
-    = rw c.deref.ensures.value at c.in_ok-read_column.ensures.column in
-    let leaves : IsLeavingOver IsSmall c.args.program.now
-    (table_seen c.args.program.now c.args.tableau.now.rows.items c.args.tableau.now.basis.items c.args.tableau.now.stands.items)
-    c.args.e c.in-Some.r
-    = (rw (c.deref-2.ensures.value, c.deref-3.ensures.value, c.deref-4.ensures.value) at c.in-Some.ensures.least)
-    c.args.e c.args.k c.args.tableau.now.stands.items column c.requires.enters.within c.requires.place in
-    let exchanged : ExchangesRows c.args.program.now c.args.tableau.now.rows.items c.exchange.new.rows c.args.k c.in-Some.r
-    c.exchange.new.lines.pivot
-    = rw c.deref_mut.ensures.value at c.in_ok-exchange.ensures in
-    let same = with_items_is c.args.tableau.now.rows c.exchange.new.rows
-    (c.in_ok-exchange.ensures.0.as_many ∙ c.deref_mut.ensures.len) in
-    let left : c.index-left.result.now ≡ slice_index c.args.tableau.now.basis.items c.in-Some.r =
-    c.index-left.ensures ∙ get_or_default c.args.tableau.now.basis.items c.in-Some.r c.index-left.result.now 0
-    (omega (arith, c.in-Some.ensures.within, c.requires.size.basic_each)) in
-    rw (same, left)
+    rw (same_rows c, left c)
     (step_from p t.rows.items c.exchange.new.rows t.basis.items t.stands.items t.outside.items c.exchange.new.lines.pivot
     c.objective.result.now c.args.e c.args.k c.in-Some.r c.least_above.result
-    c.requires.size c.requires.stands c.requires.small c.requires.enters c.requires.place leaves exchanged
-    c.requires.placed (rw (c.deref-5.ensures.value, same) at c.objective.ensures.row) c.least_above.ensures.first
-    (rw (c.entries-2.ensures.value, c.deref-6.ensures.value, left) at c.least_above.ensures.each))
+    c.requires.size c.requires.stands c.requires.small c.requires.enters c.requires.place (leaves c) (exchanged c)
+    c.requires.placed (rw (c.deref-5.ensures.value, same_rows c) at c.objective.ensures.row) c.least_above.ensures.first
+    (rw (c.entries-2.ensures.value, c.deref-6.ensures.value, left c) at c.least_above.ensures.each))
