@@ -9,14 +9,14 @@ use Rattle.std.proofs.lemmas.Bool.{cases_Bool, cases_order, and_parts, eq-eqb, e
 use Rattle.std.proofs.lemmas.Cmp.{nat_cmp_total, tied_itself}
 use Rattle.std.proofs.lemmas.List.{get_or_default}
 use Rattle.std.proofs.lemmas.Map.Keys.{Less-from_sorted}
-use Rattle.bounded_sums.specs.Sums.{flag}
-use Rattle.bounded_sums.specs.Tests.{count_below}
-use Rattle.bounded_sums.proofs.SumLaws.{sum_below-one}
-use Rattle.bounded_sums.proofs.CountLaws.{count_below-none, flag-of_false}
+use Rattle.number_laws.specs.Sums.{flag}
+use Rattle.number_laws.specs.Tests.{count_below}
+use Rattle.number_laws.proofs.SumLaws.{sum_below-one}
+use Rattle.number_laws.proofs.CountLaws.{count_below-none, flag-of_false}
 use Rattle.fragments.specs.ClassOrder.{class_rank}
 use Rattle.fragments.specs.declared.columns.Class.{Class}
 use Rattle.fragments.specs.declared.columns.Class.TheVariants.{Direct}
-use Rattle.charge_model.specs.Fractions.{is_same_class}
+use Rattle.charge_laws.specs.Fractions.{is_same_class}
 use Rattle.charge.specs.Requests.{ChargedRequest}
 use Rattle.charge.specs.Table.{ItemDef, is_of, item_cmp}
 use Rattle.charge.proofs.Places.{rank_one}

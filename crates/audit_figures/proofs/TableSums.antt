@@ -4,21 +4,21 @@ use Rattle.std.proofs.Common.{inl, inr, Option, Some, None, sum_by}
 use Rattle.std.specs.List.{Contains}
 use Rattle.std.proofs.lemmas.Bool.{cases_Bool, and_parts, eq-eqb, eqb-true, ne_eqb}
 use Rattle.std.proofs.lemmas.List.{get_or-map, length-map}
-use Rattle.bounded_sums.specs.Sums.{sum_below, flag, only_if}
-use Rattle.bounded_sums.specs.Tests.{count_below}
-use Rattle.bounded_sums.proofs.SumLaws.{sum_below-agree, sum_below-swap, sum_below-one}
-use Rattle.bounded_sums.proofs.OnlyIfLaws.{only_if-nothing}
-use Rattle.bounded_sums.proofs.SumLaws.{sum_below-list_by, only_if-true, only_if-false, sum_below-only_if}
-use Rattle.bounded_sums.proofs.CountLaws.{count_below-none}
+use Rattle.number_laws.specs.Sums.{sum_below, flag, only_if}
+use Rattle.number_laws.specs.Tests.{count_below}
+use Rattle.number_laws.proofs.SumLaws.{sum_below-agree, sum_below-swap, sum_below-one}
+use Rattle.number_laws.proofs.OnlyIfLaws.{only_if-nothing}
+use Rattle.number_laws.proofs.SumLaws.{sum_below-list_by, only_if-true, only_if-false, sum_below-only_if}
+use Rattle.number_laws.proofs.CountLaws.{count_below-none}
 use Rattle.schedule_model.specs.RowDef.{Trace}
 use Rattle.schedule_model.specs.Phase.{Phase, phase_of}
 use Rattle.schedule_model.specs.Phase.Phase.{Local, Asking, Finished}
 use Rattle.schedule_model.specs.Activity.{task_of}
 use Rattle.fragments.specs.declared.columns.Class.{Class}
 use Rattle.fragments.specs.declared.columns.Class.TheVariants.{Direct}
-use Rattle.charge_model.specs.Charges.{Charge}
-use Rattle.charge_model.specs.Windows.{window_end}
-use Rattle.charge_model.specs.Fractions.{is_same_class}
+use Rattle.charge_laws.specs.Charges.{Charge}
+use Rattle.charge_laws.specs.Windows.{window_end}
+use Rattle.charge_laws.specs.Fractions.{is_same_class}
 use Rattle.charge.specs.declared.item.ChargeItem.{ChargeItem}
 use Rattle.charge.specs.Requests.{ChargedRequest, request_in, charged_request}
 use Rattle.charge.specs.Table.{ItemDef, item_seen, is_of, charged_ticks, IsChargeTable}

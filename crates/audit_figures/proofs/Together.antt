@@ -6,9 +6,9 @@ use Rattle.std.specs.Global.{Global}
 use Rattle.std.specs.declared.vec.Vec.{Vec}
 use Rattle.std.specs.declared.alloc.AllocError.{AllocError}
 use Rattle.std.proofs.Math.Nat.{mul-le-mul}
-use Rattle.bounded_sums.specs.Sums.{only_if}
-use Rattle.bounded_sums.proofs.SumLaws.{sum_below-monotone, sum_below-constant, only_if-at_most}
-use Rattle.bounded_sums.proofs.CountLaws.{count_below-at_most}
+use Rattle.number_laws.specs.Sums.{only_if}
+use Rattle.number_laws.proofs.SumLaws.{sum_below-monotone, sum_below-constant, only_if-at_most}
+use Rattle.number_laws.proofs.CountLaws.{count_below-at_most}
 use Rattle.sporadic_model.specs.declared.limits.TheConstants.{MOST_TICKS}
 use Rattle.schedule_model.specs.declared.limits.TheConstants.{MOST_JOBS}
 use Rattle.schedule_model.specs.JobDef.{JobsDef}
@@ -17,8 +17,8 @@ use Rattle.schedule_model.specs.Measures.{MeasuresDef, measures_of}
 use Rattle.schedule_model.specs.Activity.{task_of}
 use Rattle.fragments.specs.declared.columns.Class.{Class}
 use Rattle.fragments.specs.declared.columns.Class.TheVariants.{Direct, Indirect, Preemption}
-use Rattle.charge_model.specs.Charges.{Charge}
-use Rattle.charge_model.specs.Windows.{window_end}
+use Rattle.charge_laws.specs.Charges.{Charge}
+use Rattle.charge_laws.specs.Windows.{window_end}
 use Rattle.schedule_answers.specs.declared.judged.Measured.{Measured}
 use Rattle.schedule_answers.specs.declared.judged.TaskMeasure.{TaskMeasure}
 use Rattle.schedule_answers.specs.Conforming.{AreMeasures}

@@ -8,7 +8,7 @@ use Rattle.schedule_model.specs.declared.rule.Rule.{Rule}
 use Rattle.schedule_answers.specs.declared.audited.TaskFigures.{TaskFigures}
 use Rattle.schedule_answers.specs.declared.judged.Unlawful.{Unlawful}
 use Rattle.schedule_answers.specs.declared.judged.Unlawful.TheVariants as stop
-use Rattle.charge_model.specs.Charges.{Charge}
+use Rattle.charge_laws.specs.Charges.{Charge}
 use Rattle.figure_laws.specs.Figures.{AreFigures}
 
 -- Each of the n rows keeps the rules, and these are the figures of each task beside the bounds and the values; or the first row is named

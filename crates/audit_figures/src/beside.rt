@@ -2,7 +2,7 @@ ghost use Rattle.std.specs.Prelude.{◌≡◌, ℕ, ◌<◌, ◌≤◌, Bool, le
 ghost use Rattle.std.specs.List.{All};
 ghost use Rattle.sporadic_model.specs.declared.limits.TheConstants.{MOST_TICKS};
 ghost use Rattle.schedule_model.specs.RowDef.{Trace, jobs_of};
-ghost use Rattle.charge_model.specs.Charges.{Charge};
+ghost use Rattle.charge_laws.specs.Charges.{Charge};
 ghost use Rattle.schedule_answers.specs.Conforming.{AreMeasures};
 ghost use Rattle.schedule_answers.specs.TaskAnswers.{no_measure};
 ghost use Rattle.charge.specs.Table.{item_seen, IsChargeTable};

@@ -3,6 +3,7 @@
 
 mod auditing;
 mod commands;
+mod edge;
 mod judging;
 mod refusing;
 mod study;
@@ -13,4 +14,5 @@ mod work;
 
 pub use command_inputs::Status;
 pub use command_words::DEFAULT_ALLOWANCE;
-pub use top::{run, status_of};
+pub use edge::{Ended, ProcessWords, Words, answered};
+pub use top::run;

@@ -8,7 +8,6 @@ use crate::commands::reply_to;
 use command_inputs::Status;
 use outside_ports::{Shelf, Sink, SinkFault, put_all};
 use std::alloc::{AllocError, Global};
-use std::rt::Runtime;
 use std::thread::Threads;
 
 /// Answers the words: loads and reads the inputs that they name from the shelf, each after the one before is
@@ -45,23 +44,4 @@ pub fn run<R: Threads + Sync, S: Shelf, K: Sink>(
         Ok(()) => reply.status,
         Err(SinkFault) => Status::Fault,
     }
-}
-
-/// Answers the words over this shelf and this sink, with this runtime's memory and threads.
-pub fn status_of<R: Runtime + AllocGlobal + Threads + Sync, S: Shelf, K: Sink>(
-    rt: &R,
-    words: &[String],
-    shelf: &mut S,
-    sink: &mut K,
-) -> Status
-    ensures { IsRun (record {
-      words = words_seen words.now;
-      shelf_before = S.seen shelf.old;
-      shelf_now = S.seen shelf.new;
-      sink_before = K.seen sink.old;
-      sink_now = K.seen sink.new;
-      status = number_of result;
-    }) }
-{
-    run(rt, rt.alloc(), words, shelf, sink)
 }

@@ -5,3 +5,6 @@ pub mod LineEnd
 pub mod PlainTexts
 pub mod ValueLaws
 pub mod ReadBack
+pub mod DigestBytes
+pub mod DigestTexts
+mod DigestExamples

@@ -18,8 +18,8 @@ use Rattle.program_form.specs.declared.TheConstants.{MOST_NUMBER}
 use Rattle.program_form.specs.Certificate.{DualDef, CertificateDef}
 use Rattle.taskset_json.specs.Answers.{IsValue}
 use Rattle.taskset_json.specs.Members.{values_of}
-use Rattle.set_digests.specs.Digests.{size_of_digest, IsDigest}
-use Rattle.set_digests.proofs.Texts.{text_of_digest, read_again, text_is_utf8}
+use Rattle.cert_json.specs.Digests.{size_of_digest, IsDigest}
+use Rattle.cert_json.proofs.DigestTexts.{text_of_digest, read_again, text_is_utf8}
 use Rattle.cert_json.specs.declared.file.CertFile.{CertFile}
 use Rattle.cert_json.specs.declared.version.Version.TheVariants as version
 use Rattle.cert_json.specs.declared.refusal.CertRefusal.{CertRefusal}

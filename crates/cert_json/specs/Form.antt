@@ -9,7 +9,7 @@ use Rattle.program_form.specs.declared.TheConstants.{MOST_NUMBER}
 use Rattle.taskset_json.specs.declared.form.Kind.TheVariants as kind
 use Rattle.taskset_json.specs.Members.{whole, whole_at, text_at, list_at}
 use Rattle.taskset_json.specs.Form.{MemberDef, must, is_object_of}
-use Rattle.set_digests.specs.Digests.{is_digest_text}
+use Rattle.cert_json.specs.Digests.{is_digest_text}
 
 -- The members of a certificate, and of a dual. No other may be given.
 abbrev pub certificate_form : List MemberDef

@@ -6,7 +6,7 @@ use Rattle.std.specs.Str.{bytes_eq}
 use Rattle.serde_json.specs.Data.{Data}
 use Rattle.taskset_json.specs.Members.{whole, whole_at, text_at, list_at}
 use Rattle.taskset_json.specs.Form.{is_object_of}
-use Rattle.set_digests.specs.Digests.{is_digest_text}
+use Rattle.cert_json.specs.Digests.{is_digest_text}
 use Rattle.cert_json.specs.Words.{is_verdict_word}
 use Rattle.cert_json.specs.Form.{certificate_form, is_dual}
 

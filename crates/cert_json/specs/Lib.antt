@@ -10,3 +10,4 @@ pub mod Ranges
 pub mod Answers
 pub mod Value
 pub mod Text
+pub mod Digests

@@ -3,7 +3,7 @@ use Rattle.std.specs.Prelude.{ℕ, List, map, codes}
 use Rattle.serde_json.specs.Data.{Data, number, unsigned, string, array, object, no_members, member}
 use Rattle.serde_json.specs.View.{items_of}
 use Rattle.program_form.specs.Certificate.{DualDef, CertificateDef}
-use Rattle.set_digests.specs.Digests.{digest_text}
+use Rattle.cert_json.specs.Digests.{digest_text}
 
 abbrev pub number_data : ℕ → Data
 number_data n = number (unsigned n)

@@ -4,7 +4,7 @@ use Rattle.std.specs.Prelude.{ℕ, List, map, codes, unwrap_or, replicate}
 use Rattle.serde_json.specs.Data.{Data}
 use Rattle.program_form.specs.Certificate.{DualDef, CertificateDef}
 use Rattle.taskset_json.specs.Members.{whole, whole_or, text_at, list_at}
-use Rattle.set_digests.specs.Digests.{size_of_digest, digest_of}
+use Rattle.cert_json.specs.Digests.{size_of_digest, digest_of}
 use Rattle.cert_json.specs.FileDef.{FileDef}
 
 abbrev pub number_written : Data → ℕ

@@ -8,11 +8,11 @@ ghost use Rattle.cert_json.specs.Form.{certificate_form, dual_form, is_from, is_
 ghost use Rattle.cert_json.specs.FormParts.{is_whole, is_for};
 ghost use Rattle.cert_json.specs.Versions.{old_form, is_certificate_of};
 
+use crate::is_digest_text;
 use crate::version::Version;
 use crate::words::is_verdict_word;
 use program_form::MOST_NUMBER;
 use serde_json::Value;
-use set_digests::is_digest_text;
 use taskset_json::{Kind, is_object_of, list_at, must, text_at};
 
 fn has_old_members(value: &Value) -> bool

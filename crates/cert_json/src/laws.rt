@@ -3,7 +3,7 @@
 ghost use Rattle.std.specs.Prelude.{◌≡◌, ◌↔◌, ℕ, true, List, None, Result, IsUtf8};
 ghost use Rattle.serde_json.specs.Data.{Data};
 ghost use Rattle.taskset_json.specs.Answers.{IsValue};
-ghost use Rattle.set_digests.specs.Digests.{IsDigest};
+ghost use Rattle.cert_json.specs.Digests.{IsDigest};
 ghost use Rattle.cert_json.specs.FileDef.{FileDef};
 ghost use Rattle.cert_json.specs.Versions.{has_form_of};
 ghost use Rattle.cert_json.specs.Refusals.{first_refusal};

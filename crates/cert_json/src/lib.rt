@@ -3,6 +3,7 @@
 //! version before, which doesn't.
 #![tactic(auto)]
 
+mod digests;
 mod file;
 mod form;
 mod laws;
@@ -15,12 +16,12 @@ mod words;
 mod writing;
 mod written;
 
+pub use digests::{digest_of, digest_text, digests_have_texts, is_digest_text, set_digest};
 pub use file::CertFile;
 pub use form::{is_dual, is_for};
 pub use laws::{form_is_exact, what_is_written_is_read};
 pub use reading::{read, read_old};
 pub use refusal::{CertPlace, CertRefusal};
-pub use set_digests::set_digest;
 pub use value::value_of_dual;
 pub use version::Version;
 pub use writing::write;

@@ -3,9 +3,9 @@ ghost use Rattle.serde_json.specs.View.{view};
 ghost use Rattle.program_form.specs.Certificate.{dual_seen, certificate_seen};
 ghost use Rattle.cert_json.specs.Value.{number_data, dual_data, certificate_data};
 
+use crate::digest_text;
 use program_form::{Certificate, Dual};
 use serde_json::{Value, json};
-use set_digests::digest_text;
 use std::alloc::{AllocError, Global};
 
 fn values_of(alloc: Global, numbers: &[u64]) -> Result<Vec<Value>, AllocError>

@@ -4,10 +4,10 @@ ghost use Rattle.program_form.specs.Certificate.{dual_seen, certificate_seen};
 ghost use Rattle.cert_json.specs.File.{file_seen};
 ghost use Rattle.cert_json.specs.Written.{number_written, numbers_written, dual_written, certificate_written, digest_written, file_written};
 
+use crate::digest_of;
 use crate::file::CertFile;
 use program_form::{Certificate, Dual};
 use serde_json::Value;
-use set_digests::digest_of;
 use std::alloc::{AllocError, Global};
 use taskset_json::{list_at, text_at, whole_at};
 

@@ -5,8 +5,8 @@ use Rattle.std.proofs.Common.{inl, inr, Option, Some, None}
 use Rattle.std.specs.Prelude.{not, nat_le, nat_lt, slice_index}
 use Rattle.std.proofs.lemmas.Bool.{cases_lt, cases_Bool, or_cases, or_left, or_right, and_parts, and_from, and_cases}
 use Rattle.std.proofs.lemmas.Bool.{not-true, not-false, not_from_false, ltb-true, lt-ltb, le-ltb, lt-leb, le-leb, eqb-true, eq-eqb, both_ways}
-use Rattle.bounded_sums.specs.Tests.{found_below}
-use Rattle.bounded_sums.proofs.TestLaws.{found_below-agree, found_below-none_from}
+use Rattle.number_laws.specs.Tests.{found_below}
+use Rattle.number_laws.proofs.TestLaws.{found_below-agree, found_below-none_from}
 use Rattle.sporadic_model.specs.Accepted.{TaskNumbers}
 use Rattle.schedule_model.specs.JobDef.{JobsDef, job_of}
 use Rattle.schedule_model.specs.declared.job.JobId.{JobId}
@@ -21,7 +21,7 @@ use Rattle.schedule_laws.proofs.ActiveJobs.{Active, active_is, active_from}
 use Rattle.phase_machine.specs.MachineDef.{MachineDef, under}
 use Rattle.phase_machine.specs.Shows.{Shows}
 use Rattle.phase_machine.proofs.Facts.{active_shown}
-use Rattle.charge_model.specs.Windows.{AreBounds, bound_end}
+use Rattle.charge_laws.specs.Windows.{AreBounds, bound_end}
 use Rattle.trace_walk.proofs.Reaching.{over}
 use Rattle.charge.specs.Passed.{has_passed, first_passed}
 use Rattle.charge.specs.Ledgers.{has_passed_before, first_passed_before}

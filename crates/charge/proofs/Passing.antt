@@ -5,8 +5,8 @@ use Rattle.std.specs.Prelude.{nat_lt, nat_le, List}
 use Rattle.std.proofs.Math.Bool.{or-false}
 use Rattle.std.proofs.lemmas.Bool.{cases_lt, cases_order, cases_Bool, cases_eq, both_ways, lt-ltb, le-ltb, le-leb}
 use Rattle.std.proofs.lemmas.Bool.{lt-leb, eq-eqb, ne_eqb, or_from, or_left, or_right, and_right, false_from_ne_true}
-use Rattle.bounded_sums.specs.Tests.{first_below, found_below}
-use Rattle.bounded_sums.proofs.TestLaws.{first_below-before, found_below-is, found_below-none, found_below-agree, found_below-first, found_below-none_from}
+use Rattle.number_laws.specs.Tests.{first_below, found_below}
+use Rattle.number_laws.proofs.TestLaws.{first_below-before, found_below-is, found_below-none, found_below-agree, found_below-first, found_below-none_from}
 use Rattle.schedule_model.specs.RowDef.{is_job}
 use Rattle.phase_machine.specs.MachineDef.{MachineDef, IsMachine, place_of, task_in}
 use Rattle.phase_machine.specs.Now.{current_now, active_now}

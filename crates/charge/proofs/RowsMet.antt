@@ -1,8 +1,8 @@
 -- Where no job has passed its bound within the rows, each whose bound ends within them has ended.
 use Rattle.std.proofs.Common.{◌≡◌, ℕ, length, None}
-use Rattle.bounded_sums.proofs.TestLaws.{found_below-none}
+use Rattle.number_laws.proofs.TestLaws.{found_below-none}
 use Rattle.schedule_model.specs.RowDef.{Trace}
-use Rattle.charge_model.specs.Windows.{EndedWithin}
+use Rattle.charge_laws.specs.Windows.{EndedWithin}
 use Rattle.charge.specs.Passed.{has_passed, first_passed}
 use Rattle.charge.proofs.PassedNext.{passed_not}
 

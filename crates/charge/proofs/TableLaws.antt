@@ -8,17 +8,17 @@ use Rattle.std.proofs.lemmas.Bool.{cases_lt, cases_Bool, and_parts, lt-ltb, le-l
 use Rattle.std.proofs.lemmas.List.{get_or-map, length-map}
 use Rattle.std.proofs.lemmas.List.Elements.{All-map, All-weaker, recursion_from_All}
 use Rattle.std.proofs.lemmas.Map.Views.{All-found, Contains-from_lookup}
-use Rattle.bounded_sums.specs.Sums.{flag}
-use Rattle.bounded_sums.specs.Tests.{count_below}
-use Rattle.bounded_sums.proofs.CountLaws.{count_below-agree, count_below-some, count_below-from}
+use Rattle.number_laws.specs.Sums.{flag}
+use Rattle.number_laws.specs.Tests.{count_below}
+use Rattle.number_laws.proofs.CountLaws.{count_below-agree, count_below-some, count_below-from}
 use Rattle.schedule_model.specs.RowDef.{Trace}
 use Rattle.schedule_model.specs.Phase.{Phase, phase_of}
 use Rattle.schedule_model.specs.Phase.Phase.{Local, Asking, Finished}
 use Rattle.schedule_model.specs.BlockedTicks.{is_blocked}
 use Rattle.schedule_laws.proofs.ActiveJobs.{active_listed}
 use Rattle.fragments.specs.ClassOrder.{class_rank}
-use Rattle.charge_model.specs.Charges.{Charge, Executes}
-use Rattle.charge_model.specs.Windows.{bound_end, window_end}
+use Rattle.charge_laws.specs.Charges.{Charge, Executes}
+use Rattle.charge_laws.specs.Windows.{bound_end, window_end}
 use Rattle.charge.specs.declared.tally.ChargePlace.{ChargePlace}
 use Rattle.charge.specs.Requests.{ChargedRequest, request_in, charged_request}
 use Rattle.charge.specs.Table.{ItemDef, is_of, charged_ticks, IsChargeTable}

@@ -9,17 +9,17 @@ use Rattle.std.proofs.lemmas.Bool.{cases_Bool, cases_eq, and_parts, and_from, eq
 use Rattle.std.proofs.lemmas.Cmp.{nat_cmp_total, tied_itself}
 use Rattle.std.proofs.lemmas.List.Elements.{All-head, All-tail, All-weaker}
 use Rattle.std.proofs.lemmas.List.Sums.{sum_by-cons}
-use Rattle.bounded_sums.specs.Sums.{sum_below, flag, only_if}
-use Rattle.bounded_sums.specs.Tests.{count_below}
-use Rattle.bounded_sums.proofs.SumLaws.{sum_below-agree, sum_below-zero, sum_below-one}
-use Rattle.bounded_sums.proofs.OnlyIfLaws.{only_if-nothing}
-use Rattle.bounded_sums.proofs.CountLaws.{flag-at_most, flag-of_true}
+use Rattle.number_laws.specs.Sums.{sum_below, flag, only_if}
+use Rattle.number_laws.specs.Tests.{count_below}
+use Rattle.number_laws.proofs.SumLaws.{sum_below-agree, sum_below-zero, sum_below-one}
+use Rattle.number_laws.proofs.OnlyIfLaws.{only_if-nothing}
+use Rattle.number_laws.proofs.CountLaws.{flag-at_most, flag-of_true}
 use Rattle.schedule_model.specs.RowDef.{Trace}
 use Rattle.schedule_model.specs.BlockedTicks.{is_blocked}
 use Rattle.fragments.specs.ClassOrder.{class_rank}
 use Rattle.row_laws.proofs.ColumnSums.{sum_by-swap, sum_by-element}
-use Rattle.charge_model.specs.Charges.{Charge}
-use Rattle.charge_model.specs.Windows.{window_end}
+use Rattle.charge_laws.specs.Charges.{Charge}
+use Rattle.charge_laws.specs.Windows.{window_end}
 use Rattle.charge.specs.Requests.{ChargedRequest, charged_request}
 use Rattle.charge.specs.Table.{ItemDef, is_of, charged_ticks, item_cmp, IsChargeTable}
 use Rattle.charge.proofs.TallyLaws.{Charges}

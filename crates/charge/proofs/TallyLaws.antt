@@ -6,8 +6,8 @@ use Rattle.std.specs.Ordering.{is_eq}
 use Rattle.std.specs.Option.{option_and_then}
 use Rattle.std.proofs.lemmas.Bool.{cases_lt, cases_order, cases_Bool, cases_eq, lt-ltb, le-ltb, eq-eqb, eqb-true, ne_eqb, and_left, and_right}
 use Rattle.std.specs.BTreeMap.{BTreeMap, get}
-use Rattle.bounded_sums.specs.Sums.{only_if}
-use Rattle.bounded_sums.proofs.CountLaws.{count_below-at_most, count_below-split, count_below-same}
+use Rattle.number_laws.specs.Sums.{only_if}
+use Rattle.number_laws.proofs.CountLaws.{count_below-at_most, count_below-split, count_below-same}
 use Rattle.schedule_model.specs.RowDef.{RowDef, Trace}
 use Rattle.schedule_model.specs.Phase.{Phase, phase_of}
 use Rattle.schedule_model.specs.Activity.{task_of, is_active}
@@ -17,8 +17,8 @@ use Rattle.phase_machine.specs.Now.{current_now}
 use Rattle.phase_machine.specs.Shows.{Shows}
 use Rattle.phase_machine.proofs.Facts.{current_own, not_current}
 use Rattle.phase_machine.proofs.Lawful.{task_listed}
-use Rattle.charge_model.specs.Charges.{Charge}
-use Rattle.charge_model.specs.Windows.{bound_end}
+use Rattle.charge_laws.specs.Charges.{Charge}
+use Rattle.charge_laws.specs.Windows.{bound_end}
 use Rattle.charge.specs.declared.tally.ChargePlace.{ChargePlace}
 use Rattle.charge.specs.Requests.{ChargedRequest, request_in, charged_request}
 use Rattle.charge.specs.Tally.{IsTally, AreCountedAlike, positive, count_at, place_cmp, is_same_place, is_place, place_of, place_at}

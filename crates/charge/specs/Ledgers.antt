@@ -1,11 +1,11 @@
 -- What is kept of the charges of a schedule while it is walked.
 use Rattle.std.specs.Prelude.{◌≡◌, ℕ, ◌&&◌, not, Bool, nat_lt, Option, length}
-use Rattle.bounded_sums.specs.Tests.{found_below}
+use Rattle.number_laws.specs.Tests.{found_below}
 use Rattle.schedule_model.specs.RowDef.{Trace}
 use Rattle.schedule_model.specs.Phase.{is_finished, phase_of}
 use Rattle.schedule_model.specs.Seen.{place_seen}
-use Rattle.charge_model.specs.Charges.{Charge}
-use Rattle.charge_model.specs.Windows.{bound_end}
+use Rattle.charge_laws.specs.Charges.{Charge}
+use Rattle.charge_laws.specs.Windows.{bound_end}
 use Rattle.charge.specs.declared.tally.Ledger.{Ledger}
 use Rattle.charge.specs.Tally.{IsTally, ticks_before}
 

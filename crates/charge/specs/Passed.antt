@@ -1,9 +1,9 @@
 -- Which jobs have passed their bounds.
 use Rattle.std.specs.Prelude.{ℕ, ◌&&◌, not, Bool, nat_le, Option, length}
-use Rattle.bounded_sums.specs.Tests.{found_below}
+use Rattle.number_laws.specs.Tests.{found_below}
 use Rattle.schedule_model.specs.RowDef.{Trace}
 use Rattle.schedule_model.specs.Phase.{is_finished, phase_of}
-use Rattle.charge_model.specs.Windows.{bound_end}
+use Rattle.charge_laws.specs.Windows.{bound_end}
 
 -- Has job j passed its bound within n rows: is its release plus the bound at most n, and the job not finished by then?
 unfoldable pub has_passed : Trace → (ℕ → ℕ) → ℕ → ℕ → Bool

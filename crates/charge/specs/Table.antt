@@ -5,13 +5,13 @@ use Rattle.std.specs.List.{All, Contains}
 use Rattle.std.specs.List.Sorted.{IsStrictlySortedBy}
 use Rattle.std.specs.Ordering.{nat_cmp, ordering_then}
 use Rattle.std.specs.declared.cmp.Ordering.{Ordering}
-use Rattle.bounded_sums.specs.Tests.{count_below}
+use Rattle.number_laws.specs.Tests.{count_below}
 use Rattle.schedule_model.specs.RowDef.{Trace}
 use Rattle.schedule_model.specs.BlockedTicks.{is_blocked}
 use Rattle.fragments.specs.ClassOrder.{class_rank, class_cmp}
 use Rattle.fragments.specs.declared.columns.Class.{Class}
-use Rattle.charge_model.specs.Charges.{Charge}
-use Rattle.charge_model.specs.Windows.{window_end}
+use Rattle.charge_laws.specs.Charges.{Charge}
+use Rattle.charge_laws.specs.Windows.{window_end}
 use Rattle.charge.specs.declared.item.ChargeItem.{ChargeItem}
 use Rattle.charge.specs.Requests.{ChargedRequest, charged_request}
 

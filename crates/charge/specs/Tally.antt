@@ -5,15 +5,15 @@ use Rattle.std.specs.Option.{option_map_or}
 use Rattle.std.specs.Ordering.{nat_cmp, ordering_then}
 use Rattle.std.specs.declared.cmp.Ordering.{Ordering}
 use Rattle.std.specs.BTreeMap.{BTreeMap, get}
-use Rattle.bounded_sums.specs.Sums.{only_if}
-use Rattle.bounded_sums.specs.Tests.{count_below}
+use Rattle.number_laws.specs.Sums.{only_if}
+use Rattle.number_laws.specs.Tests.{count_below}
 use Rattle.schedule_model.specs.RowDef.{Trace}
 use Rattle.schedule_model.specs.Activity.{task_of}
 use Rattle.fragments.specs.ClassOrder.{class_rank}
 use Rattle.fragments.specs.contracts.columns.ClassOrd.TheImpl as class_order
 use Rattle.fragments.specs.declared.columns.Class.{Class}
-use Rattle.charge_model.specs.Charges.{Charge}
-use Rattle.charge_model.specs.Windows.{bound_end}
+use Rattle.charge_laws.specs.Charges.{Charge}
+use Rattle.charge_laws.specs.Windows.{bound_end}
 use Rattle.charge.specs.declared.tally.ChargePlace.{ChargePlace}
 use Rattle.charge.specs.Requests.{ChargedRequest, charged_request}
 use Rattle.charge.specs.Table.{ItemDef}

@@ -5,7 +5,7 @@ use crate::due::{first_of_due, until_due};
 use crate::tally::Ledger;
 use charged_protocols::ChargedProtocol;
 use phase_machine::Machine;
-use row_readers::RowReader;
+use schedule_model::RowReader;
 use std::alloc::AllocError;
 use trace_walk::Keeper;
 
@@ -20,7 +20,7 @@ impl<'a, P: ChargedProtocol> Keeper<P> for Charger<'a> {
     type Notes = Ledger;
 
     ghost use Rattle.std.specs.Prelude.{◌≡◌, length, slice_index};
-    ghost use Rattle.charge_model.specs.Windows.{AreBounds};
+    ghost use Rattle.charge_laws.specs.Windows.{AreBounds};
     ghost use Rattle.charge.specs.Due.{IsClearBelow};
     ghost use Rattle.charge.specs.Ledgers.{IsLedger};
 

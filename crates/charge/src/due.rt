@@ -1,8 +1,8 @@
 ghost use Rattle.std.specs.Prelude.{◌≡◌, ℕ, ◌+◌, ◌<◌, ◌≤◌, ◌||◌, Bool, Some, length, slice_index};
-ghost use Rattle.bounded_sums.specs.Tests.{found_below};
+ghost use Rattle.number_laws.specs.Tests.{found_below};
 ghost use Rattle.schedule_model.specs.Seen.{place_seen};
 ghost use Rattle.phase_machine.specs.Now.{current_now};
-ghost use Rattle.charge_model.specs.Windows.{AreBounds};
+ghost use Rattle.charge_laws.specs.Windows.{AreBounds};
 ghost use Rattle.charge.specs.Due.{end_now, due_of, is_due, least_of, IsClearBelow};
 
 use phase_machine::Machine;

@@ -1,8 +1,8 @@
 //! What follows from the laws of charged protocols for tables, bounds and stretches. Each function is a law: it does nothing.
 
 ghost use Rattle.std.specs.Prelude.{◌≡◌, ℕ, ◌+◌, ◌≤◌, ◌<◌, Bool, List, None, length, slice_index, sum_by};
-ghost use Rattle.bounded_sums.specs.Sums.{sum_below, only_if};
-ghost use Rattle.bounded_sums.specs.Tests.{count_below};
+ghost use Rattle.number_laws.specs.Sums.{sum_below, only_if};
+ghost use Rattle.number_laws.specs.Tests.{count_below};
 ghost use Rattle.sporadic_model.specs.SetDef.{SetDef};
 ghost use Rattle.schedule_model.specs.LawfulJobs.{AreLawfulJobs};
 ghost use Rattle.schedule_model.specs.RowDef.{Trace, jobs_of};
@@ -11,7 +11,7 @@ ghost use Rattle.schedule_model.specs.Phase.Phase.{Finished};
 ghost use Rattle.schedule_model.specs.Keeping.{KeepsRow};
 ghost use Rattle.schedule_model.specs.BlockedTicks.{is_blocked};
 ghost use Rattle.schedule_laws.specs.Steady.{IsSteady};
-ghost use Rattle.charge_model.specs.Windows.{bound_end, window_end};
+ghost use Rattle.charge_laws.specs.Windows.{bound_end, window_end};
 ghost use Rattle.soundness_laws.specs.Sound.{IsLawfulSchedule, Sound};
 ghost use Rattle.charge.specs.Passed.{first_passed};
 ghost use Rattle.charge.specs.Requests.{charged_request};

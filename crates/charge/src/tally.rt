@@ -1,8 +1,8 @@
 ghost use Rattle.std.specs.Prelude.{◌≡◌, ℕ, ◌+◌, ◌≤◌, Option, OnOk};
-ghost use Rattle.bounded_sums.specs.Sums.{only_if};
+ghost use Rattle.number_laws.specs.Sums.{only_if};
 ghost use Rattle.sporadic_model.specs.declared.limits.TheConstants.{MOST_TICKS};
 ghost use Rattle.schedule_model.specs.RowDef.{Trace};
-ghost use Rattle.charge_model.specs.Charges.{Charge};
+ghost use Rattle.charge_laws.specs.Charges.{Charge};
 ghost use Rattle.charge.specs.Ledgers.{IsLedger};
 ghost use Rattle.charge.specs.Tally.{IsTally, count_at, is_same_place, is_place};
 

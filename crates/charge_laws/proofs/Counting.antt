@@ -8,10 +8,10 @@ use Rattle.std.specs.Option.{option_map_or}
 use Rattle.std.proofs.Math.Nat.{add-mul}
 use Rattle.std.proofs.lemmas.Grind.{div_ceil_times}
 use Rattle.std.proofs.lemmas.Bool.{cases_lt, cases_Bool, and_parts, eqb-true}
-use Rattle.bounded_sums.specs.Sums.{sum_below, flag, only_if}
-use Rattle.bounded_sums.specs.Tests.{count_below}
-use Rattle.bounded_sums.proofs.SumLaws.{sum_below-agree, sum_below-monotone, sum_below-swap, sum_below-term, sum_below-only_if}
-use Rattle.bounded_sums.proofs.CountLaws.{flag-of_true, flag-of_false}
+use Rattle.number_laws.specs.Sums.{sum_below, flag, only_if}
+use Rattle.number_laws.specs.Tests.{count_below}
+use Rattle.number_laws.proofs.SumLaws.{sum_below-agree, sum_below-monotone, sum_below-swap, sum_below-term, sum_below-only_if}
+use Rattle.number_laws.proofs.CountLaws.{flag-of_true, flag-of_false}
 use Rattle.sporadic_model.specs.SetDef.{task_at, jobs_within}
 use Rattle.schedule_model.specs.JobDef.{JobsDef, job_of}
 use Rattle.schedule_model.specs.LawfulJobs.{IsLawfulJob, AreLawfulJobs}
@@ -20,8 +20,8 @@ use Rattle.schedule_model.specs.Activity.{task_of, processor_of, is_active}
 use Rattle.schedule_model.specs.BlockedTicks.{is_interferer}
 use Rattle.schedule_model.specs.ProtocolLaws.{IsOneOfThree, IsSoundRow}
 use Rattle.schedule_laws.proofs.ActiveJobs.{Active, active_is}
-use Rattle.charge_model.specs.Windows.{bound_end, window_end, EndedBefore}
-use Rattle.charge_model.specs.Interferers.{is_interference_of}
+use Rattle.charge_laws.specs.Windows.{bound_end, window_end, EndedBefore}
+use Rattle.charge_laws.specs.Interferers.{is_interference_of}
 use Rattle.charge_laws.proofs.Windows.{count_below-between, active_within}
 use Rattle.schedule_laws.proofs.Interferers.{Interferer, interferer_is, interferer_from}
 use Rattle.charge_laws.proofs.Interference.{interference_active}

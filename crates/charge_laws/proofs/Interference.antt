@@ -1,9 +1,9 @@
 -- Who interferes with whom, and for how many ticks a job does at most.
 use Rattle.std.proofs.Common.{◌≡◌, ℕ, ◌<◌, ◌≤◌, ◌&&◌, Bool, true, length, arith, inl, inr}
 use Rattle.std.proofs.lemmas.Bool.{cases_Bool, and_from}
-use Rattle.bounded_sums.specs.Tests.{count_below, any_below}
-use Rattle.bounded_sums.proofs.CountLaws.{count_below-monotone, flag-of_true, flag-of_false}
-use Rattle.bounded_sums.proofs.TestLaws.{any_below-some, any_below-from}
+use Rattle.number_laws.specs.Tests.{count_below, any_below}
+use Rattle.number_laws.proofs.CountLaws.{count_below-monotone, flag-of_true, flag-of_false}
+use Rattle.number_laws.proofs.TestLaws.{any_below-some, any_below-from}
 use Rattle.sporadic_model.specs.SetDef.{task_at}
 use Rattle.schedule_model.specs.JobDef.{job_of, total_ticks}
 use Rattle.schedule_model.specs.LawfulJobs.{IsLawfulJob}
@@ -17,7 +17,7 @@ use Rattle.schedule_laws.specs.Counting.{executed_in}
 use Rattle.schedule_laws.proofs.Rows.{runs_from}
 use Rattle.schedule_laws.proofs.Counts.{local_at_most, executed_within}
 use Rattle.schedule_laws.proofs.Interferers.{Interferer, interferer_is, dpcp_interferer_higher}
-use Rattle.charge_model.specs.Interferers.{interferes_with_some}
+use Rattle.charge_laws.specs.Interferers.{interferes_with_some}
 
 -- Who interferes with some job runs.
 pub interferer_runs : (interferes : Trace → ℕ → ℕ → Bool) (w : Trace) (t y : ℕ) → interferes_with_some interferes w t y ≡ true

@@ -4,3 +4,4 @@ pub mod Windows
 pub mod Interference
 pub mod Counting
 pub mod Stretches
+pub mod ChargeExamples

@@ -19,7 +19,7 @@ use Rattle.schedule_laws.proofs.Rows.{ready_holding, ready_active, ready_listed}
 use Rattle.schedule_laws.proofs.RuleUses.{ready_busy, requested_held}
 use Rattle.schedule_laws.proofs.KindsOfTicks.{Blocked, blocked_is, delayed_from, higher_local_from}
 use Rattle.fragments.specs.declared.columns.Class.{Class}
-use Rattle.charge_model.specs.Charges.{Charge, charge_by_holder, shared_charge, Executes}
+use Rattle.charge_laws.specs.Charges.{Charge, charge_by_holder, shared_charge, Executes}
 use Rattle.fragments.specs.declared.columns.Class.TheVariants.{Direct, Indirect, Preemption}
 
 -- Job j is ready, and job r, a ready holder of a lower task, runs on its processor.

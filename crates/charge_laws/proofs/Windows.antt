@@ -1,11 +1,10 @@
 -- Ticks of a window: how many there are at most, and how long a job that runs in it was released before.
 use Rattle.std.proofs.Common.{◌≡◌, ℕ, zero, suc, ◌+◌, ◌-◌, ◌<◌, ◌≤◌, Bool, true, false, length, refl, arith, inl, inr, min}
 use Rattle.std.proofs.lemmas.Bool.{cases_lt, cases_Bool, both_ways}
-use Rattle.bounded_sums.specs.Tests.{count_below}
-use Rattle.bounded_sums.proofs.CountLaws.{flag-of_true, flag-of_false}
+use Rattle.number_laws.specs.Tests.{count_below}
+use Rattle.number_laws.proofs.CountLaws.{flag-of_true, flag-of_false}
 use Rattle.sporadic_model.specs.SetDef.{SetDef, task_at}
-use Rattle.sporadic_model.specs.Accepted.{IsAccepted, TaskNumbers}
-use Rattle.sporadic_model.proofs.Laws.{numbers_of_accepted}
+use Rattle.sporadic_model.specs.Accepted.{IsFormed, TaskOrder}
 use Rattle.schedule_model.specs.JobDef.{job_of}
 use Rattle.schedule_model.specs.LawfulJobs.{IsLawfulJob, AreLawfulJobs}
 use Rattle.schedule_model.specs.RowDef.{Trace, jobs_of}
@@ -14,7 +13,7 @@ use Rattle.schedule_model.specs.Phase.Phase.{Finished}
 use Rattle.schedule_model.specs.Activity.{task_of, is_active}
 use Rattle.schedule_laws.proofs.Ticks.{finished_stays}
 use Rattle.schedule_laws.proofs.ActiveJobs.{Active, active_is, active_listed, active_since}
-use Rattle.charge_model.specs.Windows.{bound_end, EndedBy, EndedBefore, AreBounds}
+use Rattle.charge_laws.specs.Windows.{bound_end, EndedBy, EndedBefore, AreBounds}
 
 -- Of the numbers that pass a test and lie from a on and before b there are at most b - a.
 count_below-within : (n a b : ℕ) (p : ℕ → Bool) → ((t : ℕ) → t < n → p t ≡ true → (a ≤ t) × (t < b)) → count_below n p ≤ min n b - a
@@ -83,8 +82,8 @@ active_from_release w bound t j lawful short l ended released unfinished =
     (λ e before same. earlier_ended w bound e j lawful
     (short (task_of w e) (lawful.each e (omega arith)).task) l ended before same) released released unfinished
 
--- The bounds of an accepted set, each with its task's jitter, are at most the periods.
-pub bounds_below_periods : (set : SetDef) (bound : ℕ → ℕ) (x : ℕ) → IsAccepted set → AreBounds set bound → x < length set.tasks
+-- The bounds of a well formed set, each with its task's jitter, are at most the periods.
+pub bounds_below_periods : (set : SetDef) (bound : ℕ → ℕ) (x : ℕ) → IsFormed set → AreBounds set bound → x < length set.tasks
     → bound x + (task_at set x).jitter ≤ (task_at set x).period
-bounds_below_periods set bound x accepted bounds l = let numbers : TaskNumbers set x = numbers_of_accepted set x accepted l in
+bounds_below_periods set bound x formed bounds l = let numbers : TaskOrder set x = formed.numbers x l in
     omega (arith, bounds.latest x l, numbers.jitter_to, numbers.deadline_to)

@@ -1,1 +1,6 @@
 pub mod Stretches
+pub mod Charges
+pub mod Windows
+pub mod Interferers
+pub mod Fractions
+pub mod ChargedTicks

@@ -6,7 +6,7 @@ use Rattle.schedule_model.specs.RowDef.{Trace, jobs_of}
 use Rattle.schedule_model.specs.Keeping.{KeepsRow}
 use Rattle.schedule_model.specs.declared.rule.Rule.{Rule}
 use Rattle.schedule_laws.specs.Steady.{IsSteady}
-use Rattle.charge_model.specs.Charges.{Charge}
+use Rattle.charge_laws.specs.Charges.{Charge}
 
 -- Where the row at the first tick of a steady stretch keeps the rules, is each tick of it charged, for each job, as the first is: to
 -- the same job, in the same way, or to none? No phase ends in between, so it is the same request of that job.

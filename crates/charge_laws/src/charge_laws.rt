@@ -6,7 +6,7 @@ ghost use Rattle.schedule_model.specs.Ranks.{mpcp, fmlp_plus};
 ghost use Rattle.schedule_model.specs.Protocols.{shared_rule, dpcp_rule, EachSetSuits};
 ghost use Rattle.schedule_model.specs.Keeping.{KeepsRow};
 ghost use Rattle.schedule_model.specs.BlockedTicks.{is_shared_interference, is_dpcp_interference, is_blocked};
-ghost use Rattle.charge_model.specs.Charges.{Charge, shared_charge, dpcp_charge, Executes};
+ghost use Rattle.charge_laws.specs.Charges.{Charge, shared_charge, dpcp_charge, Executes};
 ghost use Rattle.charge_laws.specs.Stretches.{StaysCharged};
 
 /// Where requests run on their own task's processor, whatever the order of grants and runs, so under MPCP and FMLP+:

@@ -1,5 +1,5 @@
 ghost use Rattle.std.specs.Prelude.{◌≡◌, ℕ, ◌+◌, ◌-◌, ◌*◌, ◌<◌, ◌≤◌, Bool, true, false, length};
-ghost use Rattle.bounded_sums.specs.Tests.{count_below};
+ghost use Rattle.number_laws.specs.Tests.{count_below};
 ghost use Rattle.sporadic_model.specs.SetDef.{task_at, jobs_within};
 ghost use Rattle.sporadic_model.specs.Accepted.{IsAccepted};
 ghost use Rattle.schedule_model.specs.JobDef.{job_of};
@@ -9,8 +9,8 @@ ghost use Rattle.schedule_model.specs.Phase.{phase_of, is_finished};
 ghost use Rattle.schedule_model.specs.Activity.{task_of, is_active};
 ghost use Rattle.schedule_model.specs.Keeping.{KeepsBefore};
 ghost use Rattle.schedule_model.specs.BlockedTicks.{is_dpcp_interference};
-ghost use Rattle.charge_model.specs.Interferers.{interferes_with_some, is_interference_of};
-ghost use Rattle.charge_model.specs.Windows.{AreBounds, bound_end, window_end, EndedBy, EndedBefore};
+ghost use Rattle.charge_laws.specs.Interferers.{interferes_with_some, is_interference_of};
+ghost use Rattle.charge_laws.specs.Windows.{AreBounds, bound_end, window_end, EndedBy, EndedBefore};
 ghost use Rattle.schedule_laws.specs.Agreement.{RunsActiveBefore};
 
 use schedule_model::BlockingProtocol;

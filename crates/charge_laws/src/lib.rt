@@ -1,5 +1,6 @@
-//! Laws of charging: each blocked tick is charged to one request that executes, and what interferes with a job within
-//! its window is as little as an analysis counts.
+//! What a blocked tick is charged to under MPCP, FMLP+ and DPCP, and in which window ticks are counted: definitions in `specs/`, which
+//! speak of ticks, jobs and rows, and of no analysis. And the laws of charging: each blocked tick is charged to one request that executes,
+//! and what interferes with a job within its window is as little as an analysis counts.
 //!
 //! Each function here does nothing: its contract is a law, and the lemmas that prove it stand in `proofs/`, one file a
 //! subject, for the proofs of the crates above.

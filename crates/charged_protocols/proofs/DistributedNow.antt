@@ -11,7 +11,7 @@ use Rattle.phase_machine.specs.MachineDef.{MachineDef, under}
 use Rattle.phase_machine.specs.Now.{phase_now}
 use Rattle.phase_machine.specs.Shows.{Shows}
 use Rattle.phase_machine.proofs.Facts.{phase_shown}
-use Rattle.charge_model.specs.Charges.{Charge, class_at_home, charge_by_phase, dpcp_charge}
+use Rattle.charge_laws.specs.Charges.{Charge, class_at_home, charge_by_phase, dpcp_charge}
 use Rattle.charged_protocols.specs.ChargeNow.{dpcp_charge_in, dpcp_charge_now}
 
 -- The charge to a job in this phase, on the home of resource q.

@@ -13,7 +13,7 @@ use Rattle.phase_machine.specs.Shows.{Shows}
 use Rattle.phase_machine.proofs.Facts.{phase_shown}
 use Rattle.phase_machine.specs.Now.{may_run_now}
 use Rattle.shared_rules.proofs.Blocked.{runs_here}
-use Rattle.charge_model.specs.Charges.{charge_by_holder, charge_of_waiting, shared_charge}
+use Rattle.charge_laws.specs.Charges.{charge_by_holder, charge_of_waiting, shared_charge}
 use Rattle.charged_protocols.specs.ChargeNow.{holder_charge_now, waiting_charge_in, shared_charge_now}
 
 holder_shown : (m : MachineDef) (rows : ℕ → RowDef) (y : ℕ) → KeepsRun (under m rows) m.tick

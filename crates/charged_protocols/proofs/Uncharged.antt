@@ -3,7 +3,7 @@ use Rattle.std.proofs.Common.{◌≡◌, Bool, true, false, refl, sym, ◌∙◌
 use Rattle.std.specs.Prelude.{◌↔◌}
 use Rattle.schedule_model.specs.declared.job.JobId.{JobId}
 use Rattle.fragments.specs.declared.columns.Class.{Class}
-use Rattle.charge_model.specs.Charges.{Charge}
+use Rattle.charge_laws.specs.Charges.{Charge}
 use Rattle.charged_protocols.specs.Seen.{charge_seen}
 
 -- Where the answer is the charge, blocked ticks have one, and no others have.

@@ -3,7 +3,7 @@ use Rattle.std.specs.Prelude.{ℕ, Option}
 use Rattle.sporadic_model.specs.declared.ids.Protocol.{Protocol}
 use Rattle.sporadic_model.specs.declared.ids.Protocol.TheVariants as protocol
 use Rattle.schedule_model.specs.RowDef.{Trace}
-use Rattle.charge_model.specs.Charges.{Charge, shared_charge, dpcp_charge}
+use Rattle.charge_laws.specs.Charges.{Charge, shared_charge, dpcp_charge}
 
 abbrev pub charges_of : Protocol → Trace → ℕ → ℕ → Option Charge
 charges_of protocol.Mpcp = shared_charge

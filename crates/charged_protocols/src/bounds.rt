@@ -1,5 +1,5 @@
 ghost use Rattle.std.specs.Prelude.{◌≡◌, length, slice_index, ◌↔◌, IsTrue};
-ghost use Rattle.charge_model.specs.Windows.{AreBounds};
+ghost use Rattle.charge_laws.specs.Windows.{AreBounds};
 
 use sporadic_model::{TaskId, TaskSet};
 

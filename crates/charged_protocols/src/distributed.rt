@@ -7,7 +7,7 @@ ghost use Rattle.phase_machine.specs.MachineDef.{under};
 ghost use Rattle.phase_machine.specs.Now.{phase_now};
 ghost use Rattle.phase_machine.specs.Shows.{Shows};
 ghost use Rattle.phase_machine.specs.Taking.{IsRowFor};
-ghost use Rattle.charge_model.specs.Charges.{class_at_home, dpcp_charge};
+ghost use Rattle.charge_laws.specs.Charges.{class_at_home, dpcp_charge};
 ghost use Rattle.charged_protocols.specs.Seen.{charge_seen};
 ghost use Rattle.charged_protocols.specs.ChargeNow.{home_charge_now, dpcp_charge_now};
 

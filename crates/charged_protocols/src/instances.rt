@@ -1,10 +1,11 @@
 ghost use Rattle.std.specs.Prelude.{refl};
 ghost use Rattle.sporadic_model.specs.Homes.{EachHasHome};
+ghost use Rattle.sporadic_model.proofs.Laws.{formed_of_accepted};
 ghost use Rattle.sporadic_model.specs.declared.ids.Protocol.TheVariants as protocol;
 ghost use Rattle.schedule_model.specs.Ranks.{mpcp, fmlp_plus};
 ghost use Rattle.schedule_model.specs.Protocols.{shared_rule, dpcp_rule, EachSetSuits};
 ghost use Rattle.fragments.specs.Columns.{columns_of as written_columns};
-ghost use Rattle.charge_model.specs.Charges.{shared_charge, dpcp_charge};
+ghost use Rattle.charge_laws.specs.Charges.{shared_charge, dpcp_charge};
 ghost use Rattle.charge_laws.proofs.SharedCharging.{shared_charge_blocked};
 ghost use Rattle.charge_laws.proofs.DpcpCharging.{dpcp_charge_blocked};
 ghost use Rattle.charge_laws.proofs.Stretches.{shared_stays_charged, dpcp_stays_charged};
@@ -44,7 +45,8 @@ impl ChargedProtocol for Mpcp {
     ghost stays_charged = { λ p. shared_stays_charged EachSetSuits (shared_rule mpcp) };
 
     ghost meets_rows = { λ p w bounds n j suits accepted lawful keeps listed ended.
-        mpcp_point_within w bounds n j (record { accepted = accepted; lawful = lawful; listed = listed; ended = ended }) keeps };
+        mpcp_point_within w bounds n j (record { formed = formed_of_accepted w.set accepted; lawful = lawful; listed = listed; ended = ended })
+        keeps };
 }
 
 impl ChargedProtocol for FmlpPlus {
@@ -69,7 +71,8 @@ impl ChargedProtocol for FmlpPlus {
     ghost stays_charged = { λ p. shared_stays_charged EachSetSuits (shared_rule fmlp_plus) };
 
     ghost meets_rows = { λ p w bounds n j suits accepted lawful keeps listed ended.
-        fmlp_point_within w bounds n j (record { accepted = accepted; lawful = lawful; listed = listed; ended = ended }) keeps };
+        fmlp_point_within w bounds n j (record { formed = formed_of_accepted w.set accepted; lawful = lawful; listed = listed; ended = ended })
+        keeps };
 }
 
 impl ChargedProtocol for Dpcp {
@@ -94,5 +97,6 @@ impl ChargedProtocol for Dpcp {
     ghost stays_charged = { λ p. dpcp_stays_charged EachHasHome dpcp_rule };
 
     ghost meets_rows = { λ p w bounds n j suits accepted lawful keeps listed ended.
-        dpcp_point_within w bounds n j (record { accepted = accepted; lawful = lawful; listed = listed; ended = ended }) keeps };
+        dpcp_point_within w bounds n j (record { formed = formed_of_accepted w.set accepted; lawful = lawful; listed = listed; ended = ended })
+        keeps };
 }

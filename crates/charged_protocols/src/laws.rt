@@ -6,7 +6,7 @@ ghost use Rattle.program_sources.specs.Recurrence.{SourceDef, source_at};
 ghost use Rattle.program_sources.specs.Valid.{IsValid};
 ghost use Rattle.sporadic_model.specs.SetDef.{SetDef};
 ghost use Rattle.sporadic_model.specs.Accepted.{IsAccepted};
-ghost use Rattle.charge_model.specs.Windows.{AreBounds};
+ghost use Rattle.charge_laws.specs.Windows.{AreBounds};
 ghost use Rattle.soundness_laws.specs.Analyses.{Analyses};
 
 use crate::protocol::ChargedProtocol;

@@ -1,6 +1,6 @@
 ghost use Rattle.std.specs.Prelude.{◌≡◌, ℕ, ◌*◌, ◌<◌, ◌≤◌, ◌↔◌, true, false, List, length, map, slice_index};
 ghost use Rattle.std.specs.Prelude.{Option, Some, None, IfOk, IfSome};
-ghost use Rattle.bounded_sums.specs.Tests.{count_below};
+ghost use Rattle.number_laws.specs.Tests.{count_below};
 ghost use Rattle.program_form.specs.Points.{IsScaledPoint};
 ghost use Rattle.sporadic_model.specs.SetDef.{SetDef};
 ghost use Rattle.sporadic_model.specs.Accepted.{IsAccepted};
@@ -16,11 +16,11 @@ ghost use Rattle.phase_machine.specs.Shows.{Shows};
 ghost use Rattle.phase_machine.specs.Taking.{IsRowFor};
 ghost use Rattle.fragments.specs.ColumnDef.{ColumnDef};
 ghost use Rattle.program_laws.specs.Programs.{cost_of};
-ghost use Rattle.charge_model.specs.Charges.{Charge};
-ghost use Rattle.charge_model.specs.ChargedTicks.{IsCharged};
-ghost use Rattle.charge_model.specs.Interferers.{interferes_with_some};
-ghost use Rattle.charge_model.specs.Windows.{bound_end, EndedWithin};
-ghost use Rattle.charge_model.specs.Fractions.{product_of_lengths, fractions_of};
+ghost use Rattle.charge_laws.specs.Charges.{Charge};
+ghost use Rattle.charge_laws.specs.ChargedTicks.{IsCharged};
+ghost use Rattle.charge_laws.specs.Interferers.{interferes_with_some};
+ghost use Rattle.charge_laws.specs.Windows.{bound_end, EndedWithin};
+ghost use Rattle.charge_laws.specs.Fractions.{product_of_lengths, fractions_of};
 ghost use Rattle.charge_laws.specs.Stretches.{StaysCharged};
 ghost use Rattle.charged_protocols.specs.Seen.{charge_seen};
 

@@ -6,7 +6,7 @@ ghost use Rattle.phase_machine.specs.MachineDef.{under};
 ghost use Rattle.phase_machine.specs.Shows.{Shows};
 ghost use Rattle.phase_machine.specs.Taking.{IsRowFor};
 ghost use Rattle.fragments.specs.declared.columns.Class.{Class as ClassDef};
-ghost use Rattle.charge_model.specs.Charges.{charge_to, shared_charge};
+ghost use Rattle.charge_laws.specs.Charges.{charge_to, shared_charge};
 ghost use Rattle.charged_protocols.specs.Seen.{charge_seen};
 ghost use Rattle.charged_protocols.specs.ChargeNow.{holder_charge_now, waiting_charge_now, shared_charge_now};
 

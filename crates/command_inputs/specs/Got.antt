@@ -1,8 +1,10 @@
 -- What came of an input: its value, or the answer that says why there is none.
-use Rattle.std.specs.Prelude.{◌≡◌, ℕ, ◌≤◌, ◌⊎◌, true, List, length, is_some, Vec, Result, Ok, Err, codes}
+use Rattle.std.specs.Prelude.{◌≡◌, ℕ, ◌<◌, ◌≤◌, ◌⊎◌, true, List, [], ◌∷◌, length, is_some, Vec, Result, Ok, Err, codes}
 use Rattle.std.specs.Global.{Global}
 use Rattle.outside_ports.specs.Counts.{Rose}
+use Rattle.outside_ports.specs.Past.{Asked, wholly, partly, unbegun}
 use Rattle.outside_ports.specs.Ports.{ShelfDef}
+use Rattle.outside_ports.specs.declared.shelf.ShelfFault.TheVariants.{Absent}
 use Rattle.outside_ports.specs.declared.whole.TheConstants.{GREATEST_INPUT_BYTES}
 use Rattle.sporadic_model.specs.SetDef.{SetDef}
 use Rattle.protocol_names.specs.declared.ProtocolName.{ProtocolName}
@@ -14,19 +16,23 @@ use Rattle.command_inputs.specs.Inputs.{ReadsSet, set_input}
 use Rattle.command_inputs.specs.Halts.{HaltsWith}
 use Rattle.command_inputs.specs.declared.halt.Halt.{Halt}
 
--- Could the input of this name not be read, for which the shelf's count rose?
-abbrev pub IsFailed : Shown → List ℕ → Answer → Type 0
-IsFailed shelf word answer = Rose shelf.before shelf.now × (shelf.given ≤ GREATEST_INPUT_BYTES) × (answer ≡ read_fault word)
+-- Could the input of this name not be read, for which the shelf's count rose? It was asked for, and nothing else.
+abbrev pub IsFailed : Shown → List ℕ → List ℕ → Answer → Type 0
+IsFailed shelf word name answer = Rose shelf.before shelf.now × (shelf.given ≤ GREATEST_INPUT_BYTES)
+    × ((one : Asked) × (one.name ≡ name) × (shown_by shelf).asked (one ∷ [])) × (answer ≡ read_fault word)
 
 -- Is this the answer to an input that is not loaded: it could not be read, it is absent or too long?
 abbrev pub IsUnloaded : Shown → List ℕ → List ℕ → Answer → Type 0
-IsUnloaded shelf word name answer = IsFailed shelf word answer
-    ⊎ (((shown_by shelf).absent name × (answer ≡ refused word (codes "absent")))
-    ⊎ ((shown_by shelf).longer name × (answer ≡ refused word (codes "toolong"))))
+IsUnloaded shelf word name answer = IsFailed shelf word name answer
+    ⊎ (((shown_by shelf).absent name × (shown_by shelf).asked (unbegun name Absent ∷ []) × (answer ≡ refused word (codes "absent")))
+    ⊎ ((part : List ℕ) × (shown_by shelf).longer name × (GREATEST_INPUT_BYTES < length part)
+    × (shown_by shelf).asked (partly name part ∷ []) × (answer ≡ refused word (codes "toolong"))))
 
--- What came of loading an input: its bytes, as many as were given; or the answer that says why there are none.
+-- What came of loading an input: the bytes that the shelf gave of it, and it was asked for nothing else; or the answer that says why
+-- there are none.
 abbrev pub IsLoaded : Shown → List ℕ → List ℕ → Result (Vec ℕ Global) Halt → Type 0
 IsLoaded shelf word name (Ok bytes) = (shown_by shelf).has name bytes.items × (length bytes.items ≡ shelf.given)
+    × (shown_by shelf).asked (wholly name bytes.items ∷ [])
 IsLoaded shelf word name (Err h) = HaltsWith h (IsUnloaded shelf word name)
 
 -- Is this the answer that refuses the bytes of an input?
@@ -41,11 +47,12 @@ IsTaken input bytes (Err h) = HaltsWith h (IsRefusal input bytes)
 
 -- Is this the answer to an input of which nothing is got?
 abbrev pub IsUngot : Shown → Input → List ℕ → Answer → Type 0
-IsUngot shelf input name answer = IsFailed shelf input.word answer ⊎ IsStopped (shown_by shelf) input name answer
+IsUngot shelf input name answer = IsFailed shelf input.word name answer ⊎ IsStopped (shown_by shelf) input name answer
 
--- Is this the value of an input that the shelf gave, of some bytes, as many as were given last?
+-- Is this the value of an input, of the bytes that the shelf gave of it, which was asked for nothing else?
 abbrev pub IsGiven : Shown → (input : Input) → List ℕ → input.Value → Type 0
 IsGiven shelf input name value = (bytes : List ℕ) × IsRead (shown_by shelf) input name bytes value × (length bytes ≡ shelf.given)
+    × (shown_by shelf).asked (wholly name bytes ∷ [])
 
 -- What came of both: the value; or the answer that says why there is none.
 abbrev pub IsGot : Shown → (input : Input) → List ℕ → Result input.Value Halt → Type 0

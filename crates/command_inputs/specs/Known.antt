@@ -1,7 +1,11 @@
 -- What an input is, what is known of inputs, and what is answered to one that gives no value.
-use Rattle.std.specs.Prelude.{◌≡◌, ℕ, ◌<◌, ◌≤◌, ◌⊎◌, List, length, codes, Option, None, Some, IsSomeAnd, Result, Ok, Err}
+use Rattle.std.specs.Prelude.{◌≡◌, ℕ, ◌<◌, ◌≤◌, ◌⊎◌, Bool, true, false, List, [], ◌∷◌, ◌++◌, length, codes, refl}
+use Rattle.std.specs.Prelude.{Option, None, Some, IsSomeAnd, Result, Ok, Err}
 use Rattle.outside_ports.specs.Names.{Inputs, bytes_of, IsNamed, IsLonger, IsAbsent}
+use Rattle.outside_ports.specs.Past.{Asked, wholly, partly, unbegun}
 use Rattle.outside_ports.specs.Ports.{ShelfDef}
+use Rattle.outside_ports.specs.declared.shelf.ShelfFault.{ShelfFault}
+use Rattle.outside_ports.specs.declared.shelf.ShelfFault.TheVariants.{Absent}
 use Rattle.outside_ports.specs.declared.whole.TheConstants.{GREATEST_INPUT_BYTES}
 use Rattle.reply_texts.specs.Texts.{refused_text, fault_text}
 
@@ -27,13 +31,34 @@ refused word reason = record { status = 3; text = refused_text word reason }
 abbrev pub read_fault : List ℕ → Answer
 read_fault word = record { status = 4; text = fault_text word }
 
--- What is known of inputs: may the one of this name be absent; may it be too long; may it have these bytes; and may the
--- one that is read last have these?
+-- What is known of inputs: may the one of this name be absent; may it be too long; may it have these bytes; may the one that is
+-- read last have these; and may these be all that is asked for, the first one first?
 pub record Known : Type 1 where
   pub absent : List ℕ → Type 0
   pub longer : List ℕ → Type 0
   pub has : List ℕ → List ℕ → Type 0
   pub last : List ℕ → Type 0
+  pub asked : List Asked → Type 0
+
+-- What is known of the rest, once this one was asked for.
+abbrev pub past : Known → Asked → Known
+past known one = record {
+  absent = known.absent;
+  longer = known.longer;
+  has = known.has;
+  last = known.last;
+  asked = λ later. known.asked (one ∷ later);
+}
+
+-- The readings of a shelf after these more, the first of which stands first. A shelf lists its last one first.
+abbrev pub readings_after : List Asked → List Asked → List Asked
+readings_after had [] = had
+readings_after had (one ∷ later) = readings_after (one ∷ had) later
+
+-- a set and then a certificate were read
+pub readings_after-example : (set cert : List ℕ) → readings_after [] (wholly (codes "set") set ∷ wholly (codes "cert") cert ∷ [])
+    ≡ wholly (codes "cert") cert ∷ wholly (codes "set") set ∷ []
+readings_after-example set cert = refl
 
 -- What is known where these are the named inputs.
 abbrev pub told : Inputs → Known
@@ -42,35 +67,67 @@ told inputs = record {
   longer = λ name. IsSomeAnd (bytes_of inputs name) (λ bytes. GREATEST_INPUT_BYTES < length bytes);
   has = λ name bytes. (bytes_of inputs name ≡ Some bytes) × (length bytes ≤ GREATEST_INPUT_BYTES);
   last = λ bytes. Unit {0};
+  asked = λ readings. Unit {0};
 }
 
--- What a shelf shows of a call: its inputs, where it tells them; its count of faults before and after; and the number of
--- bytes that it has given since the last start.
+-- What a shelf shows of a call: its inputs, where it tells them; its count of faults before and after; the number of bytes that it
+-- has given since the last start; and its readings before and after, the last one first.
 pub record Shown : Type 0 where
   pub names : Option Inputs
   pub before : ℕ
   pub now : ℕ
   pub given : ℕ
+  pub had : List Asked
+  pub has : List Asked
 
 -- What this shelf shows that became that one.
 abbrev pub shown : ShelfDef → ShelfDef → Shown
-shown old new = record { names = old.names; before = old.faults; now = new.faults; given = new.given }
+shown old new = record {
+  names = old.names;
+  before = old.faults;
+  now = new.faults;
+  given = new.given;
+  had = old.readings;
+  has = new.readings;
+}
 
 -- What is known from that: an input is absent where the told names lack it, or, where they aren't told, the count rose;
--- it is too long where too many bytes were given; and the one that is read last has as many bytes as were given.
+-- it is too long where too many bytes were given; the one that is read last has as many bytes as were given; and what was asked for
+-- are the readings that the shelf has now, beyond those that it had.
 abbrev pub shown_by : Shown → Known
 shown_by shelf = record {
   absent = λ name. IsAbsent shelf.names name shelf.before shelf.now × (shelf.given ≤ GREATEST_INPUT_BYTES);
   longer = λ name. IsLonger shelf.names name GREATEST_INPUT_BYTES × (GREATEST_INPUT_BYTES < shelf.given);
   has = λ name bytes. IsNamed shelf.names name bytes × (length bytes ≤ GREATEST_INPUT_BYTES);
   last = λ bytes. length bytes ≡ shelf.given;
+  asked = λ readings. shelf.has ≡ readings_after shelf.had readings;
 }
 
--- Is this the answer to an input that gives no value: it is absent, too long or refused?
+-- May an input of these bytes, or an absent one, have answered so: with this fault, or with these bytes and its end or not yet its end?
+-- Of a start that failed for another reason nothing is known.
+abbrev pub FitsWith : Option (List ℕ) → Option ShelfFault → Bool → List ℕ → Type 0
+FitsWith named (Some Absent) ended bytes = named ≡ None
+FitsWith named (Some _) ended bytes = Unit {0}
+FitsWith named None true bytes = named ≡ Some bytes
+FitsWith named None false bytes = (rest : List ℕ) × (named ≡ Some (bytes ++ rest))
+
+-- Do the named inputs fit all of these readings?
+abbrev pub FitAll : Inputs → List Asked → Type 0
+FitAll inputs [] = Unit {0}
+FitAll inputs (one ∷ later) = FitsWith (bytes_of inputs one.name) one.fault one.ended one.bytes × FitAll inputs later
+
+-- Are these the inputs of a call? They are those that the shelf tells, or they fit all that it was asked for and gave in the call.
+abbrev pub AreInputs : Shown → Inputs → Type 0
+AreInputs shelf inputs = (shelf.names ≡ Some inputs)
+    ⊎ ((readings : List Asked) → shelf.has ≡ readings_after shelf.had readings → FitAll inputs readings)
+
+-- Is this the answer to an input that gives no value: it is absent, too long or refused? It is the last that is asked for.
 abbrev pub IsStopped : Known → Input → List ℕ → Answer → Type 0
-IsStopped known input name answer = (known.absent name × (answer ≡ refused input.word (codes "absent")))
-    ⊎ ((known.longer name × (answer ≡ refused input.word (codes "toolong")))
-    ⊎ ((bytes : List ℕ) × (refusal : input.Refusal) × (known.has name bytes) × (known.last bytes)
+IsStopped known input name answer =
+    (known.absent name × known.asked (unbegun name Absent ∷ []) × (answer ≡ refused input.word (codes "absent")))
+    ⊎ (((part : List ℕ) × known.longer name × (GREATEST_INPUT_BYTES < length part) × known.asked (partly name part ∷ [])
+    × (answer ≡ refused input.word (codes "toolong")))
+    ⊎ ((bytes : List ℕ) × (refusal : input.Refusal) × (known.has name bytes) × (known.last bytes) × known.asked (wholly name bytes ∷ [])
     × (input.reads bytes (Err refusal)) × (answer ≡ refused input.word (input.reason refusal))))
 
 -- Is the input of this name there and accepted, with these bytes and this value?

@@ -13,7 +13,7 @@ ghost use Rattle.command_inputs.specs.RefusalSeen.{refusal_seen};
 ghost use Rattle.command_inputs.specs.Got.{IsLoaded, IsTaken, IsGot, IsGotTied, taken, ReadsSetFor, Keeps};
 
 use crate::halt::{Halt, fault, refusal};
-use cert_json::{CertFile, CertRefusal};
+use cert_json::{CertFile, CertRefusal, set_digest};
 use outside_ports::{LoadFault, Shelf, load};
 use program_form::Certificate;
 use protocol_names::ProtocolName;
@@ -21,7 +21,6 @@ use refusal_json::{ReadFault, read_refusal};
 use refusal_laws::Refusal;
 use reply_texts::{cert_reason, jobs_reason, reason, refusal_reason, rows_reason};
 use schedule_model::JobList;
-use set_digests::set_digest;
 use sporadic_model::TaskSet;
 use std::alloc::Global;
 use taskset_json::{SetRefusal, home_check, read};

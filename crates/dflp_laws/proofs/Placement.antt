@@ -16,8 +16,8 @@ use Rattle.schedule_laws.proofs.Segments.{open_listed, open_resource, open_user}
 use Rattle.fragments.specs.declared.columns.Class.{Class}
 use Rattle.fragments.specs.declared.columns.Class.TheVariants.{Direct, Indirect, Preemption}
 use Rattle.fragments.specs.Columns.{AreRequests, blocks_at_home}
-use Rattle.charge_model.specs.Charges.{dpcp_charge, Executes}
-use Rattle.charge_model.specs.ChargedTicks.{IsCharged}
+use Rattle.charge_laws.specs.Charges.{dpcp_charge, Executes}
+use Rattle.charge_laws.specs.ChargedTicks.{IsCharged}
 use Rattle.charge_laws.proofs.DpcpCharging.{DpcpReason, DpcpCharged, RunsAtHomes, home_charged, home_executes}
 use Rattle.row_laws.proofs.Brings.{column_with}
 use Rattle.row_laws.proofs.SharedPlacement.{other_task, passes_not}

@@ -5,7 +5,7 @@ use Rattle.std.specs.List.{All}
 use Rattle.schedule_model.specs.RowDef.{Trace}
 use Rattle.schedule_model.specs.Activity.{task_of}
 use Rattle.schedule_model.specs.Keeping.{KeepsBefore}
-use Rattle.charge_model.specs.Charges.{dpcp_charge}
+use Rattle.charge_laws.specs.Charges.{dpcp_charge}
 use Rattle.program_laws.proofs.RowKinds.{common_each, preemption_each}
 use Rattle.row_laws.specs.Meeting.{TicksMeet}
 use Rattle.row_laws.proofs.Brings.{Window}
@@ -41,7 +41,7 @@ dflp_point_within w bounds n j premises keeps =
     (λ ended. rows_are_point dpcp_charge (is_dflp_column w.set (task_of w j)) (dflp_rows w.set (task_of w j)) w bounds n j have
     (dflp_rows_met w (slice_index bounds) n j
     (home_window w bounds n j
-    (record { accepted = premises.accepted; lawful = premises.lawful; listed = premises.listed; ended = ended })
+    (record { formed = premises.formed; lawful = premises.lawful; listed = premises.listed; ended = ended })
     (homes_before w n keeps)) keeps)) where
       have : HaveLengths w.set (dflp_columns w.set (task_of w j))
-      have = users_have_lengths (is_dflp_column w.set (task_of w j)) w.set premises.accepted (columns_are_requests w.set (task_of w j))
+      have = users_have_lengths (is_dflp_column w.set (task_of w j)) w.set premises.formed (columns_are_requests w.set (task_of w j))

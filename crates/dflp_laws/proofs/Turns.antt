@@ -17,7 +17,7 @@ use Rattle.fragments.specs.declared.columns.Class.{Class}
 use Rattle.fragments.specs.declared.columns.Class.TheVariants.{Direct}
 use Rattle.fragments.specs.ColumnDef.{ColumnDef, is_direct, is_preemption}
 use Rattle.direct_constraints.specs.Rows.{turn_row}
-use Rattle.charge_model.specs.Charges.{dpcp_charge}
+use Rattle.charge_laws.specs.Charges.{dpcp_charge}
 use Rattle.charge_laws.proofs.DpcpCharging.{HomeBlocked, DirectAtHome, DpcpReason, request_at_from, home_reason}
 use Rattle.row_laws.specs.Meeting.{TicksMeet}
 use Rattle.row_laws.proofs.Brings.{Window, Counted}

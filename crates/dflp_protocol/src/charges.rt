@@ -2,7 +2,8 @@
 
 ghost use Rattle.std.specs.Prelude.{refl};
 ghost use Rattle.sporadic_model.specs.Homes.{EachHasHome};
-ghost use Rattle.charge_model.specs.Charges.{dpcp_charge};
+ghost use Rattle.sporadic_model.proofs.Laws.{formed_of_accepted};
+ghost use Rattle.charge_laws.specs.Charges.{dpcp_charge};
 ghost use Rattle.charge_laws.proofs.DpcpCharging.{dpcp_charge_blocked};
 ghost use Rattle.charge_laws.proofs.Stretches.{dpcp_stays_charged};
 ghost use Rattle.charge_laws.proofs.Interference.{interferes_within_local};
@@ -40,5 +41,6 @@ impl ChargedProtocol for Dflp {
     ghost stays_charged = { λ p. dpcp_stays_charged EachHasHome dflp_rule };
 
     ghost meets_rows = { λ p w bounds n j suits accepted lawful keeps listed ended.
-        dflp_point_within w bounds n j (record { accepted = accepted; lawful = lawful; listed = listed; ended = ended }) keeps };
+        dflp_point_within w bounds n j (record { formed = formed_of_accepted w.set accepted; lawful = lawful; listed = listed; ended = ended })
+        keeps };
 }

@@ -18,7 +18,7 @@ ghost use Rattle.dflp_laws.proofs.Agreement.{dflp_rules_read, dflp_choice_reads}
 ghost use Rattle.dflp_laws.proofs.Stretches.{dflp_stays_lawful};
 
 use dpcp_rules::blocking::blocked;
-pub use laws::each_schedule_has_a_next_row;
+pub use laws::{each_schedule_has_a_next_row, programs_are_small};
 use phase_machine::{Judge, Machine};
 use schedule_model::{BlockingProtocol, JobId, Row, Rule};
 

@@ -2,7 +2,7 @@
 
 ghost use Rattle.std.specs.Prelude.{◌<◌, ◌+◌, ◌&&◌, [], ◌∷◌, length};
 ghost use Rattle.std.proofs.Common.{ap};
-ghost use Rattle.bounded_sums.specs.Sums.{flag, only_if};
+ghost use Rattle.number_laws.specs.Sums.{flag, only_if};
 ghost use Rattle.sporadic_model.specs.Users.{length_of};
 ghost use Rattle.fragments.specs.declared.columns.Class.TheVariants.{Direct};
 ghost use Rattle.fragments.specs.ColumnDef.{is_class};

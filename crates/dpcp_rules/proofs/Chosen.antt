@@ -6,8 +6,8 @@ use Rattle.std.proofs.Math.Bool.{and_assoc}
 use Rattle.std.proofs.lemmas.Bool.{cases_Bool, and_parts, and_from, and_left, both_ways, false_from_ne_true, not-true}
 use Rattle.std.proofs.lemmas.Bool.{eq-eqb, eqb-true, le-leb, leb-true}
 use Rattle.std.proofs.lemmas.Option.{same_Some}
-use Rattle.bounded_sums.specs.Tests.{all_below, any_below}
-use Rattle.bounded_sums.proofs.TestLaws.{all_below-each, any_below-from, any_below-some, any_below-none, any_below-none_from}
+use Rattle.number_laws.specs.Tests.{all_below, any_below}
+use Rattle.number_laws.proofs.TestLaws.{all_below-each, any_below-from, any_below-some, any_below-none, any_below-none_from}
 use Rattle.sporadic_model.specs.Users.{is_user}
 use Rattle.sporadic_model.specs.declared.limits.TheConstants.{MOST_PROCESSORS}
 use Rattle.schedule_model.specs.declared.rule.Rule.{Rule}

@@ -2,8 +2,8 @@
 use Rattle.std.proofs.Common.{◌≡◌, ℕ, ◌<◌, not, Bool, true, false, List, length, refl, sym, ap, ◌∙◌, inl, inr, Option, Some, None, cond}
 use Rattle.std.specs.Option.{option_map_or}
 use Rattle.std.proofs.lemmas.Bool.{cases_Bool, and_parts, and_from, not_from_false, or_left, or_right}
-use Rattle.bounded_sums.specs.Tests.{all_below}
-use Rattle.bounded_sums.proofs.TestLaws.{all_below-each, all_below-from}
+use Rattle.number_laws.specs.Tests.{all_below}
+use Rattle.number_laws.proofs.TestLaws.{all_below-each, all_below-from}
 use Rattle.sporadic_model.specs.Homes.{EachHasHome}
 use Rattle.sporadic_model.specs.Accepted.{IsAccepted}
 use Rattle.schedule_model.specs.RowDef.{RowDef, is_job, holder_in, held_before}

@@ -5,7 +5,7 @@ use Rattle.std.proofs.Math.Bool.{or-false}
 use Rattle.std.proofs.lemmas.List.{get_or-replicate}
 use Rattle.std.proofs.lemmas.Bool.{cases_Bool, false_from_ne_true, leb-true, le-leb, eqb-true, eqb-false, ne_eqb}
 use Rattle.std.proofs.lemmas.Bool.{leb-false, or_left, or_right, or_cases}
-use Rattle.bounded_sums.specs.Tests.{any_below}
+use Rattle.number_laws.specs.Tests.{any_below}
 use Rattle.phase_machine.proofs.Facts.{same_bool}
 use Rattle.dpcp_rules.specs.declared.tables.TheConstants.{PLACES}
 use Rattle.dpcp_rules.specs.Homes.{entry_at, IsLeast}

@@ -4,7 +4,7 @@ use Rattle.std.proofs.Common.{inl, inr, Option, Some, None, cond}
 use Rattle.std.specs.Prelude.{is_some}
 use Rattle.std.proofs.lemmas.Bool.{cases_Bool, and_parts, and_from, or_left, or_right, not_from_false, both_ways}
 use Rattle.std.proofs.lemmas.Bool.{false_from_ne_true, leb-true, le-leb, eq-eqb}
-use Rattle.bounded_sums.proofs.TestLaws.{any_below-some}
+use Rattle.number_laws.proofs.TestLaws.{any_below-some}
 use Rattle.schedule_model.specs.RowDef.{Trace, RowDef, running_on, holder_in}
 use Rattle.schedule_model.specs.Phase.{Phase, is_local, is_asking, phase_of}
 use Rattle.schedule_model.specs.Phase.Phase.{Local, Asking, Finished}

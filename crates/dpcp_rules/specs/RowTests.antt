@@ -2,7 +2,7 @@
 -- for each processor the first task that waits there, and the least ceiling that is kept there.
 use Rattle.std.specs.Prelude.{ℕ, ◌&&◌, ◌||◌, not, Bool, nat_le, nat_lt, if◌then◌else◌, List, length}
 use Rattle.std.specs.Prelude.{Option, None, Some, is_some}
-use Rattle.bounded_sums.specs.Tests.{all_below}
+use Rattle.number_laws.specs.Tests.{all_below}
 use Rattle.schedule_model.specs.RowDef.{RowDef, running_on, holder_in}
 use Rattle.schedule_model.specs.declared.rule.Rule.{Rule}
 use Rattle.phase_machine.specs.MachineDef.{MachineDef, task_in}

@@ -5,10 +5,10 @@ use Rattle.std.proofs.lemmas.Int.{ints, unsigned_abs-mul}
 use Rattle.std.proofs.Math.Nat.{mul_comm, mul-le-mul_left, le_of_mul-le-mul_right, eq_of_mul-eq-mul_right}
 use Rattle.number_laws.proofs.Ring.{mul-swap_last}
 use Rattle.number_laws.proofs.Order.{cancel, weaker, not_negative}
-use Rattle.bounded_sums.specs.Sums.{sum_below}
-use Rattle.bounded_sums.specs.WholeSums.{total_below}
-use Rattle.bounded_sums.proofs.SumLaws.{sum_below-agree, sum_below-times_right}
-use Rattle.bounded_sums.proofs.TotalLaws.{total_below-agree, total_below-of_sum, only_at-here, only_at-away}
+use Rattle.number_laws.specs.Sums.{sum_below}
+use Rattle.number_laws.specs.WholeSums.{total_below}
+use Rattle.number_laws.proofs.SumLaws.{sum_below-agree, sum_below-times_right}
+use Rattle.number_laws.proofs.TotalLaws.{total_below-agree, total_below-of_sum, only_at-here, only_at-away}
 use Rattle.fraction128.specs.Fraction.{Fraction}
 use Rattle.fraction128.specs.Scaling.{IsScaled, fraction_at}
 use Rattle.fraction128.proofs.Unique.{size_positive}

@@ -3,7 +3,7 @@ use Rattle.std.proofs.Common.{◌≡◌, ◌⊎◌, inl, inr, ℕ, zero, suc, �
 use Rattle.std.proofs.lemmas.Int.{ints, by_lt_z}
 use Rattle.std.proofs.lemmas.Bool.{cases_lt}
 use Rattle.number_laws.proofs.Order.{above_zero, not_negative}
-use Rattle.bounded_sums.proofs.TotalLaws.{only_at-here}
+use Rattle.number_laws.proofs.TotalLaws.{only_at-here}
 use Rattle.program_form.specs.Program.{ProgramDef, IsProgram, IsCovered, columns, height}
 use Rattle.exchange_runs.specs.Table.{Table, variables}
 use Rattle.exchange_runs.specs.Exchange.{HasRatio}

@@ -5,10 +5,10 @@ use Rattle.std.proofs.lemmas.Int.{ints}
 use Rattle.std.proofs.lemmas.Bool.{cases_eq}
 use Rattle.number_laws.proofs.Ring.{mul-neg_left, mul-zero, zero-mul, one-mul}
 use Rattle.number_laws.proofs.Order.{times_nonneg}
-use Rattle.bounded_sums.specs.WholeSums.{total_below, only_at}
-use Rattle.bounded_sums.proofs.TotalLaws.{total_below-agree, total_below-zero, total_below-times, total_below-nonneg}
-use Rattle.bounded_sums.proofs.TotalLaws.{total_below-only, total_below-swap, total_below-split, only_at-here}
-use Rattle.bounded_sums.proofs.TotalLaws.{only_at-away}
+use Rattle.number_laws.specs.WholeSums.{total_below, only_at}
+use Rattle.number_laws.proofs.TotalLaws.{total_below-agree, total_below-zero, total_below-times, total_below-nonneg}
+use Rattle.number_laws.proofs.TotalLaws.{total_below-only, total_below-swap, total_below-split, only_at-here}
+use Rattle.number_laws.proofs.TotalLaws.{only_at-away}
 use Rattle.exchange_runs.proofs.Invariants.{IsMix, IsRead}
 
 -- A slack stands with one in its own first row and with zero in each other, the objective row among them.

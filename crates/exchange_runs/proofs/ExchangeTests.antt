@@ -14,8 +14,8 @@ use Rattle.number_laws.specs.Divisors.{IsCoprime}
 use Rattle.fraction128.specs.Fraction.{Fraction, IsForm, IsQuotient, IsAtMost, over, whole}
 use Rattle.fraction128.specs.LowestTerms.{signed}
 use Rattle.fraction128.proofs.Forms.{form_of_zero}
-use Rattle.bounded_sums.specs.Tests.{all_below}
-use Rattle.bounded_sums.proofs.TestLaws.{all_below-each}
+use Rattle.number_laws.specs.Tests.{all_below}
+use Rattle.number_laws.proofs.TestLaws.{all_below-each}
 use Rattle.program_form.specs.Program.{ProgramDef, height}
 use Rattle.exchange_runs.specs.Table.{Table, variables, objective}
 use Rattle.exchange_runs.specs.Exchange.{IsEntering, IsLast, HasRatio, IsRatio, IsLeastOf, IsLess, IsExchange}

@@ -1,7 +1,7 @@
 -- The numbers of the first table, place by place.
 use Rattle.std.proofs.Common.{◌≡◌, ℕ, ◌+◌, ◌<◌, ◌≤◌, List, slice_index, ℤ, pos, inl, inr, refl, ap, ◌∙◌, sym, arith}
 use Rattle.std.proofs.lemmas.Bool.{cases_eq, eq-eqb, ne_eqb, lt-ltb, le-ltb}
-use Rattle.bounded_sums.proofs.TotalLaws.{only_at-here, only_at-away}
+use Rattle.number_laws.proofs.TotalLaws.{only_at-here, only_at-away}
 use Rattle.program_form.specs.Program.{ProgramDef, columns, height, cost, entry, limit, row}
 use Rattle.exchange_runs.specs.Table.{variables, slack, first_of, first_entries, first_limit, first_number}
 use Rattle.exchange_runs.proofs.Ends.{HasSlacks}

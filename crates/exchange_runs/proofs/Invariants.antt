@@ -6,9 +6,9 @@ use Rattle.std.proofs.lemmas.Int.{ints, by_lt_z}
 use Rattle.std.proofs.lemmas.Bool.{cases_eq, eq-eqb, ne_eqb}
 use Rattle.number_laws.proofs.Ring.{as_diff, diffs, same_diff, by_two, mul-comm, mul-neg_left}
 use Rattle.number_laws.proofs.Order.{times_nonneg, times_positive, weaker}
-use Rattle.bounded_sums.specs.WholeSums.{total_below, only_at}
-use Rattle.bounded_sums.proofs.TotalLaws.{total_below-agree, total_below-plus, total_below-mix, total_below-times}
-use Rattle.bounded_sums.proofs.TotalLaws.{total_below-nonneg, total_below-only, only_at-here, only_at-away}
+use Rattle.number_laws.specs.WholeSums.{total_below, only_at}
+use Rattle.number_laws.proofs.TotalLaws.{total_below-agree, total_below-plus, total_below-mix, total_below-times}
+use Rattle.number_laws.proofs.TotalLaws.{total_below-nonneg, total_below-only, only_at-here, only_at-away}
 use Rattle.exchange_runs.proofs.Signs.{turned}
 
 -- Is the row x so many times the first objective row, and each first row as many times as x has at its slack?

@@ -14,3 +14,13 @@ pub mod ExchangeTests
 pub mod SevenRowsRun
 pub mod Found
 pub mod Course
+pub mod SmallLowest
+pub mod SmallOperations
+pub mod SmallRuns
+pub mod FreeStates
+pub mod Bland
+pub mod Pigeons
+pub mod Traces
+pub mod FreeRuns
+pub mod FreeEnds
+pub mod OneEnd

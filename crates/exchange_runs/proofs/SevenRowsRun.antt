@@ -11,8 +11,8 @@ use Rattle.std.proofs.lemmas.List.Elements.{All-from_get_or}
 use Rattle.std.proofs.Math.Nat.{dvd_of_mod-eq-zero}
 use Rattle.fraction128.specs.Fraction.{Fraction, over, whole}
 use Rattle.fraction128.specs.Scaling.{IsLeastCommon, AreScaled, fraction_at}
-use Rattle.bounded_sums.specs.Tests.{all_below}
-use Rattle.bounded_sums.proofs.TestLaws.{all_below-each}
+use Rattle.number_laws.specs.Tests.{all_below}
+use Rattle.number_laws.proofs.TestLaws.{all_below-each}
 use Rattle.program_form.specs.Program.{ProgramDef, columns}
 use Rattle.program_form.specs.SevenRows.{seven_rows, seven_rows_dual}
 use Rattle.exchange_runs.specs.Table.{Table, IsStart, first_number, slack, variables}

@@ -5,7 +5,7 @@ use Rattle.std.proofs.lemmas.Bool.{cases_eq}
 use Rattle.number_laws.proofs.Ring.{mul-comm, mul-zero}
 use Rattle.number_laws.proofs.Order.{times_positive, not_negative}
 use Rattle.fraction128.specs.Fraction.{Fraction, IsForm}
-use Rattle.bounded_sums.specs.WholeSums.{only_at}
+use Rattle.number_laws.specs.WholeSums.{only_at}
 use Rattle.program_form.specs.Program.{ProgramDef, columns, height}
 use Rattle.exchange_runs.specs.Table.{Table, variables, IsStart, first_number}
 use Rattle.exchange_runs.specs.Exchange.{HasRatio, IsRatioOver, IsLessOver, IsExchangeOver}

@@ -7,3 +7,5 @@ pub mod Feasible
 pub mod Outcomes
 pub mod Account
 pub mod SevenRowsRun
+pub mod SmallRuns
+pub mod Unbounded

@@ -2,16 +2,16 @@
 use Rattle.std.proofs.Common.{◌≡◌, ℕ, ◌+◌, ◌-◌, ◌<◌, ◌≤◌, ◌==◌, Bool, false, List, length, ap, subst, arith}
 use Rattle.std.specs.Prelude.{slice_index, nat_le, nat_lt}
 use Rattle.std.proofs.lemmas.Bool.{and_parts, ltb-true, false_from_ne_true}
-use Rattle.bounded_sums.specs.Sums.{only_if}
-use Rattle.bounded_sums.specs.Tests.{count_below}
-use Rattle.bounded_sums.proofs.SumLaws.{sum_below-agree}
-use Rattle.bounded_sums.proofs.CountLaws.{count_below-none, count_below-split}
+use Rattle.number_laws.specs.Sums.{only_if}
+use Rattle.number_laws.specs.Tests.{count_below}
+use Rattle.number_laws.proofs.SumLaws.{sum_below-agree}
+use Rattle.number_laws.proofs.CountLaws.{count_below-none, count_below-split}
 use Rattle.schedule_model.specs.JobDef.{job_of}
 use Rattle.schedule_model.specs.RowDef.{Trace}
 use Rattle.schedule_model.specs.Activity.{task_of}
 use Rattle.schedule_model.specs.BlockedTicks.{is_blocked}
 use Rattle.schedule_model.specs.Measures.{blocking_of}
-use Rattle.charge_model.specs.Windows.{window_end}
+use Rattle.charge_laws.specs.Windows.{window_end}
 use Rattle.soundness_laws.specs.Sound.{due_tick, KeepsBounds}
 use Rattle.soundness_laws.proofs.MeasuresKept.{blocked_inside}
 use Rattle.figure_laws.specs.Figures.{blocked_sum, blocked_ticks}

@@ -8,7 +8,7 @@ use Rattle.schedule_model.specs.Keeping.{KeepsBefore, IsFirstUnlawful}
 use Rattle.schedule_model.specs.declared.rule.Rule.{Rule}
 use Rattle.program_sources.specs.Recurrence.{SourceDef}
 use Rattle.program_sources.specs.Valid.{IsValid, value_at}
-use Rattle.charge_model.specs.Charges.{Charge}
+use Rattle.charge_laws.specs.Charges.{Charge}
 use Rattle.schedule_answers.specs.Failures.{IsFailure}
 use Rattle.schedule_answers.specs.declared.audited.TaskFigures.{TaskFigures}
 use Rattle.schedule_answers.specs.declared.audited.AuditStop.{AuditStop}

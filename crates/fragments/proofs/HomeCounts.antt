@@ -4,11 +4,11 @@ use Rattle.std.specs.Prelude.{nat_lt, nat_le, slice_index, unwrap_or}
 use Rattle.std.proofs.lemmas.Bool.{cases_Bool, cases_lt, lt-ltb, le-ltb, eq-eqb, ne_eqb}
 use Rattle.std.proofs.lemmas.List.{length-take}
 use Rattle.std.proofs.lemmas.List.Sums.{count_by-le-length}
-use Rattle.bounded_sums.specs.Sums.{flag, only_if}
-use Rattle.bounded_sums.specs.Tests.{any_below, count_below}
-use Rattle.bounded_sums.proofs.CountLaws.{count_below-parts, count_below-from, count_below-none, count_below-agree}
-use Rattle.bounded_sums.proofs.SumLaws.{sum_below-one, sum_below-agree}
-use Rattle.bounded_sums.proofs.TestLaws.{any_below-some, any_below-none}
+use Rattle.number_laws.specs.Sums.{flag, only_if}
+use Rattle.number_laws.specs.Tests.{any_below, count_below}
+use Rattle.number_laws.proofs.CountLaws.{count_below-parts, count_below-from, count_below-none, count_below-agree}
+use Rattle.number_laws.proofs.SumLaws.{sum_below-one, sum_below-agree}
+use Rattle.number_laws.proofs.TestLaws.{any_below-some, any_below-none}
 use Rattle.sporadic_model.specs.SetDef.{SetDef, task_at, resource_at}
 use Rattle.sporadic_model.specs.Users.{is_user, used_by}
 use Rattle.sporadic_model.specs.Homes.{home_in}

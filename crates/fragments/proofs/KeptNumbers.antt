@@ -11,9 +11,9 @@ use Rattle.std.proofs.lemmas.List.Elements.{filter-append, filter_passes, All-sa
 use Rattle.std.proofs.lemmas.List.Folds.{list_any-append, flat_map-map}
 use Rattle.std.proofs.lemmas.List.Sums.{sum_by-cons, sum_by_push, length-filter, count_by-le-length}
 use Rattle.std.proofs.lemmas.List.FromFn.{length-range_with_len}
-use Rattle.bounded_sums.specs.Sums.{sum_below, only_if, collect_below}
-use Rattle.bounded_sums.specs.Tests.{any_below}
-use Rattle.bounded_sums.proofs.SumLaws.{sum_below-agree, only_if-true, only_if-false}
+use Rattle.number_laws.specs.Sums.{sum_below, only_if, collect_below}
+use Rattle.number_laws.specs.Tests.{any_below}
+use Rattle.number_laws.proofs.SumLaws.{sum_below-agree, only_if-true, only_if-false}
 use Rattle.sporadic_model.specs.Users.{numbers}
 use Rattle.sporadic_model.proofs.Mapped.{list_any-map}
 use Rattle.fragments.proofs.KnownColumns.{all_mapped}

@@ -4,7 +4,7 @@ use Rattle.std.proofs.Common.{◌≡◌, ℕ, zero, suc, ◌<◌, ◌==◌, Bool
 use Rattle.std.proofs.lemmas.Bool.{and_parts, not-true}
 use Rattle.std.proofs.lemmas.List.Elements.{All-nil, All-cons, All-head, All-tail, All-append, All-filter, All-same, filter_passes}
 use Rattle.std.specs.List.{All}
-use Rattle.bounded_sums.specs.Sums.{collect_below}
+use Rattle.number_laws.specs.Sums.{collect_below}
 use Rattle.sporadic_model.specs.SetDef.{SetDef}
 use Rattle.sporadic_model.specs.declared.ids.Protocol.{Protocol}
 use Rattle.fragments.specs.ColumnDef.{ColumnDef, column_seen, classes_of, all_columns, IsKnown, AreKnown}

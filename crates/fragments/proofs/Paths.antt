@@ -1,8 +1,8 @@
 -- Paths looked for by their resource first: the tests that don't speak of the task stand outside.
 use Rattle.std.proofs.Common.{◌≡◌, ℕ, ◌==◌, ◌&&◌, not, Bool, true, false, length, refl, sym, ◌∙◌, inl, inr}
 use Rattle.std.proofs.lemmas.Bool.{cases_Bool}
-use Rattle.bounded_sums.specs.Tests.{any_below}
-use Rattle.bounded_sums.proofs.TestLaws.{any_below-from, any_below-some, any_below-none, any_below-none_from, any_below-agree}
+use Rattle.number_laws.specs.Tests.{any_below}
+use Rattle.number_laws.proofs.TestLaws.{any_below-from, any_below-some, any_below-none, any_below-none_from, any_below-agree}
 use Rattle.sporadic_model.specs.SetDef.{SetDef, task_at}
 use Rattle.sporadic_model.specs.Users.{is_user}
 use Rattle.sporadic_model.specs.declared.ids.Protocol.{Protocol}

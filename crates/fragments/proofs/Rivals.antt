@@ -6,8 +6,8 @@ use Rattle.std.proofs.lemmas.List.Folds.{list_any-append}
 use Rattle.std.proofs.lemmas.List.Elements.{All-nil, All-cons, All-head, All-tail, All-same, All-append, All-filter, filter_passes}
 use Rattle.std.specs.List.{All, list_any, filter}
 use Rattle.std.proofs.Math.Bool.{or-false}
-use Rattle.bounded_sums.specs.Tests.{any_below}
-use Rattle.bounded_sums.proofs.TestLaws.{any_below-agree}
+use Rattle.number_laws.specs.Tests.{any_below}
+use Rattle.number_laws.proofs.TestLaws.{any_below-agree}
 use Rattle.sporadic_model.specs.SetDef.{SetDef, task_at}
 use Rattle.sporadic_model.specs.Users.{is_user, used_by, users_of}
 use Rattle.sporadic_model.specs.declared.ids.Protocol.{Protocol}

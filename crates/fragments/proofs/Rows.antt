@@ -1,7 +1,7 @@
 -- Rows that are there, and loops that add the rows of one number after another.
 use Rattle.std.proofs.Common.{◌≡◌, ℕ, zero, suc, true, List, [], ◌∷◌, ◌++◌, map, refl, ◌+◌, ◌<◌, add-one, arith}
 use Rattle.std.specs.Prelude.{slice_index}
-use Rattle.bounded_sums.specs.Sums.{collect_below}
+use Rattle.number_laws.specs.Sums.{collect_below}
 use Rattle.program_form.specs.RowBlock.{RowBlockDef}
 use Rattle.fragments.specs.ColumnDef.{ColumnDef}
 use Rattle.fragments.specs.Constraints.{ConstraintDef, holds_some, with_rows, pushed_row}

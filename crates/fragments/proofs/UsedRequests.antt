@@ -2,8 +2,8 @@
 use Rattle.std.proofs.Common.{◌≡◌, ℕ, ◌==◌, List, map, length, false, ap, ◌∙◌, arith}
 use Rattle.std.specs.List.{sum_by}
 use Rattle.std.proofs.lemmas.Bool.{ltb-false}
-use Rattle.bounded_sums.specs.Sums.{only_if}
-use Rattle.bounded_sums.proofs.OnlyIfLaws.{only_if-nothing}
+use Rattle.number_laws.specs.Sums.{only_if}
+use Rattle.number_laws.proofs.OnlyIfLaws.{only_if-nothing}
 use Rattle.sporadic_model.specs.SetDef.{SetDef}
 use Rattle.sporadic_model.specs.Users.{count_of, is_user, used_by}
 use Rattle.sporadic_model.specs.Homes.{home_in}

@@ -1,7 +1,7 @@
 -- A column of a blocking program, as plain numbers: the requests of a resource by a task, and how they block.
 use Rattle.std.specs.Prelude.{ℕ, ◌<◌, List, [], ◌∷◌, map, Bool, true, false}
 use Rattle.std.specs.List.{All}
-use Rattle.bounded_sums.specs.Sums.{collect_below}
+use Rattle.number_laws.specs.Sums.{collect_below}
 use Rattle.fragments.specs.declared.columns.Class.{Class}
 use Rattle.fragments.specs.declared.columns.Class.TheVariants as class
 use Rattle.fragments.specs.declared.columns.Fragment.{Fragment}

@@ -1,7 +1,7 @@
 -- Rows of a blocking program as data: a row is a coefficient for each column, and a limit that the bounds give.
 use Rattle.std.specs.Prelude.{ℕ, Bool, nat_lt, List, [], ◌∷◌, ◌++◌, map, if◌then◌else◌, slice_index}
 use Rattle.std.specs.List.{filter, list_any}
-use Rattle.bounded_sums.specs.Sums.{collect_below, flag}
+use Rattle.number_laws.specs.Sums.{collect_below, flag}
 use Rattle.program_form.specs.RowBlock.{RowBlockDef}
 use Rattle.fragments.specs.ColumnDef.{ColumnDef}
 

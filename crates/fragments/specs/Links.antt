@@ -1,7 +1,7 @@
 -- The resources by which requests of another task can block indirectly, before the requests' own resource is looked at.
 use Rattle.std.specs.Prelude.{◌≡◌, ℕ, ◌+◌, ◌-◌, ◌<◌, ◌≤◌, ◌==◌, ◌&&◌, ◌||◌, not, Bool, List, length, slice_index, take, drop}
 use Rattle.std.specs.List.{All, list_any, filter}
-use Rattle.bounded_sums.specs.Tests.{any_below}
+use Rattle.number_laws.specs.Tests.{any_below}
 use Rattle.sporadic_model.specs.SetDef.{SetDef, task_at, is_higher_local}
 use Rattle.sporadic_model.specs.Users.{is_user}
 use Rattle.sporadic_model.specs.declared.ids.Protocol.{Protocol}

@@ -1,6 +1,6 @@
 -- How many jobs, and how many requests, of another task can run while a job of the analysed task does.
 use Rattle.std.specs.Prelude.{ℕ, ◌+◌, ◌*◌, ◌==◌, Bool, length}
-use Rattle.bounded_sums.specs.Sums.{sum_below, only_if}
+use Rattle.number_laws.specs.Sums.{sum_below, only_if}
 use Rattle.sporadic_model.specs.SetDef.{SetDef, task_at, jobs_within}
 use Rattle.sporadic_model.specs.Users.{count_of}
 use Rattle.sporadic_model.specs.Homes.{home_in}

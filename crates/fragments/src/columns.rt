@@ -1,6 +1,6 @@
 ghost use Rattle.std.specs.Prelude.{◌≡◌, ◌<◌, ◌≤◌, ◌*◌, ◌++◌, map, length, OnOk, IfOk, not, ◌==◌, ◌&&◌, true, if◌then◌else◌, [], ◌∷◌};
 ghost use Rattle.std.specs.List.{filter};
-ghost use Rattle.bounded_sums.specs.Sums.{collect_below, sum_below};
+ghost use Rattle.number_laws.specs.Sums.{collect_below, sum_below};
 ghost use Rattle.sporadic_model.specs.SetDef.{task_at};
 ghost use Rattle.sporadic_model.specs.Users.{is_user, users_of};
 ghost use Rattle.sporadic_model.specs.Homes.{HasHomesFor};

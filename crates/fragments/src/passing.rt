@@ -1,6 +1,6 @@
 ghost use Rattle.std.specs.Prelude.{◌≡◌, ℕ, ◌<◌, ◌++◌, map, length, OnOk, IfOk, Bool, true, [], ◌∷◌};
 ghost use Rattle.std.specs.List.{filter};
-ghost use Rattle.bounded_sums.specs.Sums.{collect_below};
+ghost use Rattle.number_laws.specs.Sums.{collect_below};
 ghost use Rattle.sporadic_model.specs.SetDef.{SetDef};
 ghost use Rattle.sporadic_model.specs.Users.{is_user};
 ghost use Rattle.fragments.specs.ColumnDef.{ColumnDef, column_seen, classes_of, all_columns};

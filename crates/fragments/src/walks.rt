@@ -1,7 +1,7 @@
 //! Walks over the rows of all tasks or of all requests, each over the stretch of its columns, and over rows by number.
 
 ghost use Rattle.std.specs.Prelude.{◌≡◌, ℕ, ◌<◌, ◌≤◌, ◌+◌, ◌==◌, ◌&&◌, false, List, [], ◌∷◌, map, length, slice_index, IfOk, OnOk, IfSome, IfNone};
-ghost use Rattle.bounded_sums.specs.Sums.{collect_below};
+ghost use Rattle.number_laws.specs.Sums.{collect_below};
 ghost use Rattle.sporadic_model.specs.SetDef.{SetDef};
 ghost use Rattle.program_sources.specs.Bounds.{AreWithinDeadlines};
 ghost use Rattle.fragments.specs.ColumnDef.{ColumnDef, column_seen, AreKnown};

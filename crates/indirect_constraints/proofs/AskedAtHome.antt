@@ -4,9 +4,9 @@ use Rattle.std.proofs.Common.{◌∙◌, nat_lt, nat_le, inl, inr}
 use Rattle.std.proofs.Math.Bool.{and-false}
 use Rattle.std.proofs.lemmas.Bool.{and_parts, cases_Bool, both_ways, eqb-true, eq-eqb, not-true}
 use Rattle.std.proofs.lemmas.List.Elements.{All-head, All-tail, All-same}
-use Rattle.bounded_sums.specs.Sums.{sum_below, only_if}
-use Rattle.bounded_sums.proofs.SumLaws.{sum_below-no_term}
-use Rattle.bounded_sums.proofs.TestLaws.{any_below-some}
+use Rattle.number_laws.specs.Sums.{sum_below, only_if}
+use Rattle.number_laws.proofs.SumLaws.{sum_below-no_term}
+use Rattle.number_laws.proofs.TestLaws.{any_below-some}
 use Rattle.sporadic_model.specs.SetDef.{SetDef}
 use Rattle.sporadic_model.specs.Users.{is_user, count_of}
 use Rattle.sporadic_model.specs.Homes.{home_in}

@@ -4,11 +4,11 @@ use Rattle.std.proofs.Common.{refl, sym, ap, ◌∙◌, arith, inl, inr}
 use Rattle.std.specs.Prelude.{slice_index}
 use Rattle.std.proofs.lemmas.List.{get_or-set_same, get_or-set_other}
 use Rattle.std.proofs.lemmas.Bool.{cases_Bool, cases_eq, eq-eqb, ne_eqb, lt-ltb, le-ltb, ltb-true, ltb-false}
-use Rattle.bounded_sums.specs.Sums.{sum_below, only_if, flag}
-use Rattle.bounded_sums.specs.Tests.{any_below, count_below}
-use Rattle.bounded_sums.proofs.SumLaws.{sum_below-agree}
-use Rattle.bounded_sums.proofs.CountLaws.{count_below-from, count_below-none}
-use Rattle.bounded_sums.proofs.TestLaws.{any_below-some, any_below-none}
+use Rattle.number_laws.specs.Sums.{sum_below, only_if, flag}
+use Rattle.number_laws.specs.Tests.{any_below, count_below}
+use Rattle.number_laws.proofs.SumLaws.{sum_below-agree}
+use Rattle.number_laws.proofs.CountLaws.{count_below-from, count_below-none}
+use Rattle.number_laws.proofs.TestLaws.{any_below-some, any_below-none}
 use Rattle.sporadic_model.specs.SetDef.{SetDef, task_at}
 use Rattle.fragments.specs.Columns.{have_one_processor}
 use Rattle.sporadic_model.specs.Users.{is_user, count_of}

@@ -1,7 +1,7 @@
 -- Holdings, summed up by task first.
 use Rattle.std.proofs.Common.{◌≡◌, ℕ, ◌+◌, Bool, true, false, length, refl, sym, ap, ◌∙◌}
-use Rattle.bounded_sums.specs.Sums.{sum_below, only_if}
-use Rattle.bounded_sums.proofs.SumLaws.{sum_below-agree, sum_below-plus, sum_below-swap, sum_below-zero}
+use Rattle.number_laws.specs.Sums.{sum_below, only_if}
+use Rattle.number_laws.proofs.SumLaws.{sum_below-agree, sum_below-plus, sum_below-swap, sum_below-zero}
 use Rattle.sporadic_model.specs.SetDef.{SetDef}
 use Rattle.sporadic_model.specs.Users.{is_user}
 use Rattle.fragments.specs.Windows.{requests_in}

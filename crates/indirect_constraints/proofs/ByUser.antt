@@ -6,9 +6,9 @@ use Rattle.std.proofs.lemmas.Bool.{cases_eq, eq-eqb, ne_eqb, lt-ltb}
 use Rattle.std.proofs.lemmas.List.{drop_more, length-map}
 use Rattle.std.proofs.lemmas.List.FromFn.{length-range_with_len}
 use Rattle.std.proofs.lemmas.List.Sums.{sum_by-cons, length-filter, count_by-le-length}
-use Rattle.bounded_sums.specs.Sums.{sum_below, only_if, flag}
-use Rattle.bounded_sums.proofs.SumLaws.{sum_below-agree, sum_below-one, only_if-true, only_if-at_most}
-use Rattle.bounded_sums.proofs.OnlyIfLaws.{only_if-nothing}
+use Rattle.number_laws.specs.Sums.{sum_below, only_if, flag}
+use Rattle.number_laws.proofs.SumLaws.{sum_below-agree, sum_below-one, only_if-true, only_if-at_most}
+use Rattle.number_laws.proofs.OnlyIfLaws.{only_if-nothing}
 use Rattle.sporadic_model.specs.SetDef.{SetDef, task_at}
 use Rattle.sporadic_model.specs.Users.{numbers, is_user, count_of, users_of, used_by}
 use Rattle.sporadic_model.specs.declared.ids.TaskId.{TaskId}

@@ -4,9 +4,9 @@ use Rattle.std.proofs.Common.{refl, ap, ◌∙◌, arith, inl, inr}
 use Rattle.std.specs.Prelude.{slice_index}
 use Rattle.std.specs.List.{sum_by}
 use Rattle.std.proofs.lemmas.Bool.{cases_Bool, lt-ltb, ltb-false, ne_eqb}
-use Rattle.bounded_sums.specs.Sums.{only_if, flag, sum_below}
-use Rattle.bounded_sums.proofs.SumLaws.{sum_below-agree, sum_below-plus, sum_below-no_term, sum_below-zero, only_if-true, only_if-at_most}
-use Rattle.bounded_sums.proofs.OnlyIfLaws.{only_if-nothing}
+use Rattle.number_laws.specs.Sums.{only_if, flag, sum_below}
+use Rattle.number_laws.proofs.SumLaws.{sum_below-agree, sum_below-plus, sum_below-no_term, sum_below-zero, only_if-true, only_if-at_most}
+use Rattle.number_laws.proofs.OnlyIfLaws.{only_if-nothing}
 use Rattle.sporadic_model.specs.SetDef.{SetDef, task_at}
 use Rattle.sporadic_model.specs.Users.{is_user, count_of, users_of}
 use Rattle.sporadic_model.specs.declared.ids.TaskId.{TaskId}

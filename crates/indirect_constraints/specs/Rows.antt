@@ -1,7 +1,7 @@
 -- The rows of indirect blocking, another kind for each protocol. In each, i is the analysed task.
 use Rattle.std.specs.Prelude.{ℕ, ◌+◌, ◌==◌, ◌&&◌, not, nat_lt, Bool, List, length}
-use Rattle.bounded_sums.specs.Sums.{only_if, sum_below}
-use Rattle.bounded_sums.specs.Tests.{any_below}
+use Rattle.number_laws.specs.Sums.{only_if, sum_below}
+use Rattle.number_laws.specs.Tests.{any_below}
 use Rattle.sporadic_model.specs.SetDef.{SetDef}
 use Rattle.sporadic_model.specs.Users.{count_of, is_user}
 use Rattle.sporadic_model.specs.declared.ids.Protocol.{Protocol}

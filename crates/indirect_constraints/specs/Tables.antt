@@ -1,6 +1,6 @@
 -- Numbers of tasks, the sums of these by processor, and the holdings of all tasks.
 use Rattle.std.specs.Prelude.{◌≡◌, ℕ, ◌+◌, ◌<◌, ◌≤◌, ◌==◌, ◌&&◌, nat_lt, List, length, slice_index}
-use Rattle.bounded_sums.specs.Sums.{only_if, flag, sum_below}
+use Rattle.number_laws.specs.Sums.{only_if, flag, sum_below}
 use Rattle.sporadic_model.specs.SetDef.{SetDef, task_at}
 use Rattle.sporadic_model.specs.Users.{count_of, is_user}
 use Rattle.fragments.specs.Windows.{requests_in}

@@ -2,7 +2,7 @@
 
 ghost use Rattle.std.specs.Prelude.{◌≡◌, ◌<◌, ◌≤◌, ◌+◌, ◌&&◌, not, [], ◌∷◌, slice_index};
 ghost use Rattle.std.proofs.Common.{ap};
-ghost use Rattle.bounded_sums.specs.Sums.{flag};
+ghost use Rattle.number_laws.specs.Sums.{flag};
 ghost use Rattle.fragments.specs.declared.columns.Class.TheVariants.{Indirect, Preemption};
 ghost use Rattle.fragments.specs.ColumnDef.{is_class};
 ghost use Rattle.fragments.specs.Stretches.{slot, BeginsAt};

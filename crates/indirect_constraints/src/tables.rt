@@ -1,7 +1,7 @@
 //! A number for each task, and the sums of these by processor.
 
 ghost use Rattle.std.specs.Prelude.{◌≡◌, ℕ, ◌+◌, ◌<◌, ◌≤◌, ◌^◌, ◌==◌, length, slice_index, IfOk};
-ghost use Rattle.bounded_sums.specs.Sums.{only_if, sum_below};
+ghost use Rattle.number_laws.specs.Sums.{only_if, sum_below};
 ghost use Rattle.sporadic_model.specs.SetDef.{task_at};
 ghost use Rattle.sporadic_model.specs.Users.{count_of};
 ghost use Rattle.indirect_constraints.specs.Tables.{AreSums, held_on, lower_user};

@@ -7,7 +7,7 @@ use sporadic_model::{Protocol, TaskSet};
 use std::alloc::{AllocError, Global};
 use std::test::Fail;
 use std::thread::Threads;
-use worked_files::set_from;
+use worked_sets::files::set_from;
 use worked_sets::suits;
 
 /// A step's task, its value, and the number of its point of one column.

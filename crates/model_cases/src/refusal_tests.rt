@@ -3,7 +3,7 @@ use refusal_cert::{Answer, RefuteStop, refute};
 use sporadic_model::Protocol;
 use std::alloc::Global;
 use std::test::Fail;
-use worked_files::{PAIR, set_from};
+use worked_sets::files::{PAIR, set_from};
 use worked_sets::suits;
 
 const MOST: u64 = 1_000_000;

@@ -3,7 +3,7 @@ ghost use Rattle.std.specs.Prelude.{◌<◌};
 use crate::threads::may_cross_threads;
 use sporadic_model::{ModelRefusal, Protocol, ResourceId, TaskId, jobs_in};
 use std::test::Fail;
-use worked_files::set_from;
+use worked_sets::files::set_from;
 
 const SHARED: &str =
     r#"{"processors":2,"resources":[{"name":"r"},{"name":"s","home":2},{"name":"u"}],"tasks":[

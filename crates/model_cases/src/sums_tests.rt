@@ -1,4 +1,4 @@
-use bounded_sums::{all, any, count, first, sum, total};
+use number_laws::{all, any, count, first, sum, total};
 
 #[test]
 fn computes_each_kind(rt: HostRuntime) {

@@ -1,12 +1,11 @@
 ghost use Rattle.std.specs.Prelude.{◌≡◌, ℕ, ◌<◌, ◌≤◌, length, slice_index_or, pos, unsigned_abs, IfOk};
-ghost use Rattle.row_marks.specs.Marks.{HaveRoom};
+ghost use Rattle.whole_rows.specs.Marks.{HaveRoom};
 
 use crate::simplex_tests::{CHAINED, Case, FOUR_PRIMES, SEVEN_ROWS, program_of};
 use program_form::SparseProgram;
-use row_marks::RowMarks;
 use std::alloc::{AllocError, Global};
 use std::process::Abort;
-use whole_rows::{Entry, Large, Pivot, WholeRow, push_num};
+use whole_rows::{Entry, Large, Pivot, RowMarks, WholeRow, push_num};
 use whole_runs::{Ended, Halt, run_whole};
 
 const MOST: u64 = i64::MAX as u64;

@@ -27,7 +27,9 @@ use Rattle.spin_charging.proofs.SpinSoundness.{spin_sound}
 use Rattle.window_laws.proofs.Sound.{windows_sound}
 use Rattle.window_laws.specs.WindowRows.{windowed_source}
 use Rattle.window_laws.proofs.Programs.{windowed_rises}
-use Rattle.named_laws.specs.Named.{source_of, SoundUnder}
+use Rattle.clock_laws.specs.Whole.{is_whole}
+use Rattle.clock_laws.proofs.Instances.{mpcp_on_clocks, fmlp_on_clocks, dpcp_on_clocks, dflp_on_clocks, spin_on_clocks, windows_on_clocks}
+use Rattle.named_laws.specs.Named.{source_of, SoundUnder, SoundOnClocksUnder}
 
 pub named_sound : (n : ProtocolName) (set : SetDef) (c : CertificateDef) (values : List ℕ) → IsAccepted set
     → IsValid (source_of n set) c → AreValues (source_of n set) c values → SoundUnder n set c.bounds values
@@ -37,6 +39,16 @@ named_sound (name.Base protocol.Dpcp) set c values accepted valid are = dpcp_sou
 named_sound name.Dflp set c values accepted valid are = dflp_sound set c values accepted valid are
 named_sound name.Spin set c values accepted valid are = spin_sound set c values accepted valid are
 named_sound name.DpcpWindows set c values accepted valid are = windows_sound set c values accepted valid are
+
+pub named_on_clocks : (n : ProtocolName) (set : SetDef) (c : CertificateDef) (values : List ℕ) → IsAccepted set
+    → IsValid (source_of n set) c → AreValues (source_of n set) c values
+    → SoundOnClocksUnder n (is_whole (source_of n set) c) set c.bounds values
+named_on_clocks (name.Base protocol.Mpcp) set c values accepted valid are = mpcp_on_clocks set c values accepted valid are
+named_on_clocks (name.Base protocol.FmlpPlus) set c values accepted valid are = fmlp_on_clocks set c values accepted valid are
+named_on_clocks (name.Base protocol.Dpcp) set c values accepted valid are = dpcp_on_clocks set c values accepted valid are
+named_on_clocks name.Dflp set c values accepted valid are = dflp_on_clocks set c values accepted valid are
+named_on_clocks name.Spin set c values accepted valid are = spin_on_clocks set c values accepted valid are
+named_on_clocks name.DpcpWindows set c values accepted valid are = windows_on_clocks set c values accepted valid are
 
 pub named_above : (n : ProtocolName) (set : SetDef) → ComesUpAbove (source_of n set)
 named_above (name.Base p) set = written_above p set

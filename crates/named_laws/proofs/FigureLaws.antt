@@ -9,7 +9,7 @@ use Rattle.schedule_model.specs.RowDef.{Trace, jobs_of}
 use Rattle.schedule_model.specs.LawfulJobs.{AreLawfulJobs}
 use Rattle.schedule_model.specs.Keeping.{KeepsBefore}
 use Rattle.schedule_model.specs.BlockedTicks.{is_blocked}
-use Rattle.charge_model.specs.Charges.{Charge}
+use Rattle.charge_laws.specs.Charges.{Charge}
 use Rattle.charge_laws.proofs.SharedCharging.{shared_charge_blocked}
 use Rattle.charge_laws.proofs.DpcpCharging.{dpcp_charge_blocked}
 use Rattle.row_laws.proofs.ChargedTicks.{mpcp_is_charged, fmlp_is_charged, dpcp_is_charged}

@@ -7,11 +7,11 @@ use Rattle.schedule_model.specs.ByProtocol.{rules_of as rules_at, choice_of as c
 use Rattle.schedule_model.specs.declared.rule.Rule.{Rule}
 use Rattle.program_sources.specs.Recurrence.{SourceDef, source_at}
 use Rattle.program_laws.specs.Programs.{source_of as source_written}
-use Rattle.charge_model.specs.Charges.{Charge}
+use Rattle.charge_laws.specs.Charges.{Charge}
 use Rattle.charged_protocols.specs.ByProtocol.{charges_of as charges_at}
 use Rattle.soundness_laws.specs.Sound.{Sound}
 use Rattle.schedule_model.specs.BlockedTicks.{is_shared_interference, is_dpcp_interference}
-use Rattle.charge_model.specs.Charges.{dpcp_charge}
+use Rattle.charge_laws.specs.Charges.{dpcp_charge}
 use Rattle.dflp_laws.specs.Rules.{dflp_rule, IsDflpChoice}
 use Rattle.dflp_laws.specs.Programs.{dflp_source}
 use Rattle.spin_rules.specs.SpinRules.{spin_rule, IsSpinChoice}
@@ -20,6 +20,7 @@ use Rattle.spin_charging.specs.SpinPrograms.{spin_source}
 use Rattle.schedule_model.specs.Protocols.{dpcp_rule}
 use Rattle.schedule_model.specs.Chosen.{IsDpcpChoice}
 use Rattle.window_laws.specs.WindowRows.{windowed_source}
+use Rattle.clock_laws.specs.Clock.{SoundOnClocks}
 use Rattle.protocol_names.specs.Names.{homes_as}
 use Rattle.protocol_names.specs.declared.ProtocolName.{ProtocolName}
 use Rattle.protocol_names.specs.declared.ProtocolName.TheVariants as name
@@ -65,3 +66,8 @@ source_of n set = source_at (sources n) set
 -- Does every schedule that keeps the protocol's rules, of whatever lawful jobs of the set, keep these bounds and values?
 abbrev pub SoundUnder : ProtocolName → SetDef → List ℕ → List ℕ → Type 0
 SoundUnder n = Sound (rules_of n) (interference_of n)
+
+-- And does, however many cycles a tick has, every such schedule whose rows are cycles keep them, said in cycles? Of these tasks the
+-- value is whole, so their jobs may execute for all of their costs.
+abbrev pub SoundOnClocksUnder : ProtocolName → (ℕ → Bool) → SetDef → List ℕ → List ℕ → Type 0
+SoundOnClocksUnder n = SoundOnClocks (rules_of n) (interference_of n)

@@ -19,7 +19,8 @@ ghost use Rattle.schedule_model.specs.LawfulJobs.{AreLawfulJobs};
 ghost use Rattle.schedule_model.specs.Keeping.{KeepsBefore};
 ghost use Rattle.sim_engine.specs.Simulated.{IsSimulated};
 ghost use Rattle.named_laws.specs.Audited.{AreProvedFigures};
-ghost use Rattle.named_laws.specs.Named.{source_of, choice_of, rules_of, SoundUnder};
+ghost use Rattle.clock_laws.specs.Whole.{is_whole};
+ghost use Rattle.named_laws.specs.Named.{source_of, choice_of, rules_of, SoundUnder, SoundOnClocksUnder};
 ghost use Rattle.protocol_names.specs.Names.{word_of};
 ghost use Rattle.protocol_names.specs.declared.ProtocolName.{ProtocolName};
 
@@ -27,6 +28,15 @@ ghost use Rattle.protocol_names.specs.declared.ProtocolName.{ProtocolName};
 pub fn programs_are_sound()
     ensures { (protocol : ProtocolName) (set : SetDef) (c : CertificateDef) (values : List ℕ) → IsAccepted set
         → IsValid (source_of protocol set) c → AreValues (source_of protocol set) c values → SoundUnder protocol set c.bounds values }
+{}
+
+/// On the machine's clock they hold too: however many cycles a tick has, in every lawful schedule whose rows are cycles, in which each
+/// job leaves all but one cycle of a tick of its cost, or none where its task's value is whole. A job is blocked at no more cycles than
+/// the value has, and a part of a tick.
+pub fn programs_are_sound_on_clocks()
+    ensures { (protocol : ProtocolName) (set : SetDef) (c : CertificateDef) (values : List ℕ) → IsAccepted set
+        → IsValid (source_of protocol set) c → AreValues (source_of protocol set) c values
+        → SoundOnClocksUnder protocol (is_whole (source_of protocol set) c) set c.bounds values }
 {}
 
 /// With each response time that comes up at some bounds one that is no less comes up at greater bounds; and a task set that

@@ -3,3 +3,10 @@ pub mod Order
 pub mod Divisors
 pub mod Comparison
 pub mod Halves
+pub mod SumLaws
+pub mod CountLaws
+pub mod ListCounts
+pub mod SlotLaws
+pub mod TestLaws
+pub mod TotalLaws
+pub mod OnlyIfLaws

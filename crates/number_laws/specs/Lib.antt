@@ -1,1 +1,4 @@
 pub mod Divisors
+pub mod Sums
+pub mod Tests
+pub mod WholeSums

@@ -1,2 +1,4 @@
 mod Pieces
+mod Parts
 mod Places
+mod Walks

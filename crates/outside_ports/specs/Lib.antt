@@ -1,6 +1,10 @@
 pub mod Counts
 pub mod Names
+pub mod Past
 pub mod Ports
+pub mod Noted
+pub mod Readings
+pub mod Loads
 pub mod Prefix
 pub mod Answers
 pub mod MemoryShelf

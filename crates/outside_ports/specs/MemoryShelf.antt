@@ -3,11 +3,13 @@ use Rattle.std.specs.Prelude.{◌≡◌, ℕ, ◌==◌, Bool, List, length, Opti
 use Rattle.std.specs.List.{list_any}
 use Rattle.outside_ports.specs.Counts.{counted}
 use Rattle.outside_ports.specs.Names.{Inputs, bytes_of}
+use Rattle.outside_ports.specs.Past.{Asked}
 use Rattle.outside_ports.specs.declared.shelf.ShelfFault.{ShelfFault}
 use Rattle.outside_ports.specs.declared.shelf.ShelfFault.TheVariants.{Absent, Failed}
 
 -- `piece` is the most bytes of one read, `calls` counts each `start` and `read`, `failing` lists the numbers of
--- calls that fail, `given` counts the bytes given since the last `start`, and `rest` is what is left of the input
+-- calls that fail, `given` counts the bytes given since the last `start`, `rest` is what is left of the input, and
+-- `readings` are its starts and what each of them gave, the last one first
 pub record MemoryShelf : Type 0 where
   pub inputs : Inputs
   pub piece : ℕ
@@ -16,6 +18,7 @@ pub record MemoryShelf : Type 0 where
   pub faults : ℕ
   pub given : ℕ
   pub rest : List ℕ
+  pub readings : List Asked
 
 -- Is the number of the next call listed?
 abbrev pub fails_next : MemoryShelf → Bool

@@ -27,4 +27,5 @@ memory_shelf shelf = record {
   faults = shelf.faults;
   given = shelf.given;
   rest = rest_at (inputs_of shelf.files.items) shelf.place shelf.at;
+  readings = shelf.history.past.readings;
 }

@@ -31,10 +31,12 @@ faults_started faults (Ok _) = faults
 faults_started faults (Err shelf.Memory) = faults
 faults_started faults (Err fault) = counted faults
 
--- Does this answer of `start`, with this file and this count of faults, follow from one answer of the system?
-abbrev pub FollowsOpening : {F : Type 0} → ℕ → Result (Unit {0}) ShelfFault → Option F → ℕ → Type 0
-FollowsOpening {F} before answer file after =
-    ((opening : Result F Error) × (answer ≡ opening_answer opening) × (file ≡ opened_file opening)) × (after ≡ faults_started before answer)
+-- Does this answer of `start`, with this file and this count of faults, follow from one answer of the opener to this name? `opens`
+-- says which answers these are.
+abbrev pub FollowsOpening : {F : Type 0} → (Result F Error → Type 0) → ℕ → Result (Unit {0}) ShelfFault → Option F → ℕ → Type 0
+FollowsOpening {F} opens before answer file after =
+    ((opening : Result F Error) × opens opening × (answer ≡ opening_answer opening) × (file ≡ opened_file opening))
+    × (after ≡ faults_started before answer)
 
 -- Is this what reading the started file gives? Its bytes go where the file's own reads say, an error is no end, and where
 -- no file is started there is nothing to read.

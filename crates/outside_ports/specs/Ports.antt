@@ -1,10 +1,11 @@
 -- What contracts see of a shelf and of a sink.
 use Rattle.std.specs.Prelude.{ℕ, Bool, List, Option}
 use Rattle.outside_ports.specs.Names.{Inputs}
+use Rattle.outside_ports.specs.Past.{Asked}
 
 -- A shelf: its inputs with their bytes, where it tells them; the rest of the started input, where it tells it; the number of bytes
--- given since the last start; the count of faults; the number of its calls, where it counts them; and whether it promises that no
--- later call fails.
+-- given since the last start; the count of faults; the number of its calls, where it counts them; whether it promises that no later
+-- call fails; and what it was asked for and gave, the last reading first.
 pub record ShelfDef : Type 0 where
   pub names : Option Inputs
   pub rest : Option (List ℕ)
@@ -12,6 +13,7 @@ pub record ShelfDef : Type 0 where
   pub faults : ℕ
   pub calls : ℕ
   pub steady : Bool
+  pub readings : List Asked
 
 -- A sink: the bytes written, where it tells them; the count of faults; the number of its writes, where it counts them; and how many
 -- more bytes it promises to take with no fault.

@@ -1,59 +1,71 @@
-ghost use Rattle.std.specs.Prelude.{◌≡◌, ℕ, ◌+◌, ◌^◌, ◌-◌, ◌<◌, ◌≤◌, min, length, IfOk, IfErr, OnOk, OnErr, MatchResult, None, false};
+ghost use Rattle.std.specs.Prelude.{◌≡◌, ℕ, ◌+◌, ◌^◌, ◌-◌, ◌<◌, ◌≤◌, [], min, length, Result, IfErr, OnOk, OnErr, MatchResult};
+ghost use Rattle.std.specs.Prelude.{None, false};
 ghost use Rattle.std.specs.Io.{ReadsAtMost};
 ghost use Rattle.std.specs.IoError.{error_kind};
 ghost use Rattle.outside_ports.specs.Counts.{Rose};
 ghost use Rattle.outside_ports.specs.Openings.{fault_by, opening_answer, opened_file, faults_started, FollowsOpening};
 ghost use Rattle.outside_ports.specs.Openings.{FollowsRead, faults_called};
+ghost use Rattle.outside_ports.specs.Readings.{AsksFor, ReadsOn};
 
+use crate::history::{History, Note};
+use crate::opener::Opener;
 use crate::shelf::{Shelf, ShelfFault};
-use std::alloc::AllocError;
-use std::io::{ErrorKind, Read};
-use std::rt::Files;
-use std::{fs, io};
+use std::io::{self, ErrorKind, Read};
 
-/// The files of the system, named by their paths. It tells no content and counts no calls.
+/// The files that an opener opens, named by their paths. It tells no content and counts no calls.
 ///
-/// A call makes at most one opening or one read of the system. Each error of the system raises the count of faults,
-/// but for want of memory at an opening.
+/// A call makes at most one opening, of the path that it was asked for, or one read of the file that is open. Each error
+/// raises the count of faults, but for want of memory at an opening.
 #[derive(Drop)]
-pub struct FileShelf<R: Files + Drop> {
-    runtime: R,
-    file: Option<R::File>,
+pub struct FileShelf<O: Opener + Drop> {
+    opener: O,
+    file: Option<O::File>,
     given: u64,
     faults: u64,
+    history: History,
 }
 
-impl<R: Files + Clone + Drop> FileShelf<R> {
+impl<O: Opener + Drop> FileShelf<O> {
     /// A shelf on which nothing is started.
-    pub fn new(runtime: &R) -> Result<FileShelf<R>, AllocError>
-        ensures { IfOk result (λ shelf. (⟦<FileShelf<R> as Shelf>⟧.seen shelf).faults ≡ 0) }
+    pub fn new(opener: O) -> FileShelf<O>
+        ensures calm { (⟦<FileShelf<O> as Shelf>⟧.seen result).faults ≡ 0 }
+        ensures unread { (⟦<FileShelf<O> as Shelf>⟧.seen result).readings ≡ [] }
     {
-        Ok(FileShelf {
-            runtime: runtime.clone()?,
+        FileShelf {
+            opener,
             file: None,
             given: 0,
             faults: 0,
-        })
+            history: History::new(),
+        }
     }
 }
 
-impl<R: Files + Drop> Shelf for FileShelf<R> {
-    ghost seen = { λ s. record { names = None; rest = None; given = s.given; faults = s.faults; calls = 0; steady = false } };
+impl<O: Opener + Drop> Shelf for FileShelf<O> {
+    ghost seen = { λ s. record {
+      names = None;
+      rest = None;
+      given = s.given;
+      faults = s.faults;
+      calls = 0;
+      steady = false;
+      readings = s.history.past.readings;
+    } };
 
-    ghost start_gives = { λ s name answer t. FollowsOpening s.faults answer t.file t.faults };
+    ghost start_gives = { λ s name answer t. FollowsOpening (O.opens s.opener name) s.faults answer t.file t.faults };
 
     ghost tells_rest = { λ s told. told };
 
     fn start(&mut self, name: &str) -> Result<(), ShelfFault> {
         self.file = None;
-        let opening = fs::open(&self.runtime, name);
-        self.take(opening)
+        let opening = self.opener.open(name);
+        self.take(name, opening)
     }
 
     /// Each read is one read of the started file, and each error of it is counted.
     fn read(&mut self, buffer: &mut [u8]) -> Result<usize, ShelfFault>
         requires { 0 < length buffer.old }
-        ensures gives { FollowsRead R.File.remaining self.old.file self.new.file result buffer.new }
+        ensures gives { FollowsRead O.File.remaining self.old.file self.new.file result buffer.new }
         ensures counts { self.new.faults ≡ faults_called self.old.faults result }
         ensures bound { ReadsAtMost result buffer.new }
         ensures given { MatchResult result (λ n. self.new.given ≡ min (self.old.given + n) (2 ^ 64 - 1))
@@ -62,6 +74,7 @@ impl<R: Files + Drop> Shelf for FileShelf<R> {
         ensures calm { OnOk result (self.new.faults ≡ self.old.faults) }
         ensures failed { OnErr result (Rose self.old.faults self.new.faults) }
         ensures only { IfErr result (λ e. e ≡ ShelfFault.Failed) }
+        ensures reads { ReadsOn self.old.history.past.readings self.new.history.past.readings result buffer.new }
     {
         let count = match &mut self.file {
             None => 0,
@@ -74,23 +87,25 @@ impl<R: Files + Drop> Shelf for FileShelf<R> {
             },
         };
         self.given = self.given.saturating_add(count as u64);
+        self.history = self.history.with(&Note::Gave(&buffer[..count]));
         Ok(count)
     }
 }
 
-impl<R: Files + Drop> FileShelf<R> {
+impl<O: Opener + Drop> FileShelf<O> {
     /// Takes what an opening answered: its file is started, and after an error none is. None of it has been given yet. An
     /// error is counted, but for want of memory.
-    fn take(&mut self, opening: io::Result<R::File>) -> Result<(), ShelfFault>
+    fn take(&mut self, name: &str, opening: io::Result<O::File>) -> Result<(), ShelfFault>
         ensures answer { result ≡ opening_answer opening }
         ensures file { self.new.file ≡ opened_file opening }
         ensures given { self.new.given ≡ 0 }
         ensures faults { self.new.faults ≡ faults_started self.old.faults result }
         ensures later { self.old.faults ≤ self.new.faults }
+        ensures asks { AsksFor self.old.history.past.readings self.new.history.past.readings name.now result }
     {
         self.given = 0;
         self.file = None;
-        match opening {
+        let answer = match opening {
             Ok(file) => {
                 self.file = Some(file);
                 Ok(())
@@ -102,7 +117,9 @@ impl<R: Files + Drop> FileShelf<R> {
                 }
                 Err(fault)
             }
-        }
+        };
+        self.history = self.history.with_start(name, &answer);
+        answer
     }
 }
 

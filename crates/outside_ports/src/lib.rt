@@ -3,8 +3,10 @@
 #![tactic(auto)]
 
 mod file_shelf;
+mod history;
 mod memory_shelf;
 mod memory_sink;
+mod opener;
 mod out_sink;
 mod shelf;
 mod sink;
@@ -13,6 +15,7 @@ mod whole;
 pub use file_shelf::FileShelf;
 pub use memory_shelf::MemShelf;
 pub use memory_sink::MemSink;
+pub use opener::{Opener, SystemFiles};
 pub use out_sink::OutSink;
 pub use shelf::{Shelf, ShelfFault};
 pub use sink::{Sink, SinkFault};

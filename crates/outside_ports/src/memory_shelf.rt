@@ -7,7 +7,9 @@ ghost use Rattle.outside_ports.specs.Counts.{Rose};
 ghost use Rattle.outside_ports.specs.Names.{bytes_of, Opens, IsAbsent};
 ghost use Rattle.outside_ports.specs.MemoryShelf.{never_fails, fails_next, start_answer, CountsCall};
 ghost use Rattle.outside_ports.specs.MemoryShelfView.{inputs_of, rest_at};
+ghost use Rattle.outside_ports.specs.Readings.{AsksFor, ReadsOn};
 
+use crate::history::{History, Note};
 use crate::shelf::{Shelf, ShelfFault};
 use std::marker::Model;
 
@@ -24,6 +26,7 @@ pub struct MemShelf {
     // the started input, or the number of files where nothing is started
     place: usize,
     at: usize,
+    history: History,
 }
 
 impl Model for MemShelf {
@@ -52,6 +55,7 @@ impl MemShelf {
           faults = 0;
           given = 0;
           rest = [];
+          readings = [];
         } }
     {
         let place = files.len();
@@ -64,6 +68,7 @@ impl MemShelf {
             given: 0,
             place,
             at: 0,
+            history: History::new(),
         }
     }
 }
@@ -76,6 +81,7 @@ impl Shelf for MemShelf {
       faults = s.faults;
       calls = s.calls;
       steady = never_fails s;
+      readings = s.readings;
     } };
 
     ghost start_gives = { λ s name answer t. answer ≡ start_answer s name };
@@ -98,6 +104,7 @@ impl Shelf for MemShelf {
         ensures absent { IsErrOf result ShelfFault.Absent → IsAbsent (Some self.old.inputs) name.now self.old.faults self.new.faults }
         ensures failed { IsErrOf result ShelfFault.Failed → Rose self.old.faults self.new.faults }
         ensures gives { Unit {0} }
+        ensures asks { AsksFor self.old.readings self.new.readings name.now result }
         ensures one_call { self.new.calls ≤ self.old.calls + 1 }
         ensures steady { never_fails self.old ≡ true
             → (never_fails self.new ≡ true) × (self.new.faults ≡ self.old.faults) × (IsErrOf result ShelfFault.Failed → ⊥) }
@@ -106,17 +113,20 @@ impl Shelf for MemShelf {
         self.given = 0;
         self.place = self.files.len();
         self.at = 0;
-        if self.failing.contains(&self.calls) {
+        let answer = if self.failing.contains(&self.calls) {
             self.faults = self.faults.saturating_add(1);
-            return Err(ShelfFault::Failed);
-        }
-        match place_of(&self.files, name) {
-            Some(place) => {
-                self.place = place;
-                Ok(())
+            Err(ShelfFault::Failed)
+        } else {
+            match place_of(&self.files, name) {
+                Some(place) => {
+                    self.place = place;
+                    Ok(())
+                }
+                None => Err(ShelfFault::Absent),
             }
-            None => Err(ShelfFault::Absent),
-        }
+        };
+        self.history = self.history.with_start(name, &answer);
+        answer
     }
 
     /// `Failed` comes exactly where the number of this call is in `failing`. Any other call gives the least of
@@ -136,6 +146,7 @@ impl Shelf for MemShelf {
         ensures calm { OnOk result (self.new.faults ≡ self.old.faults) }
         ensures failed { OnErr result (Rose self.old.faults self.new.faults) }
         ensures only { IfErr result (λ e. e ≡ ShelfFault.Failed) }
+        ensures reads { ReadsOn self.old.readings self.new.readings result buffer.new }
         ensures one_call { self.new.calls ≤ self.old.calls + 1 }
         ensures steady { never_fails self.old ≡ true → (never_fails self.new ≡ true) × (self.new.faults ≡ self.old.faults) × IsOk result }
     {
@@ -148,6 +159,7 @@ impl Shelf for MemShelf {
         let count = give(rest, self.piece, buffer);
         self.at += count;
         self.given = self.given.saturating_add(count as u64);
+        self.history = self.history.with(&Note::Gave(&buffer[..count]));
         Ok(count)
     }
 }

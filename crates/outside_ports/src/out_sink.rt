@@ -1,63 +1,69 @@
-ghost use Rattle.std.specs.Prelude.{◌≡◌, ◌<◌, ◌≤◌, length, IfOk, OnErr, None};
+ghost use Rattle.std.specs.Prelude.{◌≡◌, ◌<◌, ◌≤◌, [], length, IfOk, OnErr, Some, is_some};
+ghost use Rattle.std.specs.Io.KnownBytes.{WriteAppends};
 ghost use Rattle.outside_ports.specs.Counts.{Rose};
 ghost use Rattle.outside_ports.specs.Openings.{FollowsWrite, faults_called};
 
+use crate::history::{History, Note};
 use crate::sink::{Sink, SinkFault};
-use std::alloc::AllocError;
-use std::io;
+use std::io::{self, Write};
 
-/// The standard output. It tells no content and counts no writes.
+/// A writer, as the standard output. It tells the bytes that the writer took, and counts no writes.
 ///
-/// A call makes at most one write of the system. An error of the system, or a write that took no byte, raises the
-/// count of faults.
+/// A call makes at most one write of the writer. An error of it, or a write that took no byte, raises the count of
+/// faults.
 #[derive(Drop)]
-pub struct OutSink<R: Print + Drop> {
-    runtime: R,
+pub struct OutSink<W: Write + Drop> {
+    out: W,
     faults: u64,
+    history: History,
 }
 
-impl<R: Print + Clone + Drop> OutSink<R> {
-    /// The standard output of this runtime.
-    pub fn new(runtime: &R) -> Result<OutSink<R>, AllocError>
-        ensures { IfOk result (λ sink. (⟦<OutSink<R> as Sink>⟧.seen sink).faults ≡ 0) }
+impl<W: Write + Drop> OutSink<W> {
+    /// A sink over this writer, to which nothing was written yet.
+    pub fn new(out: W) -> OutSink<W>
+        ensures calm { (⟦<OutSink<W> as Sink>⟧.seen result).faults ≡ 0 }
+        ensures empty { (⟦<OutSink<W> as Sink>⟧.seen result).written ≡ Some [] }
     {
-        Ok(OutSink {
-            runtime: runtime.clone()?,
+        OutSink {
+            out,
             faults: 0,
-        })
+            history: History::new(),
+        }
     }
 }
 
-impl<R: Print + Drop> Sink for OutSink<R> {
-    ghost seen = { λ s. record { written = None; faults = s.faults; calls = 0; room = 0 } };
+impl<W: Write + Drop> Sink for OutSink<W> {
+    ghost seen = { λ s. record { written = Some s.history.past.written; faults = s.faults; calls = 0; room = 0 } };
 
-    /// Each write is one write of the system. A write that took no byte is a fault, and each fault is counted.
+    /// Each write hands this very piece to the writer (`passes`). A write that took no byte is a fault, and each fault is
+    /// counted.
     fn write(&mut self, piece: &[u8]) -> Result<usize, SinkFault>
         requires { 0 < length piece.now }
         ensures counts { self.new.faults ≡ faults_called self.old.faults result }
+        ensures passes { WriteAppends (W.contents self.old.out) (W.contents self.new.out) result piece.now }
         ensures some { IfOk result (λ n. 0 < n) }
         ensures bound { IfOk result (λ n. n ≤ length piece.now) }
+        ensures tells { is_some (Some self.new.history.past.written) ≡ is_some (Some self.old.history.past.written) }
+        ensures appends { WriteAppends (Some self.old.history.past.written) (Some self.new.history.past.written) result piece.now }
         ensures later { self.old.faults ≤ self.new.faults }
         ensures failed { OnErr result (Rose self.old.faults self.new.faults) }
     {
-        let answer = self.runtime.write_some(piece);
-        self.take(answer)
+        let answer = self.out.write(piece);
+        let result = counted(answer);
+        match result {
+            Ok(count) => self.history = self.history.with(&Note::Took(&piece[..count])),
+            Err(SinkFault) => self.faults = self.faults.saturating_add(1),
+        }
+        result
     }
 }
 
-impl<R: Print + Drop> OutSink<R> {
-    /// Takes what a write of the system answered.
-    fn take(&mut self, answer: io::Result<usize>) -> Result<usize, SinkFault>
-        ensures answer { FollowsWrite answer result }
-        ensures faults { self.new.faults ≡ faults_called self.old.faults result }
-        ensures later { self.old.faults ≤ self.new.faults }
-    {
-        match answer {
-            Ok(count) if count > 0 => Ok(count),
-            _ => {
-                self.faults = self.faults.saturating_add(1);
-                Err(SinkFault)
-            }
-        }
+/// What a write of the writer comes to. One that took no byte is a fault.
+fn counted(answer: io::Result<usize>) -> Result<usize, SinkFault>
+    ensures { FollowsWrite answer result }
+{
+    match answer {
+        Ok(count) if count > 0 => Ok(count),
+        _ => Err(SinkFault),
     }
 }

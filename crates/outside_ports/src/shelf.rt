@@ -5,6 +5,7 @@ ghost use Rattle.std.specs.Io.KnownBytes.{ReadConsumes, IsAtEnd};
 ghost use Rattle.outside_ports.specs.Counts.{Rose};
 ghost use Rattle.outside_ports.specs.Names.{Opens, IsAbsent};
 ghost use Rattle.outside_ports.specs.Ports.{ShelfDef};
+ghost use Rattle.outside_ports.specs.Readings.{AsksFor, ReadsOn};
 ghost use Rattle.outside_ports.specs.declared.shelf.ShelfFault.{ShelfFault};
 
 use thiserror::Error;
@@ -30,6 +31,9 @@ pub enum ShelfFault {
 /// of faults that never falls (`faults`). Which of these it tells never changes, and the inputs stay as they are. Both
 /// numbers stay at 2^64 - 1.
 ///
+/// It also sees each start of an input, with its name, why it failed, and the bytes that reads gave since (`readings`,
+/// the last one first). Only proofs read these.
+///
 /// A shelf may also count its calls (`calls`), and promise that no later call fails (`steady`). For a shelf that
 /// counts none `calls` stays 0, and a bound on calls says nothing of it.
 pub trait Shelf {
@@ -42,7 +46,7 @@ pub trait Shelf {
     ///
     /// `Absent` comes where the told names lack this one, or where names are not told and the count of faults rose;
     /// `Failed` only where the count rose; `Memory` is want of memory alone, which leaves the count as it was, and so
-    /// does a start that succeeds.
+    /// does a start that succeeds. The readings get this name, and why it wasn't started (`asks`).
     fn start(&mut self, name: &str) -> Result<(), ShelfFault>
         ensures same { (seen self.new).names ≡ (seen self.old).names }
         ensures tells { is_some (seen self.new).rest ≡ is_some (seen self.old).rest }
@@ -55,6 +59,7 @@ pub trait Shelf {
         ensures absent { IsErrOf result ShelfFault.Absent → IsAbsent (seen self.old).names name.now (seen self.old).faults (seen self.new).faults }
         ensures failed { IsErrOf result ShelfFault.Failed → Rose (seen self.old).faults (seen self.new).faults }
         ensures gives { start_gives self.old name.now result self.new }
+        ensures asks { AsksFor (seen self.old).readings (seen self.new).readings name.now result }
         ensures one_call { (seen self.new).calls ≤ (seen self.old).calls + 1 }
         ensures steady { (seen self.old).steady ≡ true → ((seen self.new).steady ≡ true) × ((seen self.new).faults ≡ (seen self.old).faults) × (IsErrOf result ShelfFault.Failed → ⊥) };
 
@@ -62,7 +67,7 @@ pub trait Shelf {
     /// rest is empty or nothing is started.
     ///
     /// The one error is `Failed`. It comes only where the count of faults rose, and no byte was moved. A read that
-    /// succeeds leaves the count as it was.
+    /// succeeds leaves the count as it was. The readings get the bytes that stand at the front of the buffer (`reads`).
     fn read(&mut self, buffer: &mut [u8]) -> Result<usize, ShelfFault>
         requires { 0 < length buffer.old }
         ensures same { (seen self.new).names ≡ (seen self.old).names }
@@ -75,6 +80,7 @@ pub trait Shelf {
         ensures calm { OnOk result ((seen self.new).faults ≡ (seen self.old).faults) }
         ensures failed { OnErr result (Rose (seen self.old).faults (seen self.new).faults) }
         ensures only { IfErr result (λ e. e ≡ ShelfFault.Failed) }
+        ensures reads { ReadsOn (seen self.old).readings (seen self.new).readings result buffer.new }
         ensures one_call { (seen self.new).calls ≤ (seen self.old).calls + 1 }
         ensures steady { (seen self.old).steady ≡ true → ((seen self.new).steady ≡ true) × ((seen self.new).faults ≡ (seen self.old).faults) × IsOk result };
 

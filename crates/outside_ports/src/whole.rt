@@ -5,6 +5,7 @@ ghost use Rattle.outside_ports.specs.Names.{IsNamed, IsLonger, IsAbsent};
 ghost use Rattle.outside_ports.specs.Prefix.{AppendsPart};
 ghost use Rattle.outside_ports.specs.Answers.{FollowsStart};
 ghost use Rattle.outside_ports.specs.Rests.{HasMore};
+ghost use Rattle.outside_ports.specs.Loads.{Leaves, LeavesBegun};
 ghost use Rattle.outside_ports.specs.declared.shelf.ShelfFault.{ShelfFault};
 
 use crate::shelf::{Shelf, ShelfFault};
@@ -49,6 +50,9 @@ impl From<AllocError> for LoadFault {
 /// success, leaves the count as it was: a fault that was counted is answered as one. After an error the
 /// shelf stands where its last call left it. A shelf that counts its calls shows that there are at most two more of
 /// them than an input may have bytes.
+///
+/// The shelf's readings get one more, of this name. The bytes are what that reading gave, from its start to its end
+/// (`leaves`).
 pub fn load<S: Shelf>(alloc: Global, shelf: &mut S, name: &str) -> Result<Vec<u8>, LoadFault>
     ensures whole { IfOk result (λ bytes. IsNamed (S.seen shelf.old).names name.now bytes.items) }
     ensures ended { OnOk result (IsAtEnd (S.seen shelf.new).rest) }
@@ -56,6 +60,7 @@ pub fn load<S: Shelf>(alloc: Global, shelf: &mut S, name: &str) -> Result<Vec<u8
     ensures absent { IsErrOf result LoadFault.Absent → IsAbsent (S.seen shelf.old).names name.now (S.seen shelf.old).faults (S.seen shelf.new).faults }
     ensures started { (answer : Result (Unit {0}) ShelfFault) × (mid : S) × S.start_gives shelf.old name.now answer mid
         × FollowsStart answer result }
+    ensures leaves { Leaves result name.now (S.seen shelf.old).readings (S.seen shelf.new).readings }
     ensures read { IsErrOf result LoadFault.Read → Rose (S.seen shelf.old).faults (S.seen shelf.new).faults }
     ensures too_long { (IsErrOf result LoadFault.TooLong) ↔ (GREATEST_INPUT_BYTES < (S.seen shelf.new).given) }
     ensures longer { IsErrOf result LoadFault.TooLong → IsLonger (S.seen shelf.old).names name.now GREATEST_INPUT_BYTES }
@@ -83,6 +88,7 @@ fn read_all<S: Shelf>(alloc: Global, shelf: &mut S) -> Result<Vec<u8>, LoadFault
     ensures ended { OnOk result (IsAtEnd (S.seen shelf.new).rest) }
     ensures size { IfOk result (λ bytes. (vec_len bytes ≡ (S.seen shelf.new).given) × (vec_len bytes ≤ GREATEST_INPUT_BYTES)) }
     ensures present { IsErrOf result LoadFault.Absent → ⊥ }
+    ensures leaves { LeavesBegun result (S.seen shelf.old).readings (S.seen shelf.new).readings }
     ensures read { IsErrOf result LoadFault.Read → Rose (S.seen shelf.old).faults (S.seen shelf.new).faults }
     ensures too_long { (IsErrOf result LoadFault.TooLong) ↔ (GREATEST_INPUT_BYTES < (S.seen shelf.new).given) }
     ensures longer { IsErrOf result LoadFault.TooLong → HasMore (S.seen shelf.old).rest GREATEST_INPUT_BYTES }

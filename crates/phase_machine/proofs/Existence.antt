@@ -4,8 +4,8 @@ use Rattle.std.proofs.Common.{get_or, replicate, refl, sym, ap, subst, ◌∙◌
 use Rattle.std.proofs.Common.{None, leb, cond}
 use Rattle.std.specs.List.{list_any}
 use Rattle.std.proofs.lemmas.Bool.{cases_lt, cases_Bool, and_parts, and_from, leb-true, le-leb, eqb-true, eq-eqb}
-use Rattle.bounded_sums.specs.Tests.{first_below}
-use Rattle.bounded_sums.proofs.TestLaws.{first_below-at_most, first_below-passes, first_below-least}
+use Rattle.number_laws.specs.Tests.{first_below}
+use Rattle.number_laws.proofs.TestLaws.{first_below-at_most, first_below-passes, first_below-least}
 use Rattle.sporadic_model.specs.Accepted.{TaskNumbers}
 use Rattle.schedule_model.specs.JobDef.{JobDef, JobsDef, job_of, segment_ticks}
 use Rattle.schedule_model.specs.LawfulJobs.{AreLawfulJobs}

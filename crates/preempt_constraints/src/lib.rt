@@ -3,7 +3,7 @@
 
 ghost use Rattle.std.specs.Prelude.{◌≡◌, ◌<◌, ◌+◌, map, length, slice_index, IfOk, OnOk, [], ◌∷◌, if◌then◌else◌, ◌&&◌};
 ghost use Rattle.std.proofs.Common.{ap};
-ghost use Rattle.bounded_sums.specs.Sums.{flag};
+ghost use Rattle.number_laws.specs.Sums.{flag};
 ghost use Rattle.program_form.specs.RowBlock.{block_seen};
 ghost use Rattle.program_sources.specs.Bounds.{AreWithinDeadlines};
 ghost use Rattle.sporadic_model.specs.Homes.{HasHomesFor};

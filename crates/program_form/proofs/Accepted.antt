@@ -4,8 +4,8 @@ use Rattle.std.proofs.Common.{◌&&◌, not, nat_lt, nat_le, ◌==◌, cond, Opt
 use Rattle.std.specs.List.{list_all}
 use Rattle.std.proofs.lemmas.Bool.{and_parts, and_from, cases_Bool, both_ways, not-false, not-true, ltb-true, ltb-false}
 use Rattle.std.proofs.lemmas.Bool.{lt-ltb, le-ltb, leb-true, le-leb, eqb-true, eq-eqb, not_from_true, not_from_false}
-use Rattle.bounded_sums.proofs.TestLaws.{any_below-some, any_below-from, any_below-none, any_below-none_from}
-use Rattle.bounded_sums.proofs.TestLaws.{first_below-before, first_below-passes, first_below-is}
+use Rattle.number_laws.proofs.TestLaws.{any_below-some, any_below-from, any_below-none, any_below-none_from}
+use Rattle.number_laws.proofs.TestLaws.{first_below-before, first_below-passes, first_below-is}
 use Rattle.program_form.specs.Program.{ProgramDef, HasLengths, IsCovered, IsFirstUncovered, AreSmall, IsProgram}
 use Rattle.program_form.specs.Program.{columns, height, row, entry}
 use Rattle.program_form.specs.Refusals.{has_lengths, is_covered, first_uncovered, are_small, is_small, first_refusal}

@@ -2,8 +2,8 @@
 use Rattle.std.proofs.Common.{◌≡◌, ℕ, ◌*◌, ◌/◌, ◌<◌, ◌≤◌, sym, ap, ◌∙◌, arith}
 use Rattle.std.proofs.Math.Nat.{mul_comm, mul-le-mul_left, le_of_mul-le-mul_right, mul_assoc, mul_left_comm}
 use Rattle.std.proofs.lemmas.Nat.{le-div, div-add-mod'}
-use Rattle.bounded_sums.specs.Sums.{sum_below}
-use Rattle.bounded_sums.proofs.SumLaws.{sum_below-agree, sum_below-monotone, sum_below-times, sum_below-times_right, sum_below-swap}
+use Rattle.number_laws.specs.Sums.{sum_below}
+use Rattle.number_laws.proofs.SumLaws.{sum_below-agree, sum_below-monotone, sum_below-times, sum_below-times_right, sum_below-swap}
 use Rattle.program_form.specs.Program.{ProgramDef, columns, height, cost, entry, limit}
 use Rattle.program_form.specs.Points.{IsScaledPoint, worth, Reaches, IsGreatestReached}
 use Rattle.program_form.specs.Optimum.{IsOptimum}

@@ -6,3 +6,5 @@ mod Lists
 pub mod Points
 mod RowCuts
 mod SevenRowsWorked
+pub mod Elimination
+pub mod Greatest

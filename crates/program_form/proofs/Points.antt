@@ -1,8 +1,8 @@
 -- Which whole values are reached: zero, with each value the smaller ones, and no less where limits grow.
 use Rattle.std.proofs.Common.{ℕ, zero, suc, ◌*◌, ◌<◌, ◌≤◌, arith}
 use Rattle.std.proofs.Math.Nat.{mul-le-mul_left}
-use Rattle.bounded_sums.specs.Sums.{sum_below}
-use Rattle.bounded_sums.proofs.SumLaws.{sum_below-zero, sum_below-term}
+use Rattle.number_laws.specs.Sums.{sum_below}
+use Rattle.number_laws.proofs.SumLaws.{sum_below-zero, sum_below-term}
 use Rattle.program_form.specs.Program.{ProgramDef, IsProgram, IsCovered, columns, height, cost, entry, limit}
 use Rattle.program_form.specs.Points.{IsScaledPoint, worth, Reaches, IsGreatestReached}
 use Rattle.program_form.specs.Duals.{Covers}

@@ -1,8 +1,8 @@
 -- The worked program of seven rows: its point, its dual, its optimum.
 use Rattle.std.proofs.Common.{ℕ, ◌*◌, [], ◌∷◌, slice_index, refl, nat_le, lit<}
 use Rattle.std.proofs.lemmas.Bool.{leb-true}
-use Rattle.bounded_sums.specs.Sums.{sum_below}
-use Rattle.bounded_sums.proofs.TestLaws.{all_below-each}
+use Rattle.number_laws.specs.Sums.{sum_below}
+use Rattle.number_laws.proofs.TestLaws.{all_below-each}
 use Rattle.program_form.specs.Program.{IsProgram, cost, entry, limit}
 use Rattle.program_form.specs.Points.{IsScaledPoint, IsGreatestReached}
 use Rattle.program_form.specs.Optimum.{IsOptimum}

@@ -1,6 +1,6 @@
 -- Duals of a program: multipliers of its rows, from which a bound of all its points can be read.
 use Rattle.std.specs.Prelude.{◌≡◌, ℕ, ◌*◌, ◌/◌, ◌<◌, ◌≤◌, length, slice_index}
-use Rattle.bounded_sums.specs.Sums.{sum_below}
+use Rattle.number_laws.specs.Sums.{sum_below}
 use Rattle.program_form.specs.Certificate.{DualDef}
 use Rattle.program_form.specs.Program.{ProgramDef, columns, height, cost, entry, limit}
 use Rattle.program_form.specs.Optimum.{IsOptimum}

@@ -1,6 +1,6 @@
 -- The points of a program, as whole numbers over one scale, and what they reach.
 use Rattle.std.specs.Prelude.{ℕ, ◌*◌, ◌<◌, ◌≤◌}
-use Rattle.bounded_sums.specs.Sums.{sum_below}
+use Rattle.number_laws.specs.Sums.{sum_below}
 use Rattle.program_form.specs.Program.{ProgramDef, columns, height, cost, entry, limit}
 
 -- Does the point that gives each column c the fraction ys c over s meet every row?

@@ -2,7 +2,7 @@
 use Rattle.std.specs.Prelude.{◌≡◌, ℕ, Bool, ◌==◌, ◌&&◌, not, nat_lt, nat_le, if◌then◌else◌, List, [], ◌∷◌, length}
 use Rattle.std.specs.Prelude.{slice_index, slice_index_or, Option, Some, None, Result, Ok, Err, refl}
 use Rattle.std.specs.List.{list_all}
-use Rattle.bounded_sums.specs.Tests.{any_below, first_below}
+use Rattle.number_laws.specs.Tests.{any_below, first_below}
 use Rattle.program_form.specs.Program.{ProgramDef, columns, height}
 use Rattle.program_form.specs.declared.TheConstants.{MOST_NUMBER}
 use Rattle.program_form.specs.declared.program.ProgramRefusal.{ProgramRefusal}

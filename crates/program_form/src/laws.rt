@@ -2,7 +2,7 @@
 //! ensures holds for all programs.
 
 ghost use Rattle.std.specs.Prelude.{◌≡◌, ℕ, ◌+◌, ◌*◌, ◌/◌, ◌^◌, ◌<◌, ◌≤◌, ◌↔◌, Some, None, slice_index};
-ghost use Rattle.bounded_sums.specs.Sums.{sum_below};
+ghost use Rattle.number_laws.specs.Sums.{sum_below};
 ghost use Rattle.program_form.specs.Program.{ProgramDef, HasLengths, IsCovered, IsFirstUncovered, AreSmall, IsProgram};
 ghost use Rattle.program_form.specs.Program.{columns, height, cost};
 ghost use Rattle.program_form.specs.Refusals.{first_refusal};

@@ -8,6 +8,7 @@
 mod certificate;
 mod laws;
 mod program;
+mod reach_laws;
 mod row_block;
 mod sparse_program;
 mod sparse_rows;
@@ -19,6 +20,7 @@ pub use laws::{
     seven_rows_reach_fourteen_thirds, the_optimum_is_one, weak_duality, whole_part_is_greatest,
 };
 pub use program::{Program, ProgramRefusal};
+pub use reach_laws::{a_greatest_reached_value_exists, reaching_is_decided};
 pub use row_block::RowBlock;
 pub use sparse_program::SparseProgram;
 pub use sparse_rows::{Coefficient, SparseRows};

@@ -3,7 +3,7 @@
 ghost use Rattle.std.specs.Prelude.{◌≡◌, ℕ, ◌^◌, ◌<◌, ◌≤◌, Bool, true, ◌==◌, ◌&&◌, not, List, [], length, vec_len};
 ghost use Rattle.std.specs.Prelude.{slice_index, slice_index_or, IfOk, IfSome, Option, Some, None};
 ghost use Rattle.std.specs.List.{list_all};
-ghost use Rattle.bounded_sums.specs.Tests.{any_below, first_below};
+ghost use Rattle.number_laws.specs.Tests.{any_below, first_below};
 ghost use Rattle.program_form.specs.Program.{ProgramDef, IsProgram, columns, height, cost, entry, limit};
 ghost use Rattle.program_form.specs.Refusals.{has_lengths, is_covered, first_uncovered, are_small, is_small, first_refusal, Judged};
 ghost use Rattle.program_form.specs.RowBlock.{rows_seen};

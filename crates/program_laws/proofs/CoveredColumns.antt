@@ -5,7 +5,7 @@ use Rattle.std.specs.List.{All, Contains}
 use Rattle.std.proofs.lemmas.List.{get_or-map, length-map}
 use Rattle.std.proofs.lemmas.List.Folds.{list_any_at}
 use Rattle.std.proofs.lemmas.List.Elements.{All-get_or, Contains-append_left}
-use Rattle.bounded_sums.specs.Sums.{flag}
+use Rattle.number_laws.specs.Sums.{flag}
 use Rattle.program_form.specs.Program.{IsCovered, columns}
 use Rattle.sporadic_model.specs.SetDef.{SetDef}
 use Rattle.sporadic_model.specs.declared.ids.Protocol.{Protocol}

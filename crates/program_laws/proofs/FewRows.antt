@@ -6,10 +6,10 @@ use Rattle.std.specs.List.{All, filter}
 use Rattle.std.proofs.lemmas.Bool.{cases_lt, cases_Bool, both_ways, and_parts, eqb-true, eq-eqb, ltb-true}
 use Rattle.std.proofs.lemmas.List.{length-append, length-map}
 use Rattle.std.proofs.lemmas.List.Elements.{filter-append, All-head, All-tail}
-use Rattle.bounded_sums.specs.Sums.{sum_below, flag, only_if}
-use Rattle.bounded_sums.specs.Tests.{count_below}
-use Rattle.bounded_sums.proofs.SumLaws.{sum_below-agree, sum_below-monotone}
-use Rattle.bounded_sums.proofs.CountLaws.{flag-at_most, flag-of_false, count_below-at_most, count_below-monotone, flag-passes}
+use Rattle.number_laws.specs.Sums.{sum_below, flag, only_if}
+use Rattle.number_laws.specs.Tests.{count_below}
+use Rattle.number_laws.proofs.SumLaws.{sum_below-agree, sum_below-monotone, sum_below-longer}
+use Rattle.number_laws.proofs.CountLaws.{flag-at_most, flag-of_false, count_below-at_most, count_below-monotone, flag-passes}
 use Rattle.program_form.specs.Program.{height}
 use Rattle.sporadic_model.specs.SetDef.{SetDef}
 use Rattle.sporadic_model.specs.Users.{is_user, length_of}
@@ -42,7 +42,7 @@ kept_per : (p : ConstraintDef → Bool) (n : ℕ) (row : ℕ → ConstraintDef) 
 kept_per p n row = filtered_sum p n (λ k. row k ∷ [])
     ∙ sum_below-agree n (λ k. length (filter p (row k ∷ []))) (λ k. flag (p (row k))) (λ k l. one_kept p (row k))
 
-kept_pairs : (p : ConstraintDef → Bool) (m n : ℕ) (row : ℕ → ℕ → ConstraintDef)
+pub kept_pairs : (p : ConstraintDef → Bool) (m n : ℕ) (row : ℕ → ℕ → ConstraintDef)
     → length (filter p (per_pair m n row)) ≡ sum_below m (λ x. count_below n (λ q. p (row x q)))
 kept_pairs p m n row = filtered_sum p m (λ x. per n (row x))
     ∙ sum_below-agree m (λ x. length (filter p (per n (row x)))) (λ x. count_below n (λ q. p (row x q))) (λ x l. kept_per p n (row x))
@@ -61,7 +61,7 @@ kept_where p test n row = omega (
 )
 
 -- What a column that the row holds is known to be.
-held : (P : ColumnDef → Type 0) (cs : List ColumnDef) (row : ConstraintDef) → All P cs → holds_some cs row ≡ true
+pub held : (P : ColumnDef → Type 0) (cs : List ColumnDef) (row : ConstraintDef) → All P cs → holds_some cs row ≡ true
     → (c : ColumnDef) × (P c) × (0 < row.coefficient c)
 held P [] row all h = absurd cc
 held P (c ∷ cs) row all h = elim (cases_Bool (nat_lt 0 (row.coefficient c))) [
@@ -99,17 +99,22 @@ count_but_one (suc n) i p l none = elim (cases_lt i n) [
       omega (arith, count_below-at_most n p, flag-of_false (p n) no)
 ]
 
--- So of rows for each task and resource at most 256 are there.
+-- So of rows for each of the first tasks and each resource at most 256 are there.
+pub first_rows_few : (test : ColumnDef → Bool) (set : SetDef) (n : ℕ) (row : ℕ → ℕ → ConstraintDef) → IsAccepted set
+    → AreRequests test set → n ≤ length set.tasks → ((x q : ℕ) → IsOfPair x q (row x q))
+    → length (rows_there (columns_where test set) (per_pair n (length set.resources) row)) ≤ 256
+first_rows_few test set n row accepted users first of =
+    let m = length set.resources in
+    let there : ConstraintDef → Bool = holds_some (columns_where test set) in
+    let used : ℕ → ℕ = λ x. count_below m (λ q. is_user set q x) in
+    let each = sum_below-monotone n (λ x. count_below m (λ q. there (row x q))) used (λ x a.
+    count_below-monotone m (λ q. there (row x q)) (λ q. is_user set q x) (λ q b h. pair_held test set x q (row x q) users (of x q) h)) in
+    omega (arith, kept_pairs there n m row, each, sum_below-longer n (length set.tasks) used first, pairs_few set accepted)
+
 pub pair_rows_few : (test : ColumnDef → Bool) (set : SetDef) (row : ℕ → ℕ → ConstraintDef) → IsAccepted set → AreRequests test set
     → ((x q : ℕ) → IsOfPair x q (row x q))
     → length (rows_there (columns_where test set) (per_pair (length set.tasks) (length set.resources) row)) ≤ 256
-pair_rows_few test set row accepted users of =
-    let n = length set.tasks in
-    let m = length set.resources in
-    let there : ConstraintDef → Bool = holds_some (columns_where test set) in
-    let each = sum_below-monotone n (λ x. count_below m (λ q. there (row x q))) (λ x. count_below m (λ q. is_user set q x)) (λ x a.
-    count_below-monotone m (λ q. there (row x q)) (λ q. is_user set q x) (λ q b h. pair_held test set x q (row x q) users (of x q) h)) in
-    omega (arith, kept_pairs there n m row, each, pairs_few set accepted)
+pair_rows_few test set row accepted users of = first_rows_few test set (length set.tasks) row accepted users (omega arith) of
 
 -- Of rows for each task at most 63, since none is there for the analysed one.
 pub task_rows_few : (test : ColumnDef → Bool) (set : SetDef) (i : ℕ) (row : ℕ → ConstraintDef) → IsAccepted set → i < length set.tasks
@@ -159,7 +164,7 @@ time_of set i x c some = eqb-true _ _ (only_passes (c.task == x) (length_of set 
 interval_of : (set : SetDef) (i x : ℕ) → IsOfTask x (interval_row set i x)
 interval_of set i x c some = eqb-true _ _ (flagged_pair (c.task == x) (is_preemption c.class) some)
 
-turn_of : (set : SetDef) (i x q : ℕ) → IsOfPair x q (turn_row set i x q)
+pub turn_of : (set : SetDef) (i x q : ℕ) → IsOfPair x q (turn_row set i x q)
 turn_of set i x q c some =
     let both : ((c.task == x) ≡ true) × ((c.resource == q) ≡ true) =
     and_parts _ _ (flagged_pair ((c.task == x) && (c.resource == q)) (is_direct c.class) some) in

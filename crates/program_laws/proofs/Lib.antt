@@ -8,3 +8,5 @@ pub mod GivenPrograms
 pub mod WrittenPrograms
 pub mod UsedResources
 pub mod FewRows
+pub mod PlacedRows
+pub mod MoreRows

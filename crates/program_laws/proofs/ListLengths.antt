@@ -7,7 +7,7 @@ use Rattle.sporadic_model.specs.Accepted.{IsAccepted}
 use Rattle.sporadic_model.specs.declared.ids.Protocol.{Protocol}
 use Rattle.sporadic_model.specs.declared.ids.Protocol.TheVariants as protocol
 use Rattle.sporadic_model.proofs.Laws.{sizes_of_accepted}
-use Rattle.bounded_sums.specs.Sums.{collect_below}
+use Rattle.number_laws.specs.Sums.{collect_below}
 use Rattle.fragments.specs.ColumnDef.{ColumnDef, all_columns, classes_of}
 use Rattle.fragments.specs.Columns.{columns_where, is_lower_local}
 use Rattle.fragments.specs.Constraints.{ConstraintDef, per, per_pair, per_where}

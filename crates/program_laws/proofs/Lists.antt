@@ -6,8 +6,8 @@ use Rattle.std.specs.List.{All, Contains, filter}
 use Rattle.std.proofs.lemmas.Bool.{cases_lt}
 use Rattle.std.proofs.lemmas.List.{length-append}
 use Rattle.std.proofs.lemmas.List.Elements.{All-head, All-tail, Contains-append_left, Contains-append_right}
-use Rattle.bounded_sums.specs.Sums.{sum_below, collect_below}
-use Rattle.bounded_sums.proofs.SumLaws.{sum_below-monotone, sum_below-constant}
+use Rattle.number_laws.specs.Sums.{sum_below, collect_below}
+use Rattle.number_laws.proofs.SumLaws.{sum_below-monotone, sum_below-constant}
 
 -- Where each number of a list is at most m, so is what stands at any place.
 pub index_at_most : (m : ℕ) (xs : List ℕ) → All (λ x. x ≤ m) xs → (c : ℕ) → slice_index xs c ≤ m

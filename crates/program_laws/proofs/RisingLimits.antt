@@ -3,8 +3,8 @@ use Rattle.std.proofs.Common.{ℕ, ◌+◌, ◌<◌, ◌≤◌, List, length, ar
 use Rattle.std.specs.Prelude.{slice_index}
 use Rattle.std.specs.List.{All}
 use Rattle.std.proofs.Math.Nat.{mul-le-mul_left}
-use Rattle.bounded_sums.proofs.SumLaws.{sum_below-monotone}
-use Rattle.bounded_sums.proofs.OnlyIfLaws.{only_if-rises}
+use Rattle.number_laws.proofs.SumLaws.{sum_below-monotone}
+use Rattle.number_laws.proofs.OnlyIfLaws.{only_if-rises}
 use Rattle.sporadic_model.specs.SetDef.{SetDef, task_at}
 use Rattle.sporadic_model.specs.Users.{count_of, is_user}
 use Rattle.sporadic_model.specs.declared.ids.Protocol.{Protocol}

@@ -10,10 +10,10 @@ use Rattle.std.proofs.lemmas.Bool.{cases_lt}
 use Rattle.std.proofs.lemmas.Grind.{div_ceil_times}
 use Rattle.std.proofs.Math.Nat.{mul-le-mul_left, mul-le-mul_right}
 use Rattle.std.proofs.lemmas.Nat.{mul-le}
-use Rattle.bounded_sums.specs.Sums.{flag, only_if, sum_below}
-use Rattle.bounded_sums.specs.Tests.{any_below}
-use Rattle.bounded_sums.proofs.CountLaws.{flag-at_most}
-use Rattle.bounded_sums.proofs.SumLaws.{only_if-at_most}
+use Rattle.number_laws.specs.Sums.{flag, only_if, sum_below}
+use Rattle.number_laws.specs.Tests.{any_below}
+use Rattle.number_laws.proofs.CountLaws.{flag-at_most}
+use Rattle.number_laws.proofs.SumLaws.{only_if-at_most}
 use Rattle.sporadic_model.specs.SetDef.{SetDef, RequestDef, task_at, resource_at}
 use Rattle.sporadic_model.specs.Users.{count_of, length_of, entry_of, is_user}
 use Rattle.sporadic_model.specs.Accepted.{IsAccepted}

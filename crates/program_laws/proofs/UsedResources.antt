@@ -9,10 +9,10 @@ use Rattle.std.proofs.lemmas.Bool.{cases_lt, cases_Bool, both_ways}
 use Rattle.std.proofs.lemmas.List.{length-append}
 use Rattle.std.proofs.lemmas.List.Elements.{filter-append, All-nil, All-cons, All-head, All-tail}
 use Rattle.std.proofs.lemmas.Slice.Eq.{bytes_eq-Decides}
-use Rattle.bounded_sums.specs.Sums.{sum_below, flag, collect_below}
-use Rattle.bounded_sums.specs.Tests.{count_below}
-use Rattle.bounded_sums.proofs.SumLaws.{sum_below-monotone, sum_below-list_by, sum_below-times}
-use Rattle.bounded_sums.proofs.CountLaws.{count_below-monotone, count_below-either, count_below-one, count_below-none}
+use Rattle.number_laws.specs.Sums.{sum_below, flag, collect_below}
+use Rattle.number_laws.specs.Tests.{count_below}
+use Rattle.number_laws.proofs.SumLaws.{sum_below-monotone, sum_below-list_by, sum_below-times}
+use Rattle.number_laws.proofs.CountLaws.{count_below-monotone, count_below-either, count_below-one, count_below-none}
 use Rattle.sporadic_model.specs.SetDef.{SetDef, TaskDef, RequestDef, task_at, resource_at, no_task, request_count}
 use Rattle.sporadic_model.specs.Users.{is_user}
 use Rattle.sporadic_model.specs.Accepted.{IsAccepted, AreNamed}

@@ -5,8 +5,8 @@ use Rattle.std.proofs.lemmas.Bool.{cases_lt}
 use Rattle.std.proofs.lemmas.Grind.{div_ceil_times}
 use Rattle.std.specs.Int.{div_ceil}
 use Rattle.std.specs.Prelude.{slice_index}
-use Rattle.bounded_sums.proofs.SumLaws.{sum_below-monotone}
-use Rattle.bounded_sums.proofs.OnlyIfLaws.{only_if-rises}
+use Rattle.number_laws.proofs.SumLaws.{sum_below-monotone}
+use Rattle.number_laws.proofs.OnlyIfLaws.{only_if-rises}
 use Rattle.program_form.specs.Certificate.{CertificateDef}
 use Rattle.program_form.specs.Limits.{HasLimitsAtMost}
 use Rattle.program_form.proofs.Points.{zero_reached, greater_limits_reach, greater_limits_greatest}

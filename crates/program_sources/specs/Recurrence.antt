@@ -1,7 +1,7 @@
 -- The response-time recurrence over any source of blocking programs: a task's cost, its greatest whole blocking, and the
 -- interference of higher tasks on its processor.
 use Rattle.std.specs.Prelude.{◌≡◌, refl, ℕ, ◌+◌, ◌-◌, ◌*◌, List, [], ◌∷◌, slice_index}
-use Rattle.bounded_sums.specs.Sums.{sum_below, only_if}
+use Rattle.number_laws.specs.Sums.{sum_below, only_if}
 use Rattle.program_form.specs.Program.{ProgramDef}
 use Rattle.program_form.specs.Points.{Reaches, IsGreatestReached}
 use Rattle.sporadic_model.specs.SetDef.{SetDef, TaskDef, task_at, is_higher_local, jobs_within}

@@ -5,7 +5,7 @@ use Rattle.std.specs.Prelude.{slice_index}
 use Rattle.std.proofs.lemmas.Bool.{cases_lt, cases_eq}
 use Rattle.std.proofs.lemmas.Grind.{same_number_lists}
 use Rattle.std.proofs.lemmas.List.{append-nil, get_or_push, get_or_append_left, length-append}
-use Rattle.bounded_sums.specs.Sums.{sum_below}
+use Rattle.number_laws.specs.Sums.{sum_below}
 use Rattle.program_form.specs.Certificate.{DualDef}
 use Rattle.program_form.specs.Limits.{HasLimitsAtMost}
 use Rattle.program_form.specs.Program.{ProgramDef}

@@ -7,8 +7,8 @@ use Rattle.std.proofs.lemmas.Int.{ints, unsigned_abs-mul}
 use Rattle.std.proofs.lemmas.List.{get_or_default}
 use Rattle.std.proofs.lemmas.Grind.{same_number_lists}
 use Rattle.number_laws.proofs.Order.{times_nonneg, cancel_le, weaker, above_zero, not_negative}
-use Rattle.bounded_sums.specs.Sums.{sum_below}
-use Rattle.bounded_sums.proofs.SumLaws.{sum_below-agree, sum_below-times_right}
+use Rattle.number_laws.specs.Sums.{sum_below}
+use Rattle.number_laws.proofs.SumLaws.{sum_below-agree, sum_below-times_right}
 use Rattle.fraction128.specs.Fraction.{Fraction, IsForm, whole}
 use Rattle.fraction128.specs.Scaling.{IsScaled, AreScaled, fraction_at}
 use Rattle.fraction128.proofs.Forms.{form_of_zero}

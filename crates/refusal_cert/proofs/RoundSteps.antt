@@ -3,7 +3,7 @@ use Rattle.std.proofs.Common.{◌≡◌, ℕ, suc, ◌<◌, ◌≤◌, List, [],
 use Rattle.std.specs.Prelude.{slice_index}
 use Rattle.std.proofs.lemmas.Bool.{lt-ltb, le-ltb}
 use Rattle.std.proofs.lemmas.List.{get_or_push, get_or_append_left}
-use Rattle.bounded_sums.proofs.SumLaws.{collect_below-agree}
+use Rattle.number_laws.proofs.SumLaws.{collect_below-agree}
 use Rattle.program_form.specs.Certificate.{DualDef}
 use Rattle.program_sources.specs.Valid.{dual_at, no_dual}
 use Rattle.refusal_laws.specs.Steps.{StepDef}

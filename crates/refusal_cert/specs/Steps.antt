@@ -1,6 +1,6 @@
 -- The steps of rounds, in the order of the rounds and, in each, of its tasks.
 use Rattle.std.specs.Prelude.{◌≡◌, refl, ℕ, zero, suc, ◌+◌, nat_lt, if◌then◌else◌, List, [], ◌∷◌, ◌++◌, slice_index}
-use Rattle.bounded_sums.specs.Sums.{collect_below}
+use Rattle.number_laws.specs.Sums.{collect_below}
 use Rattle.program_form.specs.Certificate.{DualDef}
 use Rattle.program_sources.specs.Valid.{dual_at}
 use Rattle.refusal_laws.specs.Steps.{StepDef}

@@ -2,8 +2,8 @@
 use Rattle.std.proofs.Common.{◌≡◌, ◌≢◌, ◌∙◌, ℕ, ◌+◌, ◌*◌, ◌<◌, List, [], ◌∷◌, ◌++◌, length, take, slice_index, refl, sym, ap, arith, inl, inr}
 use Rattle.std.proofs.lemmas.Bool.{cases_eq}
 use Rattle.std.proofs.lemmas.List.{take_more}
-use Rattle.bounded_sums.specs.Sums.{sum_below}
-use Rattle.bounded_sums.proofs.SumLaws.{sum_below-zero, sum_below-agree, sum_below-plus, sum_below-one}
+use Rattle.number_laws.specs.Sums.{sum_below}
+use Rattle.number_laws.proofs.SumLaws.{sum_below-zero, sum_below-agree, sum_below-plus, sum_below-one}
 use Rattle.program_form.specs.Program.{ProgramDef, columns, row, entry}
 use Rattle.program_form.specs.SparseRows.{number_at, full_row, coefficient_at, AreCoefficients}
 use Rattle.program_form.specs.declared.sparse_rows.Coefficient.{Coefficient}

@@ -1,6 +1,6 @@
 -- The tests that each step of a refusal passes where the refusal holds, in the order in which they are tried.
 use Rattle.std.specs.Prelude.{◌≡◌, ℕ, ◌+◌, ◌*◌, ◌<◌, ◌≤◌, List, length, slice_index}
-use Rattle.bounded_sums.specs.Sums.{sum_below}
+use Rattle.number_laws.specs.Sums.{sum_below}
 use Rattle.program_form.specs.Certificate.{DualDef}
 use Rattle.program_form.specs.Program.{ProgramDef, columns, height, entry, limit}
 use Rattle.sporadic_model.specs.SetDef.{SetDef}

@@ -1,6 +1,6 @@
 //! Batches of steps, whose points are tested side by side.
 
-ghost use Rattle.std.specs.Prelude.{◌≡◌, ◌+◌, ◌<◌, ◌≤◌, ◌^◌, length, map, IfOk};
+ghost use Rattle.std.specs.Prelude.{◌≡◌, ◌+◌, ◌<◌, ◌≤◌, ◌^◌, length, map, slice_get, Some, IfOk};
 ghost use Rattle.program_sources.specs.Recurrence.{source_at};
 ghost use Rattle.refusal_laws.specs.Steps.{HasDenominators};
 ghost use Rattle.refusal_laws.specs.Seen.{step_seen};
@@ -92,6 +92,14 @@ fn test_trial<P: ProgramSource>(
     fault_of_point(alloc, set, protocol, trial.task, &trial.bounds, &steps[k])
 }
 
+/// The trial of a batch's step number `j`, with the bounds before that step.
+fn trial_at(trials: &[Trial], j: usize) -> &Trial
+    requires { j < length trials.now }
+    ensures { slice_get trials.now j ≡ Some result.now }
+{
+    &trials[j]
+}
+
 /// What the tests of the point of a batch's step number `j` say of it.
 fn test_at<P: ProgramSource>(
     alloc: Global,
@@ -109,7 +117,7 @@ fn test_at<P: ProgramSource>(
     requires trials { AreTrials set.now (map step_seen steps.now) start trials.now }
     ensures { SaysOf result (source_at (P.source protocol.now) set.now) (map step_seen steps.now) (start + j) }
 {
-    test_trial(alloc, set, protocol, steps, start + j, &trials[j])
+    test_trial(alloc, set, protocol, steps, start + j, trial_at(trials, j))
 }
 
 /// Tests the points of a batch side by side. The call for a step makes the program at the bounds before that step.

@@ -1,9 +1,9 @@
 //! Sums over the columns of a program, which stop growing once they have passed what they are compared with.
 
-ghost use Rattle.std.specs.Prelude.{◌≡◌, ◌+◌, ◌-◌, ◌*◌, ◌<◌, ◌≤◌, ◌^◌, ◌↔◌, IsTrue, min, length, vec_len, slice_index};
-ghost use Rattle.bounded_sums.specs.Sums.{sum_below};
+ghost use Rattle.std.specs.Prelude.{◌≡◌, ◌+◌, ◌-◌, ◌*◌, ◌<◌, ◌≤◌, ◌^◌, ◌↔◌, IsTrue, min, length, slice_index};
+ghost use Rattle.number_laws.specs.Sums.{sum_below};
 ghost use Rattle.program_form.specs.Certificate.{dual_seen};
-ghost use Rattle.program_form.specs.Program.{columns, height, cost};
+ghost use Rattle.program_form.specs.Program.{columns, height};
 ghost use Rattle.program_form.specs.SparseRows.{number_at, AreCoefficients};
 ghost use Rattle.program_form.specs.Points.{worth};
 ghost use Rattle.refusal_laws.specs.Steps.{whole_worth};

@@ -1,7 +1,6 @@
 //! Going over the steps of a refusal, by the tests that need no program.
 
 ghost use Rattle.std.specs.Prelude.{◌≡◌, ◌<◌, false, length, map, slice_set, IfOk};
-ghost use Rattle.sporadic_model.specs.SetDef.{task_at};
 ghost use Rattle.program_sources.specs.Bounds.{IsInRange};
 ghost use Rattle.refusal_laws.specs.Seen.{step_seen};
 ghost use Rattle.refusal_confirm.specs.Parts.{Enters, Takes};

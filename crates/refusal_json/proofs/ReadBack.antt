@@ -13,8 +13,8 @@ use Rattle.serde_json.specs.Written.{outline, items_outline}
 use Rattle.serde_json.proofs.Numbers.{number_of-decimal}
 use Rattle.taskset_json.specs.Answers.{IsValue}
 use Rattle.taskset_json.specs.Members.{values_of}
-use Rattle.set_digests.specs.Digests.{size_of_digest, IsDigest}
-use Rattle.set_digests.proofs.Texts.{text_of_digest, read_again, text_is_utf8}
+use Rattle.cert_json.specs.Digests.{size_of_digest, IsDigest}
+use Rattle.cert_json.proofs.DigestTexts.{text_of_digest, read_again, text_is_utf8}
 use Rattle.cert_json.specs.FormParts.{is_for}
 use Rattle.cert_json.specs.Written.{digest_written}
 use Rattle.cert_json.proofs.PlainTexts.{IsPlain, ArePlain, line_is_value}

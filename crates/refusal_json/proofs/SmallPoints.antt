@@ -9,7 +9,7 @@ use Rattle.serde_json.specs.Data.{Data, null}
 use Rattle.serde_json.specs.Find.{get}
 use Rattle.taskset_json.specs.Members.{text_at, list_at}
 use Rattle.taskset_json.specs.Form.{is_object_of}
-use Rattle.set_digests.specs.Digests.{is_digest_text}
+use Rattle.cert_json.specs.Digests.{is_digest_text}
 use Rattle.cert_json.specs.Form.{is_dual}
 use Rattle.cert_json.specs.Written.{dual_written}
 use Rattle.cert_json.specs.Ranges.{IsSmallDual}

@@ -8,7 +8,7 @@ use Rattle.serde_json.specs.Find.{get}
 use Rattle.taskset_json.specs.declared.form.Kind.TheVariants as kind
 use Rattle.taskset_json.specs.Members.{whole_at, text_at, list_at}
 use Rattle.taskset_json.specs.Form.{MemberDef, must, is_object_of}
-use Rattle.set_digests.specs.Digests.{is_digest_text}
+use Rattle.cert_json.specs.Digests.{is_digest_text}
 use Rattle.cert_json.specs.Form.{is_dual}
 
 -- The members of a refusal, and of a step. No other may be given.

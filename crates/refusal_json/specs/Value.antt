@@ -2,7 +2,7 @@
 use Rattle.std.specs.Prelude.{ℕ, List, map, codes}
 use Rattle.serde_json.specs.Data.{Data, string, array, object, no_members, member}
 use Rattle.serde_json.specs.View.{items_of}
-use Rattle.set_digests.specs.Digests.{digest_text}
+use Rattle.cert_json.specs.Digests.{digest_text}
 use Rattle.cert_json.specs.Value.{number_data, dual_data}
 use Rattle.refusal_laws.specs.Steps.{StepDef}
 

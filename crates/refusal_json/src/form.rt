@@ -7,9 +7,8 @@ ghost use Rattle.taskset_json.specs.Form.{is_object_of};
 ghost use Rattle.cert_json.specs.Form.{is_dual};
 ghost use Rattle.refusal_json.specs.Form.{refusal_form, step_form, is_version, is_verdict_word, is_step, is_refusal};
 
-use cert_json::is_dual;
+use cert_json::{is_digest_text, is_dual};
 use serde_json::Value;
-use set_digests::is_digest_text;
 use taskset_json::{Kind, is_object_of, list_at, must, text_at, whole_at};
 
 fn has_members(value: &Value) -> bool

@@ -2,7 +2,7 @@
 
 ghost use Rattle.std.specs.Prelude.{ℕ, List, Result, IsUtf8};
 ghost use Rattle.taskset_json.specs.Answers.{IsValue};
-ghost use Rattle.set_digests.specs.Digests.{IsDigest};
+ghost use Rattle.cert_json.specs.Digests.{IsDigest};
 ghost use Rattle.refusal_laws.specs.Steps.{StepDef};
 ghost use Rattle.refusal_json.specs.Ranges.{IsWritable};
 ghost use Rattle.refusal_json.specs.Text.{refusal_text};

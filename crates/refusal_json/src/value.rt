@@ -3,10 +3,9 @@ ghost use Rattle.serde_json.specs.View.{view};
 ghost use Rattle.refusal_laws.specs.Seen.{step_seen, steps_seen};
 ghost use Rattle.refusal_json.specs.Value.{step_data, refusal_data};
 
-use cert_json::value_of_dual;
+use cert_json::{digest_text, value_of_dual};
 use refusal_laws::{Refusal, RefusalStep};
 use serde_json::{Value, json};
-use set_digests::digest_text;
 use std::alloc::{AllocError, Global};
 
 fn value_of_step(alloc: Global, step: &RefusalStep) -> Result<Value, AllocError>

@@ -1,6 +1,6 @@
 -- The texts of answers. Each line ends with one line end.
 use Rattle.std.specs.Prelude.{ℕ, ◌+◌, List, [], ◌++◌, length, codes, decimal, slice_index, slice_index_or, Option, None, Some}
-use Rattle.bounded_sums.specs.Sums.{collect_below}
+use Rattle.number_laws.specs.Sums.{collect_below}
 use Rattle.sporadic_model.specs.SetDef.{SetDef, task_at}
 use Rattle.schedule_model.specs.Measures.{MeasuresDef}
 use Rattle.schedule_model.specs.declared.rule.Rule.{Rule}

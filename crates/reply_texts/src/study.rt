@@ -1,5 +1,5 @@
 ghost use Rattle.std.specs.Prelude.{◌≡◌, ◌<◌, ◌++◌, [], length, slice_index_or, IfOk, OnOk};
-ghost use Rattle.bounded_sums.specs.Sums.{collect_below};
+ghost use Rattle.number_laws.specs.Sums.{collect_below};
 ghost use Rattle.reply_texts.specs.Texts.{counts_text, step_line, study_text};
 
 use std::alloc::{AllocError, Global};

@@ -1,7 +1,7 @@
 -- Tables of values that agree.
 use Rattle.std.proofs.Common.{◌≡◌, ◌++◌, ℕ, ◌<◌, List, length, ap}
 use Rattle.std.specs.Prelude.{slice_index}
-use Rattle.bounded_sums.proofs.SumLaws.{collect_below-agree}
+use Rattle.number_laws.proofs.SumLaws.{collect_below-agree}
 use Rattle.sporadic_model.specs.SetDef.{SetDef, task_at}
 use Rattle.report.specs.Table.{load_lines}
 use Rattle.report.specs.FullTable.{full_header, full_line, full_text}

@@ -1,6 +1,6 @@
 -- The table of a task set with what a certificate proves of each task.
 use Rattle.std.specs.Prelude.{ℕ, ◌-◌, List, ◌++◌, length, slice_index, codes, decimal}
-use Rattle.bounded_sums.specs.Sums.{collect_below}
+use Rattle.number_laws.specs.Sums.{collect_below}
 use Rattle.sporadic_model.specs.SetDef.{SetDef, TaskDef, task_at, latest_bound}
 use Rattle.text_pieces.specs.Columns.{right}
 use Rattle.report.specs.Table.{task_words, task_columns, load_lines}

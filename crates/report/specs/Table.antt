@@ -1,6 +1,6 @@
 -- The table of a task set: a header, a line for each task, and the load of each processor.
 use Rattle.std.specs.Prelude.{ℕ, ◌+◌, ◌*◌, ◌/◌, ◌==◌, List, ◌++◌, length, codes, decimal}
-use Rattle.bounded_sums.specs.Sums.{sum_below, only_if, collect_below}
+use Rattle.number_laws.specs.Sums.{sum_below, only_if, collect_below}
 use Rattle.sporadic_model.specs.SetDef.{SetDef, TaskDef, task_at}
 use Rattle.text_pieces.specs.Columns.{left, right}
 

@@ -1,5 +1,5 @@
 ghost use Rattle.std.specs.Prelude.{◌≡◌, ◌+◌, ◌*◌, ◌/◌, ◌<◌, ◌≤◌, ◌++◌, length, IfOk, OnOk};
-ghost use Rattle.bounded_sums.specs.Sums.{collect_below};
+ghost use Rattle.number_laws.specs.Sums.{collect_below};
 ghost use Rattle.sporadic_model.specs.SetDef.{task_at};
 ghost use Rattle.report.specs.Table.{task_words, header, ticks_columns, task_columns, task_line, load_of, load_line};
 ghost use Rattle.report.specs.Table.{load_lines, table_text};

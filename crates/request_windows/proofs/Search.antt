@@ -1,8 +1,8 @@
 -- The search for a window from below: each number of ticks that isn't enough is followed by what can run in so many.
 use Rattle.std.proofs.Common.{◌≡◌, ℕ, suc, ltb, Bool, ◌<◌, ◌≤◌, true, false, arith, inl, inr, None, Some, refl}
 use Rattle.std.proofs.lemmas.Bool.{cases_Bool, lt-ltb, ltb-true, le-ltb}
-use Rattle.bounded_sums.specs.Tests.{first_below}
-use Rattle.bounded_sums.proofs.TestLaws.{first_below-is}
+use Rattle.number_laws.specs.Tests.{first_below}
+use Rattle.number_laws.proofs.TestLaws.{first_below-is}
 use Rattle.sporadic_model.specs.SetDef.{SetDef, task_at}
 use Rattle.window_laws.specs.Windows.{ticks_there, is_enough, window_of}
 use Rattle.window_laws.proofs.Least.{found_is}

@@ -2,6 +2,7 @@
 #![tactic(auto)]
 
 mod kept;
+mod laws;
 mod limits;
 mod programs;
 mod protocol;
@@ -9,6 +10,7 @@ mod rows;
 mod searching;
 mod ticks;
 
+pub use laws::programs_are_small;
 pub use programs::program;
 pub use protocol::DpcpWindows;
 pub use searching::window;

@@ -1,7 +1,7 @@
 //! The limit of a row of windows.
 
 ghost use Rattle.std.specs.Prelude.{◌≡◌, ◌<◌, ◌≤◌, ◌*◌, true, length, slice_index};
-ghost use Rattle.bounded_sums.specs.Sums.{only_if};
+ghost use Rattle.number_laws.specs.Sums.{only_if};
 ghost use Rattle.sporadic_model.specs.Users.{is_user, count_of};
 ghost use Rattle.program_sources.specs.Bounds.{AreWithinDeadlines};
 ghost use Rattle.fragments.specs.Windows.{jobs_in};

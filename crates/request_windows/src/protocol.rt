@@ -2,6 +2,7 @@
 
 ghost use Rattle.std.specs.Prelude.{refl};
 ghost use Rattle.sporadic_model.specs.Homes.{EachHasHome};
+ghost use Rattle.sporadic_model.proofs.Laws.{formed_of_accepted};
 ghost use Rattle.sporadic_model.specs.declared.ids.Protocol.TheVariants as protocol;
 ghost use Rattle.schedule_model.specs.Protocols.{dpcp_rule};
 ghost use Rattle.schedule_model.specs.Chosen.{IsDpcpChoice};
@@ -12,7 +13,7 @@ ghost use Rattle.schedule_laws.proofs.TickAgreement.{dpcp_interference_agree};
 ghost use Rattle.schedule_laws.proofs.DpcpStretches.{dpcp_stays_lawful};
 ghost use Rattle.fragments.specs.Columns.{columns_of as written_columns};
 ghost use Rattle.program_laws.proofs.WrittenPrograms.{interfering_least, interfering_most};
-ghost use Rattle.charge_model.specs.Charges.{dpcp_charge};
+ghost use Rattle.charge_laws.specs.Charges.{dpcp_charge};
 ghost use Rattle.charge_laws.proofs.DpcpCharging.{dpcp_charge_blocked};
 ghost use Rattle.charge_laws.proofs.Stretches.{dpcp_stays_charged};
 ghost use Rattle.row_laws.proofs.ChargedTicks.{dpcp_is_charged};
@@ -146,5 +147,6 @@ impl ChargedProtocol for DpcpWindows {
     ghost stays_charged = { λ p. dpcp_stays_charged EachHasHome dpcp_rule };
 
     ghost meets_rows = { λ p w bounds n j suits accepted lawful keeps listed ended.
-        windowed_point w bounds n j (record { accepted = accepted; lawful = lawful; listed = listed; ended = ended }) keeps };
+        windowed_point w bounds n j (record { formed = formed_of_accepted w.set accepted; lawful = lawful; listed = listed; ended = ended })
+        keeps };
 }

@@ -1,7 +1,7 @@
 //! How many ticks of requests may run on a processor.
 
 ghost use Rattle.std.specs.Prelude.{◌≡◌, ◌<◌, ◌≤◌, ◌*◌, ◌+◌, length, slice_index};
-ghost use Rattle.bounded_sums.specs.Sums.{only_if, sum_below};
+ghost use Rattle.number_laws.specs.Sums.{only_if, sum_below};
 ghost use Rattle.sporadic_model.specs.Users.{length_of};
 ghost use Rattle.schedule_model.specs.Measures.{greatest_below};
 ghost use Rattle.program_sources.specs.Bounds.{AreWithinDeadlines};

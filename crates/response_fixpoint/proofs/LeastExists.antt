@@ -6,7 +6,7 @@ use Rattle.std.proofs.lemmas.List.FromFn.{get_or-map-range_with_len, length-rang
 use Rattle.std.specs.List.{range_with_len}
 use Rattle.std.specs.Prelude.{slice_index}
 use Rattle.program_form.specs.Program.{IsCovered, columns}
-use Rattle.program_reach.proofs.Greatest.{greatest_exists}
+use Rattle.program_form.proofs.Greatest.{greatest_exists}
 use Rattle.sporadic_model.specs.SetDef.{TaskDef, no_task, task_at}
 use Rattle.program_sources.specs.Bounds.{AtMost}
 use Rattle.program_sources.specs.Recurrence.{SourceDef, IsResponse, response_with}

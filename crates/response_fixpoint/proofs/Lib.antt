@@ -8,6 +8,7 @@ pub mod WrittenLaws
 pub mod RunLaws
 pub mod EndLaws
 pub mod PlaceLaws
+mod SharingLaws
 pub mod SolutionLaws
 pub mod AnswerLaws
 pub mod WorkedRounds

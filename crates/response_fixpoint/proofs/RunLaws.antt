@@ -3,8 +3,8 @@ use Rattle.std.proofs.Common.{◌≡◌, ◌≢◌, ℕ, zero, suc, ◌+◌, ◌
 use Rattle.std.proofs.Math.Nat.{mul-le-mul_right, mul_comm}
 use Rattle.std.proofs.lemmas.List.{length-map}
 use Rattle.std.specs.Prelude.{slice_index}
-use Rattle.bounded_sums.specs.Sums.{sum_below}
-use Rattle.bounded_sums.proofs.SumLaws.{sum_below-monotone, sum_below-agree, sum_below-plus}
+use Rattle.number_laws.specs.Sums.{sum_below}
+use Rattle.number_laws.proofs.SumLaws.{sum_below-monotone, sum_below-agree, sum_below-plus}
 use Rattle.program_form.specs.Program.{IsProgram}
 use Rattle.exchange_runs.proofs.Finals.{one_answer, ends_not_wide, ends_not_more, wide_not_more}
 use Rattle.sporadic_model.specs.SetDef.{TaskDef, task_at}

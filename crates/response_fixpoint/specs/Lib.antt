@@ -1,6 +1,7 @@
 pub mod Rounds
 pub mod Runs
 pub mod Places
+pub mod Sharing
 pub mod Solutions
 pub mod Answers
 pub mod Worked

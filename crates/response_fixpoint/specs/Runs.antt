@@ -1,6 +1,6 @@
 -- The rounds of a source of programs: how the exchange run of each task's program ends, and what rounds of such runs are.
 use Rattle.std.specs.Prelude.{◌≡◌, ℕ, ◌+◌, ◌-◌, ◌<◌, List, map, length}
-use Rattle.bounded_sums.specs.Sums.{sum_below}
+use Rattle.number_laws.specs.Sums.{sum_below}
 use Rattle.fraction128.specs.Fraction.{Fraction}
 use Rattle.program_form.specs.Certificate.{DualDef}
 use Rattle.program_form.specs.Program.{IsProgram, columns}

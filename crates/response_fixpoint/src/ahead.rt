@@ -1,9 +1,10 @@
 //! What is solved side by side of a later round: the programs whose limits aren't those of the round before.
 
-ghost use Rattle.std.specs.Prelude.{◌≡◌, ℕ, ◌<◌, length, slice_get, Some, IfOk};
+ghost use Rattle.std.specs.Prelude.{◌≡◌, ℕ, ◌-◌, ◌<◌, ◌^◌, length, min, slice_get, Some, IfOk};
 ghost use Rattle.program_sources.specs.Bounds.{IsInRange};
 ghost use Rattle.program_sources.specs.Recurrence.{source_at};
 ghost use Rattle.response_fixpoint.specs.Places.{ArePlaced};
+ghost use Rattle.response_fixpoint.specs.Sharing.{IsShare, due_in, work_in};
 ghost use Rattle.response_fixpoint.specs.Solutions.{IsOutcome, IsPlan, AreAhead};
 
 use crate::places::{Placed, in_places};
@@ -17,18 +18,22 @@ use std::alloc::{AllocError, Global};
 use std::thread::{Threads, map_indices};
 
 /// How many programs of a plan have no solution yet.
-fn due_in(plan: &[Planned]) -> usize {
-    let mut due = 0usize;
+fn due_in(plan: &[Planned]) -> usize
+    ensures { result ≡ due_in plan.now }
+{
+    let mut due = 0;
     for planned in plan {
         if planned.ahead.is_none() {
-            due = due.saturating_add(1);
+            due += 1;
         }
     }
     due
 }
 
 /// How much work the runs of a plan are likely to be, counted in rows gone through.
-fn work_of(plan: &[Planned]) -> u64 {
+fn work_in(plan: &[Planned]) -> u64
+    ensures { result ≡ min (work_in plan.now) (2 ^ 64 - 1) }
+{
     let mut work = 0u64;
     for planned in plan {
         work = work.saturating_add(planned.work);
@@ -66,6 +71,7 @@ fn solve_some<P: ProgramSource>(
     requires serves { P.serves protocol.now set.now }
     requires range { IsInRange set.now bounds.now }
     requires plan { IsPlan (source_at (P.source protocol.now) set.now) bounds.now left plan.now }
+    requires share { IsShare share }
     ensures { IfOk result (λ v. ArePlaced
         (IsOutcome (source_at (P.source protocol.now) set.now) bounds.now left) (length set.now.tasks) v.items) }
 {
@@ -146,7 +152,7 @@ pub fn solve_ahead<R: Threads + Sync, P: ProgramSource + Sync>(
     requires plan { IsPlan (source_at (P.source protocol.now) set.now) bounds.now left plan.now }
     ensures { IfOk result (λ v. AreAhead (source_at (P.source protocol.now) set.now) bounds.now left 0 v.items) }
 {
-    let threads = later_threads(rt, work_of(plan), due_in(plan));
+    let threads = later_threads(rt, work_in(plan), due_in(plan));
     let parts = solve_beside(rt, alloc, set, protocol, bounds, left, plan, threads)?;
     in_places(alloc, plan.len(), parts)
 }

@@ -4,6 +4,7 @@ ghost use Rattle.std.specs.Prelude.{◌≡◌, ℕ, ◌<◌, length, slice_get, 
 ghost use Rattle.program_sources.specs.Bounds.{IsInRange};
 ghost use Rattle.program_sources.specs.Recurrence.{source_at};
 ghost use Rattle.response_fixpoint.specs.Places.{ArePlaced, AreEachFound};
+ghost use Rattle.response_fixpoint.specs.Sharing.{IsShare};
 ghost use Rattle.response_fixpoint.specs.Solutions.{IsPlanned, IsPlan};
 
 use crate::places::{Placed, in_places};
@@ -54,6 +55,7 @@ pub fn begin_some<P: ProgramSource>(
 ) -> Result<Vec<Placed<Planned>>, AllocError>
     requires serves { P.serves protocol.now set.now }
     requires range { IsInRange set.now bounds.now }
+    requires share { IsShare share }
     ensures { IfOk result (λ v. ArePlaced
         (IsPlanned (source_at (P.source protocol.now) set.now) bounds.now left) (length set.now.tasks) v.items) }
 {

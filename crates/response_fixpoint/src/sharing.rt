@@ -1,7 +1,9 @@
 //! How the programs of a round are shared out to threads, and when a thread stops.
 
-ghost use Rattle.std.specs.Prelude.{◌<◌, ◌^◌, length, IfOk};
+ghost use Rattle.std.specs.Prelude.{◌≡◌, ◌<◌, ◌≤◌, ◌/◌, ◌^◌, ◌↔◌, length, IsTrue, IfOk};
 ghost use Rattle.program_sources.specs.Bounds.{IsInRange};
+ghost use Rattle.program_sources.specs.Recurrence.{source_at};
+ghost use Rattle.response_fixpoint.specs.Sharing.{IsShare, IsShared, entries_at, entries_in, worth_of, threads_on, AreThreads, GoesOn};
 
 use crate::task_run::Solution;
 use program_sources::{ProgramSource, response};
@@ -25,19 +27,36 @@ pub struct Share {
 }
 
 /// Is the program of this number one of the share?
-pub fn is_in(share: Share, number: usize) -> bool {
-    number.checked_rem(share.threads) == Some(share.thread)
+pub fn is_in(share: Share, number: usize) -> bool
+    requires { IsShare share }
+    ensures { IsTrue result ↔ IsShared share number }
+{
+    number % share.threads == share.thread
 }
 
 /// How many entries of requests a task has.
 fn entries_of(set: &TaskSet, x: TaskId) -> u64
     requires { x.0 < length set.now.tasks }
+    ensures value { result ≡ entries_at set.now x.0 }
+    ensures few { result ≤ 64 }
 {
-    let mut entries = 0u64;
+    let mut entries = 0;
     for q in 0..set.resources() {
         if set.count(x, ResourceId(q)) > 0 {
-            entries = entries.saturating_add(1);
+            entries += 1;
         }
+    }
+    entries
+}
+
+/// How many entries of requests all tasks have.
+fn entries_in(set: &TaskSet) -> u64
+    ensures value { result ≡ entries_in set.now }
+    ensures few { result ≤ 4096 }
+{
+    let mut entries = 0;
+    for x in 0..set.tasks() {
+        entries += entries_of(set, TaskId(x));
     }
     entries
 }
@@ -45,40 +64,55 @@ fn entries_of(set: &TaskSet, x: TaskId) -> u64
 /// How many threads are worth starting for the first round, of whose programs nothing is known yet: a program has about as many rows
 /// as the set has entries, and its run makes about as many exchanges. Where some task requests a resource two programs may have
 /// columns, and get two threads whatever their size.
-fn first_worth(set: &TaskSet) -> u64 {
-    let mut entries = 0u64;
-    for x in 0..set.tasks() {
-        entries = entries.saturating_add(entries_of(set, TaskId(x)));
-    }
+fn first_worth(set: &TaskSet) -> u64
+    ensures { result ≡ worth_of (entries_in set.now) (length set.now.tasks) }
+{
+    let entries = entries_in(set);
     if entries == 0 {
         return 0;
     }
-    let rows = entries.saturating_mul(entries);
-    (rows.saturating_mul(set.tasks() as u64) / WORTH_A_THREAD).max(2)
+    (entries * entries * set.tasks() as u64 / WORTH_A_THREAD).max(2)
 }
 
-/// So many threads as are worth starting for so many programs, but at most as many as processors, or two, and at most one for each
-/// program. The answer of a round is the same with any number.
-fn threads_for<R: Threads>(rt: &R, worth: u64, programs: usize) -> usize {
+/// How many threads are started for so many programs that are worth so many threads, on so many processors.
+fn threads_on(processors: usize, worth: u64, programs: usize) -> usize
+    ensures { result ≡ threads_on processors worth programs }
+{
     let worth = worth.min(programs as u64);
     if worth < 2 {
         return 0;
     }
-    let processors = match available_parallelism(rt) {
-        Ok(count) => count.get(),
-        Err(_) => USUAL_PROCESSORS,
-    };
     processors.max(2).min(worth as usize)
 }
 
+/// How many processors there are, as the system says.
+fn processors<R: Threads>(rt: &R) -> usize {
+    match available_parallelism(rt) {
+        Ok(count) => count.get(),
+        Err(_) => USUAL_PROCESSORS,
+    }
+}
+
+/// So many threads as are worth starting for so many programs, but at most as many as processors, or two, and at most one for each
+/// program. The answer of a round is the same with any number.
+fn threads_for<R: Threads>(rt: &R, worth: u64, programs: usize) -> usize
+    ensures { AreThreads worth programs result }
+{
+    threads_on(processors(rt), worth, programs)
+}
+
 /// How many threads the first round gets.
-pub fn first_threads<R: Threads>(rt: &R, set: &TaskSet) -> usize {
+pub fn first_threads<R: Threads>(rt: &R, set: &TaskSet) -> usize
+    ensures { AreThreads (worth_of (entries_in set.now) (length set.now.tasks)) (length set.now.tasks) result }
+{
     threads_for(rt, first_worth(set), set.tasks() as usize)
 }
 
 /// How many threads a later round gets, of whose programs so many are to be solved, with runs that are likely to be so much work
 /// together.
-pub fn later_threads<R: Threads>(rt: &R, work: u64, programs: usize) -> usize {
+pub fn later_threads<R: Threads>(rt: &R, work: u64, programs: usize) -> usize
+    ensures { AreThreads (work / WORTH_A_THREAD) programs result }
+{
     threads_for(rt, work / WORTH_A_THREAD, programs)
 }
 
@@ -95,6 +129,7 @@ pub fn goes_on<P: ProgramSource>(
     requires range { IsInRange set.now bounds.now }
     requires task { task.0 < length set.now.tasks }
     requires blocking { IfOk outcome.now (λ s. s.blocking < 2 ^ 63) }
+    ensures { IsTrue result ↔ GoesOn outcome.now (source_at (P.source protocol.now) set.now) bounds.now task.0 }
 {
     match outcome {
         Ok(solution) => {

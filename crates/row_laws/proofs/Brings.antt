@@ -2,10 +2,10 @@
 use Rattle.std.proofs.Common.{◌≡◌, ℕ, ◌*◌, ◌<◌, ◌≤◌, ◌==◌, Bool, true, false, length, refl, arith, inl, inr, Option, Some, None}
 use Rattle.std.specs.Option.{option_and_then, option_map_or}
 use Rattle.std.proofs.lemmas.Bool.{cases_lt, cases_Bool, both_ways, eqb-true}
-use Rattle.bounded_sums.specs.Sums.{sum_below, flag, only_if}
-use Rattle.bounded_sums.specs.Tests.{count_below}
-use Rattle.bounded_sums.proofs.SumLaws.{sum_below-zero}
-use Rattle.bounded_sums.proofs.SlotLaws.{sum_below-by_slot}
+use Rattle.number_laws.specs.Sums.{sum_below, flag, only_if}
+use Rattle.number_laws.specs.Tests.{count_below}
+use Rattle.number_laws.proofs.SumLaws.{sum_below-zero}
+use Rattle.number_laws.proofs.SlotLaws.{sum_below-by_slot}
 use Rattle.sporadic_model.specs.SetDef.{task_at}
 use Rattle.schedule_model.specs.JobDef.{job_of}
 use Rattle.schedule_model.specs.LawfulJobs.{AreLawfulJobs}
@@ -15,9 +15,9 @@ use Rattle.schedule_model.specs.Phase.Phase.{Local, Asking, Finished}
 use Rattle.schedule_model.specs.Activity.{task_of, is_active}
 use Rattle.schedule_laws.specs.Agreement.{RunsActiveBefore}
 use Rattle.fragments.specs.ColumnDef.{ColumnDef}
-use Rattle.charge_model.specs.Charges.{Charge, Executes}
-use Rattle.charge_model.specs.Windows.{EndedBy}
-use Rattle.charge_model.specs.Fractions.{column_in}
+use Rattle.charge_laws.specs.Charges.{Charge, Executes}
+use Rattle.charge_laws.specs.Windows.{EndedBy}
+use Rattle.charge_laws.specs.Fractions.{column_in}
 use Rattle.row_laws.specs.Meeting.{Charges, brought, brings}
 
 -- What is known of a schedule of n rows and of job j in it, whatever the protocol.

@@ -2,7 +2,7 @@
 -- rows, a dual bounds these ticks.
 use Rattle.std.proofs.Common.{◌≡◌, ℕ, ◌<◌, ◌≤◌, Bool, true, List, map, Some}
 use Rattle.std.specs.Prelude.{slice_index}
-use Rattle.bounded_sums.specs.Tests.{count_below}
+use Rattle.number_laws.specs.Tests.{count_below}
 use Rattle.program_form.specs.Program.{ProgramDef}
 use Rattle.program_form.specs.Points.{IsScaledPoint}
 use Rattle.program_form.specs.Duals.{Covers, dual_value}
@@ -19,10 +19,10 @@ use Rattle.schedule_model.specs.BlockedTicks.{is_shared_interference, is_dpcp_in
 use Rattle.fragments.specs.ColumnDef.{ColumnDef}
 use Rattle.fragments.specs.Columns.{columns_of}
 use Rattle.program_laws.specs.Programs.{cost_of}
-use Rattle.charge_model.specs.Charges.{Charge, shared_charge, dpcp_charge, Executes}
-use Rattle.charge_model.specs.ChargedTicks.{IsCharged}
-use Rattle.charge_model.specs.Windows.{window_end}
-use Rattle.charge_model.specs.Fractions.{product_of_lengths, fractions_of}
+use Rattle.charge_laws.specs.Charges.{Charge, shared_charge, dpcp_charge, Executes}
+use Rattle.charge_laws.specs.ChargedTicks.{IsCharged}
+use Rattle.charge_laws.specs.Windows.{window_end}
+use Rattle.charge_laws.specs.Fractions.{product_of_lengths, fractions_of}
 use Rattle.charge_laws.proofs.SharedCharging.{SharedCharged, shared_charged, shared_executes}
 use Rattle.charge_laws.proofs.DpcpCharging.{DpcpCharged, dpcp_charged, dpcp_executes}
 use Rattle.row_laws.specs.Meeting.{Charges}

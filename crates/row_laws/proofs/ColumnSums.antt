@@ -5,15 +5,15 @@ use Rattle.std.specs.List.{filter, Contains}
 use Rattle.std.specs.Option.{option_map_or}
 use Rattle.std.proofs.lemmas.Bool.{cases_Bool, eqb-true, eq-eqb, and_from}
 use Rattle.std.proofs.lemmas.List.Sums.{sum_by-cons, sum_by-append}
-use Rattle.bounded_sums.specs.Sums.{sum_below, flag, only_if, collect_below}
-use Rattle.bounded_sums.specs.Tests.{count_below}
-use Rattle.bounded_sums.proofs.SumLaws.{sum_below-agree, sum_below-plus, sum_below-monotone, sum_below-zero}
-use Rattle.bounded_sums.proofs.SumLaws.{sum_below-times_right, sum_below-list_by, sum_below-term}
-use Rattle.bounded_sums.proofs.CountLaws.{flag-at_most}
+use Rattle.number_laws.specs.Sums.{sum_below, flag, only_if, collect_below}
+use Rattle.number_laws.specs.Tests.{count_below}
+use Rattle.number_laws.proofs.SumLaws.{sum_below-agree, sum_below-plus, sum_below-monotone, sum_below-zero}
+use Rattle.number_laws.proofs.SumLaws.{sum_below-times_right, sum_below-list_by, sum_below-term}
+use Rattle.number_laws.proofs.CountLaws.{flag-at_most}
 use Rattle.fragments.specs.declared.columns.Class.{Class}
 use Rattle.fragments.specs.declared.columns.Class.TheVariants.{Direct, Indirect, Preemption}
 use Rattle.fragments.specs.ColumnDef.{ColumnDef, classes_of, all_columns}
-use Rattle.charge_model.specs.Fractions.{is_same_class, is_same_column, is_in}
+use Rattle.charge_laws.specs.Fractions.{is_same_class, is_same_column, is_in}
 use Rattle.row_laws.specs.Meeting.{brought}
 use Rattle.row_laws.proofs.Numbers.{sum_below-only}
 

@@ -1,7 +1,7 @@
 -- Under DPCP the column in which a charged tick lies is one of the blocked job's program.
 use Rattle.std.proofs.Common.{◌≡◌, ℕ, ◌<◌, ◌≤◌, ◌==◌, ◌&&◌, ◌||◌, not, true, length, sym, ap, ◌∙◌, inl, inr, nat_le, nat_lt}
 use Rattle.std.proofs.lemmas.Bool.{cases_lt, and_from, or_left, or_right, eq-eqb, le-leb, le-ltb, not_from_false}
-use Rattle.bounded_sums.proofs.TestLaws.{any_below-from}
+use Rattle.number_laws.proofs.TestLaws.{any_below-from}
 use Rattle.sporadic_model.specs.Homes.{home_in}
 use Rattle.sporadic_model.specs.Users.{is_user}
 use Rattle.sporadic_model.specs.declared.ids.Protocol.TheVariants as protocol

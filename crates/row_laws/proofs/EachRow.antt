@@ -6,7 +6,7 @@ use Rattle.schedule_model.specs.Activity.{task_of}
 use Rattle.schedule_model.specs.Ranks.{mpcp, fmlp_plus}
 use Rattle.schedule_model.specs.Protocols.{shared_rule, dpcp_rule}
 use Rattle.schedule_model.specs.Keeping.{KeepsBefore}
-use Rattle.charge_model.specs.Charges.{shared_charge, dpcp_charge}
+use Rattle.charge_laws.specs.Charges.{shared_charge, dpcp_charge}
 use Rattle.program_laws.proofs.RowKinds.{EachKind}
 use Rattle.row_laws.specs.Meeting.{TicksMeet}
 use Rattle.row_laws.proofs.Brings.{Window}

@@ -3,12 +3,12 @@ use Rattle.std.proofs.Common.{◌≡◌, ℕ, ◌*◌, ◌<◌, ◌≤◌, false
 use Rattle.std.specs.Prelude.{slice_index}
 use Rattle.std.proofs.Math.Nat.{zero-div}
 use Rattle.std.proofs.lemmas.Bool.{cases_lt}
-use Rattle.bounded_sums.specs.Sums.{sum_below}
-use Rattle.bounded_sums.proofs.SumLaws.{sum_below-zero}
-use Rattle.bounded_sums.proofs.CountLaws.{count_below-none}
+use Rattle.number_laws.specs.Sums.{sum_below}
+use Rattle.number_laws.proofs.SumLaws.{sum_below-zero}
+use Rattle.number_laws.proofs.CountLaws.{count_below-none}
 use Rattle.program_form.specs.Program.{ProgramDef, columns, entry}
 use Rattle.sporadic_model.specs.Users.{length_of}
-use Rattle.sporadic_model.specs.Accepted.{IsAccepted}
+use Rattle.sporadic_model.specs.Accepted.{IsFormed}
 use Rattle.sporadic_model.specs.declared.ids.Protocol.{Protocol}
 use Rattle.sporadic_model.specs.declared.ids.Protocol.TheVariants as protocol
 use Rattle.schedule_model.specs.JobDef.{job_of}
@@ -25,9 +25,9 @@ use Rattle.fragments.specs.ColumnDef.{ColumnDef}
 use Rattle.fragments.specs.Columns.{columns_of}
 use Rattle.fragments.specs.Constraints.{ConstraintDef}
 use Rattle.program_laws.specs.Programs.{rows_of, program_with}
-use Rattle.charge_model.specs.Charges.{Charge, shared_charge, dpcp_charge}
-use Rattle.charge_model.specs.Windows.{bound_end, window_end, EndedBy, EndedWithin}
-use Rattle.charge_model.specs.Fractions.{charged_column, is_in, ticks_in, product_of_lengths, fraction_of, fractions_of, no_column}
+use Rattle.charge_laws.specs.Charges.{Charge, shared_charge, dpcp_charge}
+use Rattle.charge_laws.specs.Windows.{bound_end, window_end, EndedBy, EndedWithin}
+use Rattle.charge_laws.specs.Fractions.{charged_column, is_in, ticks_in, product_of_lengths, fraction_of, fractions_of, no_column}
 use Rattle.charge_laws.proofs.SharedCharging.{shared_charge_blocked}
 use Rattle.charge_laws.proofs.DpcpCharging.{dpcp_charge_blocked}
 use Rattle.row_laws.specs.Meeting.{Charges, ChargesActive}
@@ -79,13 +79,13 @@ point_within charges cs rows w bounds n j have only ended point =
       | inr empty ↦ empty_point charges cs rows w bounds n j have only empty
     ]
 
-point_anyway : (charges : Charges) (p : Protocol) (w : Trace) (bounds : List ℕ) (n j : ℕ) → IsAccepted w.set
+point_anyway : (charges : Charges) (p : Protocol) (w : Trace) (bounds : List ℕ) (n j : ℕ) → IsFormed w.set
     → ChargesActive charges w j → EndedWithin w (slice_index bounds) (bound_end w (slice_index bounds) j) n
     → (EndedBy w (slice_index bounds) (job_of w.jobs j).release → ArePoint charges p w bounds n j)
     → ArePoint charges p w bounds n j
-point_anyway charges p w bounds n j accepted only ended point =
+point_anyway charges p w bounds n j formed only ended point =
     point_within charges (columns_of p w.set (task_of w j)) (rows_of p w.set (task_of w j)) w bounds n j
-    (columns_have_lengths p w.set (task_of w j) accepted) only ended point
+    (columns_have_lengths p w.set (task_of w j) formed) only ended point
 
 pub shared_active : (w : Trace) (j : ℕ) → ChargesActive shared_charge w j
 shared_active w j t charge e = let b : Blocked is_shared_interference w t j =
@@ -97,7 +97,7 @@ dpcp_active w j t charge e = let b : Blocked is_dpcp_interference w t j =
 
 -- The premises of the laws of rows, for a schedule of n rows.
 pub record WithinRows (w : Trace) (bounds : List ℕ) (n j : ℕ) : Type 0 where
-  pub accepted : IsAccepted w.set
+  pub formed : IsFormed w.set
   pub lawful : AreLawfulJobs (jobs_of w)
   pub listed : j < length w.jobs
   pub ended : EndedWithin w (slice_index bounds) (bound_end w (slice_index bounds) j) n
@@ -105,20 +105,20 @@ pub record WithinRows (w : Trace) (bounds : List ℕ) (n j : ℕ) : Type 0 where
 pub mpcp_point_within : (w : Trace) (bounds : List ℕ) (n j : ℕ) → WithinRows w bounds n j → KeepsBefore (shared_rule mpcp) w n
     → ArePoint shared_charge protocol.Mpcp w bounds n j
 mpcp_point_within w bounds n j premises keeps =
-    point_anyway shared_charge protocol.Mpcp w bounds n j premises.accepted (shared_active w j) premises.ended
+    point_anyway shared_charge protocol.Mpcp w bounds n j premises.formed (shared_active w j) premises.ended
     (λ ended. mpcp_point w bounds n j
-    (record { accepted = premises.accepted; lawful = premises.lawful; listed = premises.listed; ended = ended }) keeps)
+    (record { formed = premises.formed; lawful = premises.lawful; listed = premises.listed; ended = ended }) keeps)
 
 pub fmlp_point_within : (w : Trace) (bounds : List ℕ) (n j : ℕ) → WithinRows w bounds n j → KeepsBefore (shared_rule fmlp_plus) w n
     → ArePoint shared_charge protocol.FmlpPlus w bounds n j
 fmlp_point_within w bounds n j premises keeps =
-    point_anyway shared_charge protocol.FmlpPlus w bounds n j premises.accepted (shared_active w j) premises.ended
+    point_anyway shared_charge protocol.FmlpPlus w bounds n j premises.formed (shared_active w j) premises.ended
     (λ ended. fmlp_point w bounds n j
-    (record { accepted = premises.accepted; lawful = premises.lawful; listed = premises.listed; ended = ended }) keeps)
+    (record { formed = premises.formed; lawful = premises.lawful; listed = premises.listed; ended = ended }) keeps)
 
 pub dpcp_point_within : (w : Trace) (bounds : List ℕ) (n j : ℕ) → WithinRows w bounds n j → KeepsBefore dpcp_rule w n
     → ArePoint dpcp_charge protocol.Dpcp w bounds n j
 dpcp_point_within w bounds n j premises keeps =
-    point_anyway dpcp_charge protocol.Dpcp w bounds n j premises.accepted (dpcp_active w j) premises.ended
+    point_anyway dpcp_charge protocol.Dpcp w bounds n j premises.formed (dpcp_active w j) premises.ended
     (λ ended. dpcp_point w bounds n j
-    (record { accepted = premises.accepted; lawful = premises.lawful; listed = premises.listed; ended = ended }) keeps)
+    (record { formed = premises.formed; lawful = premises.lawful; listed = premises.listed; ended = ended }) keeps)

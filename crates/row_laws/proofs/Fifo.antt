@@ -4,7 +4,7 @@ use Rattle.std.proofs.Common.{◌≡◌, ℕ, zero, suc, ◌<◌, ◌≤◌, ◌
 use Rattle.std.proofs.Common.{arith, inl, inr, Some}
 use Rattle.std.proofs.Math.Nat.{mul-le-mul_left}
 use Rattle.std.proofs.lemmas.Bool.{cases_Bool, both_ways, and_parts, eqb-true, eq-eqb, not-true}
-use Rattle.bounded_sums.specs.Sums.{sum_below, flag, only_if}
+use Rattle.number_laws.specs.Sums.{sum_below, flag, only_if}
 use Rattle.sporadic_model.specs.Users.{count_of, length_of}
 use Rattle.schedule_model.specs.declared.rule.Rule.TheVariants as rule
 use Rattle.schedule_model.specs.JobDef.{job_of}
@@ -23,8 +23,8 @@ use Rattle.fragments.specs.declared.columns.Class.TheVariants.{Direct, Indirect,
 use Rattle.fragments.specs.ColumnDef.{ColumnDef, is_direct, is_preemption}
 use Rattle.direct_constraints.specs.Rows.{turn_row}
 use Rattle.indirect_constraints.specs.Rows.{queue_row}
-use Rattle.charge_model.specs.Charges.{shared_charge}
-use Rattle.charge_model.specs.Windows.{window_end}
+use Rattle.charge_laws.specs.Charges.{shared_charge}
+use Rattle.charge_laws.specs.Windows.{window_end}
 use Rattle.charge_laws.proofs.SharedCharging.{WaitsFor, DirectBy, IndirectBy, SharedReason, shared_reason}
 use Rattle.row_laws.specs.Meeting.{Charges, brings, TicksMeet}
 use Rattle.row_laws.proofs.Brings.{Window, column_with, Hit, Counted, flag_times-at_most, flag_times-passes}
@@ -197,7 +197,7 @@ turn_row_by charges w bound n j x q window direct s share fair =
           (eqb-true _ _ both.0, subst (λ (z : ℕ). InTurn w t j c.charge.job (λ r. r == z)) (eqb-true _ _ both.1) turn)
 
 -- Under FMLP+ the holder of what a job waits for is in turn,
-holder_in_turn : (w : Trace) (n t j y : ℕ) (ok : ℕ → Bool) → AreLawfulJobs (jobs_of w) → KeepsBefore (shared_rule fmlp_plus) w n → t < n
+pub holder_in_turn : (w : Trace) (n t j y : ℕ) (ok : ℕ → Bool) → AreLawfulJobs (jobs_of w) → KeepsBefore (shared_rule fmlp_plus) w n → t < n
     → (a : WaitsFor w t j y) → ok a.resource ≡ true → InTurn w t j y ok
 holder_in_turn w n t j y ok lawful keeps l a passes = record {
   own = record { number = a.number; resource = a.resource; request = a.request; passes = passes };
@@ -206,7 +206,7 @@ holder_in_turn w n t j y ok lawful keeps l a passes = record {
 }
 
 -- and so is what runs before that holder.
-runs_first : (w : Trace) (t j r : ℕ) → (by : IndirectBy fmlp_plus w t j r) → issue_tick_of w t r ≤ issue_tick_of w t by.first
+pub runs_first : (w : Trace) (t j r : ℕ) → (by : IndirectBy fmlp_plus w t j r) → issue_tick_of w t r ≤ issue_tick_of w t by.first
 unfolding fmlp_plus
 runs_first w t j r by = by.order
 

@@ -6,9 +6,9 @@ use Rattle.std.specs.List.{All, Contains}
 use Rattle.std.proofs.Math.Nat.{mul-div_cancel_left, div-mul-le_self, mul-le-mul_right, mul-pos, mul_left_comm}
 use Rattle.std.proofs.lemmas.List.{get_or-map, length-map}
 use Rattle.std.proofs.lemmas.List.Elements.{All-filter, All-get_or, All-from_get_or, All-head, All-tail}
-use Rattle.bounded_sums.specs.Sums.{sum_below}
-use Rattle.bounded_sums.specs.Tests.{count_below}
-use Rattle.bounded_sums.proofs.SumLaws.{sum_below-agree, sum_below-list_by, sum_below-times_right}
+use Rattle.number_laws.specs.Sums.{sum_below}
+use Rattle.number_laws.specs.Tests.{count_below}
+use Rattle.number_laws.proofs.SumLaws.{sum_below-agree, sum_below-list_by, sum_below-times_right}
 use Rattle.program_form.specs.Program.{ProgramDef, columns, height, cost, entry, limit}
 use Rattle.program_form.specs.Points.{IsScaledPoint, worth}
 use Rattle.sporadic_model.specs.SetDef.{SetDef}
@@ -21,8 +21,8 @@ use Rattle.fragments.specs.Columns.{is_column, columns_where, columns_of}
 use Rattle.fragments.specs.Constraints.{ConstraintDef, holds_some, rows_there}
 use Rattle.program_laws.specs.Programs.{cost_of, rows_of, program_with, program_of}
 use Rattle.program_laws.proofs.RowKinds.{EachKind, each_row}
-use Rattle.charge_model.specs.Windows.{window_end}
-use Rattle.charge_model.specs.Fractions.{charged_column, is_in, ticks_in, product_of_lengths, fractions_of, no_column}
+use Rattle.charge_laws.specs.Windows.{window_end}
+use Rattle.charge_laws.specs.Fractions.{charged_column, is_in, ticks_in, product_of_lengths, fractions_of, no_column}
 use Rattle.row_laws.specs.Meeting.{Charges, brings, TicksMeet}
 use Rattle.row_laws.proofs.ColumnSums.{columns_bring, columns_hold}
 

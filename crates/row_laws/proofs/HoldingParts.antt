@@ -2,8 +2,8 @@
 -- that holds it; each part is paid for by the holdings of that resource by that task.
 use Rattle.std.proofs.Common.{◌≡◌, ℕ, ◌*◌, ◌<◌, ◌≤◌, ◌==◌, ◌&&◌, not, Bool, true, length, sym, ap, ◌∙◌, arith, Some, nat_lt}
 use Rattle.std.proofs.lemmas.Bool.{eqb-true, ltb-true}
-use Rattle.bounded_sums.specs.Sums.{sum_below, only_if}
-use Rattle.bounded_sums.proofs.SumLaws.{only_if-at_most}
+use Rattle.number_laws.specs.Sums.{sum_below, only_if}
+use Rattle.number_laws.proofs.SumLaws.{only_if-at_most}
 use Rattle.sporadic_model.specs.Users.{count_of, length_of}
 use Rattle.schedule_model.specs.RowDef.{Trace, holder_in}
 use Rattle.schedule_model.specs.Phase.{phase_of}
@@ -15,8 +15,8 @@ use Rattle.schedule_model.specs.Keeping.{KeepsBefore}
 use Rattle.schedule_laws.proofs.Ticks.{open_between}
 use Rattle.schedule_laws.proofs.Holders.{shared_holder_stays}
 use Rattle.fragments.specs.ColumnDef.{is_indirect}
-use Rattle.charge_model.specs.Charges.{shared_charge}
-use Rattle.charge_model.specs.Windows.{window_end}
+use Rattle.charge_laws.specs.Charges.{shared_charge}
+use Rattle.charge_laws.specs.Windows.{window_end}
 use Rattle.row_laws.specs.Meeting.{brings}
 use Rattle.row_laws.proofs.Brings.{Window, Hit, hit, flag_times-at_most, only_if-parts}
 use Rattle.row_laws.proofs.SlotRow.{OneRequest, Shares}

@@ -3,11 +3,11 @@ use Rattle.std.proofs.Common.{◌≡◌, ℕ, ◌+◌, ◌*◌, ◌<◌, ◌≤�
 use Rattle.std.proofs.Common.{◌∙◌, arith, inl, inr, nat_lt}
 use Rattle.std.proofs.Math.Nat.{mul_comm, mul-add}
 use Rattle.std.proofs.lemmas.Bool.{cases_lt, cases_Bool, both_ways, and_from, eqb-true, eq-eqb, ltb-false, not-true}
-use Rattle.bounded_sums.specs.Sums.{sum_below, only_if}
-use Rattle.bounded_sums.specs.Tests.{any_below}
-use Rattle.bounded_sums.proofs.SumLaws.{sum_below-agree, sum_below-monotone, sum_below-plus, sum_below-times, sum_below-zero}
-use Rattle.bounded_sums.proofs.SlotLaws.{sum_below-slots}
-use Rattle.bounded_sums.proofs.TestLaws.{any_below-none}
+use Rattle.number_laws.specs.Sums.{sum_below, only_if}
+use Rattle.number_laws.specs.Tests.{any_below}
+use Rattle.number_laws.proofs.SumLaws.{sum_below-agree, sum_below-monotone, sum_below-plus, sum_below-times, sum_below-zero}
+use Rattle.number_laws.proofs.SlotLaws.{sum_below-slots}
+use Rattle.number_laws.proofs.TestLaws.{any_below-none}
 use Rattle.sporadic_model.specs.Users.{count_of, is_user}
 use Rattle.schedule_model.specs.RowDef.{Trace}
 use Rattle.schedule_model.specs.Activity.{task_of, is_active}
@@ -17,8 +17,8 @@ use Rattle.schedule_model.specs.Keeping.{KeepsBefore}
 use Rattle.schedule_laws.proofs.Holders.{open_active}
 use Rattle.fragments.specs.Windows.{jobs_in, requests_in}
 use Rattle.indirect_constraints.specs.Rows.{is_beside, higher_holdings, lower_holdings, holding_row}
-use Rattle.charge_model.specs.Charges.{shared_charge}
-use Rattle.charge_model.specs.Windows.{window_end}
+use Rattle.charge_laws.specs.Charges.{shared_charge}
+use Rattle.charge_laws.specs.Windows.{window_end}
 use Rattle.row_laws.specs.Meeting.{TicksMeet}
 use Rattle.row_laws.proofs.Brings.{Window, only_if-parts}
 use Rattle.row_laws.proofs.JobRows.{product_turned, paid_in_window}

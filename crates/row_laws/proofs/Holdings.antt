@@ -3,7 +3,7 @@
 use Rattle.std.proofs.Common.{◌≡◌, ℕ, ◌*◌, ◌<◌, ◌≤◌, ◌==◌, ◌&&◌, true, length, refl, sym, ap, ◌∙◌, arith, Some}
 use Rattle.std.specs.Option.{option_map_or}
 use Rattle.std.proofs.lemmas.Bool.{both_ways, and_parts, and_from, eqb-true, eq-eqb, ne_eqb, not_from_false}
-use Rattle.bounded_sums.specs.Sums.{flag}
+use Rattle.number_laws.specs.Sums.{flag}
 use Rattle.sporadic_model.specs.SetDef.{task_at}
 use Rattle.sporadic_model.specs.Users.{is_user}
 use Rattle.schedule_model.specs.declared.rule.Rule.TheVariants as rule
@@ -21,8 +21,8 @@ use Rattle.schedule_laws.proofs.Rows.{runs_from, runs_where, ReadyHolder, ready_
 use Rattle.schedule_laws.proofs.Segments.{open_resource, open_user}
 use Rattle.fragments.specs.ColumnDef.{ColumnDef, is_indirect}
 use Rattle.indirect_constraints.specs.Rows.{is_beside}
-use Rattle.charge_model.specs.Charges.{shared_charge}
-use Rattle.charge_model.specs.Windows.{window_end}
+use Rattle.charge_laws.specs.Charges.{shared_charge}
+use Rattle.charge_laws.specs.Windows.{window_end}
 use Rattle.charge_laws.proofs.SharedCharging.{IndirectBy, shared_reason}
 use Rattle.row_laws.proofs.Brings.{Window, Hit, flag_times-passes}
 use Rattle.row_laws.proofs.JobRows.{HitJob, hit_job}

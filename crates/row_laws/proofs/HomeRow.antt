@@ -3,7 +3,7 @@
 use Rattle.std.proofs.Common.{◌≡◌, ℕ, suc, ◌*◌, ◌<◌, ◌≤◌, ◌==◌, ◌&&◌, not, true, false, refl, sym, ap, subst, ◌∙◌}
 use Rattle.std.proofs.Common.{arith, inl, inr, Some, nat_lt}
 use Rattle.std.proofs.lemmas.Bool.{cases_lt, cases_Bool, and_parts, and_from, eqb-true, eq-eqb, ltb-true, not-true, not_from_false}
-use Rattle.bounded_sums.specs.Sums.{flag}
+use Rattle.number_laws.specs.Sums.{flag}
 use Rattle.schedule_model.specs.declared.rule.Rule.TheVariants as rule
 use Rattle.schedule_model.specs.LawfulJobs.{AreLawfulJobs}
 use Rattle.schedule_model.specs.RowDef.{Trace, jobs_of, is_job, holder_in, held_before}
@@ -22,8 +22,8 @@ use Rattle.fragments.specs.declared.columns.Class.TheVariants.{Direct, Indirect,
 use Rattle.fragments.specs.ColumnDef.{ColumnDef, is_preemption}
 use Rattle.sporadic_model.specs.Homes.{home_in}
 use Rattle.indirect_constraints.specs.Rows.{home_row}
-use Rattle.charge_model.specs.Charges.{dpcp_charge}
-use Rattle.charge_model.specs.Windows.{window_end}
+use Rattle.charge_laws.specs.Charges.{dpcp_charge}
+use Rattle.charge_laws.specs.Windows.{window_end}
 use Rattle.charge_laws.proofs.DpcpCharging.{RunsRequest, HomeBlocked, DpcpReason, dpcp_reason, request_at_from}
 use Rattle.row_laws.specs.Meeting.{TicksMeet}
 use Rattle.row_laws.proofs.Brings.{Window, Hit, flag_times-at_most, flag_times-passes}

@@ -1,6 +1,6 @@
 -- The interfering cost of each protocol: no job interferes at more ticks than that.
 use Rattle.std.proofs.Common.{ℕ, ◌≤◌}
-use Rattle.bounded_sums.specs.Tests.{count_below}
+use Rattle.number_laws.specs.Tests.{count_below}
 use Rattle.sporadic_model.specs.declared.ids.Protocol.TheVariants as protocol
 use Rattle.schedule_model.specs.JobDef.{job_of}
 use Rattle.schedule_model.specs.LawfulJobs.{IsLawfulJob}
@@ -12,7 +12,7 @@ use Rattle.schedule_model.specs.Keeping.{KeepsBefore}
 use Rattle.schedule_model.specs.BlockedTicks.{is_shared_interference, is_dpcp_interference}
 use Rattle.schedule_laws.proofs.SharedLaws.{shared_runs_active}
 use Rattle.program_laws.specs.Programs.{interfering_cost}
-use Rattle.charge_model.specs.Interferers.{interferes_with_some}
+use Rattle.charge_laws.specs.Interferers.{interferes_with_some}
 use Rattle.charge_laws.proofs.Interference.{interferes_within_cost, interferes_within_local}
 
 pub mpcp_interferes_within : (w : Trace) (n y : ℕ) → KeepsBefore (shared_rule mpcp) w n → IsLawfulJob w.set (job_of w.jobs y)

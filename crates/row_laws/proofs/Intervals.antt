@@ -4,9 +4,9 @@ use Rattle.std.proofs.Common.{◌≡◌, ℕ, suc, ◌+◌, ◌*◌, ◌<◌, �
 use Rattle.std.proofs.Common.{◌∙◌, arith, inl, inr, Some}
 use Rattle.std.proofs.Math.Nat.{mul_comm, mul-le-mul_right}
 use Rattle.std.proofs.lemmas.Bool.{cases_Bool, both_ways, and_parts, eqb-true, ltb-true}
-use Rattle.bounded_sums.specs.Sums.{sum_below, flag}
-use Rattle.bounded_sums.specs.Tests.{count_below}
-use Rattle.bounded_sums.proofs.CountLaws.{count_below-at_most}
+use Rattle.number_laws.specs.Sums.{sum_below, flag}
+use Rattle.number_laws.specs.Tests.{count_below}
+use Rattle.number_laws.proofs.CountLaws.{count_below-at_most}
 use Rattle.sporadic_model.specs.SetDef.{task_at}
 use Rattle.sporadic_model.specs.Users.{count_of}
 use Rattle.schedule_model.specs.declared.rule.Rule.TheVariants as rule
@@ -35,8 +35,8 @@ use Rattle.fragments.specs.declared.columns.Class.TheVariants.{Preemption}
 use Rattle.fragments.specs.ColumnDef.{ColumnDef, is_preemption}
 use Rattle.fragments.specs.Columns.{is_lower_local, have_one_processor}
 use Rattle.preempt_constraints.specs.Rows.{interval_row}
-use Rattle.charge_model.specs.Charges.{shared_charge, dpcp_charge, Charge}
-use Rattle.charge_model.specs.Windows.{window_end}
+use Rattle.charge_laws.specs.Charges.{shared_charge, dpcp_charge, Charge}
+use Rattle.charge_laws.specs.Windows.{window_end}
 use Rattle.charge_laws.proofs.SharedCharging.{PreemptedBy, SharedReason, shared_reason, runner_holds}
 use Rattle.charge_laws.proofs.DpcpCharging.{LocalBlocked, RunsRequest, RunsAtHomes, RunsAtHomesBefore, DpcpReason}
 use Rattle.charge_laws.proofs.DpcpCharging.{dpcp_at_homes, home_reason, requests_run_home}

@@ -2,9 +2,9 @@
 use Rattle.std.proofs.Common.{◌≡◌, ℕ, ◌+◌, ◌*◌, ◌<◌, ◌≤◌, ◌==◌, ◌&&◌, Bool, true, length, refl, sym, ap, ◌∙◌, arith, inl, inr, nat_lt}
 use Rattle.std.proofs.Math.Nat.{mul_assoc, mul_comm, mul-le-mul_right, mul-le-mul}
 use Rattle.std.proofs.lemmas.Bool.{cases_lt, cases_Bool, and_parts, and_from, eq-eqb, eqb-true, lt-ltb, ltb-true}
-use Rattle.bounded_sums.specs.Sums.{sum_below, flag, only_if}
-use Rattle.bounded_sums.specs.Tests.{count_below}
-use Rattle.bounded_sums.proofs.CountLaws.{sum_below-counted}
+use Rattle.number_laws.specs.Sums.{sum_below, flag, only_if}
+use Rattle.number_laws.specs.Tests.{count_below}
+use Rattle.number_laws.proofs.CountLaws.{sum_below-counted}
 use Rattle.sporadic_model.specs.SetDef.{task_at, jobs_within}
 use Rattle.sporadic_model.specs.Users.{count_of, length_of}
 use Rattle.schedule_model.specs.JobDef.{job_of, total_ticks, number_of_requests}
@@ -22,8 +22,8 @@ use Rattle.schedule_laws.proofs.Spacing.{arrived_within}
 use Rattle.fragments.specs.ColumnDef.{ColumnDef}
 use Rattle.fragments.specs.Windows.{jobs_in}
 use Rattle.direct_constraints.specs.Rows.{request_row, time_row}
-use Rattle.charge_model.specs.Charges.{Executes}
-use Rattle.charge_model.specs.Windows.{bound_end, window_end, EndedBy}
+use Rattle.charge_laws.specs.Charges.{Executes}
+use Rattle.charge_laws.specs.Windows.{bound_end, window_end, EndedBy}
 use Rattle.charge_laws.proofs.Windows.{active_after}
 use Rattle.row_laws.specs.Meeting.{Charges, brings, TicksMeet}
 use Rattle.row_laws.proofs.Brings.{Window, Hit, hit, column_with, blocker, blocker_is}

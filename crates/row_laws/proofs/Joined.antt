@@ -6,18 +6,18 @@ use Rattle.std.specs.List.{Contains}
 use Rattle.std.proofs.lemmas.Bool.{ltb-true}
 use Rattle.std.proofs.lemmas.List.Elements.{All-get_or, All-from_get_or}
 use Rattle.std.specs.Str.{bytes_eq}
-use Rattle.bounded_sums.specs.Sums.{collect_below}
-use Rattle.bounded_sums.specs.Tests.{count_below}
+use Rattle.number_laws.specs.Sums.{collect_below}
+use Rattle.number_laws.specs.Tests.{count_below}
 use Rattle.program_form.specs.Program.{ProgramDef}
 use Rattle.program_form.specs.Points.{IsScaledPoint}
 use Rattle.program_form.specs.Duals.{Covers, dual_value}
 use Rattle.program_form.proofs.Duality.{dual_bounds}
 use Rattle.sporadic_model.specs.SetDef.{SetDef, RequestDef, task_at, resource_at}
 use Rattle.sporadic_model.specs.Users.{entry_of, length_of, is_user}
-use Rattle.sporadic_model.specs.Accepted.{IsAccepted, TaskNumbers, EntryNumbers}
+use Rattle.sporadic_model.specs.Accepted.{IsFormed, TaskOrder}
 use Rattle.sporadic_model.specs.declared.ids.Protocol.{Protocol}
 use Rattle.sporadic_model.specs.declared.ids.Protocol.TheVariants as protocol
-use Rattle.sporadic_model.proofs.Laws.{numbers_of_accepted, entry_of_accepted}
+use Rattle.sporadic_model.proofs.Laws.{length_of_formed}
 use Rattle.schedule_model.specs.JobDef.{job_of}
 use Rattle.schedule_model.specs.LawfulJobs.{AreLawfulJobs}
 use Rattle.schedule_model.specs.RowDef.{Trace, jobs_of}
@@ -39,9 +39,9 @@ use Rattle.fragments.specs.Constraints.{ConstraintDef}
 use Rattle.fragments.proofs.KnownColumns.{passing_known, passing_pass, columns_are_requests}
 use Rattle.program_laws.specs.Programs.{cost_of, rows_of, program_with, program_of}
 use Rattle.program_laws.proofs.Lists.{contains_filter, contains_collected}
-use Rattle.charge_model.specs.Charges.{Charge, shared_charge, dpcp_charge, Executes}
-use Rattle.charge_model.specs.Windows.{window_end, EndedBy}
-use Rattle.charge_model.specs.Fractions.{charged_column, product_of_lengths, fractions_of, no_column}
+use Rattle.charge_laws.specs.Charges.{Charge, shared_charge, dpcp_charge, Executes}
+use Rattle.charge_laws.specs.Windows.{window_end, EndedBy}
+use Rattle.charge_laws.specs.Fractions.{charged_column, product_of_lengths, fractions_of, no_column}
 use Rattle.charge_laws.proofs.SharedCharging.{SharedCharged, shared_charged, shared_charge_blocked, shared_executes}
 use Rattle.charge_laws.proofs.DpcpCharging.{DpcpCharged, dpcp_charged, dpcp_charge_blocked, dpcp_executes}
 use Rattle.charge_laws.proofs.DpcpCharging.{RunsAtHomes, RunsAtHomesBefore, dpcp_at_homes, home_executes}
@@ -52,28 +52,27 @@ use Rattle.row_laws.proofs.DpcpPlacement.{dpcp_placed}
 use Rattle.row_laws.proofs.Fractions.{HaveLengths, lengths_positive, fractions_are_point, columns_worth}
 use Rattle.row_laws.proofs.EachRow.{mpcp_rows_met, fmlp_rows_met, dpcp_rows_met}
 
--- A user's requests of a resource have a length, in an accepted set.
-pub user_length : (set : SetDef) (x q : ℕ) → IsAccepted set → x < length set.tasks → is_user set q x ≡ true → 0 < length_of set x q
-user_length set x q accepted l user = go (entry_of set x q) refl (ltb-true 0 _ user) where
+-- A user's requests of a resource have a length, in a well formed set.
+pub user_length : (set : SetDef) (x q : ℕ) → IsFormed set → x < length set.tasks → is_user set q x ≡ true → 0 < length_of set x q
+user_length set x q formed l user = go (entry_of set x q) refl (ltb-true 0 _ user) where
   go : (o : Option RequestDef) → entry_of set x q ≡ o → 0 < option_map_or (λ e. e.count) o 0 → 0 < option_map_or (λ e. e.length) o 0
   go None e some = absurd (omega arith)
-  go (Some entry) e some = let numbers : EntryNumbers set x entry =
-      entry_of_accepted set x (λ r. bytes_eq r.resource (resource_at set q).name) entry accepted l e in numbers.length_from
+  go (Some entry) e some = length_of_formed set x (λ r. bytes_eq r.resource (resource_at set q).name) entry formed l e
 
 -- So columns that are requests of users have lengths.
-pub users_have_lengths : (test : ColumnDef → Bool) (set : SetDef) → IsAccepted set → AreRequests test set
+pub users_have_lengths : (test : ColumnDef → Bool) (set : SetDef) → IsFormed set → AreRequests test set
     → HaveLengths set (columns_where test set)
-users_have_lengths test set accepted users =
+users_have_lengths test set formed users =
     All-from_get_or (λ (c : ColumnDef). 0 < length_of set c.task c.resource) (columns_where test set) no_column (λ k l.
     let known : IsKnown (length set.tasks) (length set.resources) (get_or (columns_where test set) k no_column) =
     All-get_or (IsKnown (length set.tasks) (length set.resources)) (columns_where test set) k no_column l (passing_known test set) in
     let passes : test (get_or (columns_where test set) k no_column) ≡ true =
     All-get_or (λ c. test c ≡ true) (columns_where test set) k no_column l (passing_pass test set) in
-    user_length set (get_or (columns_where test set) k no_column).task (get_or (columns_where test set) k no_column).resource accepted
+    user_length set (get_or (columns_where test set) k no_column).task (get_or (columns_where test set) k no_column).resource formed
     known.0 (users (get_or (columns_where test set) k no_column) passes))
 
-pub columns_have_lengths : (p : Protocol) (set : SetDef) (i : ℕ) → IsAccepted set → HaveLengths set (columns_of p set i)
-columns_have_lengths p set i accepted = users_have_lengths (is_column p set i) set accepted (columns_are_requests p set i)
+pub columns_have_lengths : (p : Protocol) (set : SetDef) (i : ℕ) → IsFormed set → HaveLengths set (columns_of p set i)
+columns_have_lengths p set i formed = users_have_lengths (is_column p set i) set formed (columns_are_requests p set i)
 
 pub class_among : (x q : ℕ) (c : Class) → Contains (classes_of x q) (record { task = x; resource = q; class = c })
 class_among x q Direct = (0, omega arith, refl)
@@ -138,14 +137,14 @@ dpcp_in_column w n t j lawful keeps l blocked =
 
 -- The premises of the laws of rows.
 pub record Premises (w : Trace) (bounds : List ℕ) (j : ℕ) : Type 0 where
-  pub accepted : IsAccepted w.set
+  pub formed : IsFormed w.set
   pub lawful : AreLawfulJobs (jobs_of w)
   pub listed : j < length w.jobs
   pub ended : EndedBy w (slice_index bounds) (job_of w.jobs j).release
 
-pub periods_from : (set : SetDef) (x : ℕ) → IsAccepted set → x < length set.tasks → 0 < (task_at set x).period
-periods_from set x accepted l = let numbers : TaskNumbers set x = numbers_of_accepted set x accepted l in
-    omega (arith, numbers.cost_from, numbers.cost_to, numbers.deadline_to)
+pub periods_from : (set : SetDef) (x : ℕ) → IsFormed set → x < length set.tasks → 0 < (task_at set x).period
+periods_from set x formed l = let numbers : TaskOrder set x = formed.numbers x l in
+    omega (arith, numbers.local_from, numbers.local_to, numbers.jitter_to, numbers.deadline_to)
 
 pub shared_window : (o : Ranks) (w : Trace) (bounds : List ℕ) (n j : ℕ) → Premises w bounds j → KeepsBefore (shared_rule o) w n
     → Window shared_charge w (slice_index bounds) n j
@@ -154,7 +153,7 @@ shared_window o w bounds n j premises keeps = record {
   active = shared_runs_active o w n keeps;
   listed = premises.listed;
   ended = premises.ended;
-  periods = λ x l. periods_from w.set x premises.accepted l;
+  periods = λ x l. periods_from w.set x premises.formed l;
   executes = λ t c l e. shared_executes o w t j c (keeps t l) e;
   own = λ t c l e. let b : Blocked is_shared_interference w t j =
       blocked_is is_shared_interference w t j (shared_charge_blocked w t j c e) in b.active;
@@ -167,7 +166,7 @@ home_window w bounds n j premises homes = record {
   active = λ t k i l e. let at : RunsAtHomes w t = homes t l in at.run.active k i e;
   listed = premises.listed;
   ended = premises.ended;
-  periods = λ x l. periods_from w.set x premises.accepted l;
+  periods = λ x l. periods_from w.set x premises.formed l;
   executes = λ t c l e. home_executes w t j c (homes t l) e;
   own = λ t c l e. let b : Blocked is_dpcp_interference w t j = blocked_is is_dpcp_interference w t j (dpcp_charge_blocked w t j c e) in
       b.active;
@@ -190,20 +189,20 @@ pub mpcp_point : (w : Trace) (bounds : List ℕ) (n j : ℕ) → Premises w boun
     → ArePoint shared_charge protocol.Mpcp w bounds n j
 mpcp_point w bounds n j premises keeps =
     fractions_are_point shared_charge protocol.Mpcp w bounds n j
-    (columns_have_lengths protocol.Mpcp w.set (task_of w j) premises.accepted)
+    (columns_have_lengths protocol.Mpcp w.set (task_of w j) premises.formed)
     (mpcp_rows_met w (slice_index bounds) n j (shared_window mpcp w bounds n j premises keeps) keeps)
 
 pub fmlp_point : (w : Trace) (bounds : List ℕ) (n j : ℕ) → Premises w bounds j → KeepsBefore (shared_rule fmlp_plus) w n
     → ArePoint shared_charge protocol.FmlpPlus w bounds n j
 fmlp_point w bounds n j premises keeps =
     fractions_are_point shared_charge protocol.FmlpPlus w bounds n j
-    (columns_have_lengths protocol.FmlpPlus w.set (task_of w j) premises.accepted)
+    (columns_have_lengths protocol.FmlpPlus w.set (task_of w j) premises.formed)
     (fmlp_rows_met w (slice_index bounds) n j (shared_window fmlp_plus w bounds n j premises keeps) keeps)
 
 pub dpcp_point : (w : Trace) (bounds : List ℕ) (n j : ℕ) → Premises w bounds j → KeepsBefore dpcp_rule w n
     → ArePoint dpcp_charge protocol.Dpcp w bounds n j
 dpcp_point w bounds n j premises keeps =
-    fractions_are_point dpcp_charge protocol.Dpcp w bounds n j (columns_have_lengths protocol.Dpcp w.set (task_of w j) premises.accepted)
+    fractions_are_point dpcp_charge protocol.Dpcp w bounds n j (columns_have_lengths protocol.Dpcp w.set (task_of w j) premises.formed)
     (dpcp_rows_met w (slice_index bounds) n j (dpcp_window w bounds n j premises keeps) keeps)
 
 -- Where the fractions are a point of a program with these columns, and each blocked tick lies in one of them, a dual bounds the blocked
@@ -235,11 +234,11 @@ ticks_bounded charges cs rows interferes w bounds n j den num point placed cover
     point_bounds charges interferes w bounds n j den num (program_with w.set cs rows bounds) cs refl point placed covers
 
 pub blocked_bounded : (charges : Charges) (p : Protocol) (interferes : Trace → ℕ → ℕ → Bool) (w : Trace) (bounds : List ℕ) (n j den : ℕ)
-    (num : ℕ → ℕ) → IsAccepted w.set → ArePoint charges p w bounds n j
+    (num : ℕ → ℕ) → ArePoint charges p w bounds n j
     → ((t : ℕ) → t < n → is_blocked interferes w t j ≡ true → InColumn charges p w t j)
     → Covers (program_of p w.set (task_of w j) bounds) den num
     → count_below (window_end w (slice_index bounds) n j) (λ t. is_blocked interferes w t j)
     ≤ dual_value (program_of p w.set (task_of w j) bounds) den num
-blocked_bounded charges p interferes w bounds n j den num accepted point placed covers =
+blocked_bounded charges p interferes w bounds n j den num point placed covers =
     ticks_bounded charges (columns_of p w.set (task_of w j)) (rows_of p w.set (task_of w j)) interferes w bounds n j den num point placed
     covers

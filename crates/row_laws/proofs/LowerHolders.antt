@@ -2,7 +2,7 @@
 -- the holder of its resource, so one that holds it has held it since before.
 use Rattle.std.proofs.Common.{◌≡◌, ℕ, zero, suc, ◌*◌, ◌<◌, ◌≤◌, ◌==◌, ◌&&◌, true, false, refl, sym, ap, ◌∙◌, arith, inl, inr, Some, nat_lt}
 use Rattle.std.proofs.lemmas.Bool.{cases_lt, cases_Bool, both_ways, and_parts, eqb-true, eq-eqb, ltb-true}
-use Rattle.bounded_sums.specs.Sums.{flag}
+use Rattle.number_laws.specs.Sums.{flag}
 use Rattle.schedule_model.specs.declared.rule.Rule.TheVariants as rule
 use Rattle.schedule_model.specs.JobDef.{job_of}
 use Rattle.schedule_model.specs.LawfulJobs.{IsLawfulJob}
@@ -19,8 +19,8 @@ use Rattle.schedule_laws.proofs.ActiveJobs.{active_stays, Requester, requester_i
 use Rattle.schedule_laws.proofs.Rows.{job_named, named_job}
 use Rattle.fragments.specs.ColumnDef.{ColumnDef, is_direct}
 use Rattle.direct_constraints.specs.Rows.{lower_holder_row}
-use Rattle.charge_model.specs.Charges.{shared_charge}
-use Rattle.charge_model.specs.Windows.{window_end}
+use Rattle.charge_laws.specs.Charges.{shared_charge}
+use Rattle.charge_laws.specs.Windows.{window_end}
 use Rattle.charge_laws.proofs.SharedCharging.{WaitsFor, DirectBy, shared_reason}
 use Rattle.row_laws.specs.Meeting.{TicksMeet}
 use Rattle.row_laws.proofs.Brings.{Window, Hit, flag_times-at_most, flag_times-passes}

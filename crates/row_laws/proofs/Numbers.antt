@@ -5,10 +5,10 @@ use Rattle.std.proofs.Common.{get_or, refl, sym, ap, ◌∙◌, arith, inl, inr,
 use Rattle.std.specs.Option.{option_map_or}
 use Rattle.std.proofs.Math.Nat.{mul_comm, mul-le-mul_left, mul-le-mul_right}
 use Rattle.std.proofs.lemmas.Bool.{cases_Bool, eq-eqb, eqb-true, ne_eqb}
-use Rattle.bounded_sums.specs.Sums.{sum_below, flag, only_if}
-use Rattle.bounded_sums.specs.Tests.{count_below}
-use Rattle.bounded_sums.proofs.SumLaws.{sum_below-agree}
-use Rattle.bounded_sums.proofs.SumLaws.{sum_below-zero, only_if-true, only_if-false}
+use Rattle.number_laws.specs.Sums.{sum_below, flag, only_if}
+use Rattle.number_laws.specs.Tests.{count_below}
+use Rattle.number_laws.proofs.SumLaws.{sum_below-agree}
+use Rattle.number_laws.proofs.SumLaws.{sum_below-zero, only_if-true, only_if-false}
 use Rattle.sporadic_model.specs.SetDef.{SetDef}
 use Rattle.sporadic_model.specs.Users.{count_of}
 use Rattle.schedule_model.specs.JobDef.{SegmentDef, JobDef, job_of, no_segment}
@@ -19,7 +19,7 @@ use Rattle.schedule_model.specs.Phase.Phase.{Asking}
 use Rattle.schedule_model.specs.Activity.{task_of}
 use Rattle.schedule_laws.proofs.Segments.{RequestAt, open_segment, asks_some}
 use Rattle.fragments.specs.ColumnDef.{ColumnDef}
-use Rattle.charge_model.specs.Windows.{window_end}
+use Rattle.charge_laws.specs.Windows.{window_end}
 use Rattle.row_laws.specs.Meeting.{Charges, brings}
 use Rattle.row_laws.proofs.Brings.{Window, Hit}
 use Rattle.row_laws.proofs.SlotRow.{OneRequest, Shares, parts_paid}
@@ -46,7 +46,7 @@ times_flag n true = omega arith
 times_flag n false = omega arith
 
 -- A lawful job has at most as many requests that pass as its task may make.
-own_passing : (set : SetDef) (ok : ℕ → Bool) (job : JobDef) → IsLawfulJob set job
+pub own_passing : (set : SetDef) (ok : ℕ → Bool) (job : JobDef) → IsLawfulJob set job
     → count_below (length job.script) (λ k. asks_passing ok (get_or job.script k no_segment))
     ≤ sum_below (length set.resources) (λ q. only_if (ok q) (count_of set job.task q))
 own_passing set ok job lawful =

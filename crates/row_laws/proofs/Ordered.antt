@@ -5,8 +5,8 @@ use Rattle.std.proofs.Common.{sym, ap, ◌∙◌, arith, inl, inr, Option, Some,
 use Rattle.std.specs.Option.{option_map_or}
 use Rattle.std.proofs.lemmas.Bool.{cases_lt, cases_Bool, both_ways, and_parts, and_from, eq-eqb, eqb-true, le-leb}
 use Rattle.std.proofs.lemmas.Bool.{leb-true, leb-false, not-true, not_from_false}
-use Rattle.bounded_sums.specs.Tests.{all_below, any_below}
-use Rattle.bounded_sums.proofs.TestLaws.{any_below-some, any_below-from, all_below-each, all_below-fails}
+use Rattle.number_laws.specs.Tests.{all_below, any_below}
+use Rattle.number_laws.proofs.TestLaws.{any_below-some, any_below-from, all_below-each, all_below-fails}
 use Rattle.schedule_model.specs.declared.rule.Rule.TheVariants as rule
 use Rattle.schedule_model.specs.JobDef.{job_of}
 use Rattle.schedule_model.specs.LawfulJobs.{AreLawfulJobs, IsLawfulJob}

@@ -2,8 +2,8 @@
 use Rattle.std.proofs.Common.{◌≡◌, ℕ, ◌<◌, ◌≤◌, ◌==◌, ◌&&◌, not, true, false, length, refl, sym, ap, ◌∙◌, arith, inl, inr, Some}
 use Rattle.std.specs.Option.{option_map_or}
 use Rattle.std.proofs.lemmas.Bool.{cases_Bool, both_ways, and_from, eq-eqb, ne_eqb, lt-ltb, le-leb, not_from_false}
-use Rattle.bounded_sums.specs.Tests.{any_below}
-use Rattle.bounded_sums.proofs.TestLaws.{any_below-from}
+use Rattle.number_laws.specs.Tests.{any_below}
+use Rattle.number_laws.proofs.TestLaws.{any_below-from}
 use Rattle.sporadic_model.specs.SetDef.{SetDef, is_higher_local}
 use Rattle.sporadic_model.specs.declared.ids.Protocol.{Protocol}
 use Rattle.sporadic_model.specs.declared.ids.Protocol.TheVariants as protocol

@@ -2,10 +2,10 @@
 use Rattle.std.proofs.Common.{◌≡◌, ℕ, ◌*◌, ◌<◌, ◌≤◌, ◌==◌, ◌&&◌, Bool, true, refl, sym, ap, ◌∙◌, arith, inl, inr}
 use Rattle.std.proofs.Math.Nat.{mul_comm, mul-le-mul_right}
 use Rattle.std.proofs.lemmas.Bool.{cases_lt, eq-eqb, eqb-true, and_from}
-use Rattle.bounded_sums.specs.Sums.{sum_below, flag, only_if}
-use Rattle.bounded_sums.specs.Tests.{count_below}
-use Rattle.bounded_sums.proofs.SumLaws.{sum_below-none_or_some}
-use Rattle.bounded_sums.proofs.CountLaws.{sum_below-counted}
+use Rattle.number_laws.specs.Sums.{sum_below, flag, only_if}
+use Rattle.number_laws.specs.Tests.{count_below}
+use Rattle.number_laws.proofs.SumLaws.{sum_below-none_or_some}
+use Rattle.number_laws.proofs.CountLaws.{sum_below-counted}
 use Rattle.sporadic_model.specs.Users.{length_of}
 use Rattle.schedule_model.specs.JobDef.{job_of}
 use Rattle.schedule_model.specs.LawfulJobs.{IsLawfulJob}
@@ -16,7 +16,7 @@ use Rattle.schedule_model.specs.Activity.{task_of}
 use Rattle.schedule_laws.specs.Counting.{executed_in, is_request}
 use Rattle.schedule_laws.proofs.Counts.{request_at_most}
 use Rattle.fragments.specs.ColumnDef.{ColumnDef}
-use Rattle.charge_model.specs.Windows.{window_end}
+use Rattle.charge_laws.specs.Windows.{window_end}
 use Rattle.row_laws.specs.Meeting.{Charges, brings}
 use Rattle.row_laws.proofs.Brings.{Window, Hit, hit, only_if-parts, sum_below-passing}
 use Rattle.row_laws.proofs.JobRows.{HitJob, hit_job}

@@ -10,8 +10,8 @@ ghost use Rattle.schedule_model.specs.Keeping.{KeepsBefore};
 ghost use Rattle.schedule_model.specs.BlockedTicks.{is_shared_interference, is_dpcp_interference, is_blocked};
 ghost use Rattle.fragments.specs.ColumnDef.{ColumnDef};
 ghost use Rattle.fragments.specs.Columns.{columns_of};
-ghost use Rattle.charge_model.specs.Charges.{shared_charge, dpcp_charge};
-ghost use Rattle.charge_model.specs.Fractions.{charged_column};
+ghost use Rattle.charge_laws.specs.Charges.{shared_charge, dpcp_charge};
+ghost use Rattle.charge_laws.specs.Fractions.{charged_column};
 
 /// In rows that keep a protocol's rules each blocked tick of a lawful job lies in a column of its task's program.
 pub fn blocked_ticks_lie_in_columns()

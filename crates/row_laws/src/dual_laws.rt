@@ -1,6 +1,6 @@
 ghost use Rattle.std.specs.Prelude.{◌≡◌, ℕ, ◌<◌, ◌≤◌, Bool, true, List, length, slice_index, Some};
 ghost use Rattle.std.specs.List.{All, Contains};
-ghost use Rattle.bounded_sums.specs.Tests.{count_below};
+ghost use Rattle.number_laws.specs.Tests.{count_below};
 ghost use Rattle.program_form.specs.Duals.{Covers, dual_value};
 ghost use Rattle.sporadic_model.specs.Accepted.{IsAccepted};
 ghost use Rattle.sporadic_model.specs.declared.ids.Protocol.TheVariants as protocol;
@@ -15,9 +15,9 @@ ghost use Rattle.fragments.specs.ColumnDef.{ColumnDef};
 ghost use Rattle.fragments.specs.Columns.{columns_where, AreRequests};
 ghost use Rattle.fragments.specs.Constraints.{ConstraintDef};
 ghost use Rattle.program_laws.specs.Programs.{program_with, program_of};
-ghost use Rattle.charge_model.specs.Fractions.{charged_column};
+ghost use Rattle.charge_laws.specs.Fractions.{charged_column};
 ghost use Rattle.row_laws.specs.Meeting.{Charges, TicksMeet};
-ghost use Rattle.charge_model.specs.Windows.{bound_end, window_end, EndedWithin};
+ghost use Rattle.charge_laws.specs.Windows.{bound_end, window_end, EndedWithin};
 
 /// Whatever the protocol: where the ticks of a job's window meet each row of a list, and each tick at which the job is blocked lies in
 /// one of the columns that pass the test, its blocked ticks are at most the value of each dual that covers the columns of the program

@@ -14,9 +14,9 @@ ghost use Rattle.fragments.specs.Columns.{columns_where, columns_of, AreRequests
 ghost use Rattle.fragments.specs.Constraints.{ConstraintDef};
 ghost use Rattle.program_laws.specs.Programs.{program_with, program_of};
 ghost use Rattle.row_laws.specs.Meeting.{Charges, TicksMeet};
-ghost use Rattle.charge_model.specs.Charges.{shared_charge, dpcp_charge};
-ghost use Rattle.charge_model.specs.Windows.{bound_end, EndedWithin};
-ghost use Rattle.charge_model.specs.Fractions.{product_of_lengths, fractions_of};
+ghost use Rattle.charge_laws.specs.Charges.{shared_charge, dpcp_charge};
+ghost use Rattle.charge_laws.specs.Windows.{bound_end, EndedWithin};
+ghost use Rattle.charge_laws.specs.Fractions.{product_of_lengths, fractions_of};
 
 /// Whatever the protocol: take columns that pass a test and are requests by users, and rows each of which the ticks of a job's window
 /// meet, as they are charged. Then the fractions of the window meet every row of the program over these columns and rows.

@@ -6,7 +6,7 @@ use sporadic_model::Protocol;
 use std::alloc::{AllocError, Global};
 use std::test::Fail;
 use taskset_json::home_check;
-use worked_files::*;
+use worked_sets::files::*;
 
 /// Bounds, and the numerators of each dual, whose denominators are 1.
 type Proof = (&'static [u64], &'static [&'static [u64]]);

@@ -6,7 +6,7 @@ use std::alloc::{AllocError, Global};
 use std::test::Fail;
 use taskset_json::home_check;
 use trace_conform::Breach;
-use worked_files::*;
+use worked_sets::files::*;
 
 /// What is answered of the rows, where these are the bounds.
 fn charges(

@@ -3,7 +3,7 @@ use outside_ports::{MemShelf, MemSink};
 use std::alloc::{AllocError, Global};
 use std::test::Fail;
 use std::thread::Threads;
-use worked_files::{PAIR, PAIR_JOBS, PAIR_LOWER_FIRST};
+use worked_sets::files::{PAIR, PAIR_JOBS, PAIR_LOWER_FIRST};
 
 /// The least bounds of `PAIR` under FMLP+.
 const PAIR_CERTIFICATE: &str =

@@ -1,8 +1,8 @@
 ghost use Rattle.std.specs.Prelude.{◌<◌};
 
 use outside_ports::{
-    FileShelf, LoadFault, MemShelf, MemSink, OutSink, Shelf, ShelfFault, Sink, SinkFault, load,
-    put_all,
+    FileShelf, LoadFault, MemShelf, MemSink, OutSink, Shelf, ShelfFault, Sink, SinkFault,
+    SystemFiles, load, put_all,
 };
 use std::alloc::{AllocError, Global};
 use std::rt::Runtime;
@@ -88,7 +88,7 @@ fn reads_real_files(rt: HostRuntime) -> Result<(), Fail> {
         .join(rt.alloc(), "outside_ports_test")?;
     fs::write(&rt, path.as_path(), "from a file")?;
     let name = path.as_path().to_str().ok_or("no text")?;
-    let mut shelf = FileShelf::new(&rt)?;
+    let mut shelf = FileShelf::new(SystemFiles::new(&rt));
     let bytes = load(rt.alloc(), &mut shelf, name)?;
     assert_eq!(rt; bytes.as_slice(), b"from a file".as_slice());
     fs::remove_file(&rt, path.as_path())?;
@@ -101,7 +101,7 @@ fn reads_real_files(rt: HostRuntime) -> Result<(), Fail> {
 
 #[test]
 fn writes_to_standard_output(rt: HostRuntime) -> Result<(), Fail> {
-    let mut sink = OutSink::new(&rt)?;
+    let mut sink = OutSink::new(rt.stdout());
     assert_eq!(rt; sink.write(b"one line\n"), Ok(9));
     assert_eq!(rt; put_all(&mut sink, b"another line\n"), Ok(()));
     Ok(())

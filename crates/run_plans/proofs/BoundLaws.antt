@@ -20,7 +20,7 @@ use Rattle.cert_json.specs.Value.{certificate_data}
 use Rattle.cert_json.specs.Written.{numbers_written, certificate_written}
 use Rattle.cert_json.proofs.ReadBack.{is_value, formed, file-written}
 use Rattle.cert_json.specs.FileDef.{FileDef}
-use Rattle.set_digests.proofs.Bytes.{is_digest}
+use Rattle.cert_json.proofs.DigestBytes.{is_digest}
 use Rattle.sha2.specs.Sha256.{sha256}
 use Rattle.protocol_names.specs.Names.{word_of}
 use Rattle.command_inputs.specs.Inputs.{IsFileText}
@@ -61,19 +61,19 @@ text_is_read protocol bytes c w =
     )
 
 -- The bounds of a valid certificate are within all deadlines, and every lawful schedule keeps them.
-within : (protocol : ProtocolName) (set : SetDef) (c : CertificateDef) → IsValid (source_of protocol set) c → AreWithinDeadlines set c.bounds
+pub within : (protocol : ProtocolName) (set : SetDef) (c : CertificateDef) → IsValid (source_of protocol set) c → AreWithinDeadlines set c.bounds
 within protocol set c valid = record { one_each = valid.bound_each; to_latest = λ i here. (valid.proved i here).within }
 
 kept_under : (p : ProtocolName) (set : SetDef) (bounds values : List ℕ) → SoundUnder p set bounds values → AreKept p set bounds
 kept_under p set bounds values sound w n j lawful listed due = (sound w n lawful).finished j listed due
 
-kept : (protocol : ProtocolName) (set : SetDef) (c : CertificateDef) → IsAccepted set → IsValid (source_of protocol set) c
+pub kept : (protocol : ProtocolName) (set : SetDef) (c : CertificateDef) → IsAccepted set → IsValid (source_of protocol set) c
     → AreKept protocol set c.bounds
 kept protocol set c accepted valid = kept_under protocol set c.bounds (values_of (source_of protocol set) c)
     (named_sound protocol set c (values_of (source_of protocol set) c) accepted valid (are_values (source_of protocol set) c))
 
 -- So a text whose value writes a valid certificate lists such bounds.
-lists_bounds : (call : Call) (protocol : ProtocolName) (name text : List ℕ) (set : SetDef) (c : CertificateDef) (value : Data)
+abbrev lists_bounds : (call : Call) (protocol : ProtocolName) (name text : List ℕ) (set : SetDef) (c : CertificateDef) (value : Data)
     → ReadsSome call protocol name set → IsValid (source_of protocol set) c → IsValue text value → c ≡ certificate_written value
     → ListsBounds call protocol name text
 lists_bounds call protocol name text set c value read valid is_value same =
@@ -87,7 +87,7 @@ lists_bounds call protocol name text set c value read valid is_value same =
       kept = subst (λ (b : List ℕ). AreKept protocol set b) bounds (kept protocol set c read.text.accepted valid);
     }
 
-pub analysis_bounds : (call : Call) (protocol : ProtocolName) (name bytes : List ℕ) (set : SetDef) (c : CertificateDef)
+abbrev pub analysis_bounds : (call : Call) (protocol : ProtocolName) (name bytes : List ℕ) (set : SetDef) (c : CertificateDef)
     → ReadsSome call protocol name set → IsBest (source_of protocol set) c
     → ListsBounds call protocol name (certificate_text (word_of protocol) (sha256 bytes) c)
 analysis_bounds call protocol name bytes set c read best =
@@ -95,7 +95,7 @@ analysis_bounds call protocol name bytes set c read best =
     lists_bounds call protocol name (certificate_text (word_of protocol) (sha256 bytes) c) set c text.0 read best.valid text.1
     (ap (λ (f : FileDef). f.certificate) text.3)
 
-pub check_bounds : (call : Call) (protocol : ProtocolName) (name cert : List ℕ) (p : ReadsValid call protocol name cert)
+abbrev pub check_bounds : (call : Call) (protocol : ProtocolName) (name cert : List ℕ) (p : ReadsValid call protocol name cert)
     → ListsBounds call protocol name p.bytes
 check_bounds call protocol name cert p = lists_bounds call protocol name p.bytes p.set p.certificate p.reads.0 p.read p.valid p.reads.1
     (ap (λ (f : FileDef). f.certificate) p.reads.3)

@@ -18,7 +18,7 @@ use Rattle.command_words.proofs.SpelledLaws.{analyse_has_form, check_is_form}
 use Rattle.command_inputs.specs.Inputs.{IsFileText, set_input, cert_input}
 use Rattle.run_plans.specs.Commands.{checked_answer, check_of, other_set_answer, plan_of}
 use Rattle.run_plans.specs.Outcome.{refused_words, IsOutcome}
-use Rattle.run_plans.specs.Headline.{Call}
+use Rattle.run_plans.specs.Headline.{Call, HasInputs}
 use Rattle.run_plans.specs.Run.{shelf_of, IsRun}
 use Rattle.run_plans.specs.Checked.{ChecksWhatWasWritten, ChecksForAnotherSet, Finds, FindsValid, FindsOtherSet}
 use Rattle.run_plans.proofs.RunLaws.{replied, of_form}
@@ -47,7 +47,7 @@ pub outcome_of_both : (later : Inputs) (protocol : ProtocolName) (name cert byte
     → IsOutcomeOf (told later)
     (Reading (set_input protocol) name (λ b s. Reading input cert (λ t (f : input.Value). Working (work (sha256 b) s f)))) a
 outcome_of_both later protocol name cert bytes text set input file work a read also is =
-    inr (bytes, set, read, (λ works. tt), inr (text, file, also, (λ works. tt), is))
+    inr (bytes, set, read, (λ works. tt), inr (text, file, also, (λ works. tt), (is, tt)))
 
 -- So where the set and the text are there, the outcome of `check` is that it is valid.
 check_outcome : (inputs later : Inputs) (protocol : ProtocolName) (name again cert text : List ℕ) (a : Answer)
@@ -94,13 +94,13 @@ pub record GaveText (inputs : Inputs) (form : Form) (text : List ℕ) : Type 0 w
   pub same : reply.text ≡ text
 
 pub gave_text : (call : Call) (inputs : Inputs) (form : Form) (text : List ℕ) → IsRun call → form_of call.words ≡ Some form
-    → call.shelf_before.names ≡ Some inputs → IsSome call.sink_before.written → call.status ≡ 0
+    → HasInputs call inputs → IsSome call.sink_before.written → call.status ≡ 0
     → Appends call.sink_before.written call.sink_now.written text → GaveText inputs form text
-gave_text call inputs form text run is tells some zero wrote = elim run.answers [
+gave_text call inputs form text run is has some zero wrote = elim run.answers [
   | inr ran ↦ absurd (omega (arith, ran.status, zero))
   | inl replies ↦ elim replies.out [
     | inr fails ↦ absurd (omega (arith, fails.status, zero))
-    | inl gives ↦ elim ((replied (shelf_of call) (form_of call.words) replies.reply replies.is).outcome inputs tells) [
+    | inl gives ↦ elim ((replied (shelf_of call) (form_of call.words) replies.reply replies.is).outcome inputs has) [
       | inr fault ↦ absurd (omega (arith, gives.0, fault.1, zero))
       | inl mine ↦ record {
         reply = replies.reply;
@@ -119,12 +119,12 @@ record WroteText (inputs : Inputs) (protocol : ProtocolName) (name text : List �
   same : reply.text ≡ text
 
 wrote_text : (call : Call) (inputs : Inputs) (protocol : ProtocolName) (name : List ℕ) (more : List (List ℕ)) (text : List ℕ) → IsRun call
-    → call.words ≡ analyse_words protocol name more → call.shelf_before.names ≡ Some inputs
+    → call.words ≡ analyse_words protocol name more → HasInputs call inputs
     → IsSome call.sink_before.written → call.status ≡ 0 → Appends call.sink_before.written call.sink_now.written text
     → WroteText inputs protocol name text
-wrote_text call inputs protocol name more text run words tells some zero wrote =
+wrote_text call inputs protocol name more text run words has some zero wrote =
     let form = analyse_has_form call.words protocol name more words (has_form call run zero) in
-    let gave = gave_text call inputs (Analyse protocol name form.0) text run form.1 tells some zero wrote in
+    let gave = gave_text call inputs (Analyse protocol name form.0) text run form.1 has some zero wrote in
     record {
       reply = gave.reply;
       wrote = wrote_best (told inputs) protocol name form.0 gave.reply gave.outcome gave.zero;
@@ -132,14 +132,14 @@ wrote_text call inputs protocol name more text run words tells some zero wrote =
     }
 
 -- A call finds its outcome.
-pub finds : (call : Call) (inputs : Inputs) (form : Form) (answer : Answer) → IsRun call → call.shelf_before.names ≡ Some inputs
+pub finds : (call : Call) (inputs : Inputs) (form : Form) (answer : Answer) → IsRun call → HasInputs call inputs
     → form_of call.words ≡ Some form → IsOutcomeOf (told inputs) (plan_of form) answer → Finds call answer
-finds call inputs form answer run tells is plan =
+finds call inputs form answer run has is plan =
     let outcome : IsOutcome inputs call.words answer =
     subst
     (λ (o : Option Form). MatchOption o (answer ≡ refused_words) (λ f. IsOutcomeOf (told inputs) (plan_of f) answer))
     (sym is) plan in
-    elim (run.exactly inputs answer tells outcome) [
+    elim (run.exactly inputs answer has outcome) [
       | inl gives ↦ inl gives
       | inr (inl four) ↦ inr (inl (four, run.faults four))
       | inr (inr ran) ↦ inr (inr ran)
@@ -147,16 +147,16 @@ finds call inputs form answer run tells is plan =
 
 pub finds_valid : (first second : Call) → IsRun first → IsRun second → ChecksWhatWasWritten first second → FindsValid second
 finds_valid first second run again c =
-    let w = wrote_text first c.inputs c.protocol c.set c.more c.text run c.analyses c.told c.tells c.schedulable c.wrote in
-    finds second c.later (Check c.protocol c.same_set c.certificate) checked_answer again c.told_later
+    let w = wrote_text first c.inputs c.protocol c.set c.more c.text run c.analyses c.has c.tells c.schedulable c.wrote in
+    finds second c.later (Check c.protocol c.same_set c.certificate) checked_answer again c.has_later
     (check_is_form second.words c.protocol c.same_set c.certificate c.checks)
     (check_outcome c.inputs c.later c.protocol c.set c.same_set c.certificate c.text w.reply w.wrote w.same c.short c.set_again
     c.text_again)
 
 pub finds_other_set : (first second : Call) → IsRun first → IsRun second → ChecksForAnotherSet first second → FindsOtherSet second
 finds_other_set first second run again c =
-    let w = wrote_text first c.inputs c.protocol c.set c.more c.text run c.analyses c.told c.tells c.schedulable c.wrote in
-    finds second c.later (Check c.protocol c.other_set c.certificate) other_set_answer again c.told_later
+    let w = wrote_text first c.inputs c.protocol c.set c.more c.text run c.analyses c.has c.tells c.schedulable c.wrote in
+    finds second c.later (Check c.protocol c.other_set c.certificate) other_set_answer again c.has_later
     (check_is_form second.words c.protocol c.other_set c.certificate c.checks)
     (other_outcome c.inputs c.later c.protocol c.set c.other_set c.certificate c.text c.bytes c.read.bytes c.tasks w.reply w.wrote w.same
-    c.named c.short (told_reads second c.later c.protocol c.other_set c.tasks c.told_later c.read) c.apart c.text_again)
+    c.named c.short (told_reads second c.later c.protocol c.other_set c.tasks c.read c.named_later) c.apart c.text_again)

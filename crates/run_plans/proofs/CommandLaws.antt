@@ -1,5 +1,6 @@
 -- Laws of the commands: each has one outcome for each shelf, and its status is one that is its own.
 use Rattle.std.proofs.Common.{◌≡◌, ℕ, ◌≤◌, List, refl, sym, ◌∙◌, ap, arith, inl, inr}
+use Rattle.outside_ports.specs.Past.{wholly}
 use Rattle.sporadic_model.specs.SetDef.{SetDef}
 use Rattle.protocol_names.specs.declared.ProtocolName.{ProtocolName}
 use Rattle.response_fixpoint.specs.Rounds.{Ending, Schedulable, NotShown, Wide, Allowance, EndsIn}
@@ -7,7 +8,7 @@ use Rattle.response_fixpoint.specs.Runs.{rounds_of}
 use Rattle.named_laws.specs.Named.{source_of}
 use Rattle.response_fixpoint.proofs.RunLaws.{one_ending}
 use Rattle.report.specs.Table.{table_text}
-use Rattle.command_inputs.specs.Known.{Answer, Known}
+use Rattle.command_inputs.specs.Known.{Answer, Known, past}
 use Rattle.run_plans.specs.Plans.{Plan, Working, Reading, IsOutcomeOf}
 use Rattle.command_words.specs.Words.{Form, Analyse, Refute, Check, Confirm, Upgrade, Report, FullReport, Conform, Simulate, Study, Audit}
 use Rattle.run_plans.specs.Commands.{ending_answer, IsAnalysis, analysis_of, table_of}
@@ -104,10 +105,10 @@ IsQuiet (Reading input name next) = (bytes : List ℕ) (value : input.Value) →
 
 -- Then its outcome is that an input is refused, or has such a status.
 quiet_outcome : (k : Known) (p : Plan) (a : Answer) → IsLawful p → IsQuiet p → IsOutcomeOf k p a → a.status ≤ 3
-quiet_outcome k (Working work) a lawful quiet out = omega (arith, at_most_one a (lawful.well quiet a out))
+quiet_outcome k (Working work) a lawful quiet out = omega (arith, at_most_one a (lawful.well quiet a out.0))
 quiet_outcome k (Reading input name next) a lawful quiet (inl stopped) = omega (arith, stopped_status k input name a stopped)
 quiet_outcome k (Reading input name next) a lawful quiet (inr (bytes, value, read, last, out)) =
-    quiet_outcome k (next bytes value) a (lawful.1 bytes value) (quiet bytes value) out
+    quiet_outcome (past k (wholly name bytes)) (next bytes value) a (lawful.1 bytes value) (quiet bytes value) out
 
 not_quiet : (k : Known) (form : Form) (a : Answer) (n : ℕ) → IsQuiet (plan_of form) → IsOutcomeOf k (plan_of form) a → a.status ≡ n → 4 ≤ n → ⊥
 not_quiet k form a n quiet out is most = absurd (omega (arith, quiet_outcome k (plan_of form) a (lawful form) quiet out, is, most))
@@ -117,7 +118,7 @@ rounds_end : (k : Known) (form : Form) (a : Answer) (n : ℕ) (IsEnd : Ending �
     → IsOutcomeOf k (plan_of form) a → a.status ≡ n → 4 ≤ n → RoundsEnd k form IsEnd
 rounds_end k (Analyse protocol name allowance) a n IsEnd told (inl stopped) is most =
     absurd (omega (arith, stopped_status k (set_input protocol) name a stopped, is, most))
-rounds_end k (Analyse protocol name allowance) a n IsEnd told (inr (bytes, set, read, last, (e, ends, same))) is most = record {
+rounds_end k (Analyse protocol name allowance) a n IsEnd told (inr (bytes, set, read, last, ((e, ends, same), asked))) is most = record {
   protocol = protocol;
   name = name;
   allowance = allowance;
@@ -130,7 +131,7 @@ rounds_end k (Analyse protocol name allowance) a n IsEnd told (inr (bytes, set, 
 }
 rounds_end k (Refute protocol name allowance) a n IsEnd told (inl stopped) is most =
     absurd (omega (arith, stopped_status k (set_input protocol) name a stopped, is, most))
-rounds_end k (Refute protocol name allowance) a n IsEnd told (inr (bytes, set, read, last, (e, ends, same))) is most = record {
+rounds_end k (Refute protocol name allowance) a n IsEnd told (inr (bytes, set, read, last, ((e, ends, same), asked))) is most = record {
   protocol = protocol;
   name = name;
   allowance = allowance;

@@ -1,8 +1,9 @@
 -- What `refute` writes is found confirmed, and no set is both accepted and refused.
-use Rattle.std.proofs.Common.{◌≡◌, ℕ, ◌≤◌, List, length, refl, sym, ◌∙◌, subst, inl, inr, Some, Ok}
+use Rattle.std.proofs.Common.{◌≡◌, ℕ, ◌≤◌, List, [], ◌∷◌, length, refl, sym, ◌∙◌, subst, inl, inr, Some, Ok}
 use Rattle.std.specs.Prelude.{Option}
 use Rattle.std.proofs.lemmas.Option.{same_Some}
 use Rattle.outside_ports.specs.Names.{Inputs, bytes_of, IsNamed}
+use Rattle.outside_ports.specs.Past.{Asked, wholly}
 use Rattle.outside_ports.specs.declared.whole.TheConstants.{GREATEST_INPUT_BYTES}
 use Rattle.sha2.specs.Sha256.{sha256}
 use Rattle.program_sources.specs.Valid.{IsValid}
@@ -20,7 +21,7 @@ use Rattle.command_inputs.specs.RefusalDef.{RefusalDef}
 use Rattle.run_plans.specs.Refuting.{confirmed_answer}
 use Rattle.run_plans.specs.Commands.{confirmation_of, plan_of}
 use Rattle.command_inputs.specs.Inputs.{ReadsSet, IsRefusalText, refusal_input}
-use Rattle.run_plans.specs.Headline.{Call, IsSetText, ReadsSome}
+use Rattle.run_plans.specs.Headline.{Call, Asks, HasInputs, IsSetText}
 use Rattle.run_plans.specs.Run.{IsRun}
 use Rattle.run_plans.specs.Confirmed.{ConfirmsWhatWasWritten, FindsConfirmed, ChecksAndConfirms}
 use Rattle.run_plans.proofs.InputLaws.{set_reads_once}
@@ -39,18 +40,22 @@ one_set p bytes others set other same text text' =
     subst (λ (b : List ℕ). ReadsSet p b (Ok set)) same (reads_text p bytes set text) in
     let both = set_reads_once p others (Ok set) (Ok other) mine (reads_text p others other text') in cc
 
--- The bytes of a name, where the inputs are told.
-told_bytes : (call : Call) (inputs : Inputs) (p : ProtocolName) (name : List ℕ) (set : SetDef)
-    → call.shelf_before.names ≡ Some inputs → (read : ReadsSome call p name set) → bytes_of inputs name ≡ Some read.bytes
-told_bytes call inputs p name set tells read = subst (λ (o : Option Inputs). IsNamed o name read.bytes) tells read.named
+-- The bytes of the name that a call asked for first.
+own_bytes : (call : Call) (inputs : Inputs) (name bytes : List ℕ) (later : List Asked) → HasInputs call inputs
+    → IsNamed call.shelf_before.names name bytes → Asks call (wholly name bytes ∷ later) → bytes_of inputs name ≡ Some bytes
+own_bytes call inputs name bytes later (inl tells) named asked = subst (λ (o : Option Inputs). IsNamed o name bytes) tells named
+own_bytes call inputs name bytes later (inr fit) named asked = (fit (wholly name bytes ∷ later) asked).0
 
 pub never_both : (first second : Call) → IsRun first → IsRun second → ChecksAndConfirms first second → ⊥
 never_both first second run again c =
-    let valid = (run.checked c.protocol c.set c.certificate c.checks c.valid).proved in
-    let holds = (again.confirmed c.protocol c.same_set c.refusal c.confirms c.confirmed).proved in
-    let mine : bytes_of c.inputs c.set ≡ Some valid.read.bytes = told_bytes first c.inputs c.protocol c.set valid.set c.told valid.read in
+    let check = run.checked c.protocol c.set c.certificate c.checks c.valid in
+    let confirmation = again.confirmed c.protocol c.same_set c.refusal c.confirms c.confirmed in
+    let valid = check.proved in
+    let holds = confirmation.proved in
+    let mine : bytes_of c.inputs c.set ≡ Some valid.read.bytes =
+    own_bytes first c.inputs c.set valid.read.bytes (wholly c.certificate valid.bytes ∷ []) c.has valid.read.named check.asked in
     let other : bytes_of c.later c.same_set ≡ Some holds.read.bytes =
-    told_bytes second c.later c.protocol c.same_set holds.set c.told_later holds.read in
+    own_bytes second c.later c.same_set holds.read.bytes (wholly c.refusal holds.bytes ∷ []) c.has_later holds.read.named confirmation.asked in
     let bytes : valid.read.bytes ≡ holds.read.bytes =
     same_Some valid.read.bytes holds.read.bytes (sym mine ∙ (sym c.set_again ∙ other)) in
     let same : valid.set ≡ holds.set =
@@ -96,7 +101,7 @@ record WroteText (inputs : Inputs) (p : ProtocolName) (name text : List ℕ) : T
 wrote_text : (first second : Call) → IsRun first → (c : ConfirmsWhatWasWritten first second) → WroteText c.inputs c.protocol c.set c.text
 wrote_text first second run c =
     let form = refute_has_form first.words c.protocol c.set c.more c.refutes (has_form first run c.refused) in
-    let gave = gave_text first c.inputs (Refute c.protocol c.set form.0) c.text run form.1 c.told c.tells c.refused c.wrote in
+    let gave = gave_text first c.inputs (Refute c.protocol c.set form.0) c.text run form.1 c.has c.tells c.refused c.wrote in
     record {
       allowance = form.0;
       reply = gave.reply;
@@ -107,7 +112,7 @@ wrote_text first second run c =
 pub finds_confirmed : (first second : Call) → IsRun first → IsRun second → ConfirmsWhatWasWritten first second → FindsConfirmed second
 finds_confirmed first second run again c =
     let w = wrote_text first second run c in
-    finds second c.later (Confirm c.protocol c.same_set c.refusal) confirmed_answer again c.told_later
+    finds second c.later (Confirm c.protocol c.same_set c.refusal) confirmed_answer again c.has_later
     (confirm_is_form second.words c.protocol c.same_set c.refusal c.confirms)
     (confirm_outcome c.inputs c.later c.protocol c.set c.same_set c.refusal c.text w.allowance w.reply w.wrote w.same c.short c.set_again
     c.text_again)

@@ -2,8 +2,8 @@
 use Rattle.std.proofs.Common.{◌≡◌, ℕ, ◌<◌, ◌++◌, ◌==◌, refl, sym, ◌∙◌, ap, subst, inl, inr, ◌⊎◌}
 use Rattle.std.proofs.lemmas.Bool.{cases_order}
 use Rattle.std.specs.Prelude.{Bool, List, length, codes, decimal, if◌then◌else◌, slice_index_or}
-use Rattle.bounded_sums.specs.Sums.{collect_below}
-use Rattle.bounded_sums.proofs.SumLaws.{collect_below-agree}
+use Rattle.number_laws.specs.Sums.{collect_below}
+use Rattle.number_laws.proofs.SumLaws.{collect_below-agree}
 use Rattle.sporadic_model.specs.SetDef.{SetDef, task_at}
 use Rattle.protocol_names.specs.declared.ProtocolName.{ProtocolName}
 use Rattle.schedule_model.specs.JobDef.{JobsDef}

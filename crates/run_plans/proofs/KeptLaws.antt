@@ -1,6 +1,7 @@
 -- What status 0 of `audit` says, whatever is known of the inputs.
-use Rattle.std.proofs.Common.{◌≡◌, ℕ, List, refl, subst, sym, arith, inl, inr}
+use Rattle.std.proofs.Common.{◌≡◌, ℕ, List, [], ◌∷◌, refl, subst, sym, arith, inl, inr}
 use Rattle.std.specs.Io.KnownBytes.{Appends}
+use Rattle.outside_ports.specs.Past.{wholly}
 use Rattle.program_form.specs.Certificate.{CertificateDef}
 use Rattle.program_sources.specs.Valid.{IsValid}
 use Rattle.sporadic_model.specs.SetDef.{SetDef}
@@ -16,7 +17,7 @@ use Rattle.named_laws.proofs.FigureLaws.{proved_figures}
 use Rattle.reply_texts.specs.Texts.{kept_text}
 use Rattle.command_words.specs.Words.{Audit}
 use Rattle.sha2.specs.Sha256.{sha256}
-use Rattle.command_inputs.specs.Known.{Answer, Known, IsRead, shown_by}
+use Rattle.command_inputs.specs.Known.{Answer, Known, past, IsRead, shown_by}
 use Rattle.run_plans.specs.Plans.{IsOutcomeOf}
 use Rattle.command_inputs.specs.Inputs.{set_input, cert_input, jobs_input, rows_input}
 use Rattle.run_plans.specs.Commands.{kept_answer, IsAudit, IsAuditOf, plan_of}
@@ -44,6 +45,7 @@ record FoundKept (known : Known) (protocol : ProtocolName) (name cert jobs rows 
   schedule : RowsDef
   rows_read : IsRead known (rows_input list) rows rows_bytes schedule
   last : known.last rows_bytes
+  asked : known.asked (wholly name bytes ∷ wholly cert text ∷ wholly jobs jobs_bytes ∷ wholly rows rows_bytes ∷ [])
   valid : IsValid (source_of protocol list.set) certificate
   keeps : KeepsBefore (rules_of protocol) (trace_in list schedule.runs) (ticks_of schedule.runs)
   is : a ≡ kept_answer protocol certificate (trace_in list schedule.runs) (ticks_of schedule.runs)
@@ -64,12 +66,13 @@ found_kept : (known : Known) (p : ProtocolName) (name cert jobs rows : List ℕ)
 found_kept known p name cert jobs rows a (inl stopped) zero =
     absurd (stopped_not_zero known (set_input p) name a stopped zero)
 found_kept known p name cert jobs rows a (inr (bytes, set, read, none, inl stopped)) zero =
-    absurd (stopped_not_zero known (cert_input p) cert a stopped zero)
+    absurd (stopped_not_zero (past known (wholly name bytes)) (cert_input p) cert a stopped zero)
 found_kept known p name cert jobs rows a (inr (bytes, set, read, none, inr (text, file, also, more, inl stopped))) zero =
-    absurd (stopped_not_zero known (jobs_input set) jobs a stopped zero)
+    absurd (stopped_not_zero (past (past known (wholly name bytes)) (wholly cert text)) (jobs_input set) jobs a stopped zero)
 found_kept known p name cert jobs rows a
     (inr (bytes, set, read, none, inr (text, file, also, more, inr (jobs_bytes, list, jobs_read, yet, inl stopped)))) zero =
-    absurd (stopped_not_zero known (rows_input list) rows a stopped zero)
+    absurd (stopped_not_zero (past (past (past known (wholly name bytes)) (wholly cert text)) (wholly jobs jobs_bytes))
+    (rows_input list) rows a stopped zero)
 found_kept known p name cert jobs rows a
     (inr (
       bytes,
@@ -86,7 +89,7 @@ found_kept known p name cert jobs rows a
           list,
           jobs_read,
           yet,
-          inr (rows_bytes, schedule, rows_read, last, tied),
+          inr (rows_bytes, schedule, rows_read, last, (tied, asked)),
         ),
       ),
     )) zero =
@@ -106,6 +109,7 @@ found_kept known p name cert jobs rows a
       schedule = schedule;
       rows_read = rows_read;
       last = last tt;
+      asked = asked;
       valid = kept.valid;
       keeps = kept.keeps;
       is = kept.is;
@@ -133,6 +137,7 @@ proved_audit call p name cert jobs rows a out gives zero =
       rows_bytes = f.rows_bytes;
       schedule = f.schedule;
       rows_read = f.rows_read;
+      asked = f.asked;
       given = f.last;
       lawful = record { set_is = lawful.0; jobs = lawful.1; rows = f.keeps };
       text = subst (λ (set : SetDef). Appends call.sink_before.written call.sink_now.written

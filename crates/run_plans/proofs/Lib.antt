@@ -19,6 +19,7 @@ pub mod SoundLaws
 pub mod ShownLaws
 pub mod RefusedLaws
 pub mod BoundLaws
+pub mod OnClocks
 pub mod CheckedLaws
 pub mod WritableRefusal
 pub mod ConfirmedLaws
@@ -27,3 +28,4 @@ pub mod AuditLaws
 pub mod JobsLaws
 pub mod KeptLaws
 pub mod Examples
+mod WindowGain

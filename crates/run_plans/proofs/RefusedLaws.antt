@@ -1,6 +1,7 @@
 -- What status 0 of `refute` and of `confirm` says, whatever is known of the inputs.
-use Rattle.std.proofs.Common.{◌≡◌, ℕ, List, subst, arith, inl, inr}
+use Rattle.std.proofs.Common.{◌≡◌, ℕ, List, [], ◌∷◌, subst, arith, inl, inr}
 use Rattle.std.specs.Io.KnownBytes.{Appends}
+use Rattle.outside_ports.specs.Past.{wholly}
 use Rattle.sha2.specs.Sha256.{sha256}
 use Rattle.sporadic_model.specs.SetDef.{SetDef}
 use Rattle.protocol_names.specs.declared.ProtocolName.{ProtocolName}
@@ -8,7 +9,7 @@ use Rattle.refusal_laws.specs.Steps.{StepDef, Holds}
 use Rattle.named_laws.specs.Named.{source_of}
 use Rattle.named_laws.proofs.Refusals.{named_none_fits}
 use Rattle.command_words.specs.Words.{Refute, Confirm}
-use Rattle.command_inputs.specs.Known.{Answer, Known, IsRead}
+use Rattle.command_inputs.specs.Known.{Answer, Known, past, IsRead}
 use Rattle.run_plans.specs.Plans.{IsOutcomeOf}
 use Rattle.command_inputs.specs.Inputs.{set_input, refusal_input}
 use Rattle.run_plans.specs.Commands.{plan_of}
@@ -27,17 +28,19 @@ pub record WroteRefusal (known : Known) (protocol : ProtocolName) (name : List �
   pub set : SetDef
   pub read : IsRead known (set_input protocol) name bytes set
   pub last : known.last bytes
+  pub asked : known.asked (wholly name bytes ∷ [])
   pub so : RefusedSo protocol (sha256 bytes) set allowance a
 
 pub wrote_refusal : (known : Known) (protocol : ProtocolName) (name : List ℕ) (allowance : ℕ) (a : Answer)
     → IsOutcomeOf known (plan_of (Refute protocol name allowance)) a → a.status ≡ 0 → WroteRefusal known protocol name allowance a
 wrote_refusal known protocol name allowance a (inl stopped) zero =
     absurd (stopped_not_zero known (set_input protocol) name a stopped zero)
-wrote_refusal known protocol name allowance a (inr (bytes, set, read, last, is)) zero = record {
+wrote_refusal known protocol name allowance a (inr (bytes, set, read, last, (is, asked))) zero = record {
   bytes = bytes;
   set = set;
   read = read;
   last = last tt;
+  asked = asked;
   so = refused_at_zero protocol (sha256 bytes) set allowance a (accepted_of protocol bytes set read.1) is zero;
 }
 
@@ -50,6 +53,7 @@ proved_refutation call protocol name allowance a out gives zero =
     record {
       set = w.set;
       read = some_read call protocol name w.bytes w.set w.read;
+      asked = w.asked;
       given = w.last;
       steps = w.so.steps;
       text = subst (λ (t : List ℕ). Appends call.sink_before.written call.sink_now.written t) w.so.text gives.1;
@@ -66,6 +70,7 @@ record FoundHolding (known : Known) (protocol : ProtocolName) (name cert : List 
   steps : List StepDef
   also : IsRead known (refusal_input protocol) cert text (record { steps = steps; digest = sha256 bytes })
   last : known.last text
+  asked : known.asked (wholly name bytes ∷ wholly cert text ∷ [])
   holds : Holds (source_of protocol set) steps
 
 found_holding : (known : Known) (protocol : ProtocolName) (name cert : List ℕ) (a : Answer)
@@ -73,8 +78,8 @@ found_holding : (known : Known) (protocol : ProtocolName) (name cert : List ℕ)
 found_holding known protocol name cert a (inl stopped) zero =
     absurd (stopped_not_zero known (set_input protocol) name a stopped zero)
 found_holding known protocol name cert a (inr (bytes, set, read, none, inl stopped)) zero =
-    absurd (stopped_not_zero known (refusal_input protocol) cert a stopped zero)
-found_holding known protocol name cert a (inr (bytes, set, read, none, inr (text, file, also, last, tied))) zero =
+    absurd (stopped_not_zero (past known (wholly name bytes)) (refusal_input protocol) cert a stopped zero)
+found_holding known protocol name cert a (inr (bytes, set, read, none, inr (text, file, also, last, (tied, asked)))) zero =
     let own = confirmed_at_zero protocol (sha256 bytes) set file a tied zero in
     record {
       bytes = bytes;
@@ -84,6 +89,7 @@ found_holding known protocol name cert a (inr (bytes, set, read, none, inr (text
       steps = file.steps;
       also = subst (λ (d : List ℕ). IsRead known (refusal_input protocol) cert text (record { steps = file.steps; digest = d })) own.0 also;
       last = last tt;
+      asked = asked;
       holds = own.1;
     }
 
@@ -112,5 +118,6 @@ proved_confirmation call protocol name cert a out gives zero =
     let f = found_holding (shown_by (shelf_of call)) protocol name cert a out zero' in
     record {
       proved = reads_holding call protocol name cert f.bytes f.text f.set f.steps f.read f.also f.holds;
+      asked = f.asked;
       given = f.last;
     }

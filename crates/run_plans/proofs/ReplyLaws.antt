@@ -1,6 +1,8 @@
 -- What is replied, from what came of inputs and of the work.
-use Rattle.std.proofs.Common.{◌≡◌, ℕ, List, refl, sym, ◌∙◌, subst, inl, inr, Ok, Err, map}
-use Rattle.std.specs.Prelude.{Result}
+use Rattle.std.proofs.Common.{◌≡◌, ℕ, List, ◌∷◌, refl, sym, ◌∙◌, subst, inl, inr, Ok, Err, map}
+use Rattle.std.specs.Prelude.{Option, Result}
+use Rattle.outside_ports.specs.Names.{Inputs}
+use Rattle.outside_ports.specs.Past.{Asked, wholly}
 use Rattle.outside_ports.specs.Ports.{ShelfDef}
 use Rattle.program_form.specs.Certificate.{dual_seen}
 use Rattle.sporadic_model.specs.SetDef.{SetDef}
@@ -39,7 +41,7 @@ answered_also P Q f (Err h) says = halts_also P Q f h says
 -- What is answered of an input of which nothing is got is the reply of the plan.
 ungot_reply : (shelf : Shown) (input : Input) (name : List ℕ) (next : List ℕ → input.Value → Plan) (a : Answer)
     → IsUngot shelf input name a → IsReplyOf shelf (Reading input name next) a
-ungot_reply shelf input name next a (inl (rose, small, is)) = inl (rose, small, inl is)
+ungot_reply shelf input name next a (inl (rose, small, asked, is)) = inl (rose, small, inl (asked, is))
 ungot_reply shelf input name next a (inr stopped) = inr (inl stopped)
 
 pub replied_ungot : (shelf : Shown) (input : Input) (name : List ℕ) (next : List ℕ → input.Value → Plan) (h : Halt)
@@ -53,10 +55,34 @@ pub replied_got : (old mid new : ShelfDef) (input : Input) (name : List ℕ) (ne
     (r : Result Reply Halt) → Keeps old mid → (given : IsGiven (shown old mid) input name value)
     → (IsWorking (next given.0 value) → new.given ≡ mid.given)
     → AnswersPlan r mid new (next given.0 value) → AnswersPlan r old new (Reading input name next)
-replied_got old mid new input name next value r keeps (bytes, read, size) last says =
+replied_got old mid new input name next value r keeps (bytes, read, size, asked) last says =
     answered_also (IsReplyOf (shown mid new) (next bytes value)) (IsReplyOf (shown old new) (Reading input name next))
-    (λ a is. then_reply old.names old.faults mid.faults new.faults new.given input name next bytes value a keeps.later read.0 read.1
-    (λ works. size ∙ sym (last works)) (rw keeps.names at is)) r says
+    (λ a is. then_reply old.names old.faults mid.faults new.faults new.given old.readings new.readings input name next bytes value a
+    keeps.later read.0 read.1 (λ works. size ∙ sym (last works)) (later_part a is)) r says where
+      later_part : (a : Answer) → IsReplyOf (shown mid new) (next bytes value) a → IsReplyOf (record {
+        names = old.names;
+        before = mid.faults;
+        now = new.faults;
+        given = new.given;
+        had = wholly name bytes ∷ old.readings;
+        has = new.readings;
+      }) (next bytes value) a
+      later_part a is = subst (λ (n : Option Inputs). IsReplyOf (record {
+        names = n;
+        before = mid.faults;
+        now = new.faults;
+        given = new.given;
+        had = wholly name bytes ∷ old.readings;
+        has = new.readings;
+      }) (next bytes value) a) keeps.names
+          (subst (λ (h : List Asked). IsReplyOf (record {
+            names = mid.names;
+            before = mid.faults;
+            now = new.faults;
+            given = new.given;
+            had = h;
+            has = new.readings;
+          }) (next bytes value) a) asked is)
 
 -- The same where the work comes next, which takes nothing from the shelf.
 pub replied_work : (old new : ShelfDef) (input : Input) (name : List ℕ) (next : List ℕ → input.Value → Plan) (value : input.Value)
@@ -84,7 +110,7 @@ pub replied_tied_work : (old new : ShelfDef) (protocol : ProtocolName) (name : L
     → AnswersPlan r old new (Reading (set_input protocol) name (λ bytes set. Working (work (sha256 bytes) set)))
 replied_tied_work old new protocol name work got r keeps (given, tied) says =
     replied_work old new (set_input protocol) name (λ bytes set. Working (work (sha256 bytes) set)) got.0
-    ((work (sha256 given.0) got.0).answers) r keeps given (λ (a : Answer) is. is)
+    ((work (sha256 given.0) got.0).answers) r keeps given (λ (a : Answer) is. (is, refl))
     (subst (λ (digest : List ℕ). Answered r ((work digest got.0).answers)) tied says)
 
 -- The answer to an analysis that ends so is the outcome of the analysis.

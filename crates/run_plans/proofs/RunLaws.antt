@@ -1,9 +1,10 @@
 -- What is true of a call, from what was replied and what was written.
-use Rattle.std.proofs.Common.{◌≡◌, ◌≢◌, ℕ, ◌+◌, ◌<◌, ◌≤◌, ◌↔◌, List, length, refl, sym, ◌∙◌, ap, subst, arith, inl, inr, ◌⊎◌, Some, None}
+use Rattle.std.proofs.Common.{◌≡◌, ◌≢◌, ℕ, ◌+◌, ◌<◌, ◌≤◌, ◌↔◌, List, [], length, refl, sym, ◌∙◌, ap, subst, arith, inl, inr, ◌⊎◌, Some, None}
 use Rattle.std.specs.Prelude.{Option, MatchOption, codes}
 use Rattle.std.proofs.lemmas.Option.{none-some, same_Some}
 use Rattle.outside_ports.specs.Counts.{Rose}
 use Rattle.outside_ports.specs.Names.{Inputs}
+use Rattle.outside_ports.specs.Past.{Asked}
 use Rattle.outside_ports.specs.declared.whole.TheConstants.{GREATEST_INPUT_BYTES}
 use Rattle.sha2.specs.Sha256.{sha256}
 use Rattle.program_form.specs.Certificate.{DualDef}
@@ -17,8 +18,8 @@ use Rattle.response_fixpoint.proofs.EndLaws.{schedulable_best, not_shown_none}
 use Rattle.named_laws.proofs.EachName.{named_above, named_no_columns}
 use Rattle.response_fixpoint.proofs.RunLaws.{rounds_never_wide}
 use Rattle.program_sources.specs.Fitting.{AreFitting}
-use Rattle.command_inputs.specs.Known.{Answer, refused, Shown, shown_by, told}
-use Rattle.run_plans.specs.Plans.{Working, IsWorking, IsOutcomeOf}
+use Rattle.command_inputs.specs.Known.{Answer, refused, Shown, shown_by, told, AreInputs}
+use Rattle.run_plans.specs.Plans.{Working, IsWorking, IsOutcomeOf, AsksAll, AsksPart}
 use Rattle.command_words.specs.Words.{Form, Analyse, Refute, Check, Confirm, Audit, form_of}
 use Rattle.command_words.specs.Spelled.{analyse_words, refute_words, check_words, confirm_words}
 use Rattle.command_words.proofs.SpelledLaws.{analyse_has_form, analyse_is_form, refute_has_form, check_is_form, confirm_is_form}
@@ -26,15 +27,17 @@ use Rattle.command_words.proofs.SpelledLaws.{audit_is_form}
 use Rattle.command_inputs.specs.Inputs.{set_input}
 use Rattle.run_plans.specs.Commands.{ending_answer, IsAnalysis, analysis_of, plan_of}
 use Rattle.run_plans.specs.Outcome.{refused_words, IsOutcome, IsReplyOf, IsReply}
-use Rattle.run_plans.specs.Headline.{Call, RanOut, WritesSchedulable, Analyses, IsHeadline, IsProvedAnalysis, IsProvedCheck}
-use Rattle.run_plans.specs.Run.{shelf_of, Gives, FailsToWrite, Replies, GivesOutcome, IsRun, RoundsEnd, IsWideEnding, IsAllowanceEnding}
-use Rattle.run_plans.proofs.PlanLaws.{not_zero, told_implied, outcome_implied, rest_of, one_of_plan, plan_plain, plan_well, plan_longer, fault_status}
+use Rattle.run_plans.specs.Headline.{Call, Asks, RanOut, WritesSchedulable, Analyses, IsHeadline, IsProvedAnalysis, IsProvedCheck}
+use Rattle.run_plans.specs.Run.{shelf_of, Gives, FailsToWrite, Replies, GivesOutcome, AsksInOrder, IsRun, RoundsEnd, IsWideEnding, IsAllowanceEnding}
+use Rattle.run_plans.proofs.PlanLaws.{not_zero, outcome_told, outcome_asks, fault_asks, rest_of, one_of_plan, plan_plain, plan_well}
+use Rattle.run_plans.proofs.PlanLaws.{plan_longer, fault_status}
 use Rattle.run_plans.proofs.InputLaws.{set_reads_once}
 use Rattle.run_plans.proofs.CommandLaws.{lawful, ending_tells, only_wide, only_short}
 use Rattle.run_plans.proofs.WorkLaws.{told_wide}
 use Rattle.run_plans.proofs.SoundLaws.{sound_outcome}
 use Rattle.run_plans.proofs.ShownLaws.{best_writes, proved_analysis, bounded_analysis, proved_check}
 use Rattle.run_plans.proofs.BoundLaws.{check_bounds}
+use Rattle.run_plans.proofs.OnClocks.{analysis_on_clocks, check_on_clocks, not_on_clocks}
 use Rattle.run_plans.proofs.KeptLaws.{proved_audit}
 use Rattle.run_plans.proofs.RefusedLaws.{proved_refutation, proved_confirmation}
 use Rattle.run_plans.specs.Refused.{IsProvedRefutation, IsProvedConfirmation}
@@ -51,13 +54,15 @@ pub record Replied (shelf : Shown) (o : Option Form) (a : Answer) : Type 0 where
   pub long : (form : Form) → o ≡ Some form → (IsWorking (plan_of form) → ⊥) → GREATEST_INPUT_BYTES < shelf.given
       → (word : List ℕ) × (a ≡ refused word (codes "toolong"))
   pub shows : (form : Form) → o ≡ Some form → a.status ≡ 0 → IsOutcomeOf (shown_by shelf) (plan_of form) a
-  pub outcome : (inputs : Inputs) → shelf.names ≡ Some inputs
+  pub asks : (readings : List Asked) × (shown_by shelf).asked readings × MatchOption o (readings ≡ [])
+      (λ form. AsksAll (plan_of form) readings ⊎ (AsksPart (plan_of form) readings × ((a.status ≡ 3) ⊎ (a.status ≡ 4))))
+  pub outcome : (inputs : Inputs) → AreInputs shelf inputs
       → (MatchOption o (a ≡ refused_words) (λ form. IsOutcomeOf (told inputs) (plan_of form) a))
       ⊎ (Rose shelf.before shelf.now × (a.status ≡ 4))
 
 pub replied : (shelf : Shown) (o : Option Form) (a : Answer)
-    → MatchOption o (a ≡ refused_words) (λ form. IsReplyOf shelf (plan_of form) a) → Replied shelf o a
-replied shelf None a is =
+    → MatchOption o ((a ≡ refused_words) × (shelf.has ≡ shelf.had)) (λ form. IsReplyOf shelf (plan_of form) a) → Replied shelf o a
+replied shelf None a (is, none) =
     let two : a.status ≡ 2 = ap (λ x. x.status) is in
     record {
       two = λ e. refl;
@@ -68,6 +73,7 @@ replied shelf None a is =
       most = omega (arith, two);
       long = λ form some more long. absurd (none-some form some);
       shows = λ form some zero. absurd (none-some form some);
+      asks = ([], none, refl);
       outcome = λ inputs tells. inl is;
     }
 replied shelf (Some form) a (inl (rose, small, fault)) =
@@ -81,6 +87,9 @@ replied shelf (Some form) a (inl (rose, small, fault)) =
       most = omega (arith, four);
       long = λ other some more long. absurd (omega (arith, small, long));
       shows = λ other some zero. absurd (omega (arith, four, zero));
+      asks = (
+          let asks = fault_asks (shown_by shelf) (plan_of form) a fault in
+          (asks.readings, asks.asked, elim asks.are [ inl all ↦ inl all | inr (part, why) ↦ inr (part, inr four) ]));
       outcome = λ inputs tells. inr (rose, four);
     }
 replied shelf (Some form) a (inr out) =
@@ -96,7 +105,10 @@ replied shelf (Some form) a (inr out) =
           let same : form ≡ other = same_Some form other some in
           plan_longer shelf (plan_of form) (λ w. more (subst (λ (x : Form). IsWorking (plan_of x)) same w)) a out long);
       shows = λ other some zero. subst (λ (x : Form). IsOutcomeOf (shown_by shelf) (plan_of x) a) (same_Some form other some) out;
-      outcome = λ inputs tells. inl (outcome_implied (shown_by shelf) (told inputs) (told_implied shelf inputs tells) (plan_of form) a out);
+      asks = (
+          let asks = outcome_asks (shown_by shelf) (plan_of form) a out in
+          (asks.readings, asks.asked, elim asks.are [ inl all ↦ inl all | inr (part, three) ↦ inr (part, inl three) ]));
+      outcome = λ inputs are. inl (outcome_told (plan_of form) shelf inputs are a out);
     }
 
 -- Words and named inputs have one outcome.
@@ -127,9 +139,9 @@ ended call protocol set analyses a out =
     let plan = of_form analyses.inputs call.words (Analyse protocol analyses.name analyses.allowance) a form out in
     let read = analyses.read in
     let analysis : IsAnalysis protocol (sha256 read.bytes) set analyses.allowance a =
-    rest_of analyses.inputs (set_input protocol) analyses.name
+    (rest_of analyses.inputs (set_input protocol) analyses.name
     (λ bytes x. Working (analysis_of protocol (sha256 bytes) x analyses.allowance)) read.bytes set a (set_reads_once protocol)
-    (told_reads call analyses.inputs protocol analyses.name set analyses.told read) plan in
+    (told_reads call analyses.inputs protocol analyses.name set read analyses.named_set) plan).0 in
     record { ending = analysis.0; ends = analysis.1; is = analysis.2 }
 
 writes : (call : Call) (protocol : ProtocolName) (digest : List ℕ) (set : SetDef) (allowance : ℕ) (bounds : List ℕ) (duals : List DualDef)
@@ -202,6 +214,14 @@ other_headline call protocol digest set status cause = record {
   apart call n (inl f) four seven is = four (sym is ∙ f)
   apart call n (inr ran) four seven is = seven (sym is ∙ ran.status)
 
+-- What is so of the readings where one status has a cause is so where another one has it then.
+asks_with : (o : Option Form) (readings : List Asked) (m n : ℕ) → ((m ≡ 3) ⊎ (m ≡ 4) → (n ≡ 3) ⊎ (n ≡ 4))
+    → MatchOption o (readings ≡ []) (λ form. AsksAll (plan_of form) readings ⊎ (AsksPart (plan_of form) readings × ((m ≡ 3) ⊎ (m ≡ 4))))
+    → MatchOption o (readings ≡ []) (λ form. AsksAll (plan_of form) readings ⊎ (AsksPart (plan_of form) readings × ((n ≡ 3) ⊎ (n ≡ 4))))
+asks_with None readings m n so are = are
+asks_with (Some form) readings m n so (inl all) = inl all
+asks_with (Some form) readings m n so (inr (part, why)) = inr (part, so why)
+
 -- A call whose reply went out whole.
 gave_run : (call : Call) (replies : Replies call) → Replied (shelf_of call) (form_of call.words) replies.reply
     → Gives call replies.reply → IsRun call
@@ -214,26 +234,27 @@ gave_run call replies r gives =
       no_form = λ none. inl (is ∙ ap (λ x. x.status) (r.none none));
       faults = λ e. inl (r.four (sym is ∙ e));
       want = λ e. (let most = r.most in absurd (omega (arith, most, is, e)));
-      exactly = λ inputs b tells out. elim (r.outcome inputs tells) [
+      asked = inl (asked_of r.asks);
+      exactly = λ inputs b has out. elim (r.outcome inputs has) [
         | inl mine ↦ inl (subst (λ (x : Answer). Gives call x) (one_outcome inputs call.words a b mine out) gives)
         | inr fault ↦ inr (inl (is ∙ fault.1))
       ];
       wide = λ e. r.five (sym is ∙ e);
-      never_wide = λ protocol set analyses nothing e. elim (r.outcome analyses.inputs analyses.told) [
+      never_wide = λ protocol set analyses nothing e. elim (r.outcome analyses.inputs analyses.has) [
         | inl mine ↦ never_five protocol (sha256 analyses.read.bytes) set analyses.allowance a (ended call protocol set analyses a mine) nothing (sym is ∙ e)
         | inr fault ↦ absurd (omega (arith, is, fault.1, e))
       ];
       allowance = λ e. r.six (sym is ∙ e);
-      complete = λ inputs form premise. elim (r.outcome inputs premise.tells_names) [
+      complete = λ inputs form premise. elim (r.outcome inputs premise.has) [
         | inl mine ↦ inl (well inputs form premise.form_is mine (plan_well inputs (plan_of form) (lawful form)
             premise.ends a (of_form inputs call.words form a premise.form_is mine)))
         | inr fault ↦ absurd (premise.shelf fault.0)
       ];
-      headline = λ protocol set analyses. elim (r.outcome analyses.inputs analyses.told) [
+      headline = λ protocol set analyses. elim (r.outcome analyses.inputs analyses.has) [
         | inl mine ↦ headline_of call protocol (sha256 analyses.read.bytes) set analyses.allowance a analyses.read.text.accepted (ended call protocol set analyses a mine) gives
         | inr fault ↦ other_headline call protocol (sha256 analyses.read.bytes) set (inl (is ∙ fault.1)) (inl fault.0)
       ];
-      sound = λ protocol set c checks zero. elim (r.outcome checks.inputs checks.told) [
+      sound = λ protocol set c checks zero. elim (r.outcome checks.inputs checks.has) [
         | inl mine ↦ sound_outcome call protocol set c checks a
             (of_form checks.inputs call.words (Check protocol checks.name checks.cert) a
             (check_is_form call.words protocol checks.name checks.cert checks.words) mine)
@@ -247,7 +268,16 @@ gave_run call replies r gives =
             let form = analyse_has_form call.words protocol name more words (some_form zero) in
             bounded_analysis call protocol name form.0 a (r.shows (Analyse protocol name form.0) form.1 (sym is ∙ zero)) gives zero);
         checked = λ protocol name cert words zero. (
-            let p = (checked protocol name cert words zero).proved in (p.bytes, p.named, check_bounds call protocol name cert p));
+            let c = checked protocol name cert words zero in
+            let p = c.proved in (p.bytes, p.named, (check_bounds call protocol name cert p, c.asked)));
+      };
+      on_clocks = record {
+        analysed = λ protocol name more words zero. (
+            let form = analyse_has_form call.words protocol name more words (some_form zero) in
+            analysis_on_clocks call protocol name form.0 a (r.shows (Analyse protocol name form.0) form.1 (sym is ∙ zero)) gives zero);
+        checked = λ protocol name cert words zero. (
+            let c = checked protocol name cert words zero in
+            let p = c.proved in (p.bytes, p.named, (check_on_clocks call protocol name cert p, c.asked)));
       };
       audited = λ protocol name cert jobs rows words zero. proved_audit call protocol name cert jobs rows a
           (r.shows (Audit protocol name cert jobs rows) (audit_is_form call.words protocol name cert jobs rows words) (sym is ∙ zero))
@@ -255,6 +285,16 @@ gave_run call replies r gives =
       refuted = refuted;
       confirmed = confirmed;
     } where
+      asked_of : (readings : List Asked) × Asks call readings × MatchOption (form_of call.words) (readings ≡ [])
+          (λ form. AsksAll (plan_of form) readings
+          ⊎ (AsksPart (plan_of form) readings × ((replies.reply.status ≡ 3) ⊎ (replies.reply.status ≡ 4)))) → AsksInOrder call
+      asked_of (readings, asked, are) = (
+        readings,
+        asked,
+        asks_with (form_of call.words) readings replies.reply.status call.status
+            (λ why. elim why [ inl three ↦ inl (gives.0 ∙ three) | inr four ↦ inr (gives.0 ∙ four) ]) are,
+      )
+
       some_form : call.status ≡ 0 → form_of call.words ≡ None → ⊥
       some_form zero none = let two : call.status ≡ 2 = gives.0 ∙ ap (λ x. x.status) (r.none none) in absurd (omega (arith, two, zero))
 
@@ -299,7 +339,8 @@ cut_run call replies r fails =
       no_form = λ none. inr (inl (subst (λ (x : Answer). FailsToWrite call x) (r.none none) fails));
       faults = λ e. inr fails.rose;
       want = λ e. absurd (omega (arith, four, e));
-      exactly = λ inputs b tells out. inr (inl four);
+      asked = inl (asked_cut r.asks);
+      exactly = λ inputs b has out. inr (inl four);
       wide = λ e. absurd (omega (arith, four, e));
       never_wide = λ protocol set analyses nothing e. absurd (omega (arith, four, e));
       allowance = λ e. absurd (omega (arith, four, e));
@@ -312,10 +353,16 @@ cut_run call replies r fails =
         analysed = λ protocol name more words zero. absurd (omega (arith, four, zero));
         checked = λ protocol name cert words zero. absurd (omega (arith, four, zero));
       };
+      on_clocks = not_on_clocks call (λ zero. absurd (omega (arith, four, zero)));
       audited = λ protocol name cert jobs rows words zero. absurd (omega (arith, four, zero));
       refuted = λ protocol name more words zero. absurd (omega (arith, four, zero));
       confirmed = λ protocol name cert words zero. absurd (omega (arith, four, zero));
-    }
+    } where
+      asked_cut : (readings : List Asked) × Asks call readings × MatchOption (form_of call.words) (readings ≡ [])
+          (λ form. AsksAll (plan_of form) readings
+          ⊎ (AsksPart (plan_of form) readings × ((replies.reply.status ≡ 3) ⊎ (replies.reply.status ≡ 4)))) → AsksInOrder call
+      asked_cut (readings, asked, are) =
+          (readings, asked, asks_with (form_of call.words) readings replies.reply.status call.status (λ why. inr fails.status) are)
 
 -- A call that had no memory.
 pub run_ran_out : (call : Call) → RanOut call → IsRun call
@@ -327,7 +374,8 @@ run_ran_out call ran =
       no_form = λ none. inr (inr ran);
       faults = λ e. absurd (omega (arith, seven, e));
       want = λ e. ran;
-      exactly = λ inputs b tells out. inr (inr ran);
+      asked = inr ran;
+      exactly = λ inputs b has out. inr (inr ran);
       wide = λ e. absurd (omega (arith, seven, e));
       never_wide = λ protocol set analyses nothing e. absurd (omega (arith, seven, e));
       allowance = λ e. absurd (omega (arith, seven, e));
@@ -340,6 +388,7 @@ run_ran_out call ran =
         analysed = λ protocol name more words zero. absurd (omega (arith, seven, zero));
         checked = λ protocol name cert words zero. absurd (omega (arith, seven, zero));
       };
+      on_clocks = not_on_clocks call (λ zero. absurd (omega (arith, seven, zero)));
       audited = λ protocol name cert jobs rows words zero. absurd (omega (arith, seven, zero));
       refuted = λ protocol name more words zero. absurd (omega (arith, seven, zero));
       confirmed = λ protocol name cert words zero. absurd (omega (arith, seven, zero));

@@ -14,7 +14,7 @@ use Rattle.protocol_names.specs.declared.ProtocolName.{ProtocolName}
 use Rattle.sporadic_model.specs.declared.ids.Protocol.TheVariants as protocol
 use Rattle.taskset_json.specs.Answers.{first_homeless}
 use Rattle.taskset_json.proofs.Lists.{position_none}
-use Rattle.outside_ports.specs.Names.{Inputs, IsNamed}
+use Rattle.outside_ports.specs.Names.{Inputs, bytes_of}
 use Rattle.command_inputs.specs.Known.{IsRead, told}
 use Rattle.command_inputs.specs.Inputs.{ReadsSet, set_input}
 use Rattle.run_plans.specs.Headline.{Call, IsSetText, ReadsSome}
@@ -34,11 +34,10 @@ pub reads_text : (p : ProtocolName) (bytes : List ℕ) (set : SetDef) → IsSetT
 reads_text p bytes set t =
     ((t.value, t.is_value, (t.form, subst IsAccepted t.set_is t.accepted, t.set_is)), none_homeless (homes_as p) set t.homes)
 
--- So what a call read under a name is what its inputs hold, where they are told.
-pub told_reads : (call : Call) (inputs : Inputs) (p : ProtocolName) (name : List ℕ) (set : SetDef)
-    → call.shelf_before.names ≡ Some inputs → (read : ReadsSome call p name set) → IsRead (told inputs) (set_input p) name read.bytes set
-told_reads call inputs p name set tells read =
-    ((subst (λ (o : Option Inputs). IsNamed o name read.bytes) tells read.named, read.short), reads_text p read.bytes set read.text)
+-- So what a call read under a name is what its inputs hold, where these are their bytes.
+pub told_reads : (call : Call) (inputs : Inputs) (p : ProtocolName) (name : List ℕ) (set : SetDef) (read : ReadsSome call p name set)
+    → bytes_of inputs name ≡ Some read.bytes → IsRead (told inputs) (set_input p) name read.bytes set
+told_reads call inputs p name set read named = ((named, read.short), reads_text p read.bytes set read.text)
 
 -- Where no home is missed all are there.
 no_place : (b : Bool) (n : ℕ) → (if b then Some n else None) ≡ None → b ≡ false

@@ -1,6 +1,7 @@
 -- What status 0 of `analyse` and of `check` says, whatever is known of the inputs.
-use Rattle.std.proofs.Common.{◌≡◌, ℕ, List, refl, ◌∙◌, ap, subst, arith, inl, inr}
+use Rattle.std.proofs.Common.{◌≡◌, ℕ, List, [], ◌∷◌, refl, ◌∙◌, ap, subst, arith, inl, inr}
 use Rattle.std.specs.Io.KnownBytes.{Appends}
+use Rattle.outside_ports.specs.Past.{wholly}
 use Rattle.program_form.specs.Certificate.{DualDef, CertificateDef}
 use Rattle.program_sources.specs.Valid.{IsValid}
 use Rattle.sporadic_model.specs.SetDef.{SetDef}
@@ -16,12 +17,12 @@ use Rattle.cert_json.specs.Text.{certificate_text}
 use Rattle.protocol_names.specs.Names.{word_of}
 use Rattle.command_words.specs.Words.{Analyse, Check}
 use Rattle.sha2.specs.Sha256.{sha256}
-use Rattle.command_inputs.specs.Known.{Answer, Known, IsRead}
+use Rattle.command_inputs.specs.Known.{Answer, Known, past, IsRead}
 use Rattle.run_plans.specs.Plans.{IsOutcomeOf}
 use Rattle.command_inputs.specs.Inputs.{set_input, cert_input}
 use Rattle.run_plans.specs.Commands.{ending_answer, IsCheck, plan_of}
 use Rattle.command_inputs.specs.Known.{shown_by}
-use Rattle.run_plans.specs.Headline.{Call, WritesSchedulable, ReadsSome, ReadsValid, IsProvedAnalysis, IsProvedCheck}
+use Rattle.run_plans.specs.Headline.{Call, Asks, WritesSchedulable, ReadsSome, ReadsValid, IsProvedAnalysis, IsProvedCheck}
 use Rattle.run_plans.specs.Bounding.{ListsBounds}
 use Rattle.run_plans.specs.Run.{shelf_of, Gives}
 use Rattle.run_plans.proofs.PlanLaws.{stopped_not_zero, not_zero}
@@ -49,6 +50,7 @@ pub record WroteBest (known : Known) (protocol : ProtocolName) (name : List ℕ)
   pub set : SetDef
   pub read : IsRead known (set_input protocol) name bytes set
   pub last : known.last bytes
+  pub asked : known.asked (wholly name bytes ∷ [])
   pub certificate : CertificateDef
   pub best : IsBest (source_of protocol set) certificate
   pub text : a.text ≡ certificate_text (word_of protocol) (sha256 bytes) certificate
@@ -58,7 +60,7 @@ pub wrote_best : (known : Known) (protocol : ProtocolName) (name : List ℕ) (al
     → a.status ≡ 0 → WroteBest known protocol name a
 wrote_best known protocol name allowance a (inl stopped) zero =
     absurd (stopped_not_zero known (set_input protocol) name a stopped zero)
-wrote_best known protocol name allowance a (inr (bytes, set, read, last, (e, ends, is))) zero =
+wrote_best known protocol name allowance a (inr (bytes, set, read, last, ((e, ends, is), asked))) zero =
     let end = schedulable_ending protocol (sha256 bytes) set e a is zero in
     let schedulable : EndsIn (rounds_of (source_of protocol set)) allowance (Schedulable end.bounds end.duals) =
     subst (λ (x : Ending). EndsIn (rounds_of (source_of protocol set)) allowance x) end.is ends in
@@ -67,6 +69,7 @@ wrote_best known protocol name allowance a (inr (bytes, set, read, last, (e, end
       set = set;
       read = read;
       last = last tt;
+      asked = asked;
       certificate = record { bounds = end.bounds; duals = end.duals };
       best = schedulable_best (source_of protocol set) allowance end.bounds end.duals (named_above protocol set) schedulable;
       text = ap (λ x. x.text) is ∙ ap (λ (x : Ending). (ending_answer protocol (sha256 bytes) set x).text) end.is;
@@ -81,6 +84,7 @@ record FoundValid (known : Known) (protocol : ProtocolName) (name cert : List �
   certificate : CertificateDef
   also : IsRead known (cert_input protocol) cert text (record { certificate = certificate; digest = sha256 bytes })
   last : known.last text
+  asked : known.asked (wholly name bytes ∷ wholly cert text ∷ [])
   valid : IsValid (source_of protocol set) certificate
 
 found_valid : (known : Known) (protocol : ProtocolName) (name cert : List ℕ) (a : Answer)
@@ -88,8 +92,8 @@ found_valid : (known : Known) (protocol : ProtocolName) (name cert : List ℕ) (
 found_valid known protocol name cert a (inl stopped) zero =
     absurd (stopped_not_zero known (set_input protocol) name a stopped zero)
 found_valid known protocol name cert a (inr (bytes, set, read, none, inl stopped)) zero =
-    absurd (stopped_not_zero known (cert_input protocol) cert a stopped zero)
-found_valid known protocol name cert a (inr (bytes, set, read, none, inr (text, file, also, last, tied))) zero =
+    absurd (stopped_not_zero (past known (wholly name bytes)) (cert_input protocol) cert a stopped zero)
+found_valid known protocol name cert a (inr (bytes, set, read, none, inr (text, file, also, last, (tied, asked)))) zero =
     let own = tied_at_zero (sha256 bytes) file.digest (IsCheck protocol set file.certificate) a tied zero in
     record {
       bytes = bytes;
@@ -99,6 +103,7 @@ found_valid known protocol name cert a (inr (bytes, set, read, none, inr (text, 
       certificate = file.certificate;
       also = subst (λ (d : List ℕ). IsRead known (cert_input protocol) cert text (record { certificate = file.certificate; digest = d })) own.0 also;
       last = last tt;
+      asked = asked;
       valid = valid_at_zero protocol set file.certificate a own.1 zero;
     }
 
@@ -130,6 +135,7 @@ proved_analysis call protocol name allowance a out gives zero =
     record {
       set = w.set;
       read = some_read call protocol name w.bytes w.set w.read;
+      asked = w.asked;
       given = w.last;
       writes = best_writes call protocol (sha256 w.bytes) w.set w.certificate (accepted_of protocol w.bytes w.set w.read.1) w.best zero
           (subst (λ (t : List ℕ). Appends call.sink_before.written call.sink_now.written t) w.text gives.1);
@@ -138,13 +144,14 @@ proved_analysis call protocol name allowance a out gives zero =
 -- And the bounds that it lists.
 pub bounded_analysis : (call : Call) (protocol : ProtocolName) (name : List ℕ) (allowance : ℕ) (a : Answer)
     → IsOutcomeOf (shown_by (shelf_of call)) (plan_of (Analyse protocol name allowance)) a → Gives call a → call.status ≡ 0
-    → (text : List ℕ) × Appends call.sink_before.written call.sink_now.written text × ListsBounds call protocol name text
+    → (text : List ℕ) × Appends call.sink_before.written call.sink_now.written text
+    × ((lists : ListsBounds call protocol name text) × Asks call (wholly name lists.read.bytes ∷ []))
 bounded_analysis call protocol name allowance a out gives zero =
     let zero' : a.status ≡ 0 = omega (arith, gives.0, zero) in
     let w = wrote_best (shown_by (shelf_of call)) protocol name allowance a out zero' in (
       certificate_text (word_of protocol) (sha256 w.bytes) w.certificate,
       subst (λ (t : List ℕ). Appends call.sink_before.written call.sink_now.written t) w.text gives.1,
-      analysis_bounds call protocol name w.bytes w.set w.certificate (some_read call protocol name w.bytes w.set w.read) w.best,
+      (analysis_bounds call protocol name w.bytes w.set w.certificate (some_read call protocol name w.bytes w.set w.read) w.best, w.asked),
     )
 
 -- A set and a valid certificate of it that were read.
@@ -172,5 +179,6 @@ proved_check call protocol name cert a out gives zero =
     let f = found_valid (shown_by (shelf_of call)) protocol name cert a out zero' in
     record {
       proved = reads_valid call protocol name cert f.bytes f.text f.set f.certificate f.read f.also f.valid;
+      asked = f.asked;
       given = f.last;
     }

@@ -43,9 +43,9 @@ sound_outcome call p set c checks a out zero values are =
     let later : IsOutcomeOf (told checks.inputs) (with_certificate p checks.cert (check_of p digest set)) a =
     rest_of checks.inputs (set_input p) checks.name
     (λ bytes tasks. with_certificate p checks.cert (check_of p (sha256 bytes) tasks)) read.bytes set a
-    (set_reads_once p) (told_reads call checks.inputs p checks.name set checks.told read) out in
+    (set_reads_once p) (told_reads call checks.inputs p checks.name set read checks.named_set) out in
     let tied : IfTied digest file (IsCheck p set) a =
-    rest_of checks.inputs (cert_input p) checks.cert (λ bytes d. Working (check_of p digest set d)) checks.bytes file a
-    (cert_reads_once p) ((checks.named, checks.short), checks.reads) later in
+    (rest_of checks.inputs (cert_input p) checks.cert (λ bytes d. Working (check_of p digest set d)) checks.bytes file a
+    (cert_reads_once p) ((checks.named, checks.short), checks.reads) later).0 in
     let judged : IsJudgement p set c checked_answer a = (tied_at_zero digest checks.digest (IsCheck p set c) a tied zero).1 in
     named_sound p set c values read.text.accepted (valid_at_zero p set c a judged zero) are

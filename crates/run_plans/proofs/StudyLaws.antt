@@ -1,8 +1,8 @@
 -- Laws of studies: there is one answer, with status 0.
 use Rattle.std.proofs.Common.{◌≡◌, ℕ, List, [], ◌++◌, codes, decimal, refl, sym, ◌∙◌, ap, inl}
 use Rattle.std.specs.Prelude.{slice_index, slice_index_or}
-use Rattle.bounded_sums.specs.Sums.{collect_below}
-use Rattle.bounded_sums.proofs.SumLaws.{collect_below-agree}
+use Rattle.number_laws.specs.Sums.{collect_below}
+use Rattle.number_laws.proofs.SumLaws.{collect_below-agree}
 use Rattle.study_gen.specs.Counts.{IsStudy}
 use Rattle.study_gen.specs.declared.counting.StudyCounts.{StudyCounts}
 use Rattle.study_gen.proofs.OneStudy.{step_once, stopped_is_one}

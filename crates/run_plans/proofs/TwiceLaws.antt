@@ -16,7 +16,7 @@ complete_over : (call : Call) → IsRun call → call.shelf_now.faults ≡ call.
 complete_over call run same below tells inputs form form_is told ends quiet =
     let premise : IsCompletePremise call inputs form = record {
       form_is = form_is;
-      tells_names = told;
+      has = inl told;
       ends = ends;
       tells = tells;
       shelf = not_risen call.shelf_before.faults call.shelf_now.faults same below;

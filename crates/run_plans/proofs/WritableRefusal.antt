@@ -7,8 +7,8 @@ use Rattle.std.proofs.lemmas.Bool.{cases_lt}
 use Rattle.std.proofs.lemmas.Int.{ints}
 use Rattle.std.proofs.lemmas.Grind.{div_ceil_times}
 use Rattle.std.proofs.lemmas.List.Elements.{All-nil, All-cons, All-append}
-use Rattle.bounded_sums.specs.Sums.{only_if, collect_below}
-use Rattle.bounded_sums.proofs.SumLaws.{sum_below-monotone, sum_below-constant}
+use Rattle.number_laws.specs.Sums.{only_if, collect_below}
+use Rattle.number_laws.proofs.SumLaws.{sum_below-monotone, sum_below-constant}
 use Rattle.fraction128.specs.Fraction.{Fraction, IsForm}
 use Rattle.program_form.specs.Program.{ProgramDef, height}
 use Rattle.program_form.specs.Certificate.{DualDef}

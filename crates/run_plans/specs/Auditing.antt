@@ -1,6 +1,7 @@
 -- What status 0 says of words of `audit`: the figures that the call writes lie within what the certificate proves.
-use Rattle.std.specs.Prelude.{◌≡◌, ℕ, List, length}
+use Rattle.std.specs.Prelude.{◌≡◌, ℕ, List, [], ◌∷◌, length}
 use Rattle.std.specs.Io.KnownBytes.{Appends}
+use Rattle.outside_ports.specs.Past.{wholly}
 use Rattle.schedule_model.specs.JobDef.{JobsDef}
 use Rattle.schedule_model.specs.RowDef.{trace_in, ticks_of}
 use Rattle.schedule_model.specs.Fitting.{RowsDef}
@@ -11,14 +12,14 @@ use Rattle.protocol_names.specs.declared.ProtocolName.{ProtocolName}
 use Rattle.reply_texts.specs.Texts.{kept_text}
 use Rattle.command_inputs.specs.Known.{Input, IsRead, shown, shown_by}
 use Rattle.command_inputs.specs.Inputs.{jobs_input, rows_input}
-use Rattle.run_plans.specs.Headline.{Call, ReadsValid}
+use Rattle.run_plans.specs.Headline.{Call, Asks, ReadsValid}
 
 -- The call read this value of the input, under this name and of these bytes.
 abbrev pub Read : Call → (input : Input) → List ℕ → List ℕ → input.Value → Type 0
 Read call input name bytes value = IsRead (shown_by (shown call.shelf_before call.shelf_now)) input name bytes value
 
--- The call read a set with a valid certificate of it, jobs of the set and rows of these jobs, of as many bytes as were given last. The
--- rows are a lawful schedule. What the call writes are its figures, which lie within what the certificate proves and add up.
+-- The call read a set with a valid certificate of it, jobs of the set and rows of these jobs. They are of the very bytes that the shelf
+-- gave, in this order, and it was asked for nothing else. The rows are a lawful schedule. What the call writes are its figures, which lie within what the certificate proves and add up.
 pub record IsProvedAudit (call : Call) (protocol : ProtocolName) (name cert jobs rows : List ℕ) : Type 0 where
   pub proved : ReadsValid call protocol name cert
   pub jobs_bytes : List ℕ
@@ -27,6 +28,7 @@ pub record IsProvedAudit (call : Call) (protocol : ProtocolName) (name cert jobs
   pub rows_bytes : List ℕ
   pub schedule : RowsDef
   pub rows_read : Read call (rows_input list) rows rows_bytes schedule
+  pub asked : Asks call (wholly name proved.read.bytes ∷ wholly cert proved.bytes ∷ wholly jobs jobs_bytes ∷ wholly rows rows_bytes ∷ [])
   pub given : length rows_bytes ≡ call.shelf_now.given
   pub lawful : IsLawfulSchedule (rules_of protocol) proved.set (trace_in list schedule.runs) (ticks_of schedule.runs)
   pub text : Appends call.sink_before.written call.sink_now.written (kept_text proved.set (ticks_of schedule.runs)

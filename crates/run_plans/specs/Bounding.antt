@@ -1,8 +1,9 @@
 -- The promise on bounds alone, in which no program, dual or row of one stands.
-use Rattle.std.specs.Prelude.{◌≡◌, ℕ, ◌<◌, ◌≤◌, List, length, codes}
+use Rattle.std.specs.Prelude.{◌≡◌, ℕ, ◌<◌, ◌≤◌, List, [], ◌∷◌, length, codes}
 use Rattle.std.specs.Io.KnownBytes.{Appends}
 use Rattle.serde_json.specs.Data.{Data}
 use Rattle.outside_ports.specs.Names.{IsNamed}
+use Rattle.outside_ports.specs.Past.{wholly}
 use Rattle.sporadic_model.specs.SetDef.{SetDef}
 use Rattle.protocol_names.specs.declared.ProtocolName.{ProtocolName}
 use Rattle.schedule_model.specs.RowDef.{Trace}
@@ -15,7 +16,7 @@ use Rattle.command_words.specs.Spelled.{analyse_words, check_words}
 use Rattle.taskset_json.specs.Answers.{IsValue}
 use Rattle.taskset_json.specs.Members.{list_at}
 use Rattle.cert_json.specs.Written.{numbers_written}
-use Rattle.run_plans.specs.Headline.{Call, ReadsSome}
+use Rattle.run_plans.specs.Headline.{Call, Asks, ReadsSome}
 
 -- In every schedule that keeps the protocol's rules, of whatever lawful jobs of the set, is each job finished by its release plus its
 -- task's bound, where that lies within the rows?
@@ -33,9 +34,12 @@ pub record ListsBounds (call : Call) (protocol : ProtocolName) (name : List ℕ)
   pub within : AreWithinDeadlines set (numbers_written (list_at (codes "bounds") value))
   pub kept : AreKept protocol set (numbers_written (list_at (codes "bounds") value))
 
--- With status 0, what `analyse` writes lists such bounds, and so does the certificate that `check` read.
+-- With status 0, what `analyse` writes lists such bounds for the set of the very bytes that the shelf gave, and it gave no others. So
+-- does the certificate that `check` read, which are the bytes that the shelf gave after those of the set.
 pub record IsBounding (call : Call) : Type 0 where
   pub analysed : (protocol : ProtocolName) (name : List ℕ) (more : List (List ℕ)) → call.words ≡ analyse_words protocol name more
-      → call.status ≡ 0 → (text : List ℕ) × Appends call.sink_before.written call.sink_now.written text × ListsBounds call protocol name text
+      → call.status ≡ 0 → (text : List ℕ) × Appends call.sink_before.written call.sink_now.written text
+      × ((lists : ListsBounds call protocol name text) × Asks call (wholly name lists.read.bytes ∷ []))
   pub checked : (protocol : ProtocolName) (name cert : List ℕ) → call.words ≡ check_words protocol name cert
-      → call.status ≡ 0 → (text : List ℕ) × IsNamed call.shelf_before.names cert text × ListsBounds call protocol name text
+      → call.status ≡ 0 → (text : List ℕ) × IsNamed call.shelf_before.names cert text
+      × ((lists : ListsBounds call protocol name text) × Asks call (wholly name lists.read.bytes ∷ wholly cert text ∷ []))

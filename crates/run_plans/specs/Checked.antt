@@ -10,19 +10,19 @@ use Rattle.sha2.specs.Sha256.{sha256}
 use Rattle.sporadic_model.specs.SetDef.{SetDef}
 use Rattle.command_inputs.specs.Known.{Answer}
 use Rattle.run_plans.specs.Commands.{checked_answer, other_set_answer}
-use Rattle.run_plans.specs.Headline.{Call, RanOut, ReadsSome}
+use Rattle.run_plans.specs.Headline.{Call, HasInputs, RanOut, ReadsSome}
 use Rattle.run_plans.specs.Run.{Gives}
 
 -- Does the second call check what the first one wrote? The first analyses a set, writes to a sink that tells its bytes, and ends
 -- with status 0. The second checks a certificate for the same protocol, where the set's name has the same bytes, and the
--- certificate's name those that the first call wrote. Both shelves tell their inputs.
+-- certificate's name those that the first call wrote. Each call has its inputs.
 pub record ChecksWhatWasWritten (first second : Call) : Type 0 where
   pub protocol : ProtocolName
   pub set : List ℕ
   pub more : List (List ℕ)
   pub inputs : Inputs
   pub analyses : first.words ≡ analyse_words protocol set more
-  pub told : first.shelf_before.names ≡ Some inputs
+  pub has : HasInputs first inputs
   pub tells : IsSome first.sink_before.written
   pub schedulable : first.status ≡ 0
   pub text : List ℕ
@@ -32,7 +32,7 @@ pub record ChecksWhatWasWritten (first second : Call) : Type 0 where
   pub certificate : List ℕ
   pub later : Inputs
   pub checks : second.words ≡ check_words protocol same_set certificate
-  pub told_later : second.shelf_before.names ≡ Some later
+  pub has_later : HasInputs second later
   pub set_again : bytes_of later same_set ≡ bytes_of inputs set
   pub text_again : bytes_of later certificate ≡ Some text
 
@@ -44,7 +44,7 @@ pub record ChecksForAnotherSet (first second : Call) : Type 0 where
   pub more : List (List ℕ)
   pub inputs : Inputs
   pub analyses : first.words ≡ analyse_words protocol set more
-  pub told : first.shelf_before.names ≡ Some inputs
+  pub has : HasInputs first inputs
   pub tells : IsSome first.sink_before.written
   pub schedulable : first.status ≡ 0
   pub text : List ℕ
@@ -56,9 +56,10 @@ pub record ChecksForAnotherSet (first second : Call) : Type 0 where
   pub certificate : List ℕ
   pub later : Inputs
   pub checks : second.words ≡ check_words protocol other_set certificate
-  pub told_later : second.shelf_before.names ≡ Some later
+  pub has_later : HasInputs second later
   pub tasks : SetDef
   pub read : ReadsSome second protocol other_set tasks
+  pub named_later : bytes_of later other_set ≡ Some read.bytes
   pub apart : sha256 read.bytes ≢ sha256 bytes
   pub text_again : bytes_of later certificate ≡ Some text
 

@@ -1,8 +1,9 @@
 -- The headline: what a call of the program that analyses a set writes, and what that means.
-use Rattle.std.specs.Prelude.{◌≡◌, ◌≢◌, ℕ, true, ◌≤◌, ◌↔◌, List, length, Some}
+use Rattle.std.specs.Prelude.{◌≡◌, ◌≢◌, ℕ, true, ◌≤◌, ◌↔◌, List, [], ◌∷◌, length, Some}
 use Rattle.std.specs.Io.KnownBytes.{Appends}
 use Rattle.outside_ports.specs.Counts.{Rose}
 use Rattle.outside_ports.specs.Names.{Inputs, bytes_of, IsNamed}
+use Rattle.outside_ports.specs.Past.{Asked, wholly}
 use Rattle.outside_ports.specs.Ports.{ShelfDef, SinkDef}
 use Rattle.outside_ports.specs.declared.whole.TheConstants.{GREATEST_INPUT_BYTES}
 use Rattle.program_form.specs.Certificate.{CertificateDef}
@@ -22,6 +23,7 @@ use Rattle.taskset_json.specs.Written.{set_written}
 use Rattle.cert_json.specs.Text.{certificate_text}
 use Rattle.sha2.specs.Sha256.{sha256}
 use Rattle.command_inputs.specs.Inputs.{IsFileText}
+use Rattle.command_inputs.specs.Known.{AreInputs, readings_after, shown}
 
 -- A call: its words; what the shelf and the sink were before it, and what they are after it; and the status.
 pub record Call : Type 0 where
@@ -31,6 +33,14 @@ pub record Call : Type 0 where
   pub sink_before : SinkDef
   pub sink_now : SinkDef
   pub status : ℕ
+
+-- The call asked its shelf for these, in this order, and for nothing else. Each has its name and the bytes that the shelf gave.
+abbrev pub Asks : Call → List Asked → Type 0
+Asks call readings = call.shelf_now.readings ≡ readings_after call.shelf_before.readings readings
+
+-- Are these the inputs of the call? They are those that the shelf tells, or they fit all that the call asked for and was given.
+abbrev pub HasInputs : Call → Inputs → Type 0
+HasInputs call inputs = AreInputs (shown call.shelf_before call.shelf_now) inputs
 
 -- Memory ran out, and nothing was written.
 pub record RanOut (call : Call) : Type 0 where
@@ -68,7 +78,8 @@ pub record ReadsSome (call : Call) (protocol : ProtocolName) (name : List ℕ) (
   pub short : length bytes ≤ GREATEST_INPUT_BYTES
   pub text : IsSetText protocol bytes set
 
--- The call analyses the set: its words are those of `analyse`, with an allowance or none, and the told bytes of the name are the set.
+-- The call analyses the set: its words are those of `analyse`, with an allowance or none, and the bytes of the name, among the call's
+-- inputs, are the set.
 pub record Analyses (call : Call) (protocol : ProtocolName) (set : SetDef) : Type 0 where
   pub inputs : Inputs
   pub name : List ℕ
@@ -76,8 +87,9 @@ pub record Analyses (call : Call) (protocol : ProtocolName) (set : SetDef) : Typ
   pub allowance : ℕ
   pub words : call.words ≡ analyse_words protocol name more
   pub allows : allowance_of more ≡ Some allowance
-  pub told : call.shelf_before.names ≡ Some inputs
+  pub has : HasInputs call inputs
   pub read : ReadsSome call protocol name set
+  pub named_set : bytes_of inputs name ≡ Some read.bytes
 
 -- The headline: the call writes "schedulable" exactly where some bounds within all deadlines satisfy the recurrence, giving the
 -- least such bounds with optimal duals. Its premises: no count of faults rose in the call, memory did not run out, and the status
@@ -90,14 +102,16 @@ pub record IsHeadline (call : Call) (protocol : ProtocolName) (digest : List ℕ
   pub least : call.status ≡ 0 → WritesSchedulable call protocol digest set
   pub none : call.status ≡ 1 → (s : List ℕ) → AreFitting (source_of protocol set) s → ⊥
 
--- The call checks a certificate of the set: its words are those of `check`, and the told bytes of the names are the two.
+-- The call checks a certificate of the set: its words are those of `check`, and the bytes of the names, among the call's inputs, are
+-- the two.
 pub record Checks (call : Call) (protocol : ProtocolName) (set : SetDef) (c : CertificateDef) : Type 0 where
   pub inputs : Inputs
   pub name : List ℕ
   pub cert : List ℕ
   pub words : call.words ≡ check_words protocol name cert
-  pub told : call.shelf_before.names ≡ Some inputs
+  pub has : HasInputs call inputs
   pub read : ReadsSome call protocol name set
+  pub named_set : bytes_of inputs name ≡ Some read.bytes
   pub bytes : List ℕ
   pub named : bytes_of inputs cert ≡ Some bytes
   pub short : length bytes ≤ GREATEST_INPUT_BYTES
@@ -110,11 +124,12 @@ abbrev pub IsSoundCheck : Call → ProtocolName → SetDef → CertificateDef �
 IsSoundCheck call protocol set c = call.status ≡ 0 → (values : List ℕ) → AreValues (source_of protocol set) c values
     → SoundUnder protocol set c.bounds values
 
--- What status 0 says of words of `analyse`, whatever the shelf tells: of the set that was read, of as many bytes as were given, the
--- call writes "schedulable".
+-- What status 0 says of words of `analyse`, whatever the shelf tells: the call asked for the set alone, and of the set whose text are
+-- the very bytes that the shelf gave it writes "schedulable".
 pub record IsProvedAnalysis (call : Call) (protocol : ProtocolName) (name : List ℕ) : Type 0 where
   pub set : SetDef
   pub read : ReadsSome call protocol name set
+  pub asked : Asks call (wholly name read.bytes ∷ [])
   pub given : length read.bytes ≡ call.shelf_now.given
   pub writes : WritesSchedulable call protocol (sha256 read.bytes) set
 
@@ -130,7 +145,9 @@ pub record ReadsValid (call : Call) (protocol : ProtocolName) (name cert : List 
   pub valid : IsValid (source_of protocol set) certificate
   pub sound : (values : List ℕ) → AreValues (source_of protocol set) certificate values → SoundUnder protocol set certificate.bounds values
 
--- What status 0 says of words of `check`, whatever the shelf tells: such a certificate was read, of as many bytes as were given last.
+-- What status 0 says of words of `check`, whatever the shelf tells: the call asked for the set and then for the certificate, and for
+-- nothing else, and they are of the very bytes that the shelf gave.
 pub record IsProvedCheck (call : Call) (protocol : ProtocolName) (name cert : List ℕ) : Type 0 where
   pub proved : ReadsValid call protocol name cert
+  pub asked : Asks call (wholly name proved.read.bytes ∷ wholly cert proved.bytes ∷ [])
   pub given : length proved.bytes ≡ call.shelf_now.given

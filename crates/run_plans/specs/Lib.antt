@@ -7,9 +7,11 @@ pub mod RefusalReplies
 pub mod Reached
 pub mod Headline
 pub mod Bounding
+pub mod OnClocks
 pub mod Auditing
 pub mod Refused
 pub mod Run
 pub mod Twice
 pub mod Checked
 pub mod Confirmed
+pub mod Compared

@@ -28,6 +28,7 @@ IsReplyOf shelf plan answer =
     (Rose shelf.before shelf.now × (shelf.given ≤ GREATEST_INPUT_BYTES) × IsReadFaultOf (shown_by shelf) plan answer)
     ⊎ IsOutcomeOf (shown_by shelf) plan answer
 
--- A reply to words.
+-- A reply to words. Where they have no form nothing was asked for.
 abbrev pub IsReply : Shown → List (List ℕ) → Answer → Type 0
-IsReply shelf words answer = MatchOption (form_of words) (answer ≡ refused_words) (λ form. IsReplyOf shelf (plan_of form) answer)
+IsReply shelf words answer =
+    MatchOption (form_of words) ((answer ≡ refused_words) × (shelf.has ≡ shelf.had)) (λ form. IsReplyOf shelf (plan_of form) answer)

@@ -1,7 +1,8 @@
 -- What a command is: inputs that are read in order, and then a work. And what it answers, for whatever is known of the
 -- inputs. All this is said of any command; the commands themselves stand in `Commands`.
-use Rattle.std.specs.Prelude.{◌≡◌, ℕ, ◌⊎◌, List}
-use Rattle.command_inputs.specs.Known.{Answer, Input, Known, read_fault, IsStopped, IsRead}
+use Rattle.std.specs.Prelude.{◌≡◌, ℕ, ◌⊎◌, List, [], ◌∷◌, Ok}
+use Rattle.outside_ports.specs.Past.{Asked, wholly}
+use Rattle.command_inputs.specs.Known.{Answer, Input, Known, past, read_fault, IsStopped, IsRead}
 
 -- The work on what was read: what it answers, and the condition under which that has status 0 or 1.
 pub record Work : Type 1 where
@@ -19,19 +20,37 @@ abbrev pub IsWorking : Plan → Type 0
 IsWorking (Working work) = Unit {0}
 IsWorking (Reading input name next) = ⊥
 
--- Is this an outcome of the plan: that of the first input which gives no value, or else of the work?
+-- Is this an outcome of the plan: that of the first input which gives no value, or else of the work, before which no further input is
+-- asked for?
 abbrev pub IsOutcomeOf : Known → Plan → Answer → Type 0
-IsOutcomeOf known (Working work) answer = work.answers answer
+IsOutcomeOf known (Working work) answer = work.answers answer × known.asked []
 IsOutcomeOf known (Reading input name next) answer = IsStopped known input name answer
     ⊎ ((bytes : List ℕ) × (value : input.Value) × (IsRead known input name bytes value)
-    × (IsWorking (next bytes value) → known.last bytes) × (IsOutcomeOf known (next bytes value) answer))
+    × (IsWorking (next bytes value) → known.last bytes) × (IsOutcomeOf (past known (wholly name bytes)) (next bytes value) answer))
 
--- Is this the answer that one of the inputs could not be read, every input before it being there and accepted?
+-- Is this the answer that one of the inputs could not be read, every input before it being there and accepted? It is the last that is
+-- asked for.
 abbrev pub IsReadFaultOf : Known → Plan → Answer → Type 0
 IsReadFaultOf known (Working work) answer = ⊥
-IsReadFaultOf known (Reading input name next) answer = (answer ≡ read_fault input.word)
+IsReadFaultOf known (Reading input name next) answer =
+    (((one : Asked) × (one.name ≡ name) × known.asked (one ∷ [])) × (answer ≡ read_fault input.word))
     ⊎ ((bytes : List ℕ) × (value : input.Value) × (IsRead known input name bytes value)
-    × (IsReadFaultOf known (next bytes value) answer))
+    × (IsReadFaultOf (past known (wholly name bytes)) (next bytes value) answer))
+
+-- Are these the readings of a plan that comes to its work? Each input that it names is given whole, in its order, and accepted; and
+-- there is no other.
+abbrev pub AsksAll : Plan → List Asked → Type 0
+AsksAll (Working work) readings = readings ≡ []
+AsksAll (Reading input name next) readings = (bytes : List ℕ) × (value : input.Value) × (later : List Asked)
+    × (readings ≡ wholly name bytes ∷ later) × input.reads bytes (Ok value) × AsksAll (next bytes value) later
+
+-- Are these the readings of a plan that stops at an input? That one is the last, whatever came of it, and each before it is given
+-- whole and accepted.
+abbrev pub AsksPart : Plan → List Asked → Type 0
+AsksPart (Working work) readings = ⊥
+AsksPart (Reading input name next) readings = ((one : Asked) × (one.name ≡ name) × (readings ≡ one ∷ []))
+    ⊎ ((bytes : List ℕ) × (value : input.Value) × (later : List Asked)
+    × (readings ≡ wholly name bytes ∷ later) × input.reads bytes (Ok value) × AsksPart (next bytes value) later)
 
 -- Is every input there and accepted, and does the work then end with status 0 or 1?
 abbrev pub EndsWell : Known → Plan → Type 0

@@ -1,7 +1,8 @@
 -- What status 0 of `refute` and of `confirm` says: nothing fits, and here is why.
-use Rattle.std.specs.Prelude.{◌≡◌, ℕ, ◌≤◌, List, length}
+use Rattle.std.specs.Prelude.{◌≡◌, ℕ, ◌≤◌, List, [], ◌∷◌, length}
 use Rattle.std.specs.Io.KnownBytes.{Appends}
 use Rattle.outside_ports.specs.Names.{IsNamed}
+use Rattle.outside_ports.specs.Past.{wholly}
 use Rattle.outside_ports.specs.declared.whole.TheConstants.{GREATEST_INPUT_BYTES}
 use Rattle.sha2.specs.Sha256.{sha256}
 use Rattle.sporadic_model.specs.SetDef.{SetDef}
@@ -12,13 +13,14 @@ use Rattle.refusal_laws.specs.Steps.{StepDef, Holds}
 use Rattle.refusal_json.specs.Text.{refusal_text}
 use Rattle.named_laws.specs.Named.{source_of}
 use Rattle.command_inputs.specs.Inputs.{IsRefusalText}
-use Rattle.run_plans.specs.Headline.{Call, ReadsSome}
+use Rattle.run_plans.specs.Headline.{Call, Asks, ReadsSome}
 
--- Of the set that was read, of as many bytes as were given, the call writes a refusal that holds, with the digest of the set's bytes:
--- no bounds within all deadlines satisfy the recurrence.
+-- The call asked for the set alone. Of the set whose text are the very bytes that the shelf gave it writes a refusal that holds, with
+-- the digest of these bytes: no bounds within all deadlines satisfy the recurrence.
 pub record IsProvedRefutation (call : Call) (protocol : ProtocolName) (name : List ℕ) : Type 0 where
   pub set : SetDef
   pub read : ReadsSome call protocol name set
+  pub asked : Asks call (wholly name read.bytes ∷ [])
   pub given : length read.bytes ≡ call.shelf_now.given
   pub steps : List StepDef
   pub text : Appends call.sink_before.written call.sink_now.written (refusal_text (word_of protocol) (sha256 read.bytes) steps)
@@ -37,7 +39,8 @@ pub record ReadsHolding (call : Call) (protocol : ProtocolName) (name cert : Lis
   pub holds : Holds (source_of protocol set) steps
   pub none : (s : List ℕ) → AreFitting (source_of protocol set) s → ⊥
 
--- Such a refusal was read, of as many bytes as were given last.
+-- The call asked for the set and then for the refusal, and for nothing else, and they are of the very bytes that the shelf gave.
 pub record IsProvedConfirmation (call : Call) (protocol : ProtocolName) (name cert : List ℕ) : Type 0 where
   pub proved : ReadsHolding call protocol name cert
+  pub asked : Asks call (wholly name proved.read.bytes ∷ wholly cert proved.bytes ∷ [])
   pub given : length proved.bytes ≡ call.shelf_now.given

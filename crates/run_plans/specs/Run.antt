@@ -1,8 +1,9 @@
 -- What one call of the program does.
-use Rattle.std.specs.Prelude.{◌≡◌, ◌≢◌, ℕ, ◌+◌, ◌<◌, ◌≤◌, ◌⊎◌, List, length, codes, None, Some, IsSome}
+use Rattle.std.specs.Prelude.{◌≡◌, ◌≢◌, ℕ, ◌+◌, ◌<◌, ◌≤◌, ◌⊎◌, List, [], length, codes, None, Some, IsSome, MatchOption}
 use Rattle.std.specs.Io.KnownBytes.{Appends}
 use Rattle.outside_ports.specs.Counts.{Rose}
 use Rattle.outside_ports.specs.Names.{Inputs}
+use Rattle.outside_ports.specs.Past.{Asked}
 use Rattle.outside_ports.specs.Prefix.{AppendsPart}
 use Rattle.outside_ports.specs.declared.whole.TheConstants.{GREATEST_INPUT_BYTES}
 use Rattle.program_form.specs.Certificate.{CertificateDef}
@@ -14,14 +15,15 @@ use Rattle.response_fixpoint.specs.Runs.{rounds_of, RequestsNothing}
 use Rattle.refusal_cert.specs.Refuting.{refuting}
 use Rattle.named_laws.specs.Named.{source_of}
 use Rattle.command_inputs.specs.Known.{Answer, Known, refused, IsRead, Shown, shown, shown_by, told}
-use Rattle.run_plans.specs.Plans.{IsWorking, EndsWell}
+use Rattle.run_plans.specs.Plans.{IsWorking, EndsWell, AsksAll, AsksPart}
 use Rattle.command_words.specs.Words.{Form, Analyse, Refute, form_of}
 use Rattle.command_words.specs.Spelled.{analyse_words, refute_words, check_words, confirm_words, audit_words}
 use Rattle.command_inputs.specs.Inputs.{set_input}
 use Rattle.run_plans.specs.Commands.{plan_of}
 use Rattle.run_plans.specs.Outcome.{refused_words, IsOutcome, IsReply}
-use Rattle.run_plans.specs.Headline.{Call, RanOut, Analyses, IsHeadline, Checks, IsSoundCheck, IsProvedAnalysis, IsProvedCheck}
+use Rattle.run_plans.specs.Headline.{Call, Asks, HasInputs, RanOut, Analyses, IsHeadline, Checks, IsSoundCheck, IsProvedAnalysis, IsProvedCheck}
 use Rattle.run_plans.specs.Bounding.{IsBounding}
+use Rattle.run_plans.specs.OnClocks.{IsOnClocks}
 use Rattle.run_plans.specs.Auditing.{IsProvedAudit}
 use Rattle.run_plans.specs.Refused.{IsProvedRefutation, IsProvedConfirmation}
 
@@ -62,11 +64,18 @@ pub record GivesOutcome (call : Call) (inputs : Inputs) : Type 0 where
   pub is : IsOutcome inputs call.words outcome
   pub gives : Gives call outcome
 
--- Completeness: the words have a form, the shelf tells its inputs, each that is named is there and accepted, the work on
--- them comes to an end with status 0 or 1, the sink tells its bytes, and neither count of faults rises.
+-- For which inputs a call asks: for those that its words name, in their order, each given whole and accepted. With status 3 or 4 it may
+-- stop at one of them, which is then the last. And for none where the words have no form.
+abbrev pub AsksInOrder : Call → Type 0
+AsksInOrder call = (readings : List Asked) × Asks call readings
+    × MatchOption (form_of call.words) (readings ≡ []) (λ form. AsksAll (plan_of form) readings
+    ⊎ (AsksPart (plan_of form) readings × ((call.status ≡ 3) ⊎ (call.status ≡ 4))))
+
+-- Completeness: the words have a form, each of the call's inputs that is named is there and accepted, the work on them comes to an
+-- end with status 0 or 1, the sink tells its bytes, and neither count of faults rises.
 pub record IsCompletePremise (call : Call) (inputs : Inputs) (form : Form) : Type 0 where
   pub form_is : form_of call.words ≡ Some form
-  pub tells_names : call.shelf_before.names ≡ Some inputs
+  pub has : HasInputs call inputs
   pub ends : EndsWell (told inputs) (plan_of form)
   pub tells : IsSome call.sink_before.written
   pub shelf : Rose call.shelf_before.faults call.shelf_now.faults → ⊥
@@ -107,9 +116,10 @@ pub record IsRun (call : Call) : Type 0 where
   -- Status 4 comes only where a count of faults rose, and status 7 only where memory ran out.
   pub faults : call.status ≡ 4 → Rose call.shelf_before.faults call.shelf_now.faults ⊎ Rose call.sink_before.faults call.sink_now.faults
   pub want : call.status ≡ 7 → RanOut call
-  -- Where the shelf tells its inputs, each outcome comes exactly where it is the outcome, except where a fault comes or
-  -- memory ran out.
-  pub exactly : (inputs : Inputs) (answer : Answer) → call.shelf_before.names ≡ Some inputs → IsOutcome inputs call.words answer
+  -- No input is read but those that the words name; or memory ran out.
+  pub asked : AsksInOrder call ⊎ RanOut call
+  -- Each outcome comes exactly where it is the outcome for the call's inputs, except where a fault comes or memory ran out.
+  pub exactly : (inputs : Inputs) (answer : Answer) → HasInputs call inputs → IsOutcome inputs call.words answer
       → Gives call answer ⊎ ((call.status ≡ 4) ⊎ RanOut call)
   -- Status 5 comes only for words of `analyse` or of `refute`, where the rounds end in a run that is too wide, and so of `analyse`
   -- not for a set that requests nothing; status 6 only where they end with the allowance.
@@ -121,13 +131,15 @@ pub record IsRun (call : Call) : Type 0 where
   pub headline : (protocol : ProtocolName) (set : SetDef) → (a : Analyses call protocol set) → IsHeadline call protocol (sha256 a.read.bytes) set
   -- And what `check` accepts is sound.
   pub sound : (protocol : ProtocolName) (set : SetDef) (c : CertificateDef) → Checks call protocol set c → IsSoundCheck call protocol set c
-  -- With status 0 both say of whatever set was read what is proved of it; and `bounding` says of the bounds alone the least that
+  -- With status 0 both say of the set whose text are the bytes that the shelf gave what is proved of it; and `bounding` says of the bounds alone the least that
   -- matters.
   pub analysed : (protocol : ProtocolName) (name : List ℕ) (more : List (List ℕ)) → call.words ≡ analyse_words protocol name more
       → call.status ≡ 0 → IsProvedAnalysis call protocol name
   pub checked : (protocol : ProtocolName) (name cert : List ℕ) → call.words ≡ check_words protocol name cert
       → call.status ≡ 0 → IsProvedCheck call protocol name cert
   pub bounding : IsBounding call
+  -- The same of these bounds where rows are cycles, of which a tick has any number.
+  pub on_clocks : IsOnClocks call
   -- And what `audit` writes with status 0 are figures of a lawful schedule, within what a valid certificate proves.
   pub audited : (protocol : ProtocolName) (name cert jobs rows : List ℕ) → call.words ≡ audit_words protocol name cert jobs rows
       → call.status ≡ 0 → IsProvedAudit call protocol name cert jobs rows

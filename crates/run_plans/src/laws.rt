@@ -1,10 +1,13 @@
 //! Laws of calls. Each function does nothing, and what it ensures holds for all calls of which what a run promises is so.
 
+ghost use Rattle.std.specs.Prelude.{◌≡◌, ◌≢◌};
+ghost use Rattle.sporadic_model.specs.SetDef.{SetDef};
 ghost use Rattle.run_plans.specs.Headline.{Call};
 ghost use Rattle.run_plans.specs.Run.{IsRun};
 ghost use Rattle.run_plans.specs.Checked.{ChecksWhatWasWritten, ChecksForAnotherSet, FindsValid, FindsOtherSet};
 ghost use Rattle.run_plans.specs.Confirmed.{ConfirmsWhatWasWritten, FindsConfirmed, ChecksAndConfirms};
 ghost use Rattle.run_plans.specs.Twice.{AreSteady, IsCompleteCall};
+ghost use Rattle.run_plans.specs.Compared.{AnalyseOneSet, RaisesNoBound};
 
 /// Of two calls: where the first analyses a set and writes "schedulable", the second, which checks the written bytes for the same
 /// bytes of the set, answers `valid`; or a count of faults rises, or memory runs out.
@@ -25,7 +28,7 @@ pub fn refuted_then_confirmed()
 {}
 
 /// No two calls exist of which one finds a certificate valid and the other a refusal confirmed, for the same protocol and the same bytes
-/// of a set, over shelves that tell their inputs.
+/// of a set among the inputs of each.
 pub fn never_accepted_and_refused()
     ensures { (first second : Call) → IsRun first → IsRun second → ChecksAndConfirms first second → ⊥ }
 {}
@@ -36,4 +39,13 @@ pub fn never_accepted_and_refused()
 pub fn two_runs()
     ensures first { (first second : Call) → IsRun first → AreSteady first second → IsCompleteCall first }
     ensures second { (first second : Call) → IsRun second → AreSteady first second → IsCompleteCall second }
+{}
+
+/// Of two calls that analyse one set, the first with the word `dpcp`, the second with `dpcp-w`: where both write "schedulable", no
+/// bound that the second writes is greater than the first's. And where the first writes it, the second doesn't say "not shown".
+pub fn windows_lose_nothing()
+    ensures bounds { (first second : Call) (set : SetDef) → IsRun first → IsRun second → (two : AnalyseOneSet first second set)
+        → first.status ≡ 0 → second.status ≡ 0 → RaisesNoBound first second set two }
+    ensures shown { (first second : Call) (set : SetDef) → IsRun first → IsRun second → AnalyseOneSet first second set
+        → first.status ≡ 0 → second.status ≢ 1 }
 {}

@@ -1,6 +1,6 @@
 -- The tests that a certificate passes where it is valid.
 use Rattle.std.specs.Prelude.{◌≡◌, ℕ, ◌*◌, ◌<◌, ◌≤◌, length, slice_index}
-use Rattle.bounded_sums.specs.Sums.{sum_below}
+use Rattle.number_laws.specs.Sums.{sum_below}
 use Rattle.program_form.specs.Certificate.{DualDef, CertificateDef}
 use Rattle.program_form.specs.Program.{ProgramDef, columns, height, cost, entry}
 use Rattle.program_sources.specs.Recurrence.{SourceDef, response_with}

@@ -3,7 +3,7 @@ use crate::told::told;
 use sporadic_model::{Protocol, TaskSet};
 use std::alloc::Global;
 use std::test::Fail;
-use worked_files::*;
+use worked_sets::files::*;
 
 /// What is told of a schedule, given as the texts of its set, jobs and rows.
 fn told_of(alloc: Global, schedule: [&str; 3]) -> Result<String, Fail> {

@@ -10,7 +10,7 @@ use std::test::Fail;
 use taskset_json::home_check;
 use trace_conform::{TaskMeasure, conform};
 use trace_csv::{read_jobs, write_rows};
-use worked_files::set_from;
+use worked_sets::files::set_from;
 
 /// The set from its text, which has the homes that the protocol asks for.
 fn set_of(alloc: Global, protocol: Protocol, text: &str) -> Result<TaskSet, Fail>

@@ -5,9 +5,9 @@ use Rattle.std.proofs.Math.ListN.{get_or-append}
 use Rattle.std.proofs.Math.Seq.{get_or-append_seam}
 use Rattle.std.proofs.lemmas.List.Sums.{sum_by-cons}
 use Rattle.std.proofs.lemmas.Bool.{cases_lt, lt-ltb, le-ltb}
-use Rattle.bounded_sums.specs.Tests.{found_below}
-use Rattle.bounded_sums.proofs.CountLaws.{count_below-agree}
-use Rattle.bounded_sums.proofs.TestLaws.{all_below-agree, first_below-agree, found_below-agree}
+use Rattle.number_laws.specs.Tests.{found_below}
+use Rattle.number_laws.proofs.CountLaws.{count_below-agree}
+use Rattle.number_laws.proofs.TestLaws.{all_below-agree, first_below-agree, found_below-agree}
 use Rattle.sporadic_model.specs.SetDef.{task_at}
 use Rattle.schedule_model.specs.JobDef.{JobDef, JobsDef, job_of}
 use Rattle.schedule_model.specs.RowDef.{RowDef, RunDef, Trace, idle_row, row_in, ticks_of, trace_of, trace_in}

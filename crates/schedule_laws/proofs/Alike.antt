@@ -5,8 +5,8 @@ use Rattle.std.proofs.Common.{ap, ◌∙◌, arith, inl, inr, Option, Some, None
 use Rattle.std.specs.Option.{option_map_or}
 use Rattle.std.proofs.lemmas.Bool.{cases_lt, cases_Bool, le-leb, lt-leb}
 use Rattle.std.proofs.lemmas.List.{get_or_past}
-use Rattle.bounded_sums.specs.Tests.{all_below}
-use Rattle.bounded_sums.proofs.TestLaws.{all_below-agree}
+use Rattle.number_laws.specs.Tests.{all_below}
+use Rattle.number_laws.proofs.TestLaws.{all_below-agree}
 use Rattle.sporadic_model.specs.SetDef.{is_higher_local}
 use Rattle.schedule_model.specs.JobDef.{no_job, job_of}
 use Rattle.schedule_model.specs.RowDef.{Trace, running_on, holder_in, held_before, runs_in}

@@ -1,7 +1,7 @@
 -- The number of requests that a job has begun: it rises, is bounded by the script's requests, and tells which request is open.
 use Rattle.std.proofs.Common.{◌≡◌, ℕ, suc, ◌+◌, ◌-◌, ◌<◌, ◌≤◌, List, [], ◌∷◌, refl, sym, ◌∙◌, arith, inl, inr, Option, Some, None, is_some}
 use Rattle.std.proofs.lemmas.Bool.{cases_lt, lt-ltb, le-ltb}
-use Rattle.bounded_sums.specs.Sums.{flag}
+use Rattle.number_laws.specs.Sums.{flag}
 use Rattle.schedule_model.specs.JobDef.{SegmentDef, job_of, request_ticks, segment_ticks}
 use Rattle.schedule_model.specs.RowDef.{Trace}
 use Rattle.schedule_model.specs.Phase.{phase_from, executed, phase_of}
@@ -9,7 +9,7 @@ use Rattle.schedule_model.specs.Phase.Phase.{Local, Asking, Finished}
 use Rattle.schedule_laws.specs.Counting.{requests_in, begun_after, requests_begun}
 use Rattle.schedule_laws.proofs.Phases.{phase_of_none, phase_local, phase_request, phase_later, asking_at, asking_from}
 use Rattle.schedule_laws.proofs.Ticks.{executed_up}
-use Rattle.bounded_sums.proofs.ListCounts.{count_by-first}
+use Rattle.number_laws.proofs.ListCounts.{count_by-first}
 
 -- The three places in the first segment.
 begun_local : (s : SegmentDef) (script : List SegmentDef) (d : ℕ) → d < s.local → begun_after (s ∷ script) d ≡ 0

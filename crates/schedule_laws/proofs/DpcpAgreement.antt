@@ -2,8 +2,8 @@
 use Rattle.std.proofs.Common.{◌≡◌, ℕ, ◌<◌, ◌≤◌, ◌==◌, ◌&&◌, ◌||◌, not, leb, true, false, length, refl, sym, ap, ◌∙◌}
 use Rattle.std.proofs.Common.{arith, Option, Some, None, unwrap_or}
 use Rattle.std.specs.Option.{option_map_or}
-use Rattle.bounded_sums.specs.Tests.{all_below, any_below}
-use Rattle.bounded_sums.proofs.TestLaws.{all_below-agree, any_below-agree}
+use Rattle.number_laws.specs.Tests.{all_below, any_below}
+use Rattle.number_laws.proofs.TestLaws.{all_below-agree, any_below-agree}
 use Rattle.sporadic_model.specs.SetDef.{SetDef, resource_at}
 use Rattle.sporadic_model.specs.Users.{ceiling_of}
 use Rattle.schedule_model.specs.declared.rule.Rule.TheVariants as rule

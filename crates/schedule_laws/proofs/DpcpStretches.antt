@@ -5,8 +5,8 @@ use Rattle.std.proofs.Common.{sym, ap, ◌∙◌, subst, arith, inl, inr, Option
 use Rattle.std.specs.Option.{option_map_or}
 use Rattle.std.proofs.lemmas.Bool.{cases_lt, cases_Bool, both_ways, and_parts, and_from, eq-eqb, eqb-true, le-leb}
 use Rattle.std.proofs.lemmas.Bool.{leb-true, ltb-true, not-true, not_from_false, false_from_ne_true}
-use Rattle.bounded_sums.specs.Tests.{all_below, any_below}
-use Rattle.bounded_sums.proofs.TestLaws.{all_below-from, any_below-from, any_below-some, any_below-agree}
+use Rattle.number_laws.specs.Tests.{all_below, any_below}
+use Rattle.number_laws.proofs.TestLaws.{all_below-from, any_below-from, any_below-some, any_below-agree}
 use Rattle.sporadic_model.specs.SetDef.{SetDef}
 use Rattle.sporadic_model.specs.Homes.{EachHasHome}
 use Rattle.sporadic_model.specs.Users.{count_of, is_user, ceiling_of}

@@ -1,7 +1,7 @@
 -- Issue ticks: from when a request is open.
 use Rattle.std.proofs.Common.{◌≡◌, ℕ, suc, ◌<◌, ◌≤◌, true, false, sym, arith, inl, inr}
 use Rattle.std.proofs.lemmas.Bool.{cases_lt, cases_Bool, both_ways}
-use Rattle.bounded_sums.proofs.TestLaws.{first_below-at_most, first_below-passes, first_below-least, first_below-is}
+use Rattle.number_laws.proofs.TestLaws.{first_below-at_most, first_below-passes, first_below-least, first_below-is}
 use Rattle.schedule_model.specs.RowDef.{Trace}
 use Rattle.schedule_model.specs.Phase.{is_same_request, phase_of}
 use Rattle.schedule_model.specs.Phase.Phase.{Asking}

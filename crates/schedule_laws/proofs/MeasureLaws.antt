@@ -1,9 +1,9 @@
 -- When a job is finished, its response, and its blocked ticks, from tick to tick.
 use Rattle.std.proofs.Common.{◌≡◌, ℕ, suc, ◌+◌, ◌<◌, ◌≤◌, Bool, true, false, refl, ap, arith, inl, inr}
 use Rattle.std.proofs.lemmas.Bool.{cases_lt, both_ways}
-use Rattle.bounded_sums.specs.Sums.{flag}
-use Rattle.bounded_sums.proofs.TestLaws.{first_below-at_most, first_below-before, first_below-passes, first_below-least, first_below-agree}
-use Rattle.bounded_sums.proofs.CountLaws.{count_below-agree, count_below-longer}
+use Rattle.number_laws.specs.Sums.{flag}
+use Rattle.number_laws.proofs.TestLaws.{first_below-at_most, first_below-before, first_below-passes, first_below-least, first_below-agree}
+use Rattle.number_laws.proofs.CountLaws.{count_below-agree, count_below-longer}
 use Rattle.schedule_model.specs.JobDef.{job_of}
 use Rattle.schedule_model.specs.RowDef.{Trace}
 use Rattle.schedule_model.specs.Phase.{is_finished, phase_of}

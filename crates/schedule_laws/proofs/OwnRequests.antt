@@ -4,11 +4,11 @@ use Rattle.std.specs.List.{list_all}
 use Rattle.std.proofs.Common.{Option, Some, None, is_some, nat_lt}
 use Rattle.std.specs.Option.{option_map_or}
 use Rattle.std.proofs.lemmas.Bool.{and_parts, ltb-true}
-use Rattle.bounded_sums.specs.Sums.{sum_below, flag}
-use Rattle.bounded_sums.specs.Tests.{count_below}
-use Rattle.bounded_sums.proofs.SumLaws.{sum_below-zero, sum_below-agree, sum_below-plus, sum_below-monotone}
-use Rattle.bounded_sums.proofs.CountLaws.{count_below-none, count_below-equal}
-use Rattle.bounded_sums.proofs.ListCounts.{count_by-first, count_by-places}
+use Rattle.number_laws.specs.Sums.{sum_below, flag}
+use Rattle.number_laws.specs.Tests.{count_below}
+use Rattle.number_laws.proofs.SumLaws.{sum_below-zero, sum_below-agree, sum_below-plus, sum_below-monotone}
+use Rattle.number_laws.proofs.CountLaws.{count_below-none, count_below-equal}
+use Rattle.number_laws.proofs.ListCounts.{count_by-first, count_by-places}
 use Rattle.sporadic_model.specs.SetDef.{SetDef}
 use Rattle.sporadic_model.specs.Users.{count_of}
 use Rattle.schedule_model.specs.JobDef.{SegmentDef, JobDef, asks_for, number_of_requests, no_segment}

@@ -2,9 +2,9 @@
 -- a job that isn't finished after b ticks had more than b ticks of its script, of interference and of blocking.
 use Rattle.std.proofs.Common.{◌≡◌, ℕ, zero, suc, ◌+◌, ◌<◌, ◌≤◌, Bool, true, false, refl, arith, inl, inr}
 use Rattle.std.proofs.lemmas.Bool.{cases_lt, cases_Bool, both_ways}
-use Rattle.bounded_sums.specs.Sums.{flag}
-use Rattle.bounded_sums.specs.Tests.{count_below}
-use Rattle.bounded_sums.proofs.CountLaws.{count_below-monotone, count_below-split, count_below-all}
+use Rattle.number_laws.specs.Sums.{flag}
+use Rattle.number_laws.specs.Tests.{count_below}
+use Rattle.number_laws.proofs.CountLaws.{count_below-monotone, count_below-split, count_below-all}
 use Rattle.schedule_model.specs.JobDef.{job_of, total_ticks}
 use Rattle.schedule_model.specs.RowDef.{Trace, runs_in}
 use Rattle.schedule_model.specs.Phase.{is_finished, phase_of, executed}

@@ -1,7 +1,7 @@
 -- What the rules give where there is a job that may run or that requests: something runs, someone holds.
 use Rattle.std.proofs.Common.{◌≡◌, ℕ, ◌<◌, true, length, refl, Option, Some, None}
 use Rattle.std.proofs.lemmas.Bool.{both_ways}
-use Rattle.bounded_sums.proofs.TestLaws.{any_below-from}
+use Rattle.number_laws.proofs.TestLaws.{any_below-from}
 use Rattle.schedule_model.specs.RowDef.{Trace, running_on, holder_in}
 use Rattle.schedule_model.specs.Activity.{processor_of, is_requester, is_active_local, is_ready}
 use Rattle.schedule_model.specs.SharedRules as shared

@@ -3,7 +3,7 @@ use Rattle.std.proofs.Common.{◌≡◌, ℕ, suc, ◌+◌, ◌-◌, ◌<◌, �
 use Rattle.std.proofs.Common.{ap, ◌∙◌, arith, inl, inr, Option, Some, None, nat_lt}
 use Rattle.std.specs.Option.{option_map_or}
 use Rattle.std.proofs.lemmas.Bool.{cases_lt, lt-ltb, ltb-true, eqb-true}
-use Rattle.bounded_sums.proofs.ListCounts.{count_by-some}
+use Rattle.number_laws.proofs.ListCounts.{count_by-some}
 use Rattle.sporadic_model.specs.SetDef.{SetDef}
 use Rattle.sporadic_model.specs.Users.{count_of, is_user}
 use Rattle.schedule_model.specs.JobDef.{SegmentDef, job_of, segment_ticks, asks_for, number_of_requests, no_segment}

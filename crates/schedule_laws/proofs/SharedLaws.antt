@@ -3,7 +3,7 @@
 use Rattle.std.proofs.Common.{◌≡◌, ℕ, ◌+◌, ◌&&◌, not, Bool, true, false, refl, sym, ◌∙◌, Option, Some, None}
 use Rattle.std.specs.Option.{option_map_or}
 use Rattle.std.proofs.lemmas.Bool.{and_parts}
-use Rattle.bounded_sums.specs.Sums.{flag}
+use Rattle.number_laws.specs.Sums.{flag}
 use Rattle.sporadic_model.specs.SetDef.{is_higher_local}
 use Rattle.schedule_model.specs.declared.rule.Rule.TheVariants as rule
 use Rattle.schedule_model.specs.RowDef.{Trace, running_on, runs_in}

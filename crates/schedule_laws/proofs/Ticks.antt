@@ -3,8 +3,8 @@ use Rattle.std.proofs.Common.{◌≡◌, ℕ, zero, suc, ◌+◌, ◌<◌, ◌�
 use Rattle.std.specs.List.{list_all}
 use Rattle.std.proofs.lemmas.Bool.{cases_lt, cases_Bool, and_parts, eq-eqb, eqb-true}
 use Rattle.std.proofs.lemmas.List.{get_or_past}
-use Rattle.bounded_sums.specs.Sums.{flag}
-use Rattle.bounded_sums.proofs.CountLaws.{count_below-longer, count_below-at_most, flag-of_true, flag-of_false}
+use Rattle.number_laws.specs.Sums.{flag}
+use Rattle.number_laws.proofs.CountLaws.{count_below-longer, count_below-at_most, flag-of_true, flag-of_false}
 use Rattle.schedule_model.specs.JobDef.{SegmentDef, no_job, job_of, total_ticks}
 use Rattle.schedule_model.specs.RowDef.{Trace, runs_in}
 use Rattle.schedule_model.specs.LawfulJobs.{is_segment, is_script}

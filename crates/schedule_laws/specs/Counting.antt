@@ -1,8 +1,8 @@
 -- How many ticks does a job spend in which kind of phase, and how many requests has it begun?
 use Rattle.std.specs.Prelude.{◌≡◌, refl, ℕ, suc, ◌+◌, ◌-◌, ◌==◌, ◌&&◌, Bool, false, nat_lt, if◌then◌else◌, List, []}
 use Rattle.std.specs.Prelude.{◌∷◌, Some, None, is_some, count_by}
-use Rattle.bounded_sums.specs.Sums.{flag, only_if}
-use Rattle.bounded_sums.specs.Tests.{count_below}
+use Rattle.number_laws.specs.Sums.{flag, only_if}
+use Rattle.number_laws.specs.Tests.{count_below}
 use Rattle.schedule_model.specs.JobDef.{SegmentDef, job_of, request_ticks, segment_ticks}
 use Rattle.schedule_model.specs.RowDef.{Trace, runs_in}
 use Rattle.schedule_model.specs.Phase.{Phase, is_local, asking, phase_of, executed}

@@ -1,6 +1,6 @@
 ghost use Rattle.std.specs.Prelude.{◌≡◌, ℕ, ◌*◌, ◌<◌, ◌≤◌, Bool, true, false, length, slice_index_or};
-ghost use Rattle.bounded_sums.specs.Sums.{sum_below};
-ghost use Rattle.bounded_sums.specs.Tests.{count_below};
+ghost use Rattle.number_laws.specs.Sums.{sum_below};
+ghost use Rattle.number_laws.specs.Tests.{count_below};
 ghost use Rattle.sporadic_model.specs.SetDef.{SetDef};
 ghost use Rattle.sporadic_model.specs.Users.{count_of, length_of, is_user};
 ghost use Rattle.schedule_model.specs.JobDef.{JobDef, job_of, asks_for, total_ticks, local_ticks, number_of_requests, no_segment};

@@ -1,6 +1,6 @@
 ghost use Rattle.std.specs.Prelude.{◌≡◌, ℕ, ◌+◌, ◌<◌, ◌≤◌, Bool, true, false, length};
-ghost use Rattle.bounded_sums.specs.Sums.{flag};
-ghost use Rattle.bounded_sums.specs.Tests.{count_below};
+ghost use Rattle.number_laws.specs.Sums.{flag};
+ghost use Rattle.number_laws.specs.Tests.{count_below};
 ghost use Rattle.sporadic_model.specs.SetDef.{task_at, jobs_within};
 ghost use Rattle.sporadic_model.specs.Accepted.{TaskNumbers};
 ghost use Rattle.schedule_model.specs.JobDef.{JobsDef, job_of};

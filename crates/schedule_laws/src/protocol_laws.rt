@@ -1,5 +1,5 @@
 ghost use Rattle.std.specs.Prelude.{◌≡◌, ℕ, ◌+◌, ◌<◌, ◌≤◌, ◌↔◌, Bool, true, length};
-ghost use Rattle.bounded_sums.specs.Tests.{count_below};
+ghost use Rattle.number_laws.specs.Tests.{count_below};
 ghost use Rattle.sporadic_model.specs.SetDef.{is_higher_local};
 ghost use Rattle.schedule_model.specs.JobDef.{job_of, total_ticks};
 ghost use Rattle.schedule_model.specs.RowDef.{Trace};

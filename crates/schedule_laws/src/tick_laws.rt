@@ -1,5 +1,5 @@
 ghost use Rattle.std.specs.Prelude.{◌≡◌, ℕ, ◌+◌, ◌<◌, ◌≤◌, ◌↔◌, true, false, length, None, Some};
-ghost use Rattle.bounded_sums.specs.Sums.{flag};
+ghost use Rattle.number_laws.specs.Sums.{flag};
 ghost use Rattle.schedule_model.specs.JobDef.{job_of};
 ghost use Rattle.schedule_model.specs.LawfulJobs.{is_script};
 ghost use Rattle.schedule_model.specs.RowDef.{Trace, runs_in};

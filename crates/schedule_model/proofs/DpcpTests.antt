@@ -3,8 +3,8 @@ use Rattle.std.proofs.Common.{◌≡◌, ℕ, ◌<◌, ◌≤◌, ◌==◌, ◌&
 use Rattle.std.proofs.Common.{Option, Some, None, is_some, leb}
 use Rattle.std.specs.Option.{option_map_or}
 use Rattle.std.proofs.lemmas.Bool.{and_parts, leb-true, eqb-true, false_from_ne_true}
-use Rattle.bounded_sums.specs.Tests.{all_below}
-use Rattle.bounded_sums.proofs.TestLaws.{all_below-each, any_below-some}
+use Rattle.number_laws.specs.Tests.{all_below}
+use Rattle.number_laws.proofs.TestLaws.{all_below-each, any_below-some}
 use Rattle.schedule_model.specs.Protocols.{dpcp_rule}
 use Rattle.schedule_model.specs.declared.rule.Rule.{Rule}
 use Rattle.schedule_model.specs.declared.rule.Rule.TheVariants as rule
@@ -143,45 +143,47 @@ idle_from w t h = record {
   parts = and_parts (each_request w t (is_busy w t))
       (all_below (length w.jobs) (λ i. not (is_active_local w t i) || is_busy w t (processor_of w i))) h
 
--- Priority.
-abbrev pub is_first_holder : Trace → ℕ → ℕ → ℕ → Bool
-is_first_holder w t k r = holds_at w t k r && all_below (length w.jobs) (λ i. not (holds_at w t k i) || leb (task_of w r) (task_of w i))
+-- Priority, over the order in which holders run.
+abbrev pub is_first_holder : (Trace → ℕ → ℕ → ℕ) → Trace → ℕ → ℕ → ℕ → Bool
+is_first_holder rank w t k r =
+    holds_at w t k r && all_below (length w.jobs) (λ i. not (holds_at w t k i) || leb (rank w t r) (rank w t i))
 
-abbrev pub runs_first_holder : Trace → ℕ → ℕ → Bool
-runs_first_holder w t k = option_map_or (is_first_holder w t k) (running_on (w.row t) k) false
+abbrev pub runs_first_holder : (Trace → ℕ → ℕ → ℕ) → Trace → ℕ → ℕ → Bool
+runs_first_holder rank w t k = option_map_or (is_first_holder rank w t k) (running_on (w.row t) k) false
 
 abbrev pub yields_to_higher : Trace → ℕ → ℕ → ℕ → Bool
 yields_to_higher w t i r = leb (task_of w r) (task_of w i) || has_requests w t (processor_of w i)
 
-abbrev pub passes_priority : Trace → ℕ → Bool
-passes_priority w t = each_request w t (runs_first_holder w t) && all_below (length w.jobs) (λ i. not
+abbrev pub passes_priority : (Trace → ℕ → ℕ → ℕ) → Trace → ℕ → Bool
+passes_priority rank w t = each_request w t (runs_first_holder rank w t) && all_below (length w.jobs) (λ i. not
     (is_active_local w t i) || option_map_or (yields_to_higher w t i) (running_on (w.row t) (processor_of w i)) true)
 
-first_holder_of : (w : Trace) (t k : ℕ) (o : Option ℕ) → running_on (w.row t) k ≡ o
-    → option_map_or (is_first_holder w t k) o false ≡ true → RunsFirstHolder by_task w t k
-first_holder_of w t k None e h = absurd (cc)
-first_holder_of w t k (Some r) e h =
+first_holder_of : (rank : Trace → ℕ → ℕ → ℕ) (w : Trace) (t k : ℕ) (o : Option ℕ) → running_on (w.row t) k ≡ o
+    → option_map_or (is_first_holder rank w t k) o false ≡ true → RunsFirstHolder rank w t k
+first_holder_of rank w t k None e h = absurd (cc)
+first_holder_of rank w t k (Some r) e h =
     let parts : (holds_at w t k r ≡ true)
-    × (all_below (length w.jobs) (λ i. not (holds_at w t k i) || leb (task_of w r) (task_of w i)) ≡ true) = and_parts
-    (holds_at w t k r) (all_below (length w.jobs) (λ i. not (holds_at w t k i) || leb (task_of w r) (task_of w i))) h in
+    × (all_below (length w.jobs) (λ i. not (holds_at w t k i) || leb (rank w t r) (rank w t i)) ≡ true) = and_parts
+    (holds_at w t k r) (all_below (length w.jobs) (λ i. not (holds_at w t k i) || leb (rank w t r) (rank w t i))) h in
     record {
       runner = r;
       runs = e;
       holds = parts.0;
-      first = λ i l held. leb-true _ _ (then_true (holds_at w t k i) (leb (task_of w r) (task_of w i))
-          (all_below-each (length w.jobs) (λ x. not (holds_at w t k x) || leb (task_of w r) (task_of w x)) parts.1 i l)
+      first = λ i l held. leb-true _ _ (then_true (holds_at w t k i) (leb (rank w t r) (rank w t i))
+          (all_below-each (length w.jobs) (λ x. not (holds_at w t k x) || leb (rank w t r) (rank w t x)) parts.1 i l)
           held);
     }
 
-pub priority_from : (w : Trace) (t : ℕ) → passes_priority w t ≡ true → KeepsPriority by_task w t
-priority_from w t h = record {
-  requests = λ k some. first_holder_of w t k (running_on (w.row t) k) refl (request_told w t k (runs_first_holder w t) parts.0 some);
+pub priority_from : (rank : Trace → ℕ → ℕ → ℕ) (w : Trace) (t : ℕ) → passes_priority rank w t ≡ true → KeepsPriority rank w t
+priority_from rank w t h = record {
+  requests = λ k some. first_holder_of rank w t k (running_on (w.row t) k) refl
+      (request_told w t k (runs_first_holder rank w t) parts.0 some);
   locals = λ k r e none i l p local. locals k r e none i l p local;
 } where
-  parts : (each_request w t (runs_first_holder w t) ≡ true)
+  parts : (each_request w t (runs_first_holder rank w t) ≡ true)
       × (all_below (length w.jobs) (λ i. not (is_active_local w t i)
       || option_map_or (yields_to_higher w t i) (running_on (w.row t) (processor_of w i)) true) ≡ true)
-  parts = and_parts (each_request w t (runs_first_holder w t))
+  parts = and_parts (each_request w t (runs_first_holder rank w t))
       (all_below (length w.jobs) (λ i. not (is_active_local w t i)
       || option_map_or (yields_to_higher w t i) (running_on (w.row t) (processor_of w i)) true)) h
 
@@ -214,11 +216,11 @@ passes_dpcp w t rule.Run = passes_run w t
 passes_dpcp w t rule.Keep = passes_keep w t
 passes_dpcp w t rule.Grant = passes_grant w t
 passes_dpcp w t rule.Idle = passes_idle w t
-passes_dpcp w t rule.Priority = passes_priority w t
+passes_dpcp w t rule.Priority = passes_priority by_task w t
 
 pub dpcp_from : (w : Trace) (t : ℕ) (r : Rule) → passes_dpcp w t r ≡ true → dpcp_rule r w t
 dpcp_from w t rule.Run h = run_from w t h
 dpcp_from w t rule.Keep h = keep_from w t h
 dpcp_from w t rule.Grant h = grant_from w t h
 dpcp_from w t rule.Idle h = idle_from w t h
-dpcp_from w t rule.Priority h = priority_from w t h
+dpcp_from w t rule.Priority h = priority_from by_task w t h

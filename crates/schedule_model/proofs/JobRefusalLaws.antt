@@ -3,8 +3,8 @@ use Rattle.std.proofs.Common.{◌≡◌, ℕ, ◌<◌, ◌≤◌, ◌+◌, not, 
 use Rattle.std.proofs.Common.{refl, sym, ap, ◌∙◌, subst, arith, Option, Some, None, leb, ltb, length-append}
 use Rattle.std.specs.Option.{option_map_or}
 use Rattle.std.proofs.lemmas.Bool.{and_from, le-leb, le-ltb, lt-leb, or_from}
-use Rattle.bounded_sums.specs.Tests.{all_below}
-use Rattle.bounded_sums.proofs.TestLaws.{all_below-from}
+use Rattle.number_laws.specs.Tests.{all_below}
+use Rattle.number_laws.proofs.TestLaws.{all_below-from}
 use Rattle.sporadic_model.specs.SetDef.{task_at}
 use Rattle.sporadic_model.specs.Users.{count_of}
 use Rattle.sporadic_model.specs.declared.limits.TheConstants.{MOST_TICKS}

@@ -1,8 +1,8 @@
 -- From tests of the rules to a schedule that keeps them, and to the first row that breaks one.
 use Rattle.std.proofs.Common.{◌≡◌, ℕ, ◌<◌, ◌&&◌, ◌||◌, Bool, true, leb}
 use Rattle.std.proofs.lemmas.Bool.{and_parts, lt-leb}
-use Rattle.bounded_sums.specs.Tests.{all_below}
-use Rattle.bounded_sums.proofs.TestLaws.{all_below-each}
+use Rattle.number_laws.specs.Tests.{all_below}
+use Rattle.number_laws.proofs.TestLaws.{all_below-each}
 use Rattle.schedule_model.specs.RowDef.{Trace}
 use Rattle.schedule_model.specs.Keeping.{rule_number, KeepsBefore, Breaks, IsFirstUnlawful}
 use Rattle.schedule_model.specs.declared.rule.Rule.{Rule}

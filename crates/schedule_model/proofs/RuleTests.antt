@@ -4,8 +4,8 @@ use Rattle.std.proofs.Common.{get_or, refl, ap, ◌∙◌, inl, inr, Option, Som
 use Rattle.std.specs.Option.{option_map_or}
 use Rattle.std.proofs.lemmas.Bool.{both_ways, and_parts, or_cases, leb-true, eqb-true, cases_lt, false_from_ne_true}
 use Rattle.std.proofs.lemmas.List.{get_or_past}
-use Rattle.bounded_sums.specs.Tests.{all_below, any_below}
-use Rattle.bounded_sums.proofs.TestLaws.{all_below-each, any_below-some}
+use Rattle.number_laws.specs.Tests.{all_below, any_below}
+use Rattle.number_laws.proofs.TestLaws.{all_below-each, any_below-some}
 use Rattle.schedule_model.specs.declared.rule.Rule.{Rule}
 use Rattle.schedule_model.specs.declared.rule.Rule.TheVariants as rule
 use Rattle.schedule_model.specs.RowDef.{RowDef, Trace, is_job, running_on, holder_in, held_before}

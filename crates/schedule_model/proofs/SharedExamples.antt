@@ -13,7 +13,7 @@ use Rattle.schedule_model.specs.BlockedTicks.{is_delayed, runs_higher, is_shared
 use Rattle.schedule_model.specs.Measures.{has_finished, finish_of, response_of, blocking_of, counts_for, finished_jobs, measures_of}
 use Rattle.schedule_model.specs.declared.rule.Rule.TheVariants as rule
 use Rattle.schedule_model.proofs.RuleTests.{passes_shared, shared_from}
-use Rattle.bounded_sums.proofs.TestLaws.{all_below-each}
+use Rattle.number_laws.proofs.TestLaws.{all_below-each}
 use Rattle.schedule_model.specs.Chosen.{IsSharedChoice}
 use Rattle.schedule_model.proofs.ChoiceTests.{passes_choice, choice_from}
 use Rattle.schedule_model.proofs.KeepingTests.{keeps_from, first_from}

@@ -1,6 +1,6 @@
 -- Which jobs may run, which wait, and since when.
 use Rattle.std.specs.Prelude.{◌≡◌, ℕ, ◌<◌, ◌≤◌, ◌==◌, ◌&&◌, ◌||◌, not, Bool, true, false, nat_le, Option, length}
-use Rattle.bounded_sums.specs.Tests.{all_below, first_below, found_below}
+use Rattle.number_laws.specs.Tests.{all_below, first_below, found_below}
 use Rattle.sporadic_model.specs.SetDef.{task_at}
 use Rattle.schedule_model.specs.JobDef.{job_of}
 use Rattle.schedule_model.specs.RowDef.{Trace, is_job, holder_in}

@@ -2,7 +2,7 @@
 -- Priority is written over the order in which holders run: by task under DPCP.
 use Rattle.std.specs.Prelude.{◌≡◌, ◌≢◌, ℕ, ◌<◌, ◌≤◌, ◌==◌, ◌&&◌, ◌||◌, not, Bool, true, false, nat_le, length, None, Some, unwrap_or}
 use Rattle.std.specs.Option.{option_map_or}
-use Rattle.bounded_sums.specs.Tests.{all_below, any_below}
+use Rattle.number_laws.specs.Tests.{all_below, any_below}
 use Rattle.sporadic_model.specs.Homes.{home_in}
 use Rattle.sporadic_model.specs.Users.{ceiling_of}
 use Rattle.schedule_model.specs.RowDef.{Trace, running_on, holder_in, held_before}

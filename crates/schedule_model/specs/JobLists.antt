@@ -5,7 +5,7 @@ use Rattle.std.specs.Prelude.{if◌then◌else◌, take, is_some}
 use Rattle.std.specs.List.{list_all}
 use Rattle.std.specs.Option.{option_or, option_map_or}
 use Rattle.std.specs.Int.{is_in_range}
-use Rattle.bounded_sums.specs.Tests.{all_below}
+use Rattle.number_laws.specs.Tests.{all_below}
 use Rattle.sporadic_model.specs.SetDef.{SetDef, task_at}
 use Rattle.sporadic_model.specs.Users.{count_of}
 use Rattle.sporadic_model.specs.declared.limits.TheConstants.{MOST_TICKS}

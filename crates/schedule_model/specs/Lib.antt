@@ -22,3 +22,4 @@ pub mod BlockedTicks
 pub mod ByProtocol
 pub mod Measures
 pub mod ProtocolLaws
+pub mod ReadRuns

@@ -1,8 +1,8 @@
 -- What is measured of a schedule: for each task how many jobs finished, their greatest response, and the
 -- greatest blocking of its jobs.
 use Rattle.std.specs.Prelude.{ℕ, zero, suc, ◌-◌, ◌==◌, ◌&&◌, Bool, max, length, if◌then◌else◌, Option, None, Some}
-use Rattle.bounded_sums.specs.Sums.{only_if}
-use Rattle.bounded_sums.specs.Tests.{count_below, first_below}
+use Rattle.number_laws.specs.Sums.{only_if}
+use Rattle.number_laws.specs.Tests.{count_below, first_below}
 use Rattle.schedule_model.specs.JobDef.{job_of}
 use Rattle.schedule_model.specs.RowDef.{Trace}
 use Rattle.schedule_model.specs.Phase.{is_finished, phase_of}

@@ -1,7 +1,7 @@
 -- How far a job has come.
 use Rattle.std.specs.Prelude.{ℕ, suc, ◌-◌, ◌==◌, Bool, true, false, nat_lt, if◌then◌else◌, List, [], ◌∷◌, Option}
 use Rattle.std.specs.Option.{option_map_or}
-use Rattle.bounded_sums.specs.Tests.{count_below}
+use Rattle.number_laws.specs.Tests.{count_below}
 use Rattle.schedule_model.specs.JobDef.{SegmentDef, job_of, segment_ticks}
 use Rattle.schedule_model.specs.RowDef.{Trace, runs_in}
 

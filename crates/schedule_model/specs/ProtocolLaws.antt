@@ -1,6 +1,6 @@
 -- What each protocol's rules give: the three kinds of ticks, and what is true of who is named in a row.
 use Rattle.std.specs.Prelude.{◌≡◌, ℕ, ◌+◌, ◌<◌, Bool, true, length, Some}
-use Rattle.bounded_sums.specs.Sums.{flag}
+use Rattle.number_laws.specs.Sums.{flag}
 use Rattle.sporadic_model.specs.SetDef.{is_higher_local}
 use Rattle.schedule_model.specs.RowDef.{Trace, running_on, holder_in}
 use Rattle.schedule_model.specs.Activity.{task_of, processor_of, is_active}

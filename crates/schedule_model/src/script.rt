@@ -1,7 +1,7 @@
 ghost use Rattle.std.specs.Prelude.{◌≡◌, ℕ, ◌+◌, ◌<◌, ◌≤◌, IsTrue, nat_le, map, length, is_some};
 ghost use Rattle.std.specs.Int.{is_in_range};
 ghost use Rattle.std.specs.List.{list_all};
-ghost use Rattle.bounded_sums.specs.Tests.{all_below};
+ghost use Rattle.number_laws.specs.Tests.{all_below};
 ghost use Rattle.sporadic_model.specs.Users.{count_of};
 ghost use Rattle.schedule_model.specs.JobDef.{total_ticks, local_ticks, number_of_requests, request_ticks, asks_for};
 ghost use Rattle.schedule_model.specs.LawfulJobs.{is_length_kept, is_resource_in};

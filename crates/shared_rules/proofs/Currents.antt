@@ -1,7 +1,7 @@
 -- Tests of the active job of each task, and what a machine says of such a job, against a schedule that it shows.
 use Rattle.std.proofs.Common.{◌≡◌, ℕ, ◌<◌, Bool, true, length, refl, sym, ap, ◌∙◌, Option, Some, None}
 use Rattle.std.specs.Option.{option_map_or}
-use Rattle.bounded_sums.proofs.TestLaws.{all_below-each, all_below-from}
+use Rattle.number_laws.proofs.TestLaws.{all_below-each, all_below-from}
 use Rattle.schedule_model.specs.RowDef.{RowDef, holder_in}
 use Rattle.schedule_model.specs.Activity.{is_active, is_active_local, is_ready_holder, is_ready}
 use Rattle.schedule_model.specs.SharedRules.{Ranks}

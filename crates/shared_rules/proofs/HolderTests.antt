@@ -4,8 +4,8 @@ use Rattle.std.proofs.Common.{inr, Option, Some, None}
 use Rattle.std.specs.Option.{option_map_or}
 use Rattle.std.proofs.lemmas.Bool.{cases_Bool, and_parts, and_from, or_left, or_right, not_from_false, both_ways}
 use Rattle.std.proofs.lemmas.Bool.{false_from_ne_true, leb-true, le-leb}
-use Rattle.bounded_sums.specs.Tests.{all_below}
-use Rattle.bounded_sums.proofs.TestLaws.{all_below-each, all_below-from}
+use Rattle.number_laws.specs.Tests.{all_below}
+use Rattle.number_laws.proofs.TestLaws.{all_below-each, all_below-from}
 use Rattle.schedule_model.specs.RowDef.{RowDef, is_job, holder_in, held_before}
 use Rattle.schedule_model.specs.Phase.{Phase}
 use Rattle.schedule_model.specs.Phase.Phase.{Local, Asking, Finished}

@@ -3,7 +3,7 @@ use Rattle.std.proofs.Common.{◌≡◌, ℕ, ◌+◌, zero, suc, true, length, 
 use Rattle.std.proofs.Common.{Option, Some, None, get_or}
 use Rattle.std.specs.Option.{option_map_or}
 use Rattle.std.proofs.lemmas.Bool.{and_parts, and_from, eq-eqb, eqb-true}
-use Rattle.bounded_sums.proofs.TestLaws.{all_below-each, all_below-from}
+use Rattle.number_laws.proofs.TestLaws.{all_below-each, all_below-from}
 use Rattle.schedule_model.specs.RowDef.{RowDef, running_on, holder_in}
 use Rattle.schedule_model.specs.Activity.{is_ready, is_active}
 use Rattle.schedule_model.specs.SharedRules.{KeepsRun}

@@ -1,5 +1,5 @@
 ghost use Rattle.std.specs.Prelude.{◌≡◌, ℕ, ◌<◌, length, Option, Some, None, IfSome};
-ghost use Rattle.bounded_sums.specs.Tests.{all_below};
+ghost use Rattle.number_laws.specs.Tests.{all_below};
 ghost use Rattle.schedule_model.specs.RowDef.{RowDef};
 ghost use Rattle.schedule_model.specs.Seen.{row_seen, place_seen};
 ghost use Rattle.schedule_model.specs.Protocols.{shared_rule};

@@ -4,14 +4,14 @@
 use Rattle.std.proofs.Common.{◌≡◌, ℕ, zero, suc, ◌+◌, ◌-◌, ◌*◌, ◌<◌, ◌≤◌, Bool, List, length, refl, subst, arith, inl, inr}
 use Rattle.std.specs.Prelude.{slice_index}
 use Rattle.std.proofs.lemmas.Bool.{cases_lt, cases_Bool}
-use Rattle.bounded_sums.specs.Sums.{sum_below, only_if}
-use Rattle.bounded_sums.specs.Tests.{count_below}
-use Rattle.bounded_sums.proofs.SumLaws.{sum_below-monotone, only_if-true}
-use Rattle.bounded_sums.proofs.CountLaws.{count_below-none}
+use Rattle.number_laws.specs.Sums.{sum_below, only_if}
+use Rattle.number_laws.specs.Tests.{count_below}
+use Rattle.number_laws.proofs.SumLaws.{sum_below-monotone, only_if-true}
+use Rattle.number_laws.proofs.CountLaws.{count_below-none}
 use Rattle.sporadic_model.specs.SetDef.{SetDef, task_at, is_higher_local, jobs_within, latest_bound}
-use Rattle.sporadic_model.specs.Accepted.{IsAccepted, TaskNumbers}
-use Rattle.sporadic_model.proofs.Laws.{numbers_of_accepted}
-use Rattle.schedule_model.specs.JobDef.{job_of}
+use Rattle.sporadic_model.specs.Accepted.{IsFormed, TaskOrder}
+use Rattle.sporadic_model.proofs.Laws.{cost_of_formed}
+use Rattle.schedule_model.specs.JobDef.{job_of, total_ticks}
 use Rattle.schedule_model.specs.LawfulJobs.{AreLawfulJobs, IsLawfulJob}
 use Rattle.schedule_model.specs.RowDef.{Trace, jobs_of}
 use Rattle.schedule_model.specs.Phase.{phase_of}
@@ -23,25 +23,28 @@ use Rattle.schedule_model.specs.ProtocolLaws.{IsOneOfThree, IsSoundRow}
 use Rattle.schedule_laws.proofs.Ticks.{finished_true}
 use Rattle.schedule_laws.proofs.Responses.{finished_in_time}
 use Rattle.program_sources.specs.Recurrence.{interference_by, interference_of}
-use Rattle.charge_model.specs.Interferers.{interferes_with_some, is_interference_of}
-use Rattle.charge_model.specs.Windows.{bound_end, window_end, EndedBy, EndedBefore, EndedWithin, AreBounds}
+use Rattle.charge_laws.specs.Interferers.{interferes_with_some, is_interference_of}
+use Rattle.charge_laws.specs.Windows.{bound_end, window_end, EndedBy, EndedBefore, EndedWithin, AreBounds}
 use Rattle.charge_laws.proofs.Windows.{earlier_ended, bounds_below_periods}
 use Rattle.charge_laws.proofs.Interference.{interferer_some}
 use Rattle.charge_laws.proofs.Counting.{Interfering, interference_counted}
 use Rattle.soundness_laws.proofs.HigherTasks.{not_by_others, ticks_by_task}
 
--- Bounds that are enough: at most the latest ones, and each at least its task's cost, its value and what is counted as interference,
--- together.
-pub record AreEnough (set : SetDef) (cost : ℕ → ℕ) (bounds : List ℕ) (value : ℕ → ℕ) : Type 0 where
+-- Bounds that are enough: from 1 to the latest ones, each no less than its task's interfering cost, and at least what a job of the
+-- task executes, its value and what is counted as interference, together.
+pub record AreEnough (set : SetDef) (own cost : ℕ → ℕ) (bounds : List ℕ) (value : ℕ → ℕ) : Type 0 where
+  pub from : (i : ℕ) → i < length set.tasks → 1 ≤ slice_index bounds i
   pub within : (i : ℕ) → i < length set.tasks → slice_index bounds i ≤ latest_bound (task_at set i)
-  pub enough : (i : ℕ) → i < length set.tasks
-      → (task_at set i).cost + value i + interference_of cost set bounds i ≤ slice_index bounds i
+  pub less : (i : ℕ) → i < length set.tasks → cost i ≤ slice_index bounds i
+  pub enough : (i : ℕ) → i < length set.tasks → own i + value i + interference_of cost set bounds i ≤ slice_index bounds i
 
 -- What the induction rests on, for a schedule of n rows.
-pub record Given (interferes : Trace → ℕ → ℕ → Bool) (w : Trace) (n : ℕ) (cost : ℕ → ℕ) (bounds : List ℕ) (value : ℕ → ℕ) : Type 0 where
-  pub accepted : IsAccepted w.set
+pub record Given (interferes : Trace → ℕ → ℕ → Bool) (w : Trace) (n : ℕ) (own cost : ℕ → ℕ) (bounds : List ℕ) (value : ℕ
+    → ℕ) : Type 0 where
+  pub formed : IsFormed w.set
   pub lawful : AreLawfulJobs (jobs_of w)
-  pub enough : AreEnough w.set cost bounds value
+  pub short : (j : ℕ) → j < length w.jobs → total_ticks (job_of w.jobs j).script ≤ own (task_of w j)
+  pub enough : AreEnough w.set own cost bounds value
   pub three : (t j : ℕ) → IsOneOfThree interferes w t j
   pub sound : (t : ℕ) → t < n → IsSoundRow interferes w t
   pub most : (h : ℕ) → h < length w.set.tasks → cost h ≤ (task_at w.set h).cost
@@ -50,41 +53,32 @@ pub record Given (interferes : Trace → ℕ → ℕ → Bool) (w : Trace) (n : 
   pub blocked : (j : ℕ) → j < length w.jobs → EndedWithin w (slice_index bounds) (bound_end w (slice_index bounds) j) n
       → count_below (window_end w (slice_index bounds) n j) (λ t. is_blocked interferes w t j) ≤ value (task_of w j)
 
--- A bound that is enough is at least the cost, so at least 1.
-cost_below : (set : SetDef) (cost : ℕ → ℕ) (bounds : List ℕ) (value : ℕ → ℕ) (x : ℕ) → AreEnough set cost bounds value
-    → x < length set.tasks → (task_at set x).cost ≤ slice_index bounds x
-cost_below set cost bounds value x enough l = omega (arith, enough.enough x l)
-
-bounds_are : (set : SetDef) (cost : ℕ → ℕ) (bounds : List ℕ) (value : ℕ → ℕ) → IsAccepted set → AreEnough set cost bounds value
+bounds_are : (set : SetDef) (own cost : ℕ → ℕ) (bounds : List ℕ) (value : ℕ → ℕ) → AreEnough set own cost bounds value
     → AreBounds set (slice_index bounds)
-bounds_are set cost bounds value accepted enough = record {
-  from = λ x l. let numbers : TaskNumbers set x = numbers_of_accepted set x accepted l in
-      omega (arith, numbers.cost_from, cost_below set cost bounds value x enough l);
-  latest = enough.within;
-}
+bounds_are set own cost bounds value enough = record { from = enough.from; latest = enough.within }
 
 -- Where a window lies within the rows, its ticks of interference by task h are as few as are counted for it.
-by_task : (interferes : Trace → ℕ → ℕ → Bool) (w : Trace) (n : ℕ) (cost : ℕ → ℕ) (bounds : List ℕ) (value : ℕ → ℕ) (j h : ℕ)
-    → Given interferes w n cost bounds value → j < length w.jobs → bound_end w (slice_index bounds) j ≤ n
+by_task : (interferes : Trace → ℕ → ℕ → Bool) (w : Trace) (n : ℕ) (own cost : ℕ → ℕ) (bounds : List ℕ) (value : ℕ → ℕ) (j h : ℕ)
+    → Given interferes w n own cost bounds value → j < length w.jobs → bound_end w (slice_index bounds) j ≤ n
     → EndedBefore w (slice_index bounds) (bound_end w (slice_index bounds) j) → h < length w.set.tasks
     → count_below (bound_end w (slice_index bounds) j) (λ t. is_interference_of interferes w t j h)
     ≤ only_if (is_higher_local w.set (task_of w j) h) (interference_by cost w.set bounds (task_of w j) h)
-by_task interferes w n cost bounds value j h given l ends ended task = elim (cases_Bool (is_higher_local w.set (task_of w j) h)) [
+by_task interferes w n own cost bounds value j h given l ends ended task = elim (cases_Bool (is_higher_local w.set (task_of w j) h)) [
   | inr other ↦
       let none : count_below e (λ t. is_interference_of interferes w t j h) ≡ 0 =
       count_below-none e (λ t. is_interference_of interferes w t j h)
       (λ t b. not_by_others interferes w t j h (given.sound t (omega arith)) other) in
       omega (arith, none)
   | inl higher ↦
-      let numbers : TaskNumbers w.set h = numbers_of_accepted w.set h given.accepted task in
-      let less : (task_at w.set h).cost ≤ slice_index bounds h = cost_below w.set cost bounds value h given.enough task in
+      let numbers : TaskOrder w.set h = given.formed.numbers h task in
+      let some : 1 ≤ (task_at w.set h).cost = cost_of_formed w.set h given.formed task in
       let most : cost h ≤ (task_at w.set h).cost = given.most h task in
       let counted : count_below (window_end w (slice_index bounds) n j) (λ t. is_interference_of interferes w t j h)
       ≤ jobs_within (slice_index bounds (task_of w j)) (slice_index bounds h + (task_at w.set h).jitter - cost h) (task_at w.set h).period
       * cost h =
       interference_counted interferes w (slice_index bounds) cost n j h laws given.lawful ended
-      (omega (arith, numbers.cost_from, numbers.cost_to, numbers.deadline_to))
-      (omega (arith, most, numbers.cost_to, numbers.deadline_to)) (omega (arith, most, less)) in
+      (omega (arith, some, numbers.jitter_to, numbers.deadline_to))
+      (omega (arith, most, numbers.jitter_to, numbers.deadline_to)) (given.enough.less h task) in
       let whole : window_end w (slice_index bounds) n j ≡ e = omega arith in
       let here : count_below e (λ t. is_interference_of interferes w t j h) ≤ interference_by cost w.set bounds (task_of w j) h =
       subst (λ k. count_below k (λ t. is_interference_of interferes w t j h) ≤ interference_by cost w.set bounds (task_of w j) h)
@@ -102,11 +96,11 @@ by_task interferes w n cost bounds value j h given l ends ended task = elim (cas
   }
 
 -- So are its ticks of interference by all tasks.
-interference_most : (interferes : Trace → ℕ → ℕ → Bool) (w : Trace) (n : ℕ) (cost : ℕ → ℕ) (bounds : List ℕ) (value : ℕ → ℕ) (j : ℕ)
-    → Given interferes w n cost bounds value → j < length w.jobs → bound_end w (slice_index bounds) j ≤ n
+interference_most : (interferes : Trace → ℕ → ℕ → Bool) (w : Trace) (n : ℕ) (own cost : ℕ → ℕ) (bounds : List ℕ) (value : ℕ → ℕ) (j : ℕ)
+    → Given interferes w n own cost bounds value → j < length w.jobs → bound_end w (slice_index bounds) j ≤ n
     → EndedBefore w (slice_index bounds) (bound_end w (slice_index bounds) j)
     → count_below (bound_end w (slice_index bounds) j) (λ t. interferes w t j) ≤ interference_of cost w.set bounds (task_of w j)
-interference_most interferes w n cost bounds value j given l ends ended =
+interference_most interferes w n own cost bounds value j given l ends ended =
     let e = bound_end w (slice_index bounds) j in
     let lawful : IsLawfulJob w.set (job_of w.jobs j) = given.lawful.each j l in
     let task : task_of w j < length w.set.tasks = lawful.task in
@@ -117,7 +111,7 @@ interference_most interferes w n cost bounds value j given l ends ended =
     ≤ interference_of cost w.set bounds (task_of w j) =
     sum_below-monotone (task_of w j) (λ h. count_below e (λ t. is_interference_of interferes w t j h))
     (λ h. only_if (is_higher_local w.set (task_of w j) h) (interference_by cost w.set bounds (task_of w j) h))
-    (λ h b. by_task interferes w n cost bounds value j h given l ends ended (omega (arith, task))) in
+    (λ h b. by_task interferes w n own cost bounds value j h given l ends ended (omega (arith, task))) in
     omega (arith, parts, each)
 
 -- Where each job whose bound passes before e ends in time, each whose bound has passed at an earlier tick has.
@@ -125,19 +119,19 @@ ended_by : (w : Trace) (bound : ℕ → ℕ) (e r : ℕ) → r < e → EndedBefo
 ended_by w bound e r l ended = λ k listed passed. ended k listed (omega arith)
 
 -- A job whose bound passes within the rows ends in time, if each job whose bound passes before does.
-ends_in_time : (interferes : Trace → ℕ → ℕ → Bool) (w : Trace) (n : ℕ) (cost : ℕ → ℕ) (bounds : List ℕ) (value : ℕ → ℕ) (j : ℕ)
-    → Given interferes w n cost bounds value → j < length w.jobs → bound_end w (slice_index bounds) j ≤ n
+ends_in_time : (interferes : Trace → ℕ → ℕ → Bool) (w : Trace) (n : ℕ) (own cost : ℕ → ℕ) (bounds : List ℕ) (value : ℕ → ℕ) (j : ℕ)
+    → Given interferes w n own cost bounds value → j < length w.jobs → bound_end w (slice_index bounds) j ≤ n
     → EndedBefore w (slice_index bounds) (bound_end w (slice_index bounds) j)
     → phase_of w (bound_end w (slice_index bounds) j) j ≡ Finished
 unfolding blocking_of
-ends_in_time interferes w n cost bounds value j given l ends ended =
+ends_in_time interferes w n own cost bounds value j given l ends ended =
     finished_true (phase_of w (bound_end w (slice_index bounds) j) j)
     (finished_in_time interferes w r (slice_index bounds i) j (λ t b. given.three t j) refl
     (λ k before same. earlier_ended w (slice_index bounds) k j given.lawful (short k before) l passed before same)
     (omega (
       arith,
-      job.cost,
-      interference_most interferes w n cost bounds value j given l ends ended,
+      given.short j l,
+      interference_most interferes w n own cost bounds value j given l ends ended,
       blocked,
       given.enough.enough i job.task,
     ))) where
@@ -151,7 +145,7 @@ ends_in_time interferes w n cost bounds value j given l ends ended =
       job = given.lawful.each j l
 
       bounds_from : AreBounds w.set (slice_index bounds)
-      bounds_from = bounds_are w.set cost bounds value given.accepted given.enough
+      bounds_from = bounds_are w.set own cost bounds value given.enough
 
       passed : EndedBy w (slice_index bounds) r
       passed = ended_by w (slice_index bounds) (bound_end w (slice_index bounds) j) r (omega (arith, bounds_from.from i job.task)) ended
@@ -159,7 +153,7 @@ ends_in_time interferes w n cost bounds value j given l ends ended =
       short : (k : ℕ) → k < j
           → slice_index bounds (task_of w k) + (task_at w.set (task_of w k)).jitter ≤ (task_at w.set (task_of w k)).period
       short k before = let earlier : IsLawfulJob w.set (job_of w.jobs k) = given.lawful.each k (omega arith) in
-          bounds_below_periods w.set (slice_index bounds) (task_of w k) given.accepted bounds_from earlier.task
+          bounds_below_periods w.set (slice_index bounds) (task_of w k) given.formed bounds_from earlier.task
 
       blocked : count_below (r + slice_index bounds i) (λ t. is_blocked interferes w t j) ≤ value i
       blocked =
@@ -168,13 +162,13 @@ ends_in_time interferes w n cost bounds value j given l ends ended =
           (given.blocked j l (λ k listed before within. ended k listed before))
 
 -- So each job whose bound passes within the rows ends in time: by induction on the tick at which it passes.
-pub all_end_in_time : (interferes : Trace → ℕ → ℕ → Bool) (w : Trace) (n : ℕ) (cost : ℕ → ℕ) (bounds : List ℕ) (value : ℕ → ℕ) (e : ℕ)
-    → Given interferes w n cost bounds value → e ≤ suc n → EndedBefore w (slice_index bounds) e
-all_end_in_time interferes w n cost bounds value zero given within = λ j l passed. absurd (omega arith)
-all_end_in_time interferes w n cost bounds value (suc e) given within = λ j l passed.
+pub all_end_in_time : (interferes : Trace → ℕ → ℕ → Bool) (w : Trace) (n : ℕ) (own cost : ℕ → ℕ) (bounds : List ℕ) (value : ℕ → ℕ) (e : ℕ)
+    → Given interferes w n own cost bounds value → e ≤ suc n → EndedBefore w (slice_index bounds) e
+all_end_in_time interferes w n own cost bounds value zero given within = λ j l passed. absurd (omega arith)
+all_end_in_time interferes w n own cost bounds value (suc e) given within = λ j l passed.
     elim (cases_lt (bound_end w (slice_index bounds) j) e) [
-      | inl before ↦ all_end_in_time interferes w n cost bounds value e given (omega arith) j l before
+      | inl before ↦ all_end_in_time interferes w n own cost bounds value e given (omega arith) j l before
       | inr here ↦
-          ends_in_time interferes w n cost bounds value j given l (omega arith)
-          (λ k m b. all_end_in_time interferes w n cost bounds value e given (omega arith) k m (omega arith))
+          ends_in_time interferes w n own cost bounds value j given l (omega arith)
+          (λ k m b. all_end_in_time interferes w n own cost bounds value e given (omega arith) k m (omega arith))
     ]

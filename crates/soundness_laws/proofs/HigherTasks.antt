@@ -2,16 +2,16 @@
 use Rattle.std.proofs.Common.{◌≡◌, ℕ, ◌<◌, ◌≤◌, ◌==◌, Bool, true, false, refl, subst, arith, inl, inr, Some}
 use Rattle.std.specs.Option.{option_map_or}
 use Rattle.std.proofs.lemmas.Bool.{cases_Bool, and_parts, and_from, both_ways, eq-eqb, eqb-true}
-use Rattle.bounded_sums.specs.Sums.{sum_below, flag}
-use Rattle.bounded_sums.specs.Tests.{count_below}
-use Rattle.bounded_sums.proofs.SumLaws.{sum_below-monotone, sum_below-swap, sum_below-term}
-use Rattle.bounded_sums.proofs.CountLaws.{flag-of_true, flag-of_false}
+use Rattle.number_laws.specs.Sums.{sum_below, flag}
+use Rattle.number_laws.specs.Tests.{count_below}
+use Rattle.number_laws.proofs.SumLaws.{sum_below-monotone, sum_below-swap, sum_below-term}
+use Rattle.number_laws.proofs.CountLaws.{flag-of_true, flag-of_false}
 use Rattle.sporadic_model.specs.SetDef.{is_higher_local}
 use Rattle.schedule_model.specs.RowDef.{Trace, running_on}
 use Rattle.schedule_model.specs.Activity.{task_of, processor_of}
 use Rattle.schedule_model.specs.ProtocolLaws.{HasHigherRunner, IsSoundRow}
 use Rattle.schedule_laws.proofs.KindsOfTicks.{HigherLocal, higher_local_is}
-use Rattle.charge_model.specs.Interferers.{is_interference_of}
+use Rattle.charge_laws.specs.Interferers.{is_interference_of}
 
 -- A tick that is interference is so by the task of what runs on the job's processor,
 by_runner : (interferes : Trace → ℕ → ℕ → Bool) (w : Trace) (t j r : ℕ) → interferes w t j ≡ true

@@ -2,12 +2,11 @@
 -- and DPCP are instances.
 use Rattle.std.proofs.Common.{ℕ, ◌<◌, ◌≤◌, Bool, true, List, length, subst, sym, refl, arith, ◌≡◌, map}
 use Rattle.std.specs.Prelude.{slice_index}
-use Rattle.bounded_sums.specs.Tests.{count_below}
+use Rattle.number_laws.specs.Tests.{count_below}
 use Rattle.program_form.specs.Duals.{Covers, dual_value}
 use Rattle.sporadic_model.specs.SetDef.{SetDef, task_at}
-use Rattle.sporadic_model.specs.Accepted.{IsAccepted, TaskNumbers}
+use Rattle.sporadic_model.specs.Accepted.{IsFormed, TaskOrder}
 use Rattle.sporadic_model.specs.declared.ids.Protocol.TheVariants as protocol
-use Rattle.sporadic_model.proofs.Laws.{numbers_of_accepted}
 use Rattle.schedule_model.specs.JobDef.{job_of}
 use Rattle.schedule_model.specs.LawfulJobs.{AreLawfulJobs, IsLawfulJob}
 use Rattle.schedule_model.specs.RowDef.{Trace, jobs_of}
@@ -22,10 +21,10 @@ use Rattle.fragments.specs.ColumnDef.{ColumnDef}
 use Rattle.fragments.specs.Columns.{columns_of}
 use Rattle.fragments.specs.Constraints.{ConstraintDef}
 use Rattle.program_laws.specs.Programs.{rows_of, program_with, interfering_cost, source_of, cost_of}
-use Rattle.charge_model.specs.Charges.{shared_charge, dpcp_charge}
-use Rattle.charge_model.specs.ChargedTicks.{IsCharged}
-use Rattle.charge_model.specs.Interferers.{interferes_with_some}
-use Rattle.charge_model.specs.Windows.{bound_end, window_end, EndedWithin}
+use Rattle.charge_laws.specs.Charges.{shared_charge, dpcp_charge}
+use Rattle.charge_laws.specs.ChargedTicks.{IsCharged}
+use Rattle.charge_laws.specs.Interferers.{interferes_with_some}
+use Rattle.charge_laws.specs.Windows.{bound_end, window_end, EndedWithin}
 use Rattle.row_laws.specs.Meeting.{Charges}
 use Rattle.row_laws.proofs.Joined.{ArePointOf}
 use Rattle.row_laws.proofs.ChargedTicks.{charged_bounded, mpcp_is_charged, fmlp_is_charged, dpcp_is_charged}
@@ -34,14 +33,14 @@ use Rattle.row_laws.proofs.InterferingCosts.{mpcp_interferes_within, fmlp_interf
 use Rattle.soundness_laws.specs.Sound.{IsLawfulSchedule}
 use Rattle.soundness_laws.specs.Analyses.{Analyses}
 use Rattle.program_form.specs.Points.{IsScaledPoint}
-use Rattle.charge_model.specs.Fractions.{product_of_lengths, fractions_of}
+use Rattle.charge_laws.specs.Fractions.{product_of_lengths, fractions_of}
 
 -- What a protocol owes for its programs, on sets that suit it: no interfering cost is above the cost, a job interferes within it, the
 -- columns are worth their requests' lengths, the fractions of a window are a point of the program, and each blocked tick is charged in
 -- one of the columns.
 pub record Owed (keeps : Rule → Trace → ℕ → Type 0) (interferes : Trace → ℕ → ℕ → Bool) (suits : SetDef → Type 0) (source : SetDef
     → SourceDef) (charges : Charges) (columns : SetDef → ℕ → List ColumnDef) : Type 0 where
-  pub most : (set : SetDef) (h : ℕ) → suits set → IsAccepted set → h < length set.tasks → (source set).interfering h ≤ (task_at set h).cost
+  pub most : (set : SetDef) (h : ℕ) → suits set → IsFormed set → h < length set.tasks → (source set).interfering h ≤ (task_at set h).cost
   pub interfering : (w : Trace) (n y : ℕ) → suits w.set → KeepsBefore keeps w n → IsLawfulJob w.set (job_of w.jobs y)
       → count_below n (λ t. interferes_with_some interferes w t y) ≤ (source w.set).interfering (task_of w y)
   pub worth : (set : SetDef) (i : ℕ) (bounds : List ℕ) → suits set → i < length set.tasks
@@ -55,10 +54,10 @@ pub record Owed (keeps : Rule → Trace → ℕ → Type 0) (interferes : Trace 
 -- Then they analyse it.
 pub analyses_of : (keeps : Rule → Trace → ℕ → Type 0) (interferes : Trace → ℕ → ℕ → Bool) (suits : SetDef → Type 0) (source : SetDef
     → SourceDef) (charges : Charges) (columns : SetDef → ℕ → List ColumnDef) (set : SetDef)
-    → Owed keeps interferes suits source charges columns → IsAccepted set → suits set
+    → Owed keeps interferes suits source charges columns → IsFormed set → suits set
     → Analyses keeps interferes (source_at source set)
-analyses_of keeps interferes suits source charges columns set owed accepted suit = record {
-  most = λ h l. owed.most set h suit accepted l;
+analyses_of keeps interferes suits source charges columns set owed formed suit = record {
+  most = λ h l. owed.most set h suit formed l;
   interfering = λ w n y s l.
       subst (λ of. count_below n (λ t. interferes_with_some interferes w t y) ≤ (source of).interfering (task_of w y)) s.set_is
       (owed.interfering w n y (subst suits (sym s.set_is) suit) s.rows (s.jobs.each y l));
@@ -74,7 +73,7 @@ analyses_of keeps interferes suits source charges columns set owed accepted suit
       → EndedWithin w (slice_index bounds) (bound_end w (slice_index bounds) j) n → Bounded w bounds n j den num w.set
   here w bounds n j den num s l ended =
       let premises : WithinRows w bounds n j =
-      record { accepted = subst IsAccepted (sym s.set_is) accepted; lawful = s.jobs; listed = l; ended = ended } in
+      record { formed = subst IsFormed (sym s.set_is) formed; lawful = s.jobs; listed = l; ended = ended } in
       let of : suits w.set = subst suits (sym s.set_is) suit in
       charged_bounded charges interferes w bounds n j den num ((source w.set).program (task_of w j) bounds)
       (columns w.set (task_of w j)) (owed.worth w.set (task_of w j) bounds of (s.jobs.each j l).task)
@@ -87,7 +86,7 @@ source_over columns rows cost set =
 
 pub record OwedOver (keeps : Rule → Trace → ℕ → Type 0) (interferes : Trace → ℕ → ℕ → Bool) (charges : Charges) (columns : SetDef → ℕ
     → List ColumnDef) (rows : SetDef → ℕ → List ConstraintDef) (cost : SetDef → ℕ → ℕ) : Type 0 where
-  pub most : (set : SetDef) (h : ℕ) → IsAccepted set → h < length set.tasks → cost set h ≤ (task_at set h).cost
+  pub most : (set : SetDef) (h : ℕ) → IsFormed set → h < length set.tasks → cost set h ≤ (task_at set h).cost
   pub interfering : (w : Trace) (n y : ℕ) → KeepsBefore keeps w n → IsLawfulJob w.set (job_of w.jobs y)
       → count_below n (λ t. interferes_with_some interferes w t y) ≤ cost w.set (task_of w y)
   pub point : (w : Trace) (bounds : List ℕ) (n j : ℕ) → WithinRows w bounds n j → KeepsBefore keeps w n
@@ -97,9 +96,9 @@ pub record OwedOver (keeps : Rule → Trace → ℕ → Type 0) (interferes : Tr
 
 pub analyses_over : (keeps : Rule → Trace → ℕ → Type 0) (interferes : Trace → ℕ → ℕ → Bool) (charges : Charges) (columns : SetDef → ℕ
     → List ColumnDef) (rows : SetDef → ℕ → List ConstraintDef) (cost : SetDef → ℕ → ℕ) (set : SetDef)
-    → OwedOver keeps interferes charges columns rows cost → IsAccepted set
+    → OwedOver keeps interferes charges columns rows cost → IsFormed set
     → Analyses keeps interferes (source_over columns rows cost set)
-analyses_over keeps interferes charges columns rows cost set owed accepted =
+analyses_over keeps interferes charges columns rows cost set owed formed =
     analyses_of keeps interferes (λ of. Unit {0}) (source_over columns rows cost) charges columns set
     (record {
       most = λ of h suits a l. owed.most of h a l;
@@ -108,13 +107,13 @@ analyses_over keeps interferes charges columns rows cost set owed accepted =
       point = λ w bounds n j suits premises rows. owed.point w bounds n j premises rows;
       charged = λ w n t j suits jobs rows l blocked. owed.charged w n t j jobs rows l blocked;
     })
-    accepted tt
+    formed tt
 
 -- The local limit of a task is no more than its cost.
-pub local_at_most : (set : SetDef) (h : ℕ) → IsAccepted set → h < length set.tasks → (task_at set h).local ≤ (task_at set h).cost
-local_at_most set h accepted l = let numbers : TaskNumbers set h = numbers_of_accepted set h accepted l in numbers.local_to
+pub local_at_most : (set : SetDef) (h : ℕ) → IsFormed set → h < length set.tasks → (task_at set h).local ≤ (task_at set h).cost
+local_at_most set h formed l = let numbers : TaskOrder set h = formed.numbers h l in numbers.local_to
 
-pub mpcp_analyses : (set : SetDef) → IsAccepted set → Analyses (shared_rule mpcp) is_shared_interference (source_of protocol.Mpcp set)
+pub mpcp_analyses : (set : SetDef) → IsFormed set → Analyses (shared_rule mpcp) is_shared_interference (source_of protocol.Mpcp set)
 mpcp_analyses set =
     analyses_over (shared_rule mpcp) is_shared_interference shared_charge (columns_of protocol.Mpcp) (rows_of protocol.Mpcp)
     (interfering_cost protocol.Mpcp) set (record {
@@ -124,7 +123,7 @@ mpcp_analyses set =
       charged = mpcp_is_charged;
     })
 
-pub fmlp_analyses : (set : SetDef) → IsAccepted set
+pub fmlp_analyses : (set : SetDef) → IsFormed set
     → Analyses (shared_rule fmlp_plus) is_shared_interference (source_of protocol.FmlpPlus set)
 fmlp_analyses set =
     analyses_over (shared_rule fmlp_plus) is_shared_interference shared_charge (columns_of protocol.FmlpPlus) (rows_of protocol.FmlpPlus)
@@ -135,7 +134,7 @@ fmlp_analyses set =
       charged = fmlp_is_charged;
     })
 
-pub dpcp_analyses : (set : SetDef) → IsAccepted set → Analyses dpcp_rule is_dpcp_interference (source_of protocol.Dpcp set)
+pub dpcp_analyses : (set : SetDef) → IsFormed set → Analyses dpcp_rule is_dpcp_interference (source_of protocol.Dpcp set)
 dpcp_analyses set =
     analyses_over dpcp_rule is_dpcp_interference dpcp_charge (columns_of protocol.Dpcp) (rows_of protocol.Dpcp)
     (interfering_cost protocol.Dpcp) set (record {

@@ -3,8 +3,8 @@ use Rattle.std.proofs.Common.{◌≡◌, ℕ, zero, suc, ◌<◌, ◌≤◌, ◌
 use Rattle.std.proofs.Common.{arith, inl, inr, Some, None}
 use Rattle.std.specs.Prelude.{slice_index, IfSome, if◌then◌else◌}
 use Rattle.std.proofs.lemmas.Bool.{cases_lt, and_parts, and_from, both_ways, eqb-true, le-leb, lt-ltb}
-use Rattle.bounded_sums.specs.Sums.{only_if}
-use Rattle.bounded_sums.proofs.CountLaws.{count_below-monotone}
+use Rattle.number_laws.specs.Sums.{only_if}
+use Rattle.number_laws.proofs.CountLaws.{count_below-monotone}
 use Rattle.schedule_model.specs.RowDef.{Trace}
 use Rattle.schedule_model.specs.Phase.{is_finished, phase_of}
 use Rattle.schedule_model.specs.Phase.Phase.{Finished}

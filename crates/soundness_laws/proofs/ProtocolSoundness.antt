@@ -2,7 +2,8 @@
 use Rattle.std.proofs.Common.{ℕ, List}
 use Rattle.program_form.specs.Certificate.{CertificateDef}
 use Rattle.sporadic_model.specs.SetDef.{SetDef}
-use Rattle.sporadic_model.specs.Accepted.{IsAccepted}
+use Rattle.sporadic_model.specs.Accepted.{IsAccepted, IsFormed}
+use Rattle.sporadic_model.proofs.Laws.{formed_of_accepted}
 use Rattle.sporadic_model.specs.declared.ids.Protocol.TheVariants as protocol
 use Rattle.schedule_model.specs.BlockedTicks.{is_shared_interference, is_dpcp_interference}
 use Rattle.schedule_model.specs.Ranks.{mpcp, fmlp_plus}
@@ -19,18 +20,21 @@ use Rattle.soundness_laws.proofs.Instances.{mpcp_analyses, fmlp_analyses, dpcp_a
 pub mpcp_sound : (set : SetDef) (c : CertificateDef) (values : List ℕ) → IsAccepted set → IsValid (source_of protocol.Mpcp set) c
     → AreValues (source_of protocol.Mpcp set) c values → Sound (shared_rule mpcp) is_shared_interference set c.bounds values
 mpcp_sound set c values accepted valid are =
+    let formed : IsFormed set = formed_of_accepted set accepted in
     sound_of (shared_rule mpcp) is_shared_interference (source_of protocol.Mpcp set) c values (λ w t j same. shared_one_of_three w t j)
-    (λ w t same kept. shared_sound_row mpcp w t kept) accepted (mpcp_analyses set accepted) valid are
+    (λ w t same kept. shared_sound_row mpcp w t kept) formed (mpcp_analyses set formed) valid are
 
 pub fmlp_sound : (set : SetDef) (c : CertificateDef) (values : List ℕ) → IsAccepted set → IsValid (source_of protocol.FmlpPlus set) c
     → AreValues (source_of protocol.FmlpPlus set) c values → Sound (shared_rule fmlp_plus) is_shared_interference set c.bounds values
 fmlp_sound set c values accepted valid are =
+    let formed : IsFormed set = formed_of_accepted set accepted in
     sound_of (shared_rule fmlp_plus) is_shared_interference (source_of protocol.FmlpPlus set) c values
-    (λ w t j same. shared_one_of_three w t j) (λ w t same kept. shared_sound_row fmlp_plus w t kept) accepted
-    (fmlp_analyses set accepted) valid are
+    (λ w t j same. shared_one_of_three w t j) (λ w t same kept. shared_sound_row fmlp_plus w t kept) formed
+    (fmlp_analyses set formed) valid are
 
 pub dpcp_sound : (set : SetDef) (c : CertificateDef) (values : List ℕ) → IsAccepted set → IsValid (source_of protocol.Dpcp set) c
     → AreValues (source_of protocol.Dpcp set) c values → Sound dpcp_rule is_dpcp_interference set c.bounds values
 dpcp_sound set c values accepted valid are =
+    let formed : IsFormed set = formed_of_accepted set accepted in
     sound_of dpcp_rule is_dpcp_interference (source_of protocol.Dpcp set) c values (λ w t j same. dpcp_one_of_three w t j)
-    (λ w t same kept. dpcp_sound_row w t kept) accepted (dpcp_analyses set accepted) valid are
+    (λ w t same kept. dpcp_sound_row w t kept) formed (dpcp_analyses set formed) valid are

@@ -1,6 +1,6 @@
 -- What makes the programs of a source an analysis of a protocol, and the numbers that a certificate proves.
 use Rattle.std.specs.Prelude.{◌≡◌, ℕ, ◌<◌, ◌≤◌, Bool, List, length, slice_index}
-use Rattle.bounded_sums.specs.Tests.{count_below}
+use Rattle.number_laws.specs.Tests.{count_below}
 use Rattle.program_form.specs.Certificate.{CertificateDef}
 use Rattle.program_form.specs.Duals.{Covers, dual_value}
 use Rattle.sporadic_model.specs.SetDef.{task_at}
@@ -11,8 +11,8 @@ use Rattle.schedule_model.specs.declared.rule.Rule.{Rule}
 use Rattle.program_sources.specs.Recurrence.{SourceDef}
 use Rattle.program_sources.specs.Fitting.{tasks_of}
 use Rattle.program_sources.specs.Valid.{value_at}
-use Rattle.charge_model.specs.Interferers.{interferes_with_some}
-use Rattle.charge_model.specs.Windows.{bound_end, window_end, EndedWithin}
+use Rattle.charge_laws.specs.Interferers.{interferes_with_some}
+use Rattle.charge_laws.specs.Windows.{bound_end, window_end, EndedWithin}
 use Rattle.soundness_laws.specs.Sound.{IsLawfulSchedule}
 
 -- Are the values those of the certificate's duals, one for each task?

@@ -1,7 +1,7 @@
 -- The row of lower requests, and the rows of the job's own spinning.
 use Rattle.std.proofs.Common.{◌≡◌, ℕ, ◌*◌, ◌<◌, ◌≤◌, ◌==◌, ◌&&◌, Bool, true, refl, sym, subst, ◌∙◌, arith}
 use Rattle.std.proofs.lemmas.Bool.{and_parts, eqb-true, eq-eqb}
-use Rattle.bounded_sums.specs.Sums.{flag}
+use Rattle.number_laws.specs.Sums.{flag}
 use Rattle.schedule_model.specs.declared.rule.Rule.TheVariants as rule
 use Rattle.schedule_model.specs.RowDef.{Trace}
 use Rattle.schedule_model.specs.Phase.{phase_of}
@@ -14,8 +14,8 @@ use Rattle.schedule_laws.proofs.Rows.{ReadyHolder, ready_holder_is}
 use Rattle.fragments.specs.declared.columns.Class.{Class}
 use Rattle.fragments.specs.declared.columns.Class.TheVariants.{Direct, Preemption}
 use Rattle.fragments.specs.ColumnDef.{ColumnDef, is_direct, is_preemption}
-use Rattle.charge_model.specs.Charges.{Charge}
-use Rattle.charge_model.specs.Windows.{window_end}
+use Rattle.charge_laws.specs.Charges.{Charge}
+use Rattle.charge_laws.specs.Windows.{window_end}
 use Rattle.row_laws.specs.Meeting.{TicksMeet}
 use Rattle.row_laws.proofs.Brings.{Window, column_with, Hit, Counted, flag_times-at_most, flag_times-passes}
 use Rattle.row_laws.proofs.SlotRow.{OneRequest, slot_row}

@@ -3,8 +3,8 @@ use Rattle.std.proofs.Common.{◌≡◌, ℕ, ◌<◌, ◌==◌, true, false, le
 use Rattle.std.proofs.Common.{Option, Some, None}
 use Rattle.std.specs.Option.{option_map_or, option_and_then}
 use Rattle.std.proofs.lemmas.Bool.{cases_Bool, both_ways, and_parts, and_from, eq-eqb, eqb-true}
-use Rattle.bounded_sums.specs.Tests.{found_below}
-use Rattle.bounded_sums.proofs.TestLaws.{found_below-is, found_below-none}
+use Rattle.number_laws.specs.Tests.{found_below}
+use Rattle.number_laws.proofs.TestLaws.{found_below-is, found_below-none}
 use Rattle.sporadic_model.specs.SetDef.{task_at}
 use Rattle.schedule_model.specs.declared.rule.Rule.TheVariants as rule
 use Rattle.schedule_model.specs.LawfulJobs.{AreLawfulJobs}
@@ -23,7 +23,7 @@ use Rattle.schedule_laws.proofs.RuleUses.{requested_held}
 use Rattle.schedule_laws.proofs.KindsOfTicks.{Blocked, blocked_is}
 use Rattle.fragments.specs.declared.columns.Class.{Class}
 use Rattle.fragments.specs.declared.columns.Class.TheVariants.{Direct, Indirect, Preemption}
-use Rattle.charge_model.specs.Charges.{Charge, Executes}
+use Rattle.charge_laws.specs.Charges.{Charge, Executes}
 use Rattle.charge_laws.proofs.SharedCharging.{lower_runner, holder_executes}
 use Rattle.spin_rules.specs.SpinRules.{spins, has_spinner, KeepsIdle, spin_rule}
 use Rattle.spin_rules.proofs.InRequests.{Spinning, spinning_is, waiting_spins, spinner_is}

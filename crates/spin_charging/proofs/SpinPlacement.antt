@@ -1,7 +1,7 @@
 -- The column in which a charged tick lies is one of the blocked job's program.
 use Rattle.std.proofs.Common.{◌≡◌, ℕ, ◌<◌, ◌==◌, ◌&&◌, not, true, length, sym, ap, ◌∙◌, arith}
 use Rattle.std.proofs.lemmas.Bool.{and_parts, and_from, eq-eqb, lt-ltb}
-use Rattle.bounded_sums.proofs.TestLaws.{any_below-from}
+use Rattle.number_laws.proofs.TestLaws.{any_below-from}
 use Rattle.sporadic_model.specs.SetDef.{SetDef, task_at}
 use Rattle.sporadic_model.specs.Users.{is_user}
 use Rattle.schedule_model.specs.declared.rule.Rule.TheVariants as rule
@@ -19,8 +19,8 @@ use Rattle.schedule_laws.proofs.Segments.{open_listed, open_resource, open_user}
 use Rattle.fragments.specs.declared.columns.Class.{Class}
 use Rattle.fragments.specs.declared.columns.Class.TheVariants.{Direct, Indirect, Preemption}
 use Rattle.fragments.specs.Columns.{have_one_processor, AreRequests}
-use Rattle.charge_model.specs.Charges.{Executes}
-use Rattle.charge_model.specs.ChargedTicks.{IsCharged}
+use Rattle.charge_laws.specs.Charges.{Executes}
+use Rattle.charge_laws.specs.ChargedTicks.{IsCharged}
 use Rattle.row_laws.proofs.Brings.{column_with}
 use Rattle.row_laws.proofs.SharedPlacement.{passes_not}
 use Rattle.row_laws.proofs.Joined.{passing_among, column_from}

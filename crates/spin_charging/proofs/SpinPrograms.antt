@@ -5,10 +5,10 @@ use Rattle.std.specs.List.{All}
 use Rattle.std.proofs.Math.Nat.{mul-le-mul_right}
 use Rattle.std.proofs.lemmas.List.{length-append}
 use Rattle.std.proofs.lemmas.List.Elements.{All-append, All-cons}
-use Rattle.bounded_sums.specs.Sums.{only_if}
-use Rattle.bounded_sums.proofs.CountLaws.{flag-at_most}
-use Rattle.bounded_sums.proofs.SumLaws.{only_if-at_most, sum_below-monotone}
-use Rattle.bounded_sums.proofs.OnlyIfLaws.{only_if-rises}
+use Rattle.number_laws.specs.Sums.{only_if}
+use Rattle.number_laws.proofs.CountLaws.{flag-at_most}
+use Rattle.number_laws.proofs.SumLaws.{only_if-at_most, sum_below-monotone}
+use Rattle.number_laws.proofs.OnlyIfLaws.{only_if-rises}
 use Rattle.program_form.specs.Program.{IsProgram, IsCovered, columns}
 use Rattle.program_form.specs.Limits.{HasLimitsAtMost}
 use Rattle.sporadic_model.specs.SetDef.{SetDef, task_at}

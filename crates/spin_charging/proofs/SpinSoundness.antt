@@ -2,7 +2,8 @@
 use Rattle.std.proofs.Common.{ℕ, List, arith}
 use Rattle.program_form.specs.Certificate.{CertificateDef}
 use Rattle.sporadic_model.specs.SetDef.{SetDef, task_at}
-use Rattle.sporadic_model.specs.Accepted.{IsAccepted}
+use Rattle.sporadic_model.specs.Accepted.{IsAccepted, IsFormed}
+use Rattle.sporadic_model.proofs.Laws.{formed_of_accepted}
 use Rattle.schedule_model.specs.BlockedTicks.{is_shared_interference}
 use Rattle.schedule_laws.proofs.SharedLaws.{shared_one_of_three}
 use Rattle.program_sources.specs.Valid.{IsValid}
@@ -20,20 +21,21 @@ use Rattle.spin_charging.proofs.SpinPlacement.{spin_charges_blocked}
 use Rattle.spin_charging.proofs.SpinPrograms.{spin_rises}
 use Rattle.spin_charging.proofs.SpinPoints.{spin_point, spin_interferes_within}
 
-pub spin_analyses : (set : SetDef) → IsAccepted set → Analyses spin_rule is_shared_interference (spin_source set)
+pub spin_analyses : (set : SetDef) → IsFormed set → Analyses spin_rule is_shared_interference (spin_source set)
 spin_analyses set =
     analyses_over spin_rule is_shared_interference spin_charge spin_columns spin_rows (λ of h. (task_at of h).cost) set (record {
       most = λ of h a l. omega arith;
       interfering = spin_interferes_within;
-      point = λ w bounds n j premises keeps. spin_point w bounds n j premises.accepted premises.lawful keeps premises.listed premises.ended;
+      point = λ w bounds n j premises keeps. spin_point w bounds n j premises.formed premises.lawful keeps premises.listed premises.ended;
       charged = spin_charges_blocked;
     })
 
 pub spin_sound : (set : SetDef) (c : CertificateDef) (values : List ℕ) → IsAccepted set → IsValid (spin_source set) c
     → AreValues (spin_source set) c values → Sound spin_rule is_shared_interference set c.bounds values
 spin_sound set c values accepted valid are =
+    let formed : IsFormed set = formed_of_accepted set accepted in
     sound_of spin_rule is_shared_interference (spin_source set) c values (λ w t j same. shared_one_of_three w t j)
-    (λ w t same kept. spin_sound_row w t kept) accepted (spin_analyses set accepted) valid are
+    (λ w t same kept. spin_sound_row w t kept) formed (spin_analyses set formed) valid are
 
 -- What comes up at some bounds, no less comes up at greater ones.
 pub spin_above : (set : SetDef) → ComesUpAbove (spin_source set)

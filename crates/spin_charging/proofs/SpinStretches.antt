@@ -2,8 +2,8 @@
 use Rattle.std.proofs.Common.{◌≡◌, ℕ, ◌==◌, ◌&&◌, false, length, refl, ap, ◌∙◌, Option, None, Some}
 use Rattle.std.specs.Prelude.{if◌then◌else◌}
 use Rattle.std.specs.Option.{option_map_or, option_and_then}
-use Rattle.bounded_sums.specs.Tests.{found_below}
-use Rattle.bounded_sums.proofs.TestLaws.{found_below-agree}
+use Rattle.number_laws.specs.Tests.{found_below}
+use Rattle.number_laws.proofs.TestLaws.{found_below-agree}
 use Rattle.sporadic_model.specs.SetDef.{task_at}
 use Rattle.schedule_model.specs.RowDef.{Trace, running_on}
 use Rattle.schedule_model.specs.Phase.{Phase, phase_of}
@@ -13,7 +13,7 @@ use Rattle.schedule_model.specs.BlockedTicks.{is_shared_interference, is_blocked
 use Rattle.schedule_model.specs.Protocols.{EachSetSuits}
 use Rattle.schedule_laws.proofs.Alike.{IsAlike, active_alike, running_alike, holder_alike, shared_blocked_alike}
 use Rattle.fragments.specs.declared.columns.Class.TheVariants.{Direct, Indirect}
-use Rattle.charge_model.specs.Charges.{Charge, charge_to}
+use Rattle.charge_laws.specs.Charges.{Charge, charge_to}
 use Rattle.charge_laws.specs.Stretches.{StaysCharged}
 use Rattle.charge_laws.proofs.Stretches.{stays_where_alike}
 use Rattle.spin_rules.specs.SpinRules.{spins, spin_rule}

@@ -4,8 +4,8 @@ use Rattle.std.proofs.Common.{◌≡◌, ℕ, ◌*◌, ◌<◌, ◌≤◌, ◌==
 use Rattle.std.proofs.Common.{ap, subst, ◌∙◌, arith, Option}
 use Rattle.std.specs.Option.{option_map_or}
 use Rattle.std.proofs.lemmas.Bool.{and_parts, not-true, eqb-true}
-use Rattle.bounded_sums.specs.Sums.{sum_below, flag, only_if}
-use Rattle.bounded_sums.proofs.SumLaws.{only_if-at_most}
+use Rattle.number_laws.specs.Sums.{sum_below, flag, only_if}
+use Rattle.number_laws.proofs.SumLaws.{only_if-at_most}
 use Rattle.sporadic_model.specs.Users.{count_of, length_of}
 use Rattle.schedule_model.specs.RowDef.{Trace}
 use Rattle.schedule_model.specs.Phase.{phase_of}
@@ -15,7 +15,7 @@ use Rattle.schedule_model.specs.Keeping.{KeepsBefore}
 use Rattle.fragments.specs.declared.columns.Class.{Class}
 use Rattle.fragments.specs.declared.columns.Class.TheVariants.{Direct, Indirect, Preemption}
 use Rattle.fragments.specs.ColumnDef.{ColumnDef, is_preemption}
-use Rattle.charge_model.specs.Windows.{window_end}
+use Rattle.charge_laws.specs.Windows.{window_end}
 use Rattle.row_laws.specs.Meeting.{brings}
 use Rattle.row_laws.proofs.Brings.{Window, Hit, flag_times-at_most, flag_times-passes, only_if-parts}
 use Rattle.row_laws.proofs.SlotRow.{OneRequest, Shares}

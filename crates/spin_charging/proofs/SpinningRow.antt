@@ -3,11 +3,11 @@ use Rattle.std.proofs.Common.{◌≡◌, ℕ, ◌+◌, ◌*◌, ◌<◌, ◌≤�
 use Rattle.std.proofs.Common.{ap, ◌∙◌, arith, inl, inr, nat_lt}
 use Rattle.std.proofs.Math.Nat.{mul_assoc, mul_comm}
 use Rattle.std.proofs.lemmas.Bool.{cases_lt, and_from, eq-eqb, eqb-true, lt-ltb, ltb-true}
-use Rattle.bounded_sums.specs.Sums.{sum_below, flag, only_if}
-use Rattle.bounded_sums.proofs.SumLaws.{sum_below-monotone, sum_below-plus, sum_below-times_right, sum_below-none_or_some}
-use Rattle.bounded_sums.proofs.SumLaws.{only_if-at_most, only_if-true}
-use Rattle.bounded_sums.proofs.TestLaws.{any_below-from}
-use Rattle.bounded_sums.proofs.SlotLaws.{sum_below-slots}
+use Rattle.number_laws.specs.Sums.{sum_below, flag, only_if}
+use Rattle.number_laws.proofs.SumLaws.{sum_below-monotone, sum_below-plus, sum_below-times_right, sum_below-none_or_some}
+use Rattle.number_laws.proofs.SumLaws.{only_if-at_most, only_if-true}
+use Rattle.number_laws.proofs.TestLaws.{any_below-from}
+use Rattle.number_laws.proofs.SlotLaws.{sum_below-slots}
 use Rattle.sporadic_model.specs.SetDef.{task_at}
 use Rattle.sporadic_model.specs.Users.{count_of, is_user}
 use Rattle.schedule_model.specs.RowDef.{Trace}
@@ -18,7 +18,7 @@ use Rattle.schedule_laws.proofs.ActiveJobs.{active_listed, one_active}
 use Rattle.schedule_laws.proofs.Segments.{open_user}
 use Rattle.fragments.specs.Columns.{have_one_processor, is_lower_local}
 use Rattle.fragments.specs.Windows.{jobs_in, requests_in}
-use Rattle.charge_model.specs.Windows.{window_end}
+use Rattle.charge_laws.specs.Windows.{window_end}
 use Rattle.row_laws.specs.Meeting.{TicksMeet}
 use Rattle.row_laws.proofs.Brings.{Window, Hit, hit, only_if-parts}
 use Rattle.row_laws.proofs.JobRows.{paid_in_window}

@@ -2,7 +2,7 @@
 -- that processor runs nothing, to the one that a job there spins for.
 use Rattle.std.specs.Prelude.{ℕ, ◌==◌, ◌&&◌, Bool, false, Option, None, Some, if◌then◌else◌, length}
 use Rattle.std.specs.Option.{option_map_or, option_and_then}
-use Rattle.bounded_sums.specs.Tests.{found_below}
+use Rattle.number_laws.specs.Tests.{found_below}
 use Rattle.sporadic_model.specs.SetDef.{task_at}
 use Rattle.schedule_model.specs.RowDef.{Trace, running_on, holder_in}
 use Rattle.schedule_model.specs.Phase.{Phase, phase_of}
@@ -10,7 +10,7 @@ use Rattle.schedule_model.specs.Phase.Phase.{Asking}
 use Rattle.schedule_model.specs.Activity.{processor_of, active_job_of}
 use Rattle.schedule_model.specs.BlockedTicks.{is_shared_interference, is_blocked}
 use Rattle.fragments.specs.declared.columns.Class.TheVariants.{Direct, Indirect, Preemption}
-use Rattle.charge_model.specs.Charges.{Charge, charge_to}
+use Rattle.charge_laws.specs.Charges.{Charge, charge_to}
 use Rattle.spin_rules.specs.SpinRules.{spins}
 
 -- Is x a task of processor k whose active job spins?

@@ -1,7 +1,7 @@
 -- The columns and rows of blocking programs under spin locks. In each, i is the analysed task.
 use Rattle.std.specs.Prelude.{ℕ, ◌+◌, ◌==◌, ◌&&◌, not, Bool, List, ◌∷◌, ◌++◌, length}
-use Rattle.bounded_sums.specs.Sums.{flag}
-use Rattle.bounded_sums.specs.Tests.{any_below}
+use Rattle.number_laws.specs.Sums.{flag}
+use Rattle.number_laws.specs.Tests.{any_below}
 use Rattle.program_form.specs.Program.{ProgramDef}
 use Rattle.sporadic_model.specs.SetDef.{SetDef, task_at}
 use Rattle.sporadic_model.specs.Users.{count_of, is_user}

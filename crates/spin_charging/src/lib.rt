@@ -5,7 +5,7 @@
 #![tactic(auto)]
 
 ghost use Rattle.std.specs.Prelude.{◌≡◌, ℕ, ◌<◌, ◌≤◌, true, List, [], ◌∷◌, length, slice_index, Some};
-ghost use Rattle.bounded_sums.specs.Tests.{count_below};
+ghost use Rattle.number_laws.specs.Tests.{count_below};
 ghost use Rattle.program_form.specs.Program.{IsProgram, IsCovered, columns};
 ghost use Rattle.program_form.specs.Limits.{HasLimitsAtMost};
 ghost use Rattle.program_form.specs.Points.{IsScaledPoint};
@@ -26,11 +26,11 @@ ghost use Rattle.schedule_model.specs.BlockedTicks.{is_shared_interference, is_b
 ghost use Rattle.program_sources.specs.Bounds.{AtMost, AreWithinDeadlines};
 ghost use Rattle.program_laws.specs.Worked.{three_tasks, sizes};
 ghost use Rattle.program_laws.specs.Written.{KeepsJobs};
-ghost use Rattle.charge_model.specs.Charges.{Charge};
-ghost use Rattle.charge_model.specs.ChargedTicks.{IsCharged};
-ghost use Rattle.charge_model.specs.Interferers.{interferes_with_some};
-ghost use Rattle.charge_model.specs.Windows.{bound_end, EndedWithin};
-ghost use Rattle.charge_model.specs.Fractions.{product_of_lengths, fractions_of};
+ghost use Rattle.charge_laws.specs.Charges.{Charge};
+ghost use Rattle.charge_laws.specs.ChargedTicks.{IsCharged};
+ghost use Rattle.charge_laws.specs.Interferers.{interferes_with_some};
+ghost use Rattle.charge_laws.specs.Windows.{bound_end, EndedWithin};
+ghost use Rattle.charge_laws.specs.Fractions.{product_of_lengths, fractions_of};
 ghost use Rattle.charge_laws.specs.Stretches.{StaysCharged};
 ghost use Rattle.spin_rules.specs.SpinRules.{spin_rule};
 ghost use Rattle.spin_charging.specs.SpinCharges.{spin_charge};

@@ -1,5 +1,6 @@
 mod SpinVerdict
 mod SpinChosen
 mod SpinNow
-mod SpinNextRow
+pub mod SpinNextRow
 mod UsersBeside
+pub mod FewRows

@@ -1,8 +1,8 @@
 -- The charge by a machine's value is that of each schedule that it shows.
 use Rattle.std.proofs.Common.{◌≡◌, ℕ, ◌<◌, ◌==◌, ◌&&◌, true, false, length, refl, sym, ap, ◌∙◌, Option, Some, None}
 use Rattle.std.specs.Option.{option_and_then, option_map_or}
-use Rattle.bounded_sums.specs.Tests.{found_below}
-use Rattle.bounded_sums.proofs.TestLaws.{found_below-agree, found_below-is}
+use Rattle.number_laws.specs.Tests.{found_below}
+use Rattle.number_laws.proofs.TestLaws.{found_below-agree, found_below-is}
 use Rattle.sporadic_model.specs.SetDef.{task_at}
 use Rattle.schedule_model.specs.RowDef.{RowDef, running_on, holder_in}
 use Rattle.schedule_model.specs.Phase.{Phase, phase_of}

@@ -2,7 +2,7 @@
 use Rattle.std.proofs.Common.{◌≡◌, ℕ, ◌==◌, ◌&&◌, not, Bool, List, map, length, ◌∙◌}
 use Rattle.std.proofs.Math.Bool.{and_comm}
 use Rattle.std.specs.List.{list_any}
-use Rattle.bounded_sums.proofs.TestLaws.{any_below-agree}
+use Rattle.number_laws.proofs.TestLaws.{any_below-agree}
 use Rattle.sporadic_model.specs.SetDef.{SetDef}
 use Rattle.sporadic_model.specs.Users.{is_user, users_of}
 use Rattle.sporadic_model.specs.declared.ids.TaskId.{TaskId}

@@ -1,7 +1,7 @@
 -- The charge of a blocked job under spin locks, by a machine's value and the row that comes next.
 use Rattle.std.specs.Prelude.{ℕ, ◌==◌, ◌&&◌, Bool, false, Option, None, Some, if◌then◌else◌, length}
 use Rattle.std.specs.Option.{option_map_or, option_and_then}
-use Rattle.bounded_sums.specs.Tests.{found_below}
+use Rattle.number_laws.specs.Tests.{found_below}
 use Rattle.sporadic_model.specs.SetDef.{task_at}
 use Rattle.schedule_model.specs.RowDef.{RowDef, running_on, holder_in}
 use Rattle.schedule_model.specs.Phase.{Phase}
@@ -10,7 +10,7 @@ use Rattle.phase_machine.specs.MachineDef.{MachineDef}
 use Rattle.phase_machine.specs.Now.{phase_now, current_now, processor_now}
 use Rattle.fragments.specs.declared.columns.Class.{Class}
 use Rattle.fragments.specs.declared.columns.Class.TheVariants.{Direct, Indirect, Preemption}
-use Rattle.charge_model.specs.Charges.{Charge, charge_to}
+use Rattle.charge_laws.specs.Charges.{Charge, charge_to}
 use Rattle.spin_protocol.specs.SpinTests.{spins_now}
 
 -- Does task x's active job spin? Is x one of processor k's tasks for which it does, and which job does there, from the highest task on?

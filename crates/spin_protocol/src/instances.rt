@@ -1,6 +1,7 @@
 //! The protocol as a judge, as a source of programs, and as a charged protocol.
 
 ghost use Rattle.std.specs.Prelude.{refl};
+ghost use Rattle.sporadic_model.proofs.Laws.{formed_of_accepted};
 ghost use Rattle.schedule_model.specs.Protocols.{EachSetSuits};
 ghost use Rattle.schedule_model.specs.BlockedTicks.{is_shared_interference};
 ghost use Rattle.schedule_laws.proofs.SharedLaws.{shared_one_of_three};
@@ -146,5 +147,6 @@ impl ChargedProtocol for Spin {
 
     ghost stays_charged = { λ p. spin_stays_charged };
 
-    ghost meets_rows = { λ p w bounds n j suits accepted lawful keeps listed ended. spin_point w bounds n j accepted lawful keeps listed ended };
+    ghost meets_rows = { λ p w bounds n j suits accepted lawful keeps listed ended.
+        spin_point w bounds n j (formed_of_accepted w.set accepted) lawful keeps listed ended };
 }

@@ -12,7 +12,7 @@ mod laws;
 mod programs;
 mod rows;
 
-pub use laws::each_lawful_schedule_has_a_next_row;
+pub use laws::{each_lawful_schedule_has_a_next_row, programs_are_small};
 
 /// Non-preemptive FIFO spin locks under partitioned fixed-priority scheduling. A job that waits for a resource spins: its processor
 /// runs nothing then. Homes aren't looked at.

@@ -1,7 +1,7 @@
 //! The rows that spin locks have of their own, as far as they are computed.
 
 ghost use Rattle.std.specs.Prelude.{◌≡◌, ℕ, ◌<◌, ◌≤◌, ◌*◌, ◌&&◌, ◌+◌, [], ◌∷◌, length, slice_index};
-ghost use Rattle.bounded_sums.specs.Sums.{flag};
+ghost use Rattle.number_laws.specs.Sums.{flag};
 ghost use Rattle.sporadic_model.specs.Users.{count_of, is_user};
 ghost use Rattle.program_sources.specs.Bounds.{AreWithinDeadlines};
 ghost use Rattle.fragments.specs.ColumnDef.{column_seen};

@@ -1,7 +1,7 @@
 -- Jobs in a request, and jobs that spin.
 use Rattle.std.proofs.Common.{◌≡◌, ℕ, ◌<◌, ◌==◌, ◌&&◌, not, true, false, length, refl, Some}
 use Rattle.std.proofs.lemmas.Bool.{both_ways, and_parts, and_from, not-true, not_from_false, eq-eqb, eqb-true, false_from_ne_true}
-use Rattle.bounded_sums.proofs.TestLaws.{any_below-from, any_below-some}
+use Rattle.number_laws.proofs.TestLaws.{any_below-from, any_below-some}
 use Rattle.schedule_model.specs.RowDef.{Trace, holder_in}
 use Rattle.schedule_model.specs.Phase.{Phase, is_local, is_finished, phase_of}
 use Rattle.schedule_model.specs.Phase.Phase.{Local, Asking, Finished}

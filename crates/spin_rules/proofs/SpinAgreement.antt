@@ -1,7 +1,7 @@
 -- Whether a row keeps the rules, and is the chosen one, depends on the rows up to it alone.
 use Rattle.std.proofs.Common.{◌≡◌, ℕ, ◌<◌, ◌≤◌, ◌==◌, ◌&&◌, not, true, false, length, refl, sym, ap, ◌∙◌, arith, Some}
-use Rattle.bounded_sums.proofs.TestLaws.{any_below-agree}
-use Rattle.bounded_sums.specs.Tests.{any_below}
+use Rattle.number_laws.proofs.TestLaws.{any_below-agree}
+use Rattle.number_laws.specs.Tests.{any_below}
 use Rattle.schedule_model.specs.declared.rule.Rule.TheVariants as rule
 use Rattle.schedule_model.specs.RowDef.{Trace, running_on, holder_in, held_before}
 use Rattle.schedule_model.specs.Phase.{phase_of}

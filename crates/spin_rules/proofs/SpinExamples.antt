@@ -9,6 +9,8 @@ use Rattle.schedule_model.specs.Activity.{is_ready_holder, is_ready}
 use Rattle.schedule_model.specs.Ranks.{fmlp_plus}
 use Rattle.schedule_model.specs.Protocols.{shared_rule}
 use Rattle.schedule_model.specs.Keeping.{KeepsBefore, IsFirstUnlawful}
+use Rattle.schedule_model.specs.BlockedTicks.{is_delayed, runs_higher, is_shared_interference, is_blocked}
+use Rattle.schedule_model.specs.Measures.{has_finished, finish_of, response_of, blocking_of, counts_for, finished_jobs, measures_of}
 use Rattle.schedule_model.specs.declared.rule.Rule.TheVariants as rule
 use Rattle.schedule_model.proofs.RuleTests.{passes_shared, shared_from}
 use Rattle.schedule_model.proofs.KeepingTests.{keeps_from, first_from}
@@ -57,6 +59,16 @@ pub keeps_spin : KeepsBefore spin_rule trace_spin 9
 unfolding phase_of phase_from executed runs_in is_pending is_next is_active is_requester issue_tick_of is_active_local
     is_ready_holder is_ready is_in_request spins has_spinner fmlp_plus
 keeps_spin = keeps_from spin_rule trace_spin (passes_spin trace_spin) (spin_from trace_spin) 9 refl
+
+-- The first is blocked for four ticks, the second for the three at which it spins, the third never.
+pub measures_of_spin : measures_of is_shared_interference trace_spin 9 0 ∷ measures_of is_shared_interference trace_spin 9 1
+    ∷ measures_of is_shared_interference trace_spin 9 2 ∷ []
+    ≡ record { finished = 1; response = Some 6; blocking = 4 } ∷ record { finished = 1; response = Some 9; blocking = 3 }
+    ∷ record { finished = 1; response = Some 5; blocking = 0 } ∷ []
+unfolding phase_of phase_from executed runs_in is_pending is_next is_active is_delayed runs_higher
+    is_shared_interference is_blocked has_finished finish_of response_of blocking_of counts_for finished_jobs
+    measures_of
+measures_of_spin = refl
 
 -- Under FMLP+ the row at tick 2 breaks Idle: the first job is ready then, and its processor runs nothing.
 pub breaks_fmlp : IsFirstUnlawful (shared_rule fmlp_plus) trace_spin 9 2 rule.Idle

@@ -1,7 +1,7 @@
 -- The five rules of a row under spin locks: a job that waits for a resource keeps its processor busy, and a job in a request
 -- isn't preempted. Run, Keep and Grant are rules of SharedRules; grants go in the order of issue.
 use Rattle.std.specs.Prelude.{◌≡◌, ℕ, ◌==◌, ◌&&◌, not, Bool, true, false, length, None, Some}
-use Rattle.bounded_sums.specs.Tests.{any_below}
+use Rattle.number_laws.specs.Tests.{any_below}
 use Rattle.schedule_model.specs.RowDef.{Trace, running_on, holder_in}
 use Rattle.schedule_model.specs.Phase.{is_local, phase_of}
 use Rattle.schedule_model.specs.Activity.{processor_of, is_active, issue_tick_of, holds_by, is_ready}

@@ -8,12 +8,12 @@ use Rattle.std.proofs.lemmas.Bool.{ltb-true}
 use Rattle.std.proofs.lemmas.Bool.Decides.{nat_tests}
 use Rattle.std.proofs.lemmas.List.Quantifiers.{position-Some}
 use Rattle.std.proofs.lemmas.Slice.Eq.{bytes_eq-Decides}
-use Rattle.sporadic_model.specs.SetDef.{SetDef, RequestDef, latest_bound, task_at, resource_at, no_task, no_resource, no_request}
+use Rattle.sporadic_model.specs.SetDef.{SetDef, RequestDef, latest_bound, task_at, resource_at, request_at, no_task, no_resource, no_request}
 use Rattle.sporadic_model.specs.Users.{numbers, count_of, is_user, is_remote_user, ceiling_of, remote_ceiling_of}
 use Rattle.sporadic_model.specs.Users.{task_with_name, resource_with_name}
 use Rattle.sporadic_model.specs.Accepted.{IsAccepted, SetSizes, TaskNumbers, RequestNumbers, EntryNumbers, AreNamed}
 use Rattle.sporadic_model.specs.Accepted.{AreEntries, AreHomes, IsHighestUser, HasNoUser, IsHighestRemoteUser}
-use Rattle.sporadic_model.specs.Accepted.{HasNoRemoteUser, IsBoost}
+use Rattle.sporadic_model.specs.Accepted.{HasNoRemoteUser, IsBoost, IsFormed, IsWithinLimits, TaskOrder, EntryOrder}
 use Rattle.sporadic_model.proofs.Finding.{first_of_range, none_in_range, find_alike}
 
 pub found_or : {A : Type 0} (b : Bool) (x e : A) (o : Option A) → cond b (Some x) o ≡ Some e → (x ≡ e) ⊎ (o ≡ Some e)
@@ -59,6 +59,79 @@ pub homes_of_accepted : (set : SetDef) → IsAccepted set → AreHomes set
 unfolding IsAccepted
 homes_of_accepted set h = h.homes
 
+-- An accepted set is well formed and within the limits.
+pub formed_of_accepted : (set : SetDef) → IsAccepted set → IsFormed set
+formed_of_accepted set h = let sizes : SetSizes set = sizes_of_accepted set h in
+    record {
+      processors = sizes.processors_from;
+      tasks = sizes.tasks_from;
+      names = names_of_accepted set h;
+      numbers = λ x l. let n : TaskNumbers set x = numbers_of_accepted set x h l in
+          record {
+            processor_from = n.processor_from;
+            processor_to = n.processor_to;
+            local_from = n.local_from;
+            local_to = n.local_to;
+            jitter_to = n.jitter_to;
+            deadline_to = n.deadline_to;
+          };
+      entries = λ x. entries_of_accepted set x h;
+      requests = λ x j l m. let n : RequestNumbers set x j = requests_of_accepted set x j h l m in
+          record { count_from = n.count_from; length_from = n.length_from; length_to = n.length_to };
+      homes = homes_of_accepted set h;
+    }
+
+pub limits_of_accepted : (set : SetDef) → IsAccepted set → IsWithinLimits set
+limits_of_accepted set h = let sizes : SetSizes set = sizes_of_accepted set h in
+    record {
+      processors = sizes.processors_to;
+      tasks = sizes.tasks_to;
+      resources = sizes.resources_to;
+      requests = sizes.requests_to;
+      periods = λ x l. let n : TaskNumbers set x = numbers_of_accepted set x h l in n.period_to;
+      counts = λ x j l m. let n : RequestNumbers set x j = requests_of_accepted set x j h l m in n.count_to;
+    }
+
+-- And only such a set is accepted.
+pub accepted_of_formed : (set : SetDef) → IsFormed set → IsWithinLimits set → IsAccepted set
+unfolding IsAccepted
+accepted_of_formed set formed limits = record {
+  sizes = record {
+    processors_from = formed.processors;
+    processors_to = limits.processors;
+    tasks_from = formed.tasks;
+    tasks_to = limits.tasks;
+    resources_to = limits.resources;
+    requests_to = limits.requests;
+  };
+  names = formed.names;
+  numbers = λ x l. let n : TaskOrder set x = formed.numbers x l in
+      record {
+        processor_from = n.processor_from;
+        processor_to = n.processor_to;
+        local_from = n.local_from;
+        local_to = n.local_to;
+        cost_from = omega (arith, n.local_from, n.local_to);
+        cost_to = omega (arith, n.jitter_to);
+        jitter_to = n.jitter_to;
+        deadline_to = n.deadline_to;
+        period_to = limits.periods x l;
+      };
+  entries = formed.entries;
+  requests = λ x j l m. let n : EntryOrder set x (request_at set x j) = formed.requests x j l m in
+      record {
+        count_from = n.count_from;
+        count_to = limits.counts x j l m;
+        length_from = n.length_from;
+        length_to = n.length_to;
+      };
+  homes = formed.homes;
+}
+
+-- A well formed set's costs are at least 1 tick, and at most the deadlines.
+pub cost_of_formed : (set : SetDef) (x : ℕ) → IsFormed set → x < length set.tasks → 1 ≤ (task_at set x).cost
+cost_of_formed set x formed l = let n : TaskOrder set x = formed.numbers x l in omega (arith, n.local_from, n.local_to)
+
 -- A bound is at most the latest one exactly where bound and jitter together are at most the deadline.
 pub latest_meets : (set : SetDef) (x bound : ℕ) → IsAccepted set → x < length set.tasks
     → (bound ≤ latest_bound (task_at set x)) ↔ (bound + (task_at set x).jitter ≤ (task_at set x).deadline)
@@ -72,6 +145,14 @@ pub entry_of_accepted : (set : SetDef) (x : ℕ) (p : RequestDef → Bool) (e : 
 entry_of_accepted set x p e h i found =
     let place = found_at p (task_at set x).requests no_request e found in
     subst (EntryNumbers set x) place.2 (requests_of_accepted set x place.0 h i place.1)
+
+-- An entry that is found among a task's of a well formed set has a length.
+pub length_of_formed : (set : SetDef) (x : ℕ) (p : RequestDef → Bool) (e : RequestDef) → IsFormed set
+    → x < length set.tasks → find p (task_at set x).requests ≡ Some e → 1 ≤ e.length
+length_of_formed set x p e formed i found =
+    let place = found_at p (task_at set x).requests no_request e found in
+    let n : EntryOrder set x (request_at set x place.0) = formed.requests x place.0 i place.1 in
+    subst (λ r. 1 ≤ r.length) place.2 n.length_from
 
 -- The ceiling of a resource is its highest user, and where it has none, no task uses it.
 pub highest_user : (set : SetDef) (q x : ℕ) → ceiling_of set q ≡ Some x → IsHighestUser set q x

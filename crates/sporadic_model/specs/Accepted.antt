@@ -1,5 +1,5 @@
--- Which task sets are accepted: each name, number, entry and home stands in its range. And what follows of the users of
--- their resources.
+-- Which task sets are accepted: each name, number, entry and home stands in its range. Which are well formed, and what an accepted set
+-- keeps beside that: upper limits. And what follows of the users of their resources.
 use Rattle.std.specs.Prelude.{◌≡◌, ◌≢◌, ℕ, ◌+◌, ◌<◌, ◌≤◌, ◌^◌, length, Some, IsTrue, ◌⊎◌}
 use Rattle.sporadic_model.specs.SetDef.{SetDef, RequestDef, task_at, resource_at, request_at, request_count}
 use Rattle.sporadic_model.specs.Names.{is_name}
@@ -73,6 +73,42 @@ pub record KeepsRanges (set : SetDef) : Type 0 where
 -- Is the set accepted? It is where all of it stands in its range.
 unfoldable pub IsAccepted : SetDef → Type 0
 IsAccepted set = KeepsRanges set
+
+-- The numbers of task x stand in their order, however great they are: a local limit and a cost of at least 1 tick, and cost and
+-- jitter together, deadline and period.
+pub record TaskOrder (set : SetDef) (x : ℕ) : Type 0 where
+  pub processor_from : 1 ≤ (task_at set x).processor
+  pub processor_to : (task_at set x).processor ≤ set.processors
+  pub local_from : 1 ≤ (task_at set x).local
+  pub local_to : (task_at set x).local ≤ (task_at set x).cost
+  pub jitter_to : (task_at set x).cost + (task_at set x).jitter ≤ (task_at set x).deadline
+  pub deadline_to : (task_at set x).deadline ≤ (task_at set x).period
+
+-- So do those of an entry of task x: at least 1 request, and a length of at least 1 tick that is below the task's cost.
+pub record EntryOrder (set : SetDef) (x : ℕ) (entry : RequestDef) : Type 0 where
+  pub count_from : 1 ≤ entry.count
+  pub length_from : 1 ≤ entry.length
+  pub length_to : entry.length < (task_at set x).cost
+
+-- Is the set well formed? It has a processor and a task, its names are of the right form and apart, its entries name its resources,
+-- its homes are processors of it, and its numbers stand in their order. No number of ticks has an upper limit of its own here.
+pub record IsFormed (set : SetDef) : Type 0 where
+  pub processors : 1 ≤ set.processors
+  pub tasks : 1 ≤ length set.tasks
+  pub names : AreNamed set
+  pub numbers : (x : ℕ) → x < length set.tasks → TaskOrder set x
+  pub entries : (x : ℕ) → x < length set.tasks → AreEntries set x
+  pub requests : (x j : ℕ) → x < length set.tasks → j < length (task_at set x).requests → EntryOrder set x (request_at set x j)
+  pub homes : AreHomes set
+
+-- Are the sizes of the set, its periods and the counts of its entries at most the greatest that are accepted?
+pub record IsWithinLimits (set : SetDef) : Type 0 where
+  pub processors : set.processors ≤ MOST_PROCESSORS
+  pub tasks : length set.tasks ≤ MOST_TASKS
+  pub resources : length set.resources ≤ MOST_RESOURCES
+  pub requests : request_count set ≤ MOST_REQUESTS
+  pub periods : (x : ℕ) → x < length set.tasks → (task_at set x).period ≤ MOST_TICKS
+  pub counts : (x j : ℕ) → x < length set.tasks → j < length (task_at set x).requests → (request_at set x j).count ≤ MOST_COUNT
 
 -- Do the positions of the set's resources, tasks and entries fit the 32 bits of an id?
 pub record FitsIds (set : SetDef) : Type 0 where

@@ -3,7 +3,7 @@
 ghost use Rattle.std.specs.Prelude.{◌≡◌, ◌↔◌, ℕ, ◌+◌, ◌<◌, ◌≤◌, length, None};
 ghost use Rattle.sporadic_model.specs.SetDef.{SetDef, task_at, latest_bound};
 ghost use Rattle.sporadic_model.specs.Refusals.{first_refusal};
-ghost use Rattle.sporadic_model.specs.Accepted.{IsAccepted};
+ghost use Rattle.sporadic_model.specs.Accepted.{IsAccepted, IsFormed, IsWithinLimits};
 
 use crate::limits::{
     MOST_COUNT, MOST_NAME, MOST_PROCESSORS, MOST_REQUESTS, MOST_RESOURCES, MOST_TASKS, MOST_TICKS,
@@ -12,6 +12,11 @@ use crate::limits::{
 /// No refusal of a task set is due exactly where all of it stands in its range.
 pub fn refusals_are_exact()
     ensures { (set : SetDef) → (first_refusal set ≡ None) ↔ IsAccepted set }
+{}
+
+/// A set is accepted exactly where it is well formed and within the upper limits.
+pub fn accepted_sets_are_formed_and_within_limits()
+    ensures { (set : SetDef) → IsAccepted set ↔ (IsFormed set × IsWithinLimits set) }
 {}
 
 /// A response-time bound of an accepted set's task is at most the latest one exactly where bound and

@@ -3,7 +3,7 @@ use std::alloc::{AllocError, Global};
 use std::fmt::Write;
 use std::test::Fail;
 use trace_csv::read_jobs;
-use worked_files::{PAIR, set_from};
+use worked_sets::files::{PAIR, set_from};
 
 /// Two tasks on one processor, of which the higher is released up to 4 ticks after it arrives.
 const JITTER: &str = r#"{"processors":1,"tasks":[

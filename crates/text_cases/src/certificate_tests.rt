@@ -1,6 +1,5 @@
-use cert_json::{CertRefusal, read, read_old, write};
+use cert_json::{CertRefusal, digest_text, read, read_old, set_digest, write};
 use program_form::{Certificate, Dual};
-use set_digests::{digest_text, set_digest};
 use std::alloc::{AllocError, Global};
 use std::test::Fail;
 

@@ -1,9 +1,8 @@
-use row_readers::RowReader;
-use schedule_model::JobId;
+use schedule_model::{JobId, RowReader};
 use std::alloc::{AllocError, Global};
 use std::test::Fail;
 use trace_csv::{RowText, RowsRefusal, read_jobs};
-use worked_files::{PAIR, PAIR_JOBS, PAIR_LOWER_FIRST, set_from};
+use worked_sets::files::{PAIR, PAIR_JOBS, PAIR_LOWER_FIRST, set_from};
 
 /// The ticks of each run that a text gives, one after another.
 fn run_ticks(alloc: Global, rows: &RowText) -> Result<Vec<u64>, AllocError> {

@@ -4,7 +4,7 @@ use std::alloc::{AllocError, Global};
 use std::fmt::Write;
 use std::test::Fail;
 use trace_csv::{RowsRefusal, read_jobs, read_rows, write_rows};
-use worked_files::{PAIR, PAIR_JOBS, PAIR_LOWER_FIRST, set_from};
+use worked_sets::files::{PAIR, PAIR_JOBS, PAIR_LOWER_FIRST, set_from};
 
 /// Where the rows fit the jobs: their text.
 fn written(alloc: Global, jobs: &JobList, rows: &RowList) -> Option<Result<Vec<u8>, AllocError>> {

@@ -5,7 +5,7 @@ use std::alloc::{AllocError, Global};
 use std::fmt::Write;
 use std::test::Fail;
 use taskset_json::{SetRefusal, home_check};
-use worked_files::set_from;
+use worked_sets::files::set_from;
 
 /// A line for each resource and each task, and after a task one for each resource that it uses.
 fn described(alloc: Global, set: &TaskSet) -> Result<String, AllocError> {

@@ -2,8 +2,8 @@
 use Rattle.std.proofs.Common.{◌≡◌, ℕ, zero, suc, ◌+◌, ◌<◌, ◌≤◌, Bool, true, false, List, length, refl, ap, sym, ◌∙◌}
 use Rattle.std.proofs.Common.{subst, arith, inl, inr, Some, None}
 use Rattle.std.proofs.lemmas.Bool.{cases_lt, cases_eq, cases_Bool, both_ways}
-use Rattle.bounded_sums.proofs.OnlyIfLaws.{only_if-nothing}
-use Rattle.bounded_sums.specs.Sums.{flag, only_if}
+use Rattle.number_laws.proofs.OnlyIfLaws.{only_if-nothing}
+use Rattle.number_laws.specs.Sums.{flag, only_if}
 use Rattle.schedule_model.specs.RowDef.{Trace, RowDef, runs_in}
 use Rattle.schedule_model.specs.Phase.{is_finished, phase_of}
 use Rattle.schedule_model.specs.Activity.{is_active}

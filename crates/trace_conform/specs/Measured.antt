@@ -1,7 +1,7 @@
 -- The measures of a task, by the counts of its jobs and by what the machine says of them at the end.
 use Rattle.std.specs.Prelude.{ℕ, ◌-◌, ◌==◌, ◌&&◌, Bool, List, length, None, Some, if◌then◌else◌}
-use Rattle.bounded_sums.specs.Sums.{only_if}
-use Rattle.bounded_sums.specs.Tests.{count_below}
+use Rattle.number_laws.specs.Sums.{only_if}
+use Rattle.number_laws.specs.Tests.{count_below}
 use Rattle.schedule_model.specs.JobDef.{job_of}
 use Rattle.schedule_model.specs.Phase.{is_finished}
 use Rattle.schedule_model.specs.Measures.{MeasuresDef, greatest_below}

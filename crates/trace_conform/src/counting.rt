@@ -2,7 +2,7 @@ ghost use Rattle.std.specs.Prelude.{ℕ};
 
 use crate::counts::{JobCount, count_ticks};
 use phase_machine::{Judge, Machine};
-use row_readers::RowReader;
+use schedule_model::RowReader;
 use std::alloc::AllocError;
 use trace_walk::Keeper;
 

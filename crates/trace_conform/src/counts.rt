@@ -9,8 +9,7 @@ ghost use Rattle.trace_walk.specs.Runs.{IsAtRun};
 ghost use Rattle.trace_conform.specs.Counts.{count_at, counted_on, AddsTicks, AreCounts};
 
 use phase_machine::{Judge, Machine};
-use row_readers::RowReader;
-use schedule_model::JobId;
+use schedule_model::{JobId, RowReader};
 use sporadic_model::TaskId;
 use std::alloc::{AllocError, Global};
 

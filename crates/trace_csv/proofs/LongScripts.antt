@@ -9,11 +9,11 @@ use Rattle.std.specs.Str.{bytes_eq}
 use Rattle.std.proofs.lemmas.Bool.{cases_Bool, and_parts, and_from, leb-true, ltb-true, lt-ltb, eqb-true, eq-eqb}
 use Rattle.std.proofs.lemmas.List.{length-map}
 use Rattle.std.proofs.lemmas.List.Quantifiers.{position-Some}
-use Rattle.bounded_sums.specs.Sums.{sum_below, flag}
-use Rattle.bounded_sums.specs.Tests.{all_below}
-use Rattle.bounded_sums.proofs.ListCounts.{count_by-first}
-use Rattle.bounded_sums.proofs.SumLaws.{sum_below-agree, sum_below-plus, sum_below-monotone, sum_below-constant, sum_below-term}
-use Rattle.bounded_sums.proofs.TestLaws.{all_below-each}
+use Rattle.number_laws.specs.Sums.{sum_below, flag}
+use Rattle.number_laws.specs.Tests.{all_below}
+use Rattle.number_laws.proofs.ListCounts.{count_by-first}
+use Rattle.number_laws.proofs.SumLaws.{sum_below-agree, sum_below-plus, sum_below-monotone, sum_below-constant, sum_below-term}
+use Rattle.number_laws.proofs.TestLaws.{all_below-each}
 use Rattle.sporadic_model.specs.SetDef.{SetDef, RequestDef, no_resource, resource_at, task_at}
 use Rattle.sporadic_model.specs.Users.{entry_of, count_of, task_with_name, resource_with_name}
 use Rattle.sporadic_model.specs.Accepted.{IsAccepted}

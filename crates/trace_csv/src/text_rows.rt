@@ -6,8 +6,7 @@ ghost use Rattle.trace_csv.specs.RowTexts.{IsNextShort, IsNextLine, IsNextRun, r
 
 use crate::records::{Next, Records};
 use crate::rows::{fields_per_line, written_run};
-use row_readers::RowReader;
-use schedule_model::{JobList, RowRun};
+use schedule_model::{JobList, RowReader, RowRun};
 use std::alloc::{AllocError, Global};
 use std::marker::Model;
 

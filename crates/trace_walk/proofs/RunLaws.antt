@@ -8,7 +8,7 @@ use Rattle.schedule_model.specs.RowDef.{RunDef, row_in, ticks_of}
 use Rattle.schedule_model.specs.Fitting.{RowsDef, fits_row, is_fitting}
 use Rattle.schedule_laws.proofs.TakenRows.{fits_jobs_from}
 use Rattle.phase_machine.specs.Taking.{IsRowFor}
-use Rattle.row_readers.specs.Runs.{run_of}
+use Rattle.schedule_model.specs.ReadRuns.{run_of}
 use Rattle.trace_walk.specs.Runs.{ticks_before}
 
 -- The run stands at each of its ticks.

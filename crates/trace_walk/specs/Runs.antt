@@ -2,7 +2,7 @@
 use Rattle.std.specs.Prelude.{◌≡◌, ℕ, ◌+◌, ◌<◌, true, List, length, take}
 use Rattle.schedule_model.specs.RowDef.{RunDef, row_in, ticks_of}
 use Rattle.schedule_model.specs.Fitting.{RowsDef, is_fitting}
-use Rattle.row_readers.specs.Runs.{run_of}
+use Rattle.schedule_model.specs.ReadRuns.{run_of}
 use Rattle.phase_machine.specs.MachineDef.{MachineDef}
 
 -- How many ticks do the runs before number i last?

@@ -2,7 +2,7 @@ ghost use Rattle.std.specs.Prelude.{ℕ};
 
 use crate::keeper::Keeper;
 use phase_machine::{Judge, Machine};
-use row_readers::RowReader;
+use schedule_model::RowReader;
 use std::alloc::AllocError;
 
 /// Two keepers of one walk, each with its own notes.

@@ -5,7 +5,7 @@ ghost use Rattle.phase_machine.specs.MachineDef.{MachineDef, under};
 ghost use Rattle.trace_walk.specs.NextStretch.{IsNextStretch};
 
 use phase_machine::{Judge, Machine};
-use row_readers::RowReader;
+use schedule_model::RowReader;
 use std::alloc::AllocError;
 
 /// What keeps notes of a schedule while it is walked, for a protocol that judges it.

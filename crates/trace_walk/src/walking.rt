@@ -8,9 +8,8 @@ ghost use Rattle.trace_walk.specs.Walked.{Walks};
 
 use crate::keeper::Keeper;
 use phase_machine::{Judge, Machine};
-use row_readers::RowReader;
 use schedule_answers::{Breach, Unlawful};
-use schedule_model::JobList;
+use schedule_model::{JobList, RowReader};
 use std::alloc::Global;
 
 /// Judges the row of the run that the reader stands at, of which so many ticks are left, and keeps and takes the ticks of the steady

@@ -7,3 +7,4 @@ pub mod Larger
 pub mod Read
 pub mod Entering
 pub mod Taking
+pub mod Marking

@@ -8,7 +8,7 @@ use Rattle.std.proofs.Math.Nat.{mul-le-mul, le_refl}
 use Rattle.number_laws.proofs.Ring.{as_diff, diffs, same_diff, by_one, mul-one, mul-zero, one-mul, zero-mul}
 use Rattle.number_laws.proofs.Order.{times_positive}
 use Rattle.fraction128.specs.Fraction.{Fraction, over, whole}
-use Rattle.small_runs.specs.SmallRuns.{IsSmall}
+use Rattle.exchange_runs.specs.SmallRuns.{IsSmall}
 use Rattle.whole_rows.specs.Rows.{RowDef, PivotDef, num_at, entry_at, listed_at, AreSparse, IsPivotOf}
 use Rattle.whole_rows.specs.RowView.{IsBounded}
 use Rattle.whole_rows.specs.PivotView.{IsBoundedPivot}

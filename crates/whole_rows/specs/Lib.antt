@@ -5,3 +5,5 @@ pub mod EntrySteps
 pub mod Numbers
 pub mod Steps
 pub mod Large
+pub mod MarkWords
+pub mod Marks

@@ -2,7 +2,7 @@
 use Rattle.std.specs.Prelude.{◌≡◌, ◌≢◌, ℕ, length, Result, Ok, Err, pos}
 use Rattle.fraction128.specs.Fraction.{Fraction, IsQuotient, whole}
 use Rattle.exchange_runs.specs.Exchange.{IsLessOver}
-use Rattle.small_runs.specs.SmallRuns.{IsSmall}
+use Rattle.exchange_runs.specs.SmallRuns.{IsSmall}
 use Rattle.whole_rows.specs.Rows.{RowDef, cell_at, limit_of}
 use Rattle.whole_rows.specs.declared.row.Large.{Large}
 

@@ -6,10 +6,13 @@
 
 mod divisors;
 mod entries;
+mod mark_words;
+mod marks;
 mod numbers;
 mod pivot;
 mod row;
 
 pub use entries::{Entry, push_num};
+pub use marks::RowMarks;
 pub use pivot::Pivot;
 pub use row::{Large, WholeRow};

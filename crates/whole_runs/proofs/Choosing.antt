@@ -12,7 +12,7 @@ use Rattle.program_form.specs.Program.{ProgramDef, height}
 use Rattle.exchange_runs.specs.Table.{Table, variables, objective}
 use Rattle.exchange_runs.specs.Exchange.{HasRatio}
 use Rattle.exchange_runs.proofs.Leasts.{AreFractions, least_without}
-use Rattle.small_runs.specs.SmallRuns.{IsSmall}
+use Rattle.exchange_runs.specs.SmallRuns.{IsSmall}
 use Rattle.whole_rows.specs.Rows.{RowDef, num_at, listed_at, entry_at, AreSparse}
 use Rattle.whole_rows.specs.declared.entries.Entry.{Entry}
 use Rattle.whole_rows.proofs.Listed.{listed_entry, listed_none}

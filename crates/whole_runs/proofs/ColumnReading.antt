@@ -6,8 +6,8 @@ use Rattle.std.specs.List.{range_with_len}
 use Rattle.std.proofs.lemmas.Bool.{cases_eq}
 use Rattle.std.proofs.lemmas.List.FromFn.{get_or-map-range_with_len}
 use Rattle.program_form.specs.Program.{ProgramDef, columns}
-use Rattle.row_marks.specs.Marks.{HasRow, IsMarked, HaveSameRoom}
-use Rattle.row_marks.specs.declared.RowMarks.{RowMarks}
+use Rattle.whole_rows.specs.Marks.{HasRow, IsMarked, HaveSameRoom}
+use Rattle.whole_rows.specs.declared.marks.RowMarks.{RowMarks}
 use Rattle.whole_rows.specs.Rows.{RowDef, entry_at}
 use Rattle.whole_rows.specs.EntrySteps.{IsPushed}
 use Rattle.whole_rows.specs.Numbers.{number_at}

@@ -12,7 +12,7 @@ use Rattle.fraction128.proofs.Unique.{one_over, apart_of_positive}
 use Rattle.program_form.specs.Program.{ProgramDef, height}
 use Rattle.exchange_runs.specs.Table.{Table, variables, slack}
 use Rattle.exchange_runs.specs.Readings.{minus, value_of, IsValueOf, IsPrimal, AreDuals}
-use Rattle.small_runs.specs.SmallRuns.{IsLowestOf, IsLowestTable}
+use Rattle.exchange_runs.specs.SmallRuns.{IsLowestOf, IsLowestTable}
 use Rattle.whole_rows.specs.Rows.{RowDef, limit_of}
 use Rattle.whole_runs.specs.States.{row_at, stand_at, limit_seen, stand_cell, table_seen, AreStands}
 use Rattle.whole_runs.specs.Ends.{objective_cell, IsStandOf, AreLowestDuals, IsLowestValue, AreLowestValues}

@@ -8,7 +8,7 @@ use Rattle.fraction128.specs.Fraction.{Fraction, IsQuotient, whole}
 use Rattle.program_form.specs.Program.{ProgramDef, height}
 use Rattle.exchange_runs.specs.Table.{variables}
 use Rattle.exchange_runs.specs.Exchange.{IsEntering, IsLeavingOver, IsLessOver, IsExchangeOver}
-use Rattle.small_runs.specs.SmallRuns.{IsSmall}
+use Rattle.exchange_runs.specs.SmallRuns.{IsSmall}
 use Rattle.whole_rows.specs.Rows.{RowDef}
 use Rattle.whole_runs.specs.States.{row_at, cell_seen, limit_seen, stand_cell, stand_at, table_cell, table_seen, HasSize, AreStands}
 use Rattle.whole_runs.specs.Exchanges.{AreSmallRows, AreExchanged}

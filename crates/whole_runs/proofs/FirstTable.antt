@@ -8,8 +8,8 @@ use Rattle.program_form.specs.Program.{ProgramDef, columns, height, entry, cost}
 use Rattle.exchange_runs.specs.Table.{variables, slack, first_number, first_entries, first_limit, IsStart}
 use Rattle.exchange_runs.proofs.FirstTable.{first_of-own, first_of-other, first_of-past}
 use Rattle.exchange_runs.proofs.FirstTable.{number_at_column, number_at_cost, number_at_limit, number_at_value}
-use Rattle.row_marks.specs.Marks.{HaveRoom}
-use Rattle.row_marks.specs.declared.RowMarks.{RowMarks}
+use Rattle.whole_rows.specs.Marks.{HaveRoom}
+use Rattle.whole_rows.specs.declared.marks.RowMarks.{RowMarks}
 use Rattle.whole_rows.specs.Rows.{RowDef, cell_at}
 use Rattle.whole_runs.specs.Columns.{num_seen, AreMarked}
 use Rattle.whole_runs.specs.Starts.{AreFirstRows, IsFirstBasis, AreFirstStands, AreFirstOutside, AreFirstMarks}

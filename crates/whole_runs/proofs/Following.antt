@@ -10,7 +10,7 @@ use Rattle.program_form.specs.Program.{ProgramDef, height}
 use Rattle.exchange_runs.specs.Table.{variables}
 use Rattle.exchange_runs.specs.Exchange.{IsEntering, IsLeavingOver, IsLessOver}
 use Rattle.exchange_runs.proofs.Shown.{Shows, shows_difference, shows_above}
-use Rattle.small_runs.specs.SmallRuns.{IsSmall}
+use Rattle.exchange_runs.specs.SmallRuns.{IsSmall}
 use Rattle.whole_rows.specs.Rows.{RowDef, PivotDef, entry_at, num_at, cell_at}
 use Rattle.whole_runs.specs.States.{row_at, cell_seen, stand_at, table_seen, HasSize, AreStands, ArePlaced}
 use Rattle.whole_runs.specs.Choice.{IsFrom}

@@ -5,8 +5,8 @@ use Rattle.program_form.specs.Program.{ProgramDef, IsProgram, height}
 use Rattle.exchange_runs.specs.Table.{Table, variables}
 use Rattle.exchange_runs.specs.Exchange.{IsEntering, HasRatio, IsLeavingOver}
 use Rattle.exchange_runs.proofs.Bounded.{has_ratio}
-use Rattle.small_runs.specs.SmallRuns.{IsSmall, SmallReached}
-use Rattle.small_runs.proofs.Runs.{small_run, has_ratio_of_lowest}
+use Rattle.exchange_runs.specs.SmallRuns.{IsSmall, SmallReached}
+use Rattle.exchange_runs.proofs.SmallRuns.{small_run, has_ratio_of_lowest}
 use Rattle.whole_rows.specs.Rows.{RowDef, PivotDef, entry_at, AreSparse, AreBelow}
 use Rattle.whole_rows.specs.declared.entries.Entry.{Entry}
 use Rattle.whole_runs.specs.States.{row_at, stand_at, table_seen}

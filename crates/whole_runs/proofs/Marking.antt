@@ -9,9 +9,9 @@ use Rattle.number_laws.proofs.Order.{cancel, times_positive}
 use Rattle.fraction128.specs.Fraction.{Fraction, IsProduct, IsDifference, whole}
 use Rattle.program_form.specs.Program.{ProgramDef, columns}
 use Rattle.exchange_runs.specs.Exchange.{IsLessOver}
-use Rattle.small_runs.specs.SmallRuns.{IsSmall}
-use Rattle.row_marks.specs.Marks.{IsMarked}
-use Rattle.row_marks.specs.declared.RowMarks.{RowMarks}
+use Rattle.exchange_runs.specs.SmallRuns.{IsSmall}
+use Rattle.whole_rows.specs.Marks.{IsMarked}
+use Rattle.whole_rows.specs.declared.marks.RowMarks.{RowMarks}
 use Rattle.whole_rows.specs.Rows.{RowDef, num_at, cell_at}
 use Rattle.whole_runs.specs.States.{row_at, cell_seen}
 use Rattle.whole_runs.specs.Columns.{num_seen, AreMarked}

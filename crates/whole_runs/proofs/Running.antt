@@ -6,8 +6,8 @@ use Rattle.program_form.specs.Program.{ProgramDef, IsProgram, height}
 use Rattle.exchange_runs.specs.Table.{Table}
 use Rattle.exchange_runs.specs.Exchange.{IsEntering, IsLast}
 use Rattle.exchange_runs.specs.Outcomes.{NeedsMoreThan}
-use Rattle.small_runs.specs.SmallRuns.{SmallReached, IsLowestTable}
-use Rattle.small_runs.proofs.Runs.{small_run, entering_lowest, last_lowest}
+use Rattle.exchange_runs.specs.SmallRuns.{SmallReached, IsLowestTable}
+use Rattle.exchange_runs.proofs.SmallRuns.{small_run, entering_lowest, last_lowest}
 use Rattle.whole_rows.specs.Rows.{RowDef}
 use Rattle.whole_runs.specs.States.{table_seen, HasSize, AreStands}
 use Rattle.whole_runs.specs.Exchanges.{AreSmallRows}

@@ -4,7 +4,7 @@ use Rattle.std.proofs.lemmas.Int.{ints}
 use Rattle.number_laws.proofs.Ring.{mul-one, mul-comm, mul-zero, zero-mul, one-mul}
 use Rattle.fraction128.specs.Fraction.{Fraction, IsQuotient, IsProduct, IsDifference, whole}
 use Rattle.exchange_runs.specs.Exchange.{IsLessOver}
-use Rattle.small_runs.specs.SmallRuns.{IsSmall}
+use Rattle.exchange_runs.specs.SmallRuns.{IsSmall}
 
 pub small_zero : IsSmall (whole (pos 0))
 small_zero = record { positive = omega (arith, ints); small_num = omega arith; small_den = omega arith }

@@ -3,9 +3,9 @@ use Rattle.std.proofs.Common.{◌≡◌, inl, inr, ℕ, ◌<◌, List, length, s
 use Rattle.std.specs.declared.option.Option.{Option}
 use Rattle.program_form.specs.Program.{ProgramDef, columns}
 use Rattle.exchange_runs.specs.Exchange.{IsEntering, IsLeavingOver, IsExchangeOver}
-use Rattle.small_runs.specs.SmallRuns.{IsSmall}
-use Rattle.row_marks.specs.Marks.{HasRow, IsMarked, AreKept}
-use Rattle.row_marks.specs.declared.RowMarks.{RowMarks}
+use Rattle.exchange_runs.specs.SmallRuns.{IsSmall}
+use Rattle.whole_rows.specs.Marks.{HasRow, IsMarked, AreKept}
+use Rattle.whole_rows.specs.declared.marks.RowMarks.{RowMarks}
 use Rattle.whole_rows.specs.Rows.{RowDef, PivotDef, entry_at, IsPivotOf}
 use Rattle.whole_runs.specs.States.{row_at, cell_seen, stand_at, table_seen, HasSize, AreStands}
 use Rattle.whole_runs.specs.Columns.{num_seen, AreMarked}

@@ -6,7 +6,7 @@ use Rattle.fraction128.specs.Fraction.{Fraction, IsAtMost, over}
 use Rattle.program_form.specs.Program.{ProgramDef, height}
 use Rattle.exchange_runs.specs.Table.{Table}
 use Rattle.exchange_runs.specs.Exchange.{HasRatio, IsRatioOver, IsLeastOver}
-use Rattle.small_runs.specs.SmallRuns.{IsSmall}
+use Rattle.exchange_runs.specs.SmallRuns.{IsSmall}
 use Rattle.whole_rows.specs.Rows.{RowDef, num_at}
 use Rattle.whole_rows.specs.declared.entries.Entry.{Entry}
 use Rattle.whole_runs.specs.States.{row_at, limit_seen, stand_at}

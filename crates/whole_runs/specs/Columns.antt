@@ -2,8 +2,8 @@
 use Rattle.std.specs.Prelude.{◌≡◌, ◌≢◌, ℕ, ◌<◌, List, length, pos, ℤ, Some, None}
 use Rattle.std.specs.declared.option.Option.{Option}
 use Rattle.program_form.specs.Program.{ProgramDef, columns, entry}
-use Rattle.row_marks.specs.Marks.{IsMarked, HaveRoom}
-use Rattle.row_marks.specs.declared.RowMarks.{RowMarks}
+use Rattle.whole_rows.specs.Marks.{IsMarked, HaveRoom}
+use Rattle.whole_rows.specs.declared.marks.RowMarks.{RowMarks}
 use Rattle.whole_rows.specs.Rows.{RowDef, num_at, listed_at, AreSparse, AreBelow}
 use Rattle.whole_rows.specs.declared.entries.Entry.{Entry}
 use Rattle.whole_runs.specs.States.{row_at}

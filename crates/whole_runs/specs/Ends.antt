@@ -8,7 +8,7 @@ use Rattle.program_form.specs.Certificate.{dual_seen}
 use Rattle.exchange_runs.specs.Table.{Table, slack}
 use Rattle.exchange_runs.specs.Readings.{minus, IsReadOff, IsWideEnd}
 use Rattle.exchange_runs.specs.Outcomes.{EndsWithin, NeedsMoreThan}
-use Rattle.small_runs.specs.SmallRuns.{IsLowestOf}
+use Rattle.exchange_runs.specs.SmallRuns.{IsLowestOf}
 use Rattle.whole_rows.specs.Rows.{RowDef}
 use Rattle.whole_runs.specs.States.{row_at, limit_seen, stand_at, stand_cell}
 use Rattle.whole_runs.specs.Large.{IsLargeWithin}

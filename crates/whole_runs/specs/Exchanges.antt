@@ -5,7 +5,7 @@ use Rattle.fraction128.specs.Fraction.{IsQuotient, whole}
 use Rattle.program_form.specs.Program.{ProgramDef, columns, height}
 use Rattle.exchange_runs.specs.Table.{Table}
 use Rattle.exchange_runs.specs.Exchange.{IsEntering, IsLast, HasRatio, IsLeavingOver}
-use Rattle.small_runs.specs.SmallRuns.{IsSmall}
+use Rattle.exchange_runs.specs.SmallRuns.{IsSmall}
 use Rattle.whole_rows.specs.Rows.{RowDef, limit_of, cell_at}
 use Rattle.whole_rows.specs.Steps.{IsSmallLess, AreSmallCells}
 use Rattle.whole_runs.specs.States.{row_at, cell_seen, limit_seen, stand_at, table_seen, HasPlaces}

@@ -5,7 +5,7 @@ use Rattle.program_form.specs.Program.{ProgramDef}
 use Rattle.exchange_runs.specs.Table.{Table}
 use Rattle.exchange_runs.specs.Exchange.{IsEntering, IsLast, IsLeavingOver}
 use Rattle.exchange_runs.specs.Readings.{IsWideEnd}
-use Rattle.small_runs.specs.SmallRuns.{IsSmall, SmallReached, IsLowestTable}
+use Rattle.exchange_runs.specs.SmallRuns.{IsSmall, SmallReached, IsLowestTable}
 use Rattle.whole_rows.specs.Rows.{RowDef, PivotDef, IsPivotOf}
 use Rattle.whole_rows.specs.Large.{IsTooLarge}
 use Rattle.whole_runs.specs.States.{row_at, stand_at, table_seen, HasSize, AreStands}

@@ -4,8 +4,8 @@ use Rattle.std.specs.declared.option.Option.{Option}
 use Rattle.fraction128.specs.Fraction.{whole}
 use Rattle.program_form.specs.Program.{ProgramDef, columns, height, cost, entry}
 use Rattle.exchange_runs.specs.Table.{variables, slack}
-use Rattle.row_marks.specs.Marks.{IsMarked, HaveRoom}
-use Rattle.row_marks.specs.declared.RowMarks.{RowMarks}
+use Rattle.whole_rows.specs.Marks.{IsMarked, HaveRoom}
+use Rattle.whole_rows.specs.declared.marks.RowMarks.{RowMarks}
 use Rattle.whole_rows.specs.Rows.{RowDef, cell_at, limit_of}
 use Rattle.whole_runs.specs.States.{row_at, cell_seen, limit_seen, stand_at}
 use Rattle.whole_runs.specs.declared.stands.Stand.{Stand}

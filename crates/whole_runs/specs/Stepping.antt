@@ -3,7 +3,7 @@ use Rattle.std.specs.Prelude.{ℕ, List, Result, Ok, Err}
 use Rattle.std.specs.declared.option.Option.{Option}
 use Rattle.program_form.specs.Program.{ProgramDef}
 use Rattle.exchange_runs.specs.Exchange.{IsExchangeOver}
-use Rattle.small_runs.specs.SmallRuns.{IsSmall}
+use Rattle.exchange_runs.specs.SmallRuns.{IsSmall}
 use Rattle.whole_rows.specs.Rows.{RowDef}
 use Rattle.whole_runs.specs.States.{table_seen, HasSize, AreStands}
 use Rattle.whole_runs.specs.Large.{IsLargeExchange}

@@ -2,8 +2,8 @@
 use Rattle.std.specs.Prelude.{◌≡◌, ◌≢◌, ◌⊎◌, ℕ, ◌<◌, List, length, Some, None, pos}
 use Rattle.std.specs.declared.option.Option.{Option}
 use Rattle.program_form.specs.Program.{ProgramDef}
-use Rattle.row_marks.specs.Marks.{IsMarked, HasRow, AreKept}
-use Rattle.row_marks.specs.declared.RowMarks.{RowMarks}
+use Rattle.whole_rows.specs.Marks.{IsMarked, HasRow, AreKept}
+use Rattle.whole_rows.specs.declared.marks.RowMarks.{RowMarks}
 use Rattle.whole_rows.specs.Rows.{RowDef, PivotDef, num_at, entry_at, IsPivotOf}
 use Rattle.whole_rows.specs.declared.entries.Entry.{Entry}
 use Rattle.whole_runs.specs.States.{row_at, HasPlaces}

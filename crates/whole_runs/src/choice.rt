@@ -15,10 +15,9 @@ ghost use Rattle.whole_runs.specs.declared.stands.Stand.TheVariants.{Outside};
 use crate::reading::{limit_of, num_of, objective};
 use crate::stands::Stand;
 use program_form::SparseProgram;
-use row_marks::RowMarks;
 use std::alloc::AllocError;
 use std::cmp::Ordering;
-use whole_rows::{Entry, WholeRow, push_num};
+use whole_rows::{Entry, RowMarks, WholeRow, push_num};
 
 // The first variable outside the basis whose number in the row is above zero, with its place. None below `from` has such a number.
 #[inline(never)]

@@ -7,7 +7,7 @@ ghost use Rattle.program_form.specs.Certificate.{dual_seen};
 ghost use Rattle.exchange_runs.specs.Table.{Table, variables, slack};
 ghost use Rattle.exchange_runs.specs.Exchange.{IsLast};
 ghost use Rattle.exchange_runs.specs.Readings.{minus, IsWrittenDual, IsWideEnd};
-ghost use Rattle.small_runs.specs.SmallRuns.{IsSmall, IsLowestOf, IsLowestTable};
+ghost use Rattle.exchange_runs.specs.SmallRuns.{IsSmall, IsLowestOf, IsLowestTable};
 ghost use Rattle.whole_runs.specs.States.{row_at, stand_at, table_seen, HasSize, AreStands};
 ghost use Rattle.whole_runs.specs.Ends.{GivesOrStops, Finishes, objective_cell, AreLowestDuals, IsLowestValue, AreLowestValues};
 ghost use Rattle.whole_runs.specs.Ends.{IsStandOf};

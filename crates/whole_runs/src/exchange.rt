@@ -3,10 +3,10 @@
 ghost use Rattle.std.specs.Prelude.{◌≡◌, ◌≢◌, ℕ, ◌+◌, ◌<◌, ◌/◌, ◌%◌, List, length, pos, ◌<ℤ◌, IfOk};
 ghost use Rattle.std.specs.Int.{bit_at};
 ghost use Rattle.program_form.specs.Program.{IsProgram, columns, height};
-ghost use Rattle.row_marks.specs.Marks.{words_of, HasWords, HasRow, IsMarked, AreKept};
+ghost use Rattle.whole_rows.specs.Marks.{words_of, HasWords, HasRow, IsMarked, AreKept};
 ghost use Rattle.whole_rows.specs.Rows.{entry_at, AreSparse, AreBelow};
 ghost use Rattle.exchange_runs.specs.Exchange.{IsEntering};
-ghost use Rattle.small_runs.specs.SmallRuns.{SmallReached};
+ghost use Rattle.exchange_runs.specs.SmallRuns.{SmallReached};
 ghost use Rattle.whole_runs.specs.States.{row_at, stand_at, table_seen, HasPlaces, HasSize, AreStands, ArePlaced};
 ghost use Rattle.whole_runs.specs.Columns.{num_seen, IsColumn, AreMarked};
 ghost use Rattle.whole_runs.specs.Choice.{IsFrom};
@@ -24,9 +24,8 @@ use crate::start::first_row;
 use crate::stops::Halt;
 use crate::tableau::{Lines, Tableau};
 use program_form::SparseProgram;
-use row_marks::RowMarks;
 use std::alloc::{AllocError, Global};
-use whole_rows::{Entry, Pivot, WholeRow};
+use whole_rows::{Entry, Pivot, RowMarks, WholeRow};
 
 // Makes row i, where no exchange has changed it. Mostly one has.
 #[inline(always)]

@@ -3,7 +3,7 @@
 ghost use Rattle.std.specs.Prelude.{◌≡◌, ◌≢◌, ℕ, ◌<◌, ◌≤◌, ◌^◌, [], pos, length, slice_index_or, IfOk, OnOk};
 ghost use Rattle.program_form.specs.Program.{columns, height, cost};
 ghost use Rattle.program_form.specs.SparseRows.{number_at, coefficient_at, AreCoefficients};
-ghost use Rattle.row_marks.specs.Marks.{HasWord, IsMarked, AreKept};
+ghost use Rattle.whole_rows.specs.Marks.{HasWord, IsMarked, AreKept};
 ghost use Rattle.whole_runs.specs.States.{stand_at};
 ghost use Rattle.whole_runs.specs.declared.stands.Stand.TheVariants.{Outside};
 ghost use Rattle.whole_runs.specs.Starts.{IsFirstRow, IsCostRow, AreFirstRows, IsFirstBasis, AreFirstStands};
@@ -12,9 +12,8 @@ ghost use Rattle.whole_runs.specs.Starts.{AreFirstOutside, AreFirstMarks};
 use crate::stands::Stand;
 use crate::tableau::Tableau;
 use program_form::{Coefficient, SparseProgram};
-use row_marks::RowMarks;
 use std::alloc::{AllocError, Global};
-use whole_rows::WholeRow;
+use whole_rows::{RowMarks, WholeRow};
 
 // Writes the coefficients at their columns.
 fn write_all(nums: &mut [i64], coefficients: &[Coefficient])

@@ -1,8 +1,7 @@
 //! What a run keeps from one exchange to the next.
 
 use crate::stands::Stand;
-use row_marks::RowMarks;
-use whole_rows::{Entry, Pivot, WholeRow};
+use whole_rows::{Entry, Pivot, RowMarks, WholeRow};
 
 /// The tableau of a run. `table_seen` says for which table its rows, basis and stands are.
 #[derive(Drop)]

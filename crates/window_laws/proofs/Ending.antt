@@ -1,12 +1,12 @@
 -- A request ends within each number of ticks that is enough for it.
 use Rattle.std.proofs.Common.{◌≡◌, ℕ, suc, ◌+◌, ◌<◌, ◌≤◌, arith, inl, inr, Some, true}
 use Rattle.std.proofs.lemmas.Bool.{cases_lt}
-use Rattle.bounded_sums.specs.Sums.{sum_below}
-use Rattle.bounded_sums.specs.Tests.{count_below}
-use Rattle.bounded_sums.proofs.SumLaws.{sum_below-monotone}
-use Rattle.bounded_sums.proofs.TestLaws.{found_below-is}
+use Rattle.number_laws.specs.Sums.{sum_below}
+use Rattle.number_laws.specs.Tests.{count_below}
+use Rattle.number_laws.proofs.SumLaws.{sum_below-monotone}
+use Rattle.number_laws.proofs.TestLaws.{found_below-is}
 use Rattle.sporadic_model.specs.SetDef.{task_at}
-use Rattle.sporadic_model.specs.Accepted.{IsAccepted}
+use Rattle.sporadic_model.specs.Accepted.{IsFormed}
 use Rattle.schedule_model.specs.JobDef.{job_of}
 use Rattle.schedule_model.specs.LawfulJobs.{AreLawfulJobs, IsLawfulJob}
 use Rattle.schedule_model.specs.RowDef.{Trace, jobs_of}
@@ -21,7 +21,7 @@ use Rattle.schedule_laws.proofs.DpcpLaws.{dpcp_runs_active}
 use Rattle.schedule_laws.proofs.Holders.{open_active}
 use Rattle.schedule_laws.proofs.Issues.{issue_at_most, open_at_issue}
 use Rattle.schedule_laws.proofs.Segments.{open_listed}
-use Rattle.charge_model.specs.Windows.{EndedBy}
+use Rattle.charge_laws.specs.Windows.{EndedBy}
 use Rattle.row_laws.proofs.Joined.{periods_from}
 use Rattle.window_laws.specs.Windows.{ticks_by, ticks_there, is_enough, window_of}
 use Rattle.window_laws.proofs.Rising.{enough_is}
@@ -60,17 +60,17 @@ ends_in_window w bound n u v j m q b stays e =
     ends_within w bound n u v j m q b stays (enough_is w.set bound (task_of w j) q b found.1).1
 
 -- In a lawful schedule: an open request is less than its window past its issue, where each job whose bound had passed by then had ended.
-pub open_since_issue : (w : Trace) (bound : ℕ → ℕ) (n t j m q b : ℕ) → IsAccepted w.set → AreLawfulJobs (jobs_of w)
+pub open_since_issue : (w : Trace) (bound : ℕ → ℕ) (n t j m q b : ℕ) → IsFormed w.set → AreLawfulJobs (jobs_of w)
     → KeepsBefore dpcp_rule w n → t < n → phase_of w t j ≡ Asking m q → EndedBy w bound (issue_tick_of w t j)
     → window_of w.set bound (task_of w j) q ≡ Some b → t < issue_tick_of w t j + b
-open_since_issue w bound n t j m q b accepted lawful keeps l here ended window =
+open_since_issue w bound n t j m q b formed lawful keeps l here ended window =
     let issued : phase_of w (issue_tick_of w t j) j ≡ Asking m q = open_at_issue w t j m q here in
     let job : IsLawfulJob w.set (job_of w.jobs j) = lawful.each j (open_listed w t j m q here) in
     ends_in_window w bound n (issue_tick_of w t j) t j m q b
     (record {
       lawful = lawful;
       keeps = keeps;
-      periods = λ x k. periods_from w.set x accepted k;
+      periods = λ x k. periods_from w.set x formed k;
       ended = ended;
       order = issue_at_most w t j;
       within = l;

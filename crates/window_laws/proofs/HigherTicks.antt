@@ -4,10 +4,10 @@ use Rattle.std.proofs.Common.{Some}
 use Rattle.std.specs.Option.{option_map_or}
 use Rattle.std.proofs.Math.Nat.{mul-le-mul_right}
 use Rattle.std.proofs.lemmas.Bool.{cases_lt, cases_Bool, and_from, eq-eqb, eqb-true}
-use Rattle.bounded_sums.specs.Sums.{sum_below, flag, only_if}
-use Rattle.bounded_sums.specs.Tests.{count_below}
-use Rattle.bounded_sums.proofs.SumLaws.{sum_below-monotone, sum_below-swap, sum_below-term, sum_below-zero}
-use Rattle.bounded_sums.proofs.CountLaws.{count_below-split, flag-passes}
+use Rattle.number_laws.specs.Sums.{sum_below, flag, only_if}
+use Rattle.number_laws.specs.Tests.{count_below}
+use Rattle.number_laws.proofs.SumLaws.{sum_below-monotone, sum_below-swap, sum_below-term, sum_below-zero}
+use Rattle.number_laws.proofs.CountLaws.{count_below-split, flag-passes}
 use Rattle.sporadic_model.specs.Users.{count_of, length_of}
 use Rattle.sporadic_model.specs.Homes.{home_in}
 use Rattle.schedule_model.specs.JobDef.{job_of, number_of_requests}

@@ -1,8 +1,8 @@
 -- The least number below a bound that passes a test, and the greatest of the values below one.
 use Rattle.std.proofs.Common.{◌≡◌, ℕ, zero, suc, ◌<◌, ◌≤◌, Bool, true, refl, sym, arith, inl, inr, Some, ◌∙◌}
 use Rattle.std.proofs.lemmas.Bool.{cases_lt, lt-ltb}
-use Rattle.bounded_sums.specs.Tests.{first_below, found_below}
-use Rattle.bounded_sums.proofs.TestLaws.{first_below-found, first_below-least, found_below-is}
+use Rattle.number_laws.specs.Tests.{first_below, found_below}
+use Rattle.number_laws.proofs.TestLaws.{first_below-found, first_below-least, found_below-is}
 use Rattle.schedule_model.specs.Measures.{greatest_below}
 
 -- A number that is found.

@@ -1,10 +1,10 @@
 -- While a request is open at most one request of a lower task runs at its home.
 use Rattle.std.proofs.Common.{◌≡◌, ℕ, ◌+◌, ◌<◌, ◌≤◌, ◌&&◌, Bool, true, length, refl, sym, ap, ◌∙◌, arith, inl, inr}
 use Rattle.std.proofs.lemmas.Bool.{cases_lt, and_from, eq-eqb, lt-ltb, le-leb}
-use Rattle.bounded_sums.specs.Sums.{flag, only_if}
-use Rattle.bounded_sums.specs.Tests.{count_below}
-use Rattle.bounded_sums.proofs.SumLaws.{sum_below-none_or_some}
-use Rattle.bounded_sums.proofs.CountLaws.{count_below-monotone, count_below-split, flag-passes}
+use Rattle.number_laws.specs.Sums.{flag, only_if}
+use Rattle.number_laws.specs.Tests.{count_below}
+use Rattle.number_laws.proofs.SumLaws.{sum_below-none_or_some}
+use Rattle.number_laws.proofs.CountLaws.{count_below-monotone, count_below-split, flag-passes}
 use Rattle.sporadic_model.specs.Users.{length_of}
 use Rattle.sporadic_model.specs.Homes.{home_in}
 use Rattle.schedule_model.specs.JobDef.{job_of}

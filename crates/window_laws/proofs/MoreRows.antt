@@ -1,85 +1,18 @@
--- More rows let fewer points be, so bounds that fit with fewer rows fit with more.
-use Rattle.std.proofs.Common.{◌≡◌, ℕ, ◌*◌, ◌<◌, ◌≤◌, ◌++◌, List, [], length, map, get_or, sym, ap, ◌∙◌, arith}
-use Rattle.std.specs.Prelude.{slice_index}
-use Rattle.std.proofs.lemmas.List.{get_or_append_left, map-append, length-append, length-map}
-use Rattle.std.proofs.lemmas.List.Elements.{filter-append}
-use Rattle.bounded_sums.specs.Sums.{sum_below}
-use Rattle.bounded_sums.proofs.SumLaws.{sum_below-agree}
-use Rattle.program_form.specs.Program.{ProgramDef, columns, height, entry, limit}
-use Rattle.program_form.specs.Points.{IsScaledPoint}
+-- The programs with windows have more rows than those of DPCP, so what fits under DPCP fits with windows.
+use Rattle.std.proofs.Common.{ℕ, List, length}
 use Rattle.sporadic_model.specs.SetDef.{SetDef}
 use Rattle.sporadic_model.specs.declared.ids.Protocol.TheVariants as protocol
 use Rattle.program_sources.specs.Bounds.{AtMost}
 use Rattle.program_sources.specs.Fitting.{AreFitting, AreLeastFitting}
-use Rattle.fragments.specs.ColumnDef.{ColumnDef}
-use Rattle.fragments.specs.Columns.{columns_of}
-use Rattle.fragments.specs.Constraints.{ConstraintDef, holds_some, rows_there, coefficients_of, limits_of}
-use Rattle.program_laws.specs.Programs.{program_with, rows_of, source_of}
+use Rattle.fragments.specs.Columns.{may_block}
+use Rattle.program_laws.specs.Programs.{rows_of, source_of, interfering_cost}
+use Rattle.program_laws.proofs.MoreRows.{fitting_with_more}
 use Rattle.window_laws.specs.WindowRows.{window_rows, windowed_source}
 
--- A list of rows with more behind: its numbers stand before theirs.
-there_append : (cs : List ColumnDef) (rows more : List ConstraintDef) → rows_there cs (rows ++ more) ≡ rows_there cs rows ++ rows_there cs more
-there_append cs rows more = filter-append (holds_some cs) rows more
-
-coefficients_append : (cs : List ColumnDef) (rows more : List ConstraintDef)
-    → coefficients_of cs (rows ++ more) ≡ coefficients_of cs rows ++ coefficients_of cs more
-coefficients_append cs rows more =
-    ap (map (λ (row : ConstraintDef). map row.coefficient cs)) (there_append cs rows more)
-    ∙ map-append (λ (row : ConstraintDef). map row.coefficient cs) (rows_there cs rows) (rows_there cs more)
-
-limits_append : (cs : List ColumnDef) (rows more : List ConstraintDef) (bounds : List ℕ)
-    → limits_of cs (rows ++ more) bounds ≡ limits_of cs rows bounds ++ limits_of cs more bounds
-limits_append cs rows more bounds =
-    ap (map (λ (row : ConstraintDef). row.limit (slice_index bounds))) (there_append cs rows more)
-    ∙ map-append (λ (row : ConstraintDef). row.limit (slice_index bounds)) (rows_there cs rows) (rows_there cs more)
-
--- A point of a program with more rows is one of the program without them.
-pub fewer_rows : (set : SetDef) (cs : List ColumnDef) (rows more : List ConstraintDef) (bounds : List ℕ) (s : ℕ) (ys : ℕ → ℕ)
-    → IsScaledPoint (program_with set cs (rows ++ more) bounds) s ys → IsScaledPoint (program_with set cs rows bounds) s ys
-fewer_rows set cs rows more bounds s ys point = record { positive = point.positive; kept = λ r l. kept r l } where
-  whole : ProgramDef
-  whole = program_with set cs (rows ++ more) bounds
-
-  part : ProgramDef
-  part = program_with set cs rows bounds
-
-  kept : (r : ℕ) → r < height part → sum_below (columns part) (λ c. entry part r c * ys c) ≤ s * limit part r
-  kept r l =
-      let as_many : length (limits_of cs rows bounds) ≡ length (coefficients_of cs rows) =
-      length-map (rows_there cs rows) (λ (row : ConstraintDef). row.limit (slice_index bounds))
-      ∙ sym (length-map (rows_there cs rows) (λ (row : ConstraintDef). map row.coefficient cs)) in
-      let within : r < height whole =
-      rw (coefficients_append cs rows more)
-      (omega (arith, l, length-append (coefficients_of cs rows) (coefficients_of cs more))) in
-      let row : get_or whole.rows r [] ≡ get_or part.rows r [] =
-      ap (λ (xs : List (List ℕ)). get_or xs r []) (coefficients_append cs rows more)
-      ∙ get_or_append_left (coefficients_of cs rows) (coefficients_of cs more) [] r l in
-      let most : limit whole r ≡ limit part r =
-      ap (λ (xs : List ℕ). get_or xs r 0) (limits_append cs rows more bounds)
-      ∙ get_or_append_left (limits_of cs rows bounds) (limits_of cs more bounds) 0 r (omega (arith, l, as_many)) in
-      let sums : sum_below (columns part) (λ c. entry part r c * ys c) ≡ sum_below (columns whole) (λ c. entry whole r c * ys c) =
-      sum_below-agree (columns part) (λ c. entry part r c * ys c) (λ c. entry whole r c * ys c)
-      (λ c b. ap (λ (xs : List ℕ). get_or xs c 0 * ys c) (sym row)) in
-      let limits : s * limit whole r ≡ s * limit part r = ap (λ z. s * z) most in
-      omega (arith, sums, limits, point.kept r within)
-
--- So what fits under DPCP fits with windows.
 pub fitting_with_windows : (set : SetDef) (s : List ℕ) → AreFitting (source_of protocol.Dpcp set) s → AreFitting (windowed_source set) s
-fitting_with_windows set s fits = record {
-  one_each = fits.one_each;
-  kept = λ i v l comes. fits.kept i v l (record {
-    blocking = comes.blocking;
-    reached = record {
-      scale = comes.reached.scale;
-      point = comes.reached.point;
-      is_point = fewer_rows set (columns_of protocol.Dpcp set i) (rows_of protocol.Dpcp set i) (window_rows set i) s comes.reached.scale
-          comes.reached.point comes.reached.is_point;
-      reached = comes.reached.reached;
-    };
-    response = comes.response;
-  });
-  within = fits.within;
-}
+fitting_with_windows set s fits =
+    fitting_with_more set (may_block protocol.Dpcp set) (rows_of protocol.Dpcp set) (window_rows set) (interfering_cost protocol.Dpcp set) s
+    fits
 
 -- And no least bound with windows is greater than one that fits under DPCP.
 pub no_greater : (set : SetDef) (r s : List ℕ) → AreLeastFitting (windowed_source set) r → AreFitting (source_of protocol.Dpcp set) s

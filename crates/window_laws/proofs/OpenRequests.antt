@@ -3,9 +3,9 @@ use Rattle.std.proofs.Common.{◌≡◌, ℕ, ◌+◌, ◌<◌, ◌≤◌, ◌==
 use Rattle.std.proofs.Common.{Option, Some, None, nat_lt}
 use Rattle.std.specs.Option.{option_map_or}
 use Rattle.std.proofs.lemmas.Bool.{cases_lt, eq-eqb, eqb-true, lt-ltb, ltb-true}
-use Rattle.bounded_sums.specs.Sums.{sum_below, flag}
-use Rattle.bounded_sums.specs.Tests.{count_below}
-use Rattle.bounded_sums.proofs.SumLaws.{sum_below-term, sum_below-monotone, sum_below-plus, sum_below-swap, sum_below-constant}
+use Rattle.number_laws.specs.Sums.{sum_below, flag}
+use Rattle.number_laws.specs.Tests.{count_below}
+use Rattle.number_laws.proofs.SumLaws.{sum_below-term, sum_below-monotone, sum_below-plus, sum_below-swap, sum_below-constant}
 use Rattle.sporadic_model.specs.SetDef.{task_at}
 use Rattle.schedule_model.specs.LawfulJobs.{AreLawfulJobs}
 use Rattle.schedule_model.specs.RowDef.{Trace, jobs_of, running_on}
@@ -18,7 +18,7 @@ use Rattle.schedule_model.specs.Keeping.{KeepsBefore}
 use Rattle.schedule_laws.proofs.Ticks.{open_between}
 use Rattle.schedule_laws.proofs.ActiveJobs.{active_listed, active_stays}
 use Rattle.schedule_laws.proofs.RuleUses.{requests_busy, request_among}
-use Rattle.charge_model.specs.Windows.{EndedBy}
+use Rattle.charge_laws.specs.Windows.{EndedBy}
 use Rattle.charge_laws.proofs.DpcpCharging.{RunsRequest, RunsAtHomes, dpcp_at_homes, requests_run_home, request_at_from}
 
 -- Job j is in its request number m, of resource q, from tick u to tick v of n rows; and each job whose bound has passed by u has ended.

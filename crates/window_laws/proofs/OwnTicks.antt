@@ -1,8 +1,8 @@
 -- While a request is open it has run less than its length.
 use Rattle.std.proofs.Common.{◌≡◌, ℕ, suc, ◌+◌, ◌<◌, ◌≤◌, ◌&&◌, Bool, true, refl, sym, ap, ◌∙◌, arith, List}
 use Rattle.std.proofs.lemmas.Bool.{and_from, eq-eqb}
-use Rattle.bounded_sums.specs.Tests.{count_below}
-use Rattle.bounded_sums.proofs.CountLaws.{count_below-monotone, count_below-split, flag-of_true}
+use Rattle.number_laws.specs.Tests.{count_below}
+use Rattle.number_laws.proofs.CountLaws.{count_below-monotone, count_below-split, flag-of_true}
 use Rattle.sporadic_model.specs.Users.{length_of}
 use Rattle.schedule_model.specs.JobDef.{SegmentDef, job_of}
 use Rattle.schedule_model.specs.LawfulJobs.{IsLawfulJob}

@@ -9,8 +9,8 @@ use Rattle.schedule_model.specs.Keeping.{KeepsBefore}
 use Rattle.schedule_model.specs.JobDef.{job_of}
 use Rattle.fragments.specs.Columns.{is_column, columns_of}
 use Rattle.program_laws.proofs.RowKinds.{each_row}
-use Rattle.charge_model.specs.Charges.{dpcp_charge}
-use Rattle.charge_model.specs.Windows.{EndedBy}
+use Rattle.charge_laws.specs.Charges.{dpcp_charge}
+use Rattle.charge_laws.specs.Windows.{EndedBy}
 use Rattle.row_laws.specs.Meeting.{TicksMeet}
 use Rattle.row_laws.proofs.Brings.{Window}
 use Rattle.row_laws.proofs.EachRow.{dpcp_rows_met}
@@ -25,7 +25,7 @@ pub windowed_point : (w : Trace) (bounds : List ℕ) (n j : ℕ) → WithinRows 
     → ArePointOf dpcp_charge (columns_of protocol.Dpcp w.set (task_of w j)) (windowed_rows w.set (task_of w j)) w bounds n j
 windowed_point w bounds n j premises keeps =
     point_within dpcp_charge (columns_of protocol.Dpcp w.set i) (windowed_rows w.set i) w bounds n j
-    (columns_have_lengths protocol.Dpcp w.set i premises.accepted) (dpcp_active w j) premises.ended (λ ended. point ended) where
+    (columns_have_lengths protocol.Dpcp w.set i premises.formed) (dpcp_active w j) premises.ended (λ ended. point ended) where
       i : ℕ
       i = task_of w j
 
@@ -34,9 +34,9 @@ windowed_point w bounds n j premises keeps =
       point ended =
           let window : Window dpcp_charge w (slice_index bounds) n j =
           dpcp_window w bounds n j
-          (record { accepted = premises.accepted; lawful = premises.lawful; listed = premises.listed; ended = ended }) keeps in
+          (record { formed = premises.formed; lawful = premises.lawful; listed = premises.listed; ended = ended }) keeps in
           rows_are_point dpcp_charge (is_column protocol.Dpcp w.set i) (windowed_rows w.set i) w bounds n j
-          (columns_have_lengths protocol.Dpcp w.set i premises.accepted)
+          (columns_have_lengths protocol.Dpcp w.set i premises.formed)
           (windowed_each (TicksMeet dpcp_charge w (slice_index bounds) n j) w.set i
           (each_row (TicksMeet dpcp_charge w (slice_index bounds) n j) protocol.Dpcp w.set i
           (dpcp_rows_met w (slice_index bounds) n j window keeps))

@@ -3,10 +3,10 @@ use Rattle.std.proofs.Common.{◌≡◌, ℕ, suc, ◌+◌, ◌*◌, ◌<◌, �
 use Rattle.std.proofs.Common.{Option, Some, None, nat_lt, nat_le, is_none}
 use Rattle.std.proofs.Math.Nat.{mul-le-mul_left, mul-le-mul_right}
 use Rattle.std.proofs.lemmas.Bool.{cases_Bool, and_parts, and_from, leb-true, le-leb, ltb-true}
-use Rattle.bounded_sums.specs.Sums.{sum_below, only_if}
-use Rattle.bounded_sums.proofs.SumLaws.{sum_below-monotone, sum_below-term}
-use Rattle.bounded_sums.proofs.OnlyIfLaws.{only_if-rises}
-use Rattle.bounded_sums.proofs.TestLaws.{any_below-none, any_below-some, found_below-is}
+use Rattle.number_laws.specs.Sums.{sum_below, only_if}
+use Rattle.number_laws.proofs.SumLaws.{sum_below-monotone, sum_below-term}
+use Rattle.number_laws.proofs.OnlyIfLaws.{only_if-rises}
+use Rattle.number_laws.proofs.TestLaws.{any_below-none, any_below-some, found_below-is}
 use Rattle.sporadic_model.specs.SetDef.{SetDef, task_at}
 use Rattle.sporadic_model.specs.Users.{count_of, is_user}
 use Rattle.sporadic_model.specs.Homes.{home_in}

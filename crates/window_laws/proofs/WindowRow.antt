@@ -2,11 +2,11 @@
 -- the job's requests there.
 use Rattle.std.proofs.Common.{◌≡◌, ℕ, ◌+◌, ◌*◌, ◌<◌, ◌≤◌, ◌==◌, ◌&&◌, not, Bool, true, false, length, List, get_or, refl, sym, ap}
 use Rattle.std.proofs.Common.{◌∙◌, arith, inl, inr, Option, Some, None, min}
-use Rattle.std.proofs.Math.Nat.{mul_assoc, mul_comm, mul-le-mul_left, mul-le-mul_right}
-use Rattle.std.proofs.lemmas.Bool.{cases_lt, cases_Bool, and_parts, and_from, eq-eqb, eqb-true, lt-ltb, not-true}
-use Rattle.bounded_sums.specs.Sums.{sum_below, flag, only_if}
-use Rattle.bounded_sums.proofs.SumLaws.{sum_below-monotone, sum_below-agree, sum_below-times, sum_below-none_or_some, only_if-at_most}
-use Rattle.bounded_sums.proofs.SlotLaws.{sum_below-slots}
+use Rattle.std.proofs.Math.Nat.{mul_assoc, mul_comm, mul-le-mul_left}
+use Rattle.std.proofs.lemmas.Bool.{cases_lt, cases_Bool, and_parts, and_from, eq-eqb, eqb-true, not-true}
+use Rattle.number_laws.specs.Sums.{sum_below, flag, only_if}
+use Rattle.number_laws.proofs.SumLaws.{sum_below-monotone, sum_below-agree, sum_below-times, sum_below-none_or_some, only_if-at_most}
+use Rattle.number_laws.proofs.SlotLaws.{sum_below-slots}
 use Rattle.sporadic_model.specs.SetDef.{task_at, jobs_within}
 use Rattle.sporadic_model.specs.Users.{count_of, length_of}
 use Rattle.schedule_model.specs.JobDef.{SegmentDef, job_of, no_segment}
@@ -24,8 +24,8 @@ use Rattle.schedule_laws.proofs.Segments.{RequestAt, open_segment, open_resource
 use Rattle.schedule_laws.proofs.Ticks.{one_resource}
 use Rattle.fragments.specs.ColumnDef.{ColumnDef, is_preemption}
 use Rattle.fragments.specs.Windows.{requests_in}
-use Rattle.charge_model.specs.Charges.{dpcp_charge}
-use Rattle.charge_model.specs.Windows.{bound_end, window_end, EndedWithin}
+use Rattle.charge_laws.specs.Charges.{dpcp_charge}
+use Rattle.charge_laws.specs.Windows.{bound_end, window_end, EndedWithin}
 use Rattle.charge_laws.proofs.DpcpCharging.{HomeBlocked, dpcp_reason}
 use Rattle.row_laws.specs.Meeting.{brought, brings, TicksMeet}
 use Rattle.row_laws.proofs.Brings.{Window, Hit, hit, column_with, blocker, blocker_is}

@@ -1,7 +1,7 @@
 -- The rows of windows, which DPCP with windows has beside those of DPCP, and its programs. In each, i is the analysed task.
 use Rattle.std.specs.Prelude.{ℕ, ◌*◌, ◌==◌, ◌&&◌, not, Bool, List, ◌++◌, length, min, unwrap_or, is_none}
-use Rattle.bounded_sums.specs.Sums.{sum_below, only_if}
-use Rattle.bounded_sums.specs.Tests.{any_below}
+use Rattle.number_laws.specs.Sums.{sum_below, only_if}
+use Rattle.number_laws.specs.Tests.{any_below}
 use Rattle.program_form.specs.Program.{ProgramDef}
 use Rattle.sporadic_model.specs.SetDef.{SetDef}
 use Rattle.sporadic_model.specs.Users.{count_of, is_user}

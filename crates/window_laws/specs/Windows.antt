@@ -1,7 +1,7 @@
 -- The window of a request under DPCP: within how many ticks of its issue it ends.
 use Rattle.std.specs.Prelude.{ℕ, suc, ◌+◌, ◌*◌, ◌==◌, ◌&&◌, Bool, nat_lt, nat_le, length, Option}
-use Rattle.bounded_sums.specs.Sums.{sum_below, only_if}
-use Rattle.bounded_sums.specs.Tests.{found_below}
+use Rattle.number_laws.specs.Sums.{sum_below, only_if}
+use Rattle.number_laws.specs.Tests.{found_below}
 use Rattle.sporadic_model.specs.SetDef.{SetDef, task_at}
 use Rattle.sporadic_model.specs.Users.{count_of, length_of, is_user}
 use Rattle.sporadic_model.specs.Homes.{home_in}

@@ -2,6 +2,7 @@
 #![tactic(auto)]
 
 mod building;
+pub mod files;
 mod homes;
 mod rows;
 mod sets;

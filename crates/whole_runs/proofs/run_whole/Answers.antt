@@ -1,6 +1,6 @@
 use Rattle.std.proofs.Common.{arith}
 use Rattle.std.proofs.lemmas.Result.{err_from_is_err_and}
-use Rattle.small_runs.proofs.Runs.{small_reached_next}
+use Rattle.exchange_runs.proofs.SmallRuns.{small_reached_next}
 use Rattle.whole_runs.specs.States.{table_seen}
 use Rattle.whole_runs.proofs.FirstTable.{first_stands_are, first_size, first_placed, starts, first_marked}
 use Rattle.whole_runs.proofs.Running.{first_small, needs_more, finished, stopped}

@@ -1,5 +1,5 @@
 use Rattle.std.proofs.Common.{◌<◌}
-use Rattle.small_runs.specs.SmallRuns.{SmallReached}
+use Rattle.exchange_runs.specs.SmallRuns.{SmallReached}
 use Rattle.whole_runs.specs.States.{table_seen, HasSize, AreStands, ArePlaced}
 use Rattle.whole_runs.specs.Choice.{IsFrom}
 use Rattle.whole_runs.specs.Columns.{AreMarked}

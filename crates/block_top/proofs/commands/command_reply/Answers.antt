@@ -1,4 +1,4 @@
-use Rattle.std.proofs.Common.{sym, ap, subst, inr}
+use Rattle.std.proofs.Common.{sym, ap, subst, inr, refl}
 use Rattle.command_words.specs.Words.{Form, Study}
 use Rattle.run_plans.specs.Commands.{IsStudyAnswer, plan_of}
 use Rattle.command_words.specs.FormSeen.{form_seen}
@@ -13,5 +13,5 @@ returns-in-Study-clause-reply g c =
     let shelf : Shown = shown (g.S.Shelf.seen c.args.shelf.now) (g.S.Shelf.seen c.args.shelf.now) in
     subst (λ (f : Form). Answered c.counted.result (IsReplyOf shelf (plan_of f))) (sym (ap form_seen c.in-Study.is))
     (answered_also (IsStudyAnswer c.in-Study.seed c.in-Study.sets)
-    (IsReplyOf shelf (plan_of (Study c.in-Study.seed c.in-Study.sets))) (λ a is. inr is)
+    (IsReplyOf shelf (plan_of (Study c.in-Study.seed c.in-Study.sets))) (λ a is. inr (is, refl))
     c.counted.result c.counted.ensures)

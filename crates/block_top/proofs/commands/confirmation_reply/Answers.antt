@@ -1,3 +1,4 @@
+use Rattle.std.proofs.Common.{refl}
 use Rattle.command_inputs.specs.Known.{Answer}
 use Rattle.run_plans.specs.Plans.{Working}
 use Rattle.command_inputs.specs.RefusalDef.{RefusalDef}
@@ -13,4 +14,4 @@ returns-clause-reply g c =
     replied_work (g.S.Shelf.seen c.args.shelf.now) (g.S.Shelf.seen c.get.new.shelf) (refusal_input c.args.protocol) c.args.cert.now
     (λ bytes f. Working (confirmation_of c.args.protocol c.args.digest.now c.args.set.now f)) file
     (IsTiedConfirmation c.args.protocol c.args.digest.now c.args.set.now file) c.confirmation.result
-    c.get.ensures.keeps c.in_ok-refusal.ensures.got (λ (a : Answer) is. is) c.confirmation.ensures
+    c.get.ensures.keeps c.in_ok-refusal.ensures.got (λ (a : Answer) is. (is, refl)) c.confirmation.ensures

@@ -1,3 +1,4 @@
+use Rattle.std.proofs.Common.{refl}
 use Rattle.schedule_model.specs.RowDef.{trace_in, ticks_of}
 use Rattle.named_laws.specs.Named.{rules_of, interference_of}
 use Rattle.command_inputs.specs.Known.{Answer}
@@ -13,4 +14,4 @@ returns-clause-reply g c =
     (λ bytes d. Working (conformance_of c.args.protocol c.args.jobs.now d)) c.in_ok-rows.rows
     (IsConformance (rules_of c.args.protocol) (interference_of c.args.protocol) (trace_in c.args.jobs.now c.in_ok-rows.rows.runs)
     (ticks_of c.in_ok-rows.rows.runs)) c.conformance.result
-    c.get_rows.ensures.keeps c.in_ok-rows.ensures.got (λ (a : Answer) is. is) c.conformance.ensures
+    c.get_rows.ensures.keeps c.in_ok-rows.ensures.got (λ (a : Answer) is. (is, refl)) c.conformance.ensures

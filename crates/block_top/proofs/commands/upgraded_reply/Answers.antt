@@ -1,3 +1,4 @@
+use Rattle.std.proofs.Common.{refl}
 use Rattle.program_form.specs.Certificate.{certificate_seen}
 use Rattle.command_inputs.specs.Known.{Answer}
 use Rattle.run_plans.specs.Plans.{Working}
@@ -13,4 +14,4 @@ returns-clause-reply g c =
     (certificate_seen c.in_ok-certificate.certificate)
     (IsJudgement c.args.protocol c.args.set.now (certificate_seen c.in_ok-certificate.certificate)
     (upgraded_answer c.args.protocol c.args.digest.now (certificate_seen c.in_ok-certificate.certificate))) c.upgraded.result
-    c.get.ensures.keeps c.in_ok-certificate.ensures.got (λ (a : Answer) is. is) c.upgraded.ensures
+    c.get.ensures.keeps c.in_ok-certificate.ensures.got (λ (a : Answer) is. (is, refl)) c.upgraded.ensures

@@ -4,7 +4,7 @@ use Rattle.sporadic_model.specs.Accepted.{IsAccepted}
 use Rattle.schedule_model.specs.LawfulJobs.{AreLawfulJobs}
 use Rattle.schedule_model.specs.RowDef.{Trace, row_in, trace_in, ticks_of}
 use Rattle.schedule_model.specs.Seen.{place_seen}
-use Rattle.charge_model.specs.Windows.{bound_end}
+use Rattle.charge_laws.specs.Windows.{bound_end}
 use Rattle.charge.specs.Passed.{first_passed}
 use Rattle.charge.proofs.PassedNext.{passed_at_end, none_noted}
 use Rattle.charge.proofs.RowsMet.{ended_within}

@@ -1,6 +1,6 @@
 use Rattle.std.proofs.Common.{◌∙◌, ◌+◌, ap, arith}
 use Rattle.std.specs.Prelude.{slice_index}
-use Rattle.bounded_sums.specs.Sums.{only_if}
+use Rattle.number_laws.specs.Sums.{only_if}
 use Rattle.schedule_model.specs.RowDef.{Trace, row_in}
 use Rattle.schedule_laws.proofs.KindsOfTicks.{Blocked, blocked_is}
 use Rattle.phase_machine.specs.MachineDef.{under}

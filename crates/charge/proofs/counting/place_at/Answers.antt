@@ -5,8 +5,8 @@ use Rattle.schedule_model.specs.RowDef.{RowDef, row_in}
 use Rattle.schedule_model.specs.Seen.{row_seen}
 use Rattle.phase_machine.specs.MachineDef.{MachineDef, under}
 use Rattle.phase_machine.proofs.Facts.{phase_shown}
-use Rattle.charge_model.specs.Charges.{Charge}
-use Rattle.charge_model.specs.Windows.{bound_end}
+use Rattle.charge_laws.specs.Charges.{Charge}
+use Rattle.charge_laws.specs.Windows.{bound_end}
 use Rattle.trace_walk.proofs.RunLaws.{row_fits}
 use Rattle.charged_protocols.specs.Seen.{charge_seen}
 use Rattle.charge.proofs.TallyLaws.{placed}

@@ -1,5 +1,5 @@
 use Rattle.std.proofs.Common.{◌≡◌, ℕ, ◌||◌, Bool, length}
-use Rattle.bounded_sums.specs.Tests.{found_below}
+use Rattle.number_laws.specs.Tests.{found_below}
 use Rattle.schedule_model.specs.Seen.{place_seen}
 use Rattle.charge.specs.Due.{is_due_below}
 use Rattle.charge.proofs.due.first_of_due.Given as goal

@@ -1,7 +1,7 @@
 use Rattle.std.proofs.Common.{ℕ, List, sym, subst}
 use Rattle.schedule_model.specs.Activity.{task_of}
 use Rattle.schedule_laws.proofs.KindsOfTicks.{Blocked, blocked_is}
-use Rattle.charge_model.specs.ChargedTicks.{IsCharged}
+use Rattle.charge_laws.specs.ChargedTicks.{IsCharged}
 use Rattle.charge.specs.Table.{ItemDef, IsChargeTable}
 use Rattle.charge.proofs.TallyLaws.{OfActive}
 use Rattle.charge.proofs.TableLaws.{table_is}

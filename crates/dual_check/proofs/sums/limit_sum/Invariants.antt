@@ -1,5 +1,5 @@
 use Rattle.std.proofs.Common.{◌≡◌, ◌*◌, min, slice_index}
-use Rattle.bounded_sums.specs.Sums.{sum_below}
+use Rattle.number_laws.specs.Sums.{sum_below}
 use Rattle.program_form.specs.Program.{limit}
 use Rattle.dual_check.proofs.sums.limit_sum.Given as goal
 

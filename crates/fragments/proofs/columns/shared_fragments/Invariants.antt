@@ -1,6 +1,6 @@
 use Rattle.std.proofs.Common.{◌≡◌, map, length}
 use Rattle.std.specs.List.{filter}
-use Rattle.bounded_sums.specs.Sums.{collect_below}
+use Rattle.number_laws.specs.Sums.{collect_below}
 use Rattle.fragments.specs.ColumnDef.{column_seen, classes_of}
 use Rattle.fragments.specs.Columns.{is_column}
 use Rattle.fragments.proofs.columns.shared_fragments.Given as goal

@@ -1,6 +1,6 @@
 use Rattle.std.proofs.Common.{◌≡◌, map, length}
 use Rattle.std.specs.List.{filter}
-use Rattle.bounded_sums.specs.Sums.{collect_below}
+use Rattle.number_laws.specs.Sums.{collect_below}
 use Rattle.fragments.specs.ColumnDef.{column_seen, classes_of}
 use Rattle.fragments.proofs.passing.fragments_where.Given as goal
 

@@ -1,5 +1,5 @@
 use Rattle.std.proofs.Common.{map}
-use Rattle.bounded_sums.specs.Sums.{collect_below}
+use Rattle.number_laws.specs.Sums.{collect_below}
 use Rattle.fragments.specs.ColumnDef.{column_seen}
 use Rattle.fragments.proofs.walks.add_per_lower_task.Given as goal
 

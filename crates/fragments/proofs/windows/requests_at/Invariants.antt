@@ -1,6 +1,6 @@
 use Rattle.std.proofs.Common.{◌≡◌, ◌+◌, ◌*◌, ◌≤◌, ◌==◌, drop}
 use Rattle.std.specs.List.{sum_by}
-use Rattle.bounded_sums.specs.Sums.{only_if}
+use Rattle.number_laws.specs.Sums.{only_if}
 use Rattle.sporadic_model.specs.Users.{count_of}
 use Rattle.sporadic_model.specs.Homes.{home_in}
 use Rattle.fragments.proofs.windows.requests_at.Given as goal

@@ -1,7 +1,7 @@
 use Rattle.std.proofs.Common.{◌≡◌, ℕ, ◌+◌, ◌<◌, ◌==◌, length, drop}
 use Rattle.std.specs.Prelude.{slice_index}
 use Rattle.std.specs.List.{sum_by}
-use Rattle.bounded_sums.specs.Sums.{only_if}
+use Rattle.number_laws.specs.Sums.{only_if}
 use Rattle.sporadic_model.specs.declared.ids.TaskId.{TaskId}
 use Rattle.indirect_constraints.specs.Tables.{held_alone}
 use Rattle.indirect_constraints.proofs.Held.{alone_there}

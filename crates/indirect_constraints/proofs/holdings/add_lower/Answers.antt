@@ -1,5 +1,5 @@
 use Rattle.std.proofs.Common.{◌≡◌, length, arith}
-use Rattle.bounded_sums.specs.Sums.{sum_below}
+use Rattle.number_laws.specs.Sums.{sum_below}
 use Rattle.indirect_constraints.specs.Tables.{lower_user}
 use Rattle.indirect_constraints.proofs.Held.{none_alone}
 use Rattle.indirect_constraints.proofs.holdings.add_lower.Goals as goal

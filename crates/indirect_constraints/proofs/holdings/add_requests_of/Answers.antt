@@ -1,9 +1,9 @@
 use Rattle.std.proofs.Common.{ℕ, ◌+◌, ◌==◌, ◌∙◌, get_or, ap, arith}
 use Rattle.std.specs.Prelude.{slice_index}
 use Rattle.std.proofs.lemmas.Bool.{ne_eqb}
-use Rattle.bounded_sums.specs.Sums.{only_if}
-use Rattle.bounded_sums.proofs.SumLaws.{only_if-false}
-use Rattle.bounded_sums.proofs.OnlyIfLaws.{only_if-rises}
+use Rattle.number_laws.specs.Sums.{only_if}
+use Rattle.number_laws.proofs.SumLaws.{only_if-false}
+use Rattle.number_laws.proofs.OnlyIfLaws.{only_if-rises}
 use Rattle.sporadic_model.specs.declared.ids.TaskId.{TaskId}
 use Rattle.fragments.specs.Windows.{requests_in}
 use Rattle.indirect_constraints.proofs.ByUser.{users_requests, users_once, rest_more}

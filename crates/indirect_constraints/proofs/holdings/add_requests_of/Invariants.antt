@@ -1,7 +1,7 @@
 use Rattle.std.proofs.Common.{◌≡◌, ℕ, ◌+◌, ◌<◌, ◌≤◌, ◌==◌, length, drop}
 use Rattle.std.specs.Prelude.{slice_index}
 use Rattle.std.specs.List.{sum_by}
-use Rattle.bounded_sums.specs.Sums.{only_if}
+use Rattle.number_laws.specs.Sums.{only_if}
 use Rattle.sporadic_model.specs.declared.ids.TaskId.{TaskId}
 use Rattle.fragments.specs.Windows.{requests_in}
 use Rattle.indirect_constraints.proofs.holdings.add_requests_of.Given as goal

@@ -2,9 +2,9 @@ use Rattle.std.proofs.Common.{◌≡◌, ℕ, ◌+◌, ◌==◌, ◌∙◌, nat_
 use Rattle.std.specs.Prelude.{slice_index}
 use Rattle.std.proofs.lemmas.Bool.{lt-ltb, le-ltb}
 use Rattle.std.proofs.lemmas.List.{drop_all}
-use Rattle.bounded_sums.specs.Sums.{only_if, flag}
-use Rattle.bounded_sums.proofs.OnlyIfLaws.{only_if-nothing}
-use Rattle.bounded_sums.proofs.SumLaws.{only_if-at_most}
+use Rattle.number_laws.specs.Sums.{only_if, flag}
+use Rattle.number_laws.proofs.OnlyIfLaws.{only_if-nothing}
+use Rattle.number_laws.proofs.SumLaws.{only_if-at_most}
 use Rattle.sporadic_model.specs.SetDef.{task_at}
 use Rattle.sporadic_model.specs.declared.ids.TaskId.{TaskId}
 use Rattle.indirect_constraints.specs.Tables.{lower_user, sum_on}

@@ -1,5 +1,5 @@
-use Rattle.std.proofs.Common.{arith, ◌∙◌, ◌-◌, ◌≤◌, subst, length, take, drop}
-use Rattle.outside_ports.proofs.Pieces.{Appends-next, length-rest, sub_sub}
+use Rattle.std.proofs.Common.{arith, ◌∙◌, ◌-◌, ◌≤◌, length, take, drop}
+use Rattle.outside_ports.proofs.Pieces.{Appends-next, length-rest}
 use Rattle.outside_ports.proofs.whole.put_all.Goals as goal
 
 pub loop-sent-preserved : goal.loop-sent-preserved

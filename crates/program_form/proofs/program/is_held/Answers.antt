@@ -1,6 +1,6 @@
 use Rattle.std.proofs.Common.{[], nat_lt, length, slice_index, slice_index_or, sym, arith, lt-ltb, ◌<◌}
 use Rattle.std.proofs.lemmas.List.{length-map}
-use Rattle.bounded_sums.proofs.TestLaws.{any_below-from}
+use Rattle.number_laws.proofs.TestLaws.{any_below-from}
 use Rattle.program_form.specs.RowBlock.{rows_seen}
 use Rattle.program_form.proofs.program.is_held.Goals as goal
 

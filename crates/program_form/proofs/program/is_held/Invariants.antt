@@ -1,5 +1,5 @@
 use Rattle.std.proofs.Common.{◌≡◌, [], nat_lt, false, slice_index, slice_index_or}
-use Rattle.bounded_sums.specs.Tests.{any_below}
+use Rattle.number_laws.specs.Tests.{any_below}
 use Rattle.program_form.specs.RowBlock.{rows_seen}
 use Rattle.program_form.proofs.program.is_held.Given as goal
 

@@ -1,5 +1,5 @@
 use Rattle.std.proofs.Common.{◌≡◌, not, false, sym, ap, arith, rules}
-use Rattle.bounded_sums.proofs.TestLaws.{first_below-is}
+use Rattle.number_laws.proofs.TestLaws.{first_below-is}
 use Rattle.program_form.specs.Refusals.{is_covered}
 use Rattle.program_form.specs.RowBlock.{rows_seen}
 use Rattle.program_form.proofs.program.uncovered_column.Goals as goal

@@ -1,5 +1,5 @@
 use Rattle.std.proofs.Common.{◌≡◌, ◌*◌, ◌≤◌}
-use Rattle.bounded_sums.specs.Sums.{sum_below, only_if}
+use Rattle.number_laws.specs.Sums.{sum_below, only_if}
 use Rattle.sporadic_model.specs.SetDef.{is_higher_local}
 use Rattle.program_sources.specs.Bounds.{most_of_one_task}
 use Rattle.program_sources.specs.Recurrence.{interference_by}

@@ -1,5 +1,5 @@
 use Rattle.std.proofs.Common.{◌≡◌, ◌∙◌, ℕ, ◌+◌, ◌*◌, List, length, min, slice_index, ap}
-use Rattle.bounded_sums.specs.Sums.{sum_below}
+use Rattle.number_laws.specs.Sums.{sum_below}
 use Rattle.program_form.specs.Program.{ProgramDef, columns, entry, limit}
 use Rattle.refusal_confirm.proofs.Capped.{kept}
 use Rattle.refusal_confirm.proofs.RowSums.{row_sum_is}

@@ -1,5 +1,5 @@
 use Rattle.std.proofs.Common.{◌≡◌, ◌*◌, length, min, slice_index, take}
-use Rattle.bounded_sums.specs.Sums.{sum_below}
+use Rattle.number_laws.specs.Sums.{sum_below}
 use Rattle.program_form.specs.SparseRows.{number_at}
 use Rattle.refusal_confirm.proofs.sums.row_sum.Given as goal
 

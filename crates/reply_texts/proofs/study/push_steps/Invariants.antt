@@ -1,6 +1,6 @@
 use Rattle.std.proofs.Common.{◌≡◌, ◌++◌, []}
 use Rattle.std.specs.Prelude.{slice_index_or}
-use Rattle.bounded_sums.specs.Sums.{collect_below}
+use Rattle.number_laws.specs.Sums.{collect_below}
 use Rattle.reply_texts.specs.Texts.{step_line}
 use Rattle.reply_texts.proofs.study.push_steps.Given as goal
 

@@ -1,6 +1,6 @@
 use Rattle.std.proofs.Common.{◌≡◌, ◌++◌}
 use Rattle.std.specs.Prelude.{slice_index_or}
-use Rattle.bounded_sums.specs.Sums.{collect_below}
+use Rattle.number_laws.specs.Sums.{collect_below}
 use Rattle.sporadic_model.specs.SetDef.{task_at}
 use Rattle.schedule_answers.specs.TaskAnswers.{no_figures}
 use Rattle.reply_texts.specs.Texts.{figures_line}

@@ -1,6 +1,6 @@
 use Rattle.std.proofs.Common.{◌≡◌, ◌++◌}
 use Rattle.std.specs.Prelude.{slice_index_or}
-use Rattle.bounded_sums.specs.Sums.{collect_below}
+use Rattle.number_laws.specs.Sums.{collect_below}
 use Rattle.sporadic_model.specs.SetDef.{task_at}
 use Rattle.schedule_answers.specs.TaskAnswers.{measure_seen, no_measure}
 use Rattle.reply_texts.specs.Texts.{measures_line}

@@ -1,5 +1,5 @@
 use Rattle.std.proofs.Common.{◌≡◌, ◌++◌, slice_index}
-use Rattle.bounded_sums.specs.Sums.{collect_below}
+use Rattle.number_laws.specs.Sums.{collect_below}
 use Rattle.sporadic_model.specs.SetDef.{task_at}
 use Rattle.report.specs.FullTable.{full_line}
 use Rattle.report.proofs.proved.push_full_tasks.Given as goal

@@ -1,5 +1,5 @@
 use Rattle.std.proofs.Common.{◌≡◌, ◌*◌, ◌/◌, ◌≤◌, ◌==◌}
-use Rattle.bounded_sums.specs.Sums.{sum_below, only_if}
+use Rattle.number_laws.specs.Sums.{sum_below, only_if}
 use Rattle.sporadic_model.specs.SetDef.{task_at}
 use Rattle.report.proofs.table.load.Given as goal
 

@@ -1,5 +1,5 @@
 use Rattle.std.proofs.Common.{◌≡◌, ◌++◌}
-use Rattle.bounded_sums.specs.Sums.{collect_below}
+use Rattle.number_laws.specs.Sums.{collect_below}
 use Rattle.sporadic_model.specs.SetDef.{task_at}
 use Rattle.report.specs.Table.{task_line}
 use Rattle.report.proofs.table.push_tasks.Given as goal

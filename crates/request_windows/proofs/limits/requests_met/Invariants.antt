@@ -1,6 +1,6 @@
 use Rattle.std.proofs.Common.{◌≡◌, ◌*◌, ◌≤◌}
 use Rattle.std.specs.Prelude.{slice_index}
-use Rattle.bounded_sums.specs.Sums.{sum_below, only_if}
+use Rattle.number_laws.specs.Sums.{sum_below, only_if}
 use Rattle.sporadic_model.specs.Users.{count_of}
 use Rattle.window_laws.specs.WindowRows.{meets_there, requests_there}
 use Rattle.request_windows.proofs.limits.requests_met.Given as goal

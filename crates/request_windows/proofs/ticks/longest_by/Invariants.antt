@@ -1,5 +1,5 @@
 use Rattle.std.proofs.Common.{◌≡◌, ◌≤◌}
-use Rattle.bounded_sums.specs.Sums.{only_if}
+use Rattle.number_laws.specs.Sums.{only_if}
 use Rattle.sporadic_model.specs.Users.{length_of}
 use Rattle.schedule_model.specs.Measures.{greatest_below}
 use Rattle.window_laws.specs.Windows.{may_hold_up}

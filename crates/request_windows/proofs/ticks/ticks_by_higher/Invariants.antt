@@ -1,6 +1,6 @@
 use Rattle.std.proofs.Common.{◌≡◌, ◌*◌, ◌≤◌}
 use Rattle.std.specs.Prelude.{slice_index}
-use Rattle.bounded_sums.specs.Sums.{sum_below}
+use Rattle.number_laws.specs.Sums.{sum_below}
 use Rattle.window_laws.specs.Windows.{ticks_by}
 use Rattle.request_windows.proofs.ticks.ticks_by_higher.Given as goal
 

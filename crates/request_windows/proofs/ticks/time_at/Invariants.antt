@@ -1,5 +1,5 @@
 use Rattle.std.proofs.Common.{◌≡◌, ◌*◌, ◌≤◌, ◌==◌}
-use Rattle.bounded_sums.specs.Sums.{sum_below, only_if}
+use Rattle.number_laws.specs.Sums.{sum_below, only_if}
 use Rattle.sporadic_model.specs.Users.{count_of, length_of}
 use Rattle.sporadic_model.specs.Homes.{home_in}
 use Rattle.request_windows.proofs.ticks.time_at.Given as goal

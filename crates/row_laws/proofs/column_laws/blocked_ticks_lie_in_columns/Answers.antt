@@ -1,6 +1,6 @@
 use Rattle.sporadic_model.specs.declared.ids.Protocol.TheVariants as protocol
 use Rattle.schedule_model.specs.Ranks.{mpcp, fmlp_plus}
-use Rattle.charge_model.specs.Charges.{shared_charge, dpcp_charge}
+use Rattle.charge_laws.specs.Charges.{shared_charge, dpcp_charge}
 use Rattle.row_laws.proofs.SharedPlacement.{mpcp_shares, fmlp_shares}
 use Rattle.row_laws.proofs.Joined.{InColumn, shared_in_column, dpcp_in_column}
 use Rattle.row_laws.proofs.column_laws.blocked_ticks_lie_in_columns.Goals as goal

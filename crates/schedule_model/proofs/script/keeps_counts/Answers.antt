@@ -1,6 +1,6 @@
 use Rattle.std.proofs.Common.{sym, map, leb, ℕ, length, arith, ◌<◌}
 use Rattle.std.proofs.lemmas.Bool.{lt-leb}
-use Rattle.bounded_sums.proofs.TestLaws.{all_below-fails_from}
+use Rattle.number_laws.proofs.TestLaws.{all_below-fails_from}
 use Rattle.sporadic_model.specs.Users.{count_of}
 use Rattle.schedule_model.specs.JobDef.{number_of_requests}
 use Rattle.schedule_model.specs.Seen.{segment_seen}

@@ -1,5 +1,5 @@
 use Rattle.std.proofs.Common.{◌≡◌, map, true, leb}
-use Rattle.bounded_sums.specs.Tests.{all_below}
+use Rattle.number_laws.specs.Tests.{all_below}
 use Rattle.sporadic_model.specs.Users.{count_of}
 use Rattle.schedule_model.specs.JobDef.{number_of_requests}
 use Rattle.schedule_model.specs.Seen.{segment_seen}

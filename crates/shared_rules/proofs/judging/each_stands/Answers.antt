@@ -1,6 +1,6 @@
 use Rattle.std.proofs.Common.{length, sym, ◌∙◌, arith}
 use Rattle.std.proofs.lemmas.List.{length-map}
-use Rattle.bounded_sums.proofs.TestLaws.{all_below-fails_from}
+use Rattle.number_laws.proofs.TestLaws.{all_below-fails_from}
 use Rattle.schedule_model.specs.Seen.{row_seen, place_seen}
 use Rattle.shared_rules.specs.RowTests.{column_passes, each_stands}
 use Rattle.shared_rules.proofs.Loops.{all_next}

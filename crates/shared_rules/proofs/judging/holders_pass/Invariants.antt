@@ -1,5 +1,5 @@
 use Rattle.std.proofs.Common.{◌≡◌, true}
-use Rattle.bounded_sums.specs.Tests.{all_below}
+use Rattle.number_laws.specs.Tests.{all_below}
 use Rattle.schedule_model.specs.Seen.{row_seen}
 use Rattle.shared_rules.specs.RowTests.{holder_passes}
 use Rattle.shared_rules.proofs.judging.holders_pass.Given as goal

@@ -1,5 +1,5 @@
 use Rattle.std.proofs.Common.{length, sym, ◌∙◌, arith}
-use Rattle.bounded_sums.proofs.TestLaws.{all_below-fails_from}
+use Rattle.number_laws.proofs.TestLaws.{all_below-fails_from}
 use Rattle.schedule_model.specs.Seen.{row_seen}
 use Rattle.shared_rules.specs.RowTests.{kept_passes, passes_keep}
 use Rattle.shared_rules.proofs.Loops.{all_next}

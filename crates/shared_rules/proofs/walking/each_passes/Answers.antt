@@ -1,5 +1,5 @@
 use Rattle.std.proofs.Common.{length, sym, ◌∙◌, arith}
-use Rattle.bounded_sums.proofs.TestLaws.{all_below-fails_from}
+use Rattle.number_laws.proofs.TestLaws.{all_below-fails_from}
 use Rattle.shared_rules.specs.RowTests.{current_passes, each_current}
 use Rattle.shared_rules.proofs.Loops.{all_next}
 use Rattle.shared_rules.proofs.walking.each_passes.Goals as goal

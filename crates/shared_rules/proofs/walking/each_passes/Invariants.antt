@@ -1,5 +1,5 @@
 use Rattle.std.proofs.Common.{◌≡◌, true}
-use Rattle.bounded_sums.specs.Tests.{all_below}
+use Rattle.number_laws.specs.Tests.{all_below}
 use Rattle.shared_rules.specs.RowTests.{current_passes}
 use Rattle.shared_rules.proofs.walking.each_passes.Given as goal
 

@@ -2,7 +2,7 @@ use Rattle.std.proofs.Common.{length, sym, ap, ◌∙◌, arith}
 use Rattle.std.specs.Option.{option_and_then}
 use Rattle.schedule_model.specs.Seen.{row_seen}
 use Rattle.phase_machine.specs.Now.{current_now}
-use Rattle.bounded_sums.proofs.TestLaws.{found_below-first, found_below-none_from}
+use Rattle.number_laws.proofs.TestLaws.{found_below-first, found_below-none_from}
 use Rattle.spin_protocol.specs.SpinChargeNow.{is_spinning_task_now, spinner_now}
 use Rattle.spin_protocol.proofs.charging.spinner.Goals as goal
 

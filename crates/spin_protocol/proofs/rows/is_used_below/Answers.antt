@@ -1,5 +1,5 @@
 use Rattle.std.proofs.Common.{◌&&◌, length, sym, ◌∙◌, arith}
-use Rattle.bounded_sums.proofs.TestLaws.{any_below-from}
+use Rattle.number_laws.proofs.TestLaws.{any_below-from}
 use Rattle.sporadic_model.specs.Users.{is_user}
 use Rattle.fragments.specs.Columns.{is_lower_local}
 use Rattle.spin_protocol.proofs.rows.is_used_below.Goals as goal

@@ -1,5 +1,5 @@
 use Rattle.std.proofs.Common.{◌≡◌, ◌&&◌, false}
-use Rattle.bounded_sums.specs.Tests.{any_below}
+use Rattle.number_laws.specs.Tests.{any_below}
 use Rattle.sporadic_model.specs.Users.{is_user}
 use Rattle.fragments.specs.Columns.{is_lower_local}
 use Rattle.spin_protocol.proofs.rows.is_used_below.Given as goal

@@ -1,5 +1,5 @@
 use Rattle.std.proofs.Common.{◌≡◌, ◌≤◌}
-use Rattle.bounded_sums.specs.Tests.{count_below}
+use Rattle.number_laws.specs.Tests.{count_below}
 use Rattle.schedule_model.specs.Measures.{greatest_below}
 use Rattle.trace_conform.specs.Measured.{counts_now, response_now, blocking_now}
 use Rattle.trace_conform.proofs.measures.measure_task.Given as goal

@@ -2,7 +2,7 @@ use Rattle.std.proofs.Common.{◌≡◌, ◌∙◌, ◌+◌, ◌<◌, ◌≤◌,
 use Rattle.schedule_model.specs.RowDef.{RowDef, row_in}
 use Rattle.schedule_model.specs.Fitting.{RowsDef}
 use Rattle.schedule_model.specs.Seen.{row_seen}
-use Rattle.row_readers.specs.Runs.{run_of}
+use Rattle.schedule_model.specs.ReadRuns.{run_of}
 use Rattle.schedule_laws.specs.Steady.{IsSteady}
 use Rattle.phase_machine.specs.MachineDef.{MachineDef, under}
 use Rattle.phase_machine.specs.Taking.{IsRowFor}

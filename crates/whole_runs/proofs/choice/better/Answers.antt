@@ -1,5 +1,5 @@
 use Rattle.exchange_runs.proofs.Leasts.{least_replaced, least_kept}
-use Rattle.small_runs.specs.SmallRuns.{IsSmall}
+use Rattle.exchange_runs.specs.SmallRuns.{IsSmall}
 use Rattle.whole_runs.specs.Choice.{value_of}
 use Rattle.whole_runs.proofs.Choosing.{small_fractions}
 use Rattle.whole_runs.proofs.choice.better.Goals as goal

@@ -2,7 +2,7 @@ use Rattle.std.proofs.Common.{◌≡◌, ℕ, ◌<◌, vec_len}
 use Rattle.fraction128.specs.Scaling.{fraction_at}
 use Rattle.exchange_runs.specs.Table.{slack}
 use Rattle.exchange_runs.specs.Readings.{minus}
-use Rattle.small_runs.specs.SmallRuns.{IsLowestOf}
+use Rattle.exchange_runs.specs.SmallRuns.{IsLowestOf}
 use Rattle.whole_runs.specs.States.{stand_at}
 use Rattle.whole_runs.specs.Ends.{objective_cell}
 use Rattle.whole_runs.proofs.end.duals_of.Given as goal

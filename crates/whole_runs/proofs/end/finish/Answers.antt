@@ -3,7 +3,7 @@ use Rattle.std.proofs.lemmas.Result.{err_from_is_err_and}
 use Rattle.program_form.specs.Certificate.{dual_seen}
 use Rattle.program_form.specs.declared.certificate.Dual.{Dual}
 use Rattle.exchange_runs.specs.Readings.{IsWrittenDual, IsWideEnd}
-use Rattle.small_runs.specs.SmallRuns.{IsLowestOf}
+use Rattle.exchange_runs.specs.SmallRuns.{IsLowestOf}
 use Rattle.whole_rows.specs.Rows.{limit_of}
 use Rattle.whole_runs.proofs.Causes.{stop_of}
 use Rattle.whole_runs.proofs.Ending.{stand_of, objective_lowest, value_lowest, is_primal}

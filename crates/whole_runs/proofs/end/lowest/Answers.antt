@@ -1,8 +1,8 @@
 use Rattle.std.proofs.Common.{rules}
 use Rattle.fraction128.specs.Fraction.{IsSame, over}
 use Rattle.fraction128.specs.Gives.{HasNoForm}
-use Rattle.small_runs.specs.SmallRuns.{IsLowestOf}
-use Rattle.small_runs.proofs.Lowest.{in_lowest_terms, lowest}
+use Rattle.exchange_runs.specs.SmallRuns.{IsLowestOf}
+use Rattle.exchange_runs.proofs.SmallLowest.{in_lowest_terms, lowest}
 use Rattle.whole_runs.proofs.end.lowest.Goals as goal
 
 pub unreachable-requires : goal.unreachable-requires

@@ -1,5 +1,5 @@
 use Rattle.std.proofs.Common.{ℕ, ◌<◌, ◌/◌, length}
-use Rattle.row_marks.specs.Marks.{IsMarked, AreKept}
+use Rattle.whole_rows.specs.Marks.{IsMarked, AreKept}
 use Rattle.whole_rows.specs.Rows.{entry_at}
 use Rattle.whole_runs.proofs.exchange.join_marks.Given as goal
 

@@ -1,6 +1,6 @@
 use Rattle.std.proofs.Common.{◌≡◌, ℕ, ◌<◌, ◌/◌, ◌%◌}
 use Rattle.std.specs.Int.{bit_at}
-use Rattle.row_marks.specs.Marks.{IsMarked, AreKept}
+use Rattle.whole_rows.specs.Marks.{IsMarked, AreKept}
 use Rattle.whole_rows.specs.Rows.{entry_at}
 use Rattle.whole_runs.proofs.exchange.join_word.Given as goal
 

@@ -3,8 +3,8 @@ use Rattle.std.specs.Vec.{with_items}
 use Rattle.std.proofs.lemmas.List.{get_or_default, with_items_is}
 use Rattle.std.proofs.lemmas.Result.{err_from_is_err_and}
 use Rattle.exchange_runs.specs.Exchange.{IsLeavingOver}
-use Rattle.small_runs.specs.SmallRuns.{IsSmall}
-use Rattle.row_marks.proofs.Marking.{words_within}
+use Rattle.exchange_runs.specs.SmallRuns.{IsSmall}
+use Rattle.whole_rows.proofs.Marking.{words_within}
 use Rattle.program_form.specs.Program.{columns}
 use Rattle.whole_rows.specs.Rows.{entry_at}
 use Rattle.whole_runs.specs.States.{table_seen}

@@ -1,7 +1,7 @@
 use Rattle.std.proofs.Common.{◌<◌, ◌+◌, inl, inr, sym, ◌∙◌, arith}
 use Rattle.std.proofs.lemmas.Bool.{cases_eq}
 use Rattle.program_form.specs.Program.{columns, height}
-use Rattle.row_marks.proofs.Marking.{room_kept}
+use Rattle.whole_rows.proofs.Marking.{room_kept}
 use Rattle.whole_runs.proofs.Starting.{number_of_row}
 use Rattle.whole_runs.proofs.start.first_marks.Goals as goal
 

@@ -1,6 +1,6 @@
 use Rattle.std.proofs.Common.{◌≢◌, ℕ, ◌+◌, ◌<◌}
 use Rattle.program_form.specs.Program.{columns, height, entry, cost}
-use Rattle.row_marks.specs.Marks.{IsMarked, HaveRoom}
+use Rattle.whole_rows.specs.Marks.{IsMarked, HaveRoom}
 use Rattle.whole_runs.proofs.start.first_marks.Given as goal
 
 abbrev pub invariant-loop-i : goal.invariant-loop-i

@@ -1,6 +1,6 @@
 use Rattle.std.proofs.Common.{◌≢◌, ℕ, take}
 use Rattle.program_form.specs.SparseRows.{number_at}
-use Rattle.row_marks.specs.Marks.{IsMarked, AreKept}
+use Rattle.whole_rows.specs.Marks.{IsMarked, AreKept}
 use Rattle.whole_runs.proofs.start.mark_all.Given as goal
 
 abbrev pub invariant-loop-coefficient : goal.invariant-loop-coefficient

@@ -1,6 +1,6 @@
 use Rattle.std.proofs.Common.{◌≢◌, ℕ, ◌<◌}
 use Rattle.program_form.specs.Program.{height, cost}
-use Rattle.row_marks.specs.Marks.{IsMarked, AreKept}
+use Rattle.whole_rows.specs.Marks.{IsMarked, AreKept}
 use Rattle.whole_runs.proofs.start.mark_costs.Given as goal
 
 abbrev pub invariant-loop-c : goal.invariant-loop-c

@@ -1,0 +1,11 @@
+use Rattle.std.proofs.Common.{◌≡◌, ◌++◌, drop}
+use Rattle.std.specs.Vec.Iter.{into_iter_items, into_iter_len}
+use Rattle.block_top.proofs.edge.words_behind_name.Given as goal
+
+-- the words so far, and those to come, are the words after the first
+abbrev pub invariant-loop-word : goal.invariant-loop-word
+invariant-loop-word l = l.words.items ++ into_iter_items l.rest ≡ drop 1 (into_iter_items l.fn.given)
+
+-- each round takes one of the words to come
+abbrev pub decreases-loop-word : goal.decreases-loop-word
+decreases-loop-word l = into_iter_len l.rest

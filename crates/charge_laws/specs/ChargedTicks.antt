@@ -1,0 +1,17 @@
+-- What is known of a blocked tick: it is charged to one request, which executes, in a column of the job's program.
+use Rattle.std.specs.Prelude.{◌≡◌, ℕ, List, Option, Some}
+use Rattle.std.specs.List.{Contains}
+use Rattle.schedule_model.specs.RowDef.{Trace}
+use Rattle.fragments.specs.ColumnDef.{ColumnDef}
+use Rattle.charge_laws.specs.Charges.{Charge, Executes}
+use Rattle.charge_laws.specs.Fractions.{charged_column}
+
+-- Is tick t charged for job j, where ticks are charged so, to a request that executes then and lies in one of these columns?
+-- It is one request, since a tick has one charge.
+pub record IsCharged (charges : Trace → ℕ → ℕ → Option Charge) (columns : List ColumnDef) (w : Trace) (t j : ℕ) : Type 0 where
+  pub charge : Charge
+  pub is_it : charges w t j ≡ Some charge
+  pub executes : Executes w t charge
+  pub column : ColumnDef
+  pub lies_in : charged_column charges w t j ≡ Some column
+  pub there : Contains columns column

@@ -1,5 +1,0 @@
-pub mod Charges
-pub mod Windows
-pub mod Interferers
-pub mod Fractions
-pub mod ChargedTicks

@@ -1,0 +1,154 @@
+-- The window of a request under DPCP in cycles: k times as many as the window in ticks are enough, so no more requests run within it.
+-- So each row of windows is rescaled, with a limit that is no greater.
+use Rattle.std.proofs.Common.{◌≡◌, ◌∙◌, ℕ, zero, suc, ◌+◌, ◌*◌, ◌<◌, ◌≤◌, ◌==◌, ◌&&◌, not, List, length, true, false, refl, sym}
+use Rattle.std.proofs.Common.{arith, inl, inr, nat_lt, nat_le, Some}
+use Rattle.std.specs.Prelude.{slice_index, max}
+use Rattle.std.proofs.Math.Nat.{mul-zero, mul-le-mul_left}
+use Rattle.std.proofs.lemmas.Bool.{cases_Bool, lt-ltb, ltb-true}
+use Rattle.number_laws.specs.Sums.{sum_below, only_if}
+use Rattle.number_laws.proofs.SumLaws.{sum_below-times, sum_below-monotone}
+use Rattle.number_laws.proofs.OnlyIfLaws.{only_if-rises}
+use Rattle.number_laws.proofs.TestLaws.{found_below-is}
+use Rattle.sporadic_model.specs.SetDef.{SetDef, task_at}
+use Rattle.sporadic_model.specs.Users.{count_of, length_of}
+use Rattle.sporadic_model.specs.Homes.{home_in}
+use Rattle.sporadic_model.specs.declared.ids.Protocol.TheVariants as protocol
+use Rattle.schedule_model.specs.Measures.{greatest_below}
+use Rattle.program_sources.proofs.RecurrenceLaws.{div_ceil_rises}
+use Rattle.fragments.specs.declared.columns.Class.TheVariants.{Preemption}
+use Rattle.fragments.specs.ColumnDef.{is_class}
+use Rattle.fragments.specs.Columns.{columns_of}
+use Rattle.fragments.specs.Constraints.{per_pair}
+use Rattle.fragments.specs.Windows.{jobs_during, requests_during, requests_in}
+use Rattle.program_laws.specs.Programs.{rows_of}
+use Rattle.window_laws.specs.Windows.{time_at, may_hold_up, longest_lower, ticks_there, ticks_by, is_enough, window_of}
+use Rattle.window_laws.specs.WindowRows.{meets_there, requests_met, requests_there, lacks_window, window_row, windowed_rows, windowed_source}
+use Rattle.window_laws.proofs.Least.{Found, found_from}
+use Rattle.window_laws.proofs.Rising.{enough_is, enough_from, window_there, lacking}
+use Rattle.clock_laws.specs.Cycles.{in_cycles, times_each}
+use Rattle.clock_laws.proofs.Scaled.{only_times, max_times}
+use Rattle.clock_laws.proofs.Sets.{tasks_in, deadline_in, count_in, length_in, users_in, rank_in}
+use Rattle.clock_laws.proofs.Columns.{columns_scaled}
+use Rattle.clock_laws.proofs.Jobs.{fine, jobs_in_cycles, requests_in_cycles}
+use Rattle.clock_laws.proofs.Rescaled.{AreRescaled, counted, appended, each_pair}
+use Rattle.clock_laws.proofs.BaseRows.{rows_in}
+use Rattle.clock_laws.proofs.Programs.{IsRescaled, programs_rescaled}
+
+swapped : (k m n : ℕ) → m * (k * n) ≡ k * (m * n)
+swapped k m n = omega arith
+
+time_in : (k : ℕ) (set : SetDef) (x m : ℕ) → time_at (in_cycles k set) x m ≡ k * time_at set x m
+time_in k set x m = (λ j. sum_below (length set.resources) (λ q. each q j))
+    ∙ sum_below-times (length set.resources) k (λ q. only_if (home_in set q == m) (count_of set x q * length_of set x q)) where
+      each : (q : ℕ) → only_if (home_in set q == m) (count_of (in_cycles k set) x q * length_of (in_cycles k set) x q)
+          ≡ k * only_if (home_in set q == m) (count_of set x q * length_of set x q)
+      each q = (λ j. only_if (home_in set q == m) (count_in k set x q j * length_in k set x q j))
+          ∙ ((λ j. only_if (home_in set q == m) (swapped k (count_of set x q) (length_of set x q) j))
+          ∙ only_times (home_in set q == m) k (count_of set x q * length_of set x q))
+
+greatest_times : (k n : ℕ) (f : ℕ → ℕ) → greatest_below n (λ x. k * f x) ≡ k * greatest_below n f
+greatest_times k zero f = sym (mul-zero k)
+greatest_times k (suc n) f = (λ j. max (greatest_times k n f j) (k * f n)) ∙ max_times k (greatest_below n f) (f n)
+
+holds_up_in : (k : ℕ) (set : SetDef) → may_hold_up (in_cycles k set) ≡ may_hold_up set
+holds_up_in k set =
+    λ j i m x q. nat_lt i x && ((home_in set q == m) && (users_in k set j q x && nat_le (rank_in k set j q) i))
+
+longest_in : (k : ℕ) (set : SetDef) (i m : ℕ) → longest_lower (in_cycles k set) i m ≡ k * longest_lower set i m
+longest_in k set i m = (λ j. greatest_below (tasks_in k set j) (λ x. by_task x j))
+    ∙ greatest_times k (length set.tasks) (λ x. greatest_below (length set.resources) (one x)) where
+      one : ℕ → ℕ → ℕ
+      one x q = only_if (may_hold_up set i m x q) (length_of set x q)
+
+      by_task : (x : ℕ) → greatest_below (length set.resources) (λ q. only_if (may_hold_up (in_cycles k set) i m x q) (length_of (in_cycles k set) x q))
+          ≡ k * greatest_below (length set.resources) (one x)
+      by_task x = (λ j. greatest_below (length set.resources) (λ q. only_if (holds_up_in k set j i m x q) (length_in k set x q j)))
+          ∙ ((λ j. greatest_below (length set.resources) (λ q. only_times (may_hold_up set i m x q) k (length_of set x q) j))
+          ∙ greatest_times k (length set.resources) (one x))
+
+-- In k times as many cycles k times as many of them may be taken by requests.
+there_in : (k : ℕ) (set : SetDef) (bounds : ℕ → ℕ) (i q w : ℕ) → 0 < k
+    → ticks_there (in_cycles k set) (fine k bounds) i q (k * w) ≡ k * ticks_there set bounds i q w
+there_in k set bounds i q w some =
+    (λ j. length_in k set i q j + longest_in k set i (home_in set q) j + sum_below i (λ x. each x j))
+    ∙ ((λ j. k * length_of set i q + k * longest_lower set i (home_in set q) + sum_below-times i k (ticks_by set bounds (home_in set q) w) j)
+    ∙ together (length_of set i q) (longest_lower set i (home_in set q)) (sum_below i (ticks_by set bounds (home_in set q) w))) where
+      together : (a b c : ℕ) → k * a + k * b + k * c ≡ k * (a + b + c)
+      together a b c = omega arith
+
+      each : (x : ℕ) → jobs_during (in_cycles k set) (fine k bounds) (k * w) x * time_at (in_cycles k set) x (home_in set q)
+          ≡ k * ticks_by set bounds (home_in set q) w x
+      each x = (λ j. jobs_in_cycles k set bounds w x some j * time_in k set x (home_in set q) j)
+          ∙ swapped k (jobs_during set bounds w x) (time_at set x (home_in set q))
+
+-- So where a request has a window in ticks it has one in cycles, which is at most k times as long.
+fine_window : (k : ℕ) (set : SetDef) (bounds : ℕ → ℕ) (i q w : ℕ) → 0 < k → window_of set bounds i q ≡ Some w
+    → Found (suc (task_at (in_cycles k set) i).deadline) (is_enough (in_cycles k set) (fine k bounds) i q) (k * w)
+fine_window k set bounds i q w some e =
+    let found : (w < suc (task_at set i).deadline) × (is_enough set bounds i q w ≡ true) =
+    found_below-is (suc (task_at set i).deadline) (is_enough set bounds i q) w e in
+    let parts : (nat_lt 0 w ≡ true) × (ticks_there set bounds i q w ≤ w) = enough_is set bounds i q w found.1 in
+    let within : k * w ≤ k * (task_at set i).deadline = mul-le-mul_left k (omega (arith, found.0)) in
+    let most : k * ticks_there set bounds i q w ≤ k * w = mul-le-mul_left k parts.1 in
+    let positive : k * 1 ≤ k * w = mul-le-mul_left k (omega (arith, ltb-true 0 w parts.0)) in
+    found_from (suc (task_at (in_cycles k set) i).deadline) (is_enough (in_cycles k set) (fine k bounds) i q) (k * w)
+    (omega (arith, within, deadline_in k set i))
+    (enough_from (in_cycles k set) (fine k bounds) i q (k * w) (lt-ltb 0 (k * w) (omega (arith, some, positive)))
+    (omega (arith, there_in k set bounds i q w some, most)))
+
+-- No more requests run within it.
+within_fine : (k : ℕ) (set : SetDef) (bounds : ℕ → ℕ) (i x p q w : ℕ) → 0 < k → window_of set bounds i q ≡ Some w
+    → requests_there (in_cycles k set) (fine k bounds) i x p q ≤ requests_there set bounds i x p q
+within_fine k set bounds i x p q w some e =
+    let low : Found (suc (task_at (in_cycles k set) i).deadline) (is_enough (in_cycles k set) (fine k bounds) i q) (k * w) =
+    fine_window k set bounds i q w some e in
+    let lesser : window_of (in_cycles k set) (fine k bounds) i q ≡ Some low.least = low.is_it in
+    let fewer : requests_during (in_cycles k set) (fine k bounds) low.least x p ≤ requests_during (in_cycles k set) (fine k bounds) (k * w) x p =
+    mul-le-mul_left (count_of (in_cycles k set) x p)
+    (div_ceil_rises (low.least + (fine k bounds x + (task_at (in_cycles k set) x).jitter))
+    (k * w + (fine k bounds x + (task_at (in_cycles k set) x).jitter)) (task_at (in_cycles k set) x).period (omega (arith, low.at_most))) in
+    rw (e, lesser) (omega (arith, fewer, requests_in_cycles k set bounds w x p some))
+
+met_fine : (k : ℕ) (set : SetDef) (bounds : ℕ → ℕ) (i x p : ℕ) → 0 < k → lacks_window set bounds i p ≡ false
+    → requests_met (in_cycles k set) (fine k bounds) i x p ≤ requests_met set bounds i x p
+met_fine k set bounds i x p some none =
+    let same : requests_met (in_cycles k set) (fine k bounds) i x p
+    ≡ sum_below (length set.resources) (λ q. only_if (meets_there set i p q) (count_of set i q * requests_there (in_cycles k set) (fine k bounds) i x p q)) =
+    λ j. sum_below (length set.resources) (λ q. only_if (users_in k set j q i && (home_in set q == home_in set p))
+    (count_in k set i q j * requests_there (in_cycles k set) (fine k bounds) i x p q)) in
+    let most : sum_below (length set.resources) (λ q. only_if (meets_there set i p q) (count_of set i q * requests_there (in_cycles k set) (fine k bounds) i x p q))
+    ≤ requests_met set bounds i x p =
+    sum_below-monotone (length set.resources)
+    (λ q. only_if (meets_there set i p q) (count_of set i q * requests_there (in_cycles k set) (fine k bounds) i x p q))
+    (λ q. only_if (meets_there set i p q) (count_of set i q * requests_there set bounds i x p q))
+    (λ q b. only_if-rises (meets_there set i p q) (count_of set i q * requests_there (in_cycles k set) (fine k bounds) i x p q)
+    (count_of set i q * requests_there set bounds i x p q) (λ meets.
+    let at : (w : ℕ) × (window_of set bounds i q ≡ Some w) = window_there set bounds i p q b none meets in
+    mul-le-mul_left (count_of set i q) (within_fine k set bounds i x p q at.0 some at.1))) in
+    omega (arith, same, most)
+
+pub window_limit_fine : (k : ℕ) (set : SetDef) (bounds : ℕ → ℕ) (i x p : ℕ) → 0 < k
+    → (window_row (in_cycles k set) i x p).limit (fine k bounds) ≤ (window_row set i x p).limit bounds
+window_limit_fine k set bounds i x p some =
+    let same : requests_in (in_cycles k set) (fine k bounds) i x p ≡ requests_in set bounds i x p =
+    requests_in_cycles k set bounds (bounds i) x p some in
+    elim (cases_Bool (lacks_window set bounds i p)) [
+      | inl lacks ↦ omega (arith, same, lacking set bounds i x p lacks)
+      | inr none ↦ omega (arith, same, met_fine k set bounds i x p some none)
+    ]
+
+windowed_rows_in : (k : ℕ) (set : SetDef) (bounds : ℕ → ℕ) (i : ℕ) → 0 < k
+    → AreRescaled k bounds (windowed_rows set i) (windowed_rows (in_cycles k set) i)
+windowed_rows_in k set bounds i some = appended k bounds (rows_of protocol.Dpcp set i) (rows_of protocol.Dpcp (in_cycles k set) i)
+    (per_pair i (length set.resources) (window_row set i)) (per_pair i (length set.resources) (window_row (in_cycles k set) i))
+    (rows_in protocol.Dpcp k set bounds i some)
+    (each_pair k bounds i i (length set.resources) (window_row set i) (window_row (in_cycles k set) i) refl
+    (λ x q a b. counted k bounds (λ c. ((c.task == x) && (c.resource == q)) && not (is_class Preemption c.class))
+    (λ c. ((c.task == x) && (c.resource == q)) && not (is_class Preemption c.class)) _ _ some refl
+    (window_limit_fine k set bounds i x q some)))
+
+pub windowed_rescaled : (k : ℕ) (set : SetDef) (bounds : List ℕ) (i : ℕ) → 0 < k
+    → IsRescaled k ((windowed_source set).program i bounds) ((windowed_source (in_cycles k set)).program i (times_each k bounds))
+windowed_rescaled k set bounds i some = programs_rescaled k set bounds (columns_of protocol.Dpcp set i)
+    (columns_of protocol.Dpcp (in_cycles k set) i) (windowed_rows set i) (windowed_rows (in_cycles k set) i) some
+    (columns_scaled protocol.Dpcp k set i) (windowed_rows_in k set (slice_index bounds) i some)

@@ -1,0 +1,20 @@
+use Rattle.clock_laws.proofs.Instances.{mpcp_on_clocks, fmlp_on_clocks, dpcp_on_clocks, dflp_on_clocks, windows_on_clocks, spin_on_clocks}
+use Rattle.clock_laws.proofs.valid_certificates_are_sound_on_clocks.Goals as goal
+
+pub returns-clause-mpcp : goal.returns-clause-mpcp
+returns-clause-mpcp c = mpcp_on_clocks
+
+pub returns-clause-fmlp_plus : goal.returns-clause-fmlp_plus
+returns-clause-fmlp_plus c = fmlp_on_clocks
+
+pub returns-clause-dpcp : goal.returns-clause-dpcp
+returns-clause-dpcp c = dpcp_on_clocks
+
+pub returns-clause-dflp : goal.returns-clause-dflp
+returns-clause-dflp c = dflp_on_clocks
+
+pub returns-clause-dpcp_windows : goal.returns-clause-dpcp_windows
+returns-clause-dpcp_windows c = windows_on_clocks
+
+pub returns-clause-spin : goal.returns-clause-spin
+returns-clause-spin c = spin_on_clocks

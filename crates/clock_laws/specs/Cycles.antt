@@ -1,0 +1,32 @@
+-- A task set said in cycles: each tick is k cycles, so each number of ticks is k times as great. All else is as it was: names,
+-- processors, resources with their homes, and how often a job may request each.
+use Rattle.std.specs.Prelude.{◌≡◌, refl, ℕ, ◌+◌, ◌-◌, ◌*◌, Bool, List, [], ◌∷◌, map, if◌then◌else◌}
+use Rattle.sporadic_model.specs.SetDef.{SetDef, TaskDef, RequestDef, task_at}
+
+abbrev pub request_in_cycles : ℕ → RequestDef → RequestDef
+request_in_cycles k e = record e { length = k * e.length }
+
+abbrev pub task_in_cycles : ℕ → TaskDef → TaskDef
+task_in_cycles k t = record t {
+  period = k * t.period;
+  deadline = k * t.deadline;
+  cost = k * t.cost;
+  local = k * t.local;
+  jitter = k * t.jitter;
+  requests = map (request_in_cycles k) t.requests;
+}
+
+abbrev pub in_cycles : ℕ → SetDef → SetDef
+in_cycles k set = record set { tasks = map (task_in_cycles k) set.tasks }
+
+-- Numbers of ticks, each said in cycles.
+abbrev pub times_each : ℕ → List ℕ → List ℕ
+times_each k ns = map (λ n. k * n) ns
+
+-- How many cycles may a job of task i execute? As many as its cost in ticks has, where it says of the task that its value is whole;
+-- else one of these ticks counts for one cycle alone.
+abbrev pub own_cycles : (ℕ → Bool) → ℕ → SetDef → ℕ → ℕ
+own_cycles whole k set i = if whole i then k * (task_at set i).cost else k * ((task_at set i).cost - 1) + 1
+
+pub three_ticks_of_ten : times_each 10 (3 ∷ 5 ∷ []) ≡ 30 ∷ 50 ∷ []
+three_ticks_of_ten = refl

@@ -1,0 +1,3 @@
+pub mod ChosenRows
+pub mod EachName
+pub mod OneJob

@@ -1,0 +1,7 @@
+//! No soundness here is one over nothing: lawful schedules and lawful jobs that there are, under every protocol. Each function does
+//! nothing: its contract is the law.
+#![tactic(auto)]
+
+mod laws;
+
+pub use laws::{each_task_has_a_lawful_job, lawful_jobs_have_schedules};

@@ -1,0 +1,20 @@
+-- What a load of an input leaves in the readings of a shelf.
+use Rattle.std.specs.Prelude.{◌≡◌, ℕ, ◌<◌, List, ◌∷◌, length, Result, Ok, Err, Vec}
+use Rattle.std.specs.Global.{Global}
+use Rattle.outside_ports.specs.Past.{Asked, begun, unbegun, wholly, partly}
+use Rattle.outside_ports.specs.declared.shelf.ShelfFault.TheVariants as shelf
+use Rattle.outside_ports.specs.declared.whole.LoadFault.{LoadFault}
+use Rattle.outside_ports.specs.declared.whole.LoadFault.TheVariants as load
+use Rattle.outside_ports.specs.declared.whole.TheConstants.{GREATEST_INPUT_BYTES}
+
+-- Each load adds one reading of its name. What it answers with is what that reading gave, from the start to the end. An absent input
+-- was refused as absent, and one that is too long gave more than the limit, with no end among its reads.
+abbrev pub Leaves : Result (Vec ℕ Global) LoadFault → List ℕ → List Asked → List Asked → Type 0
+Leaves (Ok bytes) name old new = new ≡ wholly name bytes.items ∷ old
+Leaves (Err load.Absent) name old new = new ≡ unbegun name shelf.Absent ∷ old
+Leaves (Err load.TooLong) name old new = (bytes : List ℕ) × (new ≡ partly name bytes ∷ old) × (GREATEST_INPUT_BYTES < length bytes)
+Leaves (Err _) name old new = (asked : Asked) × (new ≡ asked ∷ old) × (asked.name ≡ name)
+
+-- The same of a load whose start is behind it.
+abbrev pub LeavesBegun : Result (Vec ℕ Global) LoadFault → List Asked → List Asked → Type 0
+LeavesBegun answer old new = (name : List ℕ) → (earlier : List Asked) → old ≡ begun name ∷ earlier → Leaves answer name earlier new

@@ -1,2 +1,0 @@
-pub mod Elimination
-pub mod Greatest
