@@ -10,7 +10,7 @@ Two comparisons, each left out with a word where what it wants is missing:
             exact fractions, stands beside nothing but the solving of the same programs in floats.
     usual   the usual way: `glpsol` of the package glpk-utils, one process for each program, in floating point and with --exact. Of each
             call the time of the same call with --check, which starts, reads the file and solves nothing, is told apart.
-Both form the programs in Python (tools/blocking_programs.py), and take the rounds of docs/ANALYSIS.md, as `analyse` does. Their bounds
+Both form the programs in Python (tools/cizborg/blocking_programs.py), and take the rounds of docs/ANALYSIS.md, as `analyse` does. Their bounds
 must be those of the analysis; else the line says OTHER BOUNDS.
 
 Times of `analyse` and `check` are those of processes, the least of a few calls; the time of a call that answers `refused words` is taken
@@ -29,13 +29,11 @@ import time
 from dataclasses import dataclass
 from pathlib import Path
 
-TOP = Path(__file__).resolve().parent.parent
-sys.path.insert(0, str(TOP / "tools"))
-
-from block_calls import PROTOCOLS  # noqa: E402
-from blocking_programs import Shape, TaskSet, as_lp, program_of  # noqa: E402
-from generated_sets import generated, seeded  # noqa: E402
-from program_lines import as_line  # noqa: E402
+from commands import TOP
+from cizborg.blocking_programs import Shape, TaskSet, as_lp, program_of
+from cizborg.protocols import WORDS as PROTOCOLS
+from generated_sets import generated, seeded
+from program_lines import as_line
 
 PROGRAM = TOP / "crates" / "block_cli" / "out" / "block_cli"
 SIZES = (8, 16, 32, 64)

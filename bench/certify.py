@@ -1,5 +1,5 @@
 #!/usr/bin/env python3
-"""Counts how often `analyse` is wide on sets with long lengths, how often tools/certify.py gets a certificate then, and how near its bounds are.
+"""Counts how often `analyse` is wide on sets with long lengths, how often `./block certify` gets a certificate then, and how near its bounds are.
 
     python3 bench/certify.py [--seed N] [--sets N] [--longest TICKS] [--exact] [--program FILE] [SIZE..]
 
@@ -13,19 +13,19 @@ runs it, and it bounds nothing.
 """
 import argparse
 import json
-import sys
 import time
 from dataclasses import dataclass
 from pathlib import Path
 
-TOP = Path(__file__).resolve().parent.parent
-sys.path.insert(0, str(TOP / "tools"))
-
-from block_calls import ALLOWANCE, BUILT, DONE, PROTOCOLS, WIDE, Block, Stop, folder_of_calls, run_tool  # noqa: E402
-from blocking_programs import TaskSet  # noqa: E402
-from certificates import NotShown, certificate_text, found_certificate  # noqa: E402
-from dual_solvers import Exact, Floats  # noqa: E402
-from generated_sets import generated_long, seeded  # noqa: E402
+from commands import BUILT
+from cizborg import protocols
+from cizborg.blocking_programs import TaskSet
+from cizborg.certificates import NotShown, certificate_text, found_certificate
+from cizborg.dual_solvers import Exact, Floats
+from cizborg.entry import end_with
+from cizborg.program import Block, folder_of_calls
+from cizborg.statuses import Status, Stop
+from generated_sets import generated_long, seeded
 
 SIZES = (8, 16, 32)
 
@@ -48,7 +48,7 @@ def certificate_of(block, path, parts, solvers):
     except NotShown:
         return None
     answer = block.answer("check", path, block.file(certificate_text(block.protocol, found, path.read_bytes())))
-    if answer.status != DONE:
+    if answer.status != Status.DONE:
         raise Stop(f"check answers {answer.line()} to a certificate that was found", answer.status)
     return found.bounds
 
@@ -61,14 +61,14 @@ def tried(block, parts, solvers):
     between = time.perf_counter()
     bounds = certificate_of(block, path, parts, solvers)
     ratios = []
-    if answer.status == DONE and bounds:
+    if answer.status == Status.DONE and bounds:
         ratios = [bound / least for bound, least in zip(bounds, json.loads(answer.text)["bounds"])]
     return Tried(answer.status, bounds is not None, ratios, between - begun, time.perf_counter() - between)
 
 
 def line_of(size, protocol, all_tried):
-    unknown = [one for one in all_tried if one.status in (WIDE, ALLOWANCE)]
-    shown = [one for one in all_tried if one.status == DONE]
+    unknown = [one for one in all_tried if one.status in (Status.WIDE, Status.ALLOWANCE)]
+    shown = [one for one in all_tried if one.status == Status.DONE]
     both = [one.ratios for one in shown if one.ratios]
     least = sum(max(ratios) == 1 for ratios in both)
     parts = [
@@ -96,10 +96,10 @@ def main():
         solvers = Exact(folder) if given.exact else Floats()
         for size in given.sizes:
             sets = [generated_long(size, draw, given.longest) for _ in range(given.sets)]
-            for protocol in PROTOCOLS:
+            for protocol in protocols.WORDS:
                 block = Block(given.program, protocol, folder)
                 print(line_of(size, protocol, [tried(block, parts, solvers) for parts in sets]), flush=True)
-    return DONE
+    return Status.DONE
 
 
-run_tool(main)
+end_with("certify.py", main)

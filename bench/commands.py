@@ -1,10 +1,11 @@
-"""What the benchmarks share."""
+"""What the benchmarks share. Its import tells them where the package of the tools is, and the sets of the tests."""
 import subprocess
 import sys
 from pathlib import Path
 
 TOP = Path(__file__).resolve().parent.parent
 BUILT = TOP / "crates" / "block_cli" / "out" / "block_cli"
+sys.path[:0] = [str(TOP / "tools"), str(TOP / "tests" / "cli")]
 
 
 def run(command, where):

@@ -24,11 +24,8 @@ import tempfile
 import time
 from pathlib import Path
 
-from commands import BUILT, TOP, built
-
-sys.path.append(str(TOP / "tests" / "cli"))
-
-from sets import resource, set_of, task  # noqa: E402
+from commands import BUILT, built
+from sets import resource, set_of, task
 
 MIB = 1 << 20
 

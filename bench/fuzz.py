@@ -1,15 +1,16 @@
 #!/usr/bin/env python3
-"""Bends the inputs of every command at random, for as long as it is told, and shows each run of the program that ends as none may.
+"""Bends the inputs of every command at random, as often or for as long as it is told, and shows each run of the program that ends as none may.
 
-    python3 bench/fuzz.py [PROGRAM] [--seconds N] [--seed N] [--only COMMAND] [--limit SECONDS] [--jobs N] [--keep FOLDER]
+    python3 bench/fuzz.py [PROGRAM] [--seconds N | --runs N] [--seed SEED] [--only COMMAND] [--limit SECONDS] [--jobs N] [--keep FOLDER]
 
 A find is a run that a signal ends, that takes longer than the limit, that ends with a status which no run over plain files has, that
 writes something to standard error, or whose text isn't of a form of its status; and a certificate that `analyse` writes and `check`
 doesn't call valid, or a schedule that `simulate` writes and `conform` doesn't call lawful. Its inputs are kept in FOLDER (finds/ where
 none is given), and the script ends with status 1. PROGRAM is what `rt ci` or `./block` built, where none is given. A command that the program doesn't
-have is left out with a word. Run number N of a seed always bends the same inputs in the same way.
+have is left out with a word. Commands and protocols come up in turn, and run number N of a seed always bends the same inputs in the
+same way.
 
-It needs Python's standard library alone. It is no test: no gate runs it.
+It needs Python's standard library alone. The gate makes some runs of it, whose seed is the commit (.ci/run).
 """
 import argparse
 import concurrent.futures
@@ -23,6 +24,7 @@ import tempfile
 import time
 from pathlib import Path
 
+from bends import MILD, NUMBERS, ROUGH
 from commands import BUILT, TOP, built
 
 EXAMPLES = TOP / "examples"
@@ -31,11 +33,6 @@ PROTOCOLS = ("mpcp", "fmlp+", "dpcp", "dflp", "dpcp-w", "spin")
 AT_HOMES = ("dpcp", "dflp", "dpcp-w")
 # of a set: its jobs, how many ticks are simulated, and its rows, where they aren't those that the program makes
 SCHEDULES = {"pair.json": ("pair-jobs.csv", 50, "pair-rows.csv"), "plant.json": ("plant-jobs.csv", 100000, None)}
-
-NUMBERS = [0, 1, 2, 9, 10, 31, 32, 33, 63, 64, 65, 255, 256, 257, 999, 1000, 1001, 10**5, 10**9 - 1, 10**9, 10**9 + 1, 2**31, 2**32 - 1, 2**32]
-NUMBERS += [2**53, 2**63 - 1, 2**63, 2**64 - 1, 2**64, 10**30]
-PIECES = [b'""', b"null", b"true", b"-1", b"-0", b"1.0", b"1e3", b"1e400", b"01", b"[]", b"{}", b"[[", b"}}", b'{"', b",", b":", b"\n", b"\r", b"\r\n", b'"']
-PIECES += [b"\xef\xbb\xbf", b"\xff", b"\x00", b"\\u0000", b"\\ud800", b" ", b"\t", b"t1", b"control", b"bus", b":1", b"P1", b"ticks", b"task", b"[" * 130, b"1," * 200]
 
 # the texts that each status may come with; of a text that isn't whole there is none, since nothing here spoils standard output
 NAME = rb"[A-Za-z0-9_.-]{1,32}"
@@ -72,6 +69,8 @@ class Command:
         self.words = words.split()
         self.files = files
         self.name = self.words[0]
+        # what comes up in turn: the command, its protocol or its seed, and how many files it reads
+        self.kind = (self.name, self.words[1], len(files))
 
     def run(self, program, folder, files, words, limit):
         """The status, what was written, and what was written to standard error; None for a status where the limit passed."""
@@ -135,73 +134,6 @@ def known_commands(program, folder):
     return known
 
 
-def other_number(text, rng):
-    """A number of the text becomes another one."""
-    found = list(re.finditer(rb"[0-9]+", text))
-    if not found:
-        return text
-    at = rng.choice(found)
-    near = [str(max(0, int(at[0]) + step)) for step in (-1, 1)] if len(at[0]) < 30 else []
-    number = rng.choice([*near, str(rng.choice(NUMBERS)), str(rng.choice(NUMBERS))])
-    return text[: at.start()] + number.encode() + text[at.end() :]
-
-
-def other_word(text, rng):
-    """A word of the text becomes another word of it."""
-    found = list(re.finditer(rb'"?[A-Za-z_][A-Za-z0-9_.+-]*"?', text))
-    if not found:
-        return text
-    at, by = rng.choice(found), rng.choice(found)
-    return text[: at.start()] + by[0] + text[at.end() :]
-
-
-def other_byte(text, rng):
-    at = rng.randrange(len(text) + 1)
-    return text[:at] + bytes([rng.choice([rng.randrange(256), *b'0123456789",:{}[]\n'])]) + text[at + rng.randrange(2) :]
-
-
-def without_slice(text, rng):
-    start = rng.randrange(len(text) + 1)
-    return text[:start] + text[start + rng.choice([1, 1, 2, 5, 20, 200]) :]
-
-
-def with_slice_again(text, rng):
-    start = rng.randrange(len(text) + 1)
-    part = text[start : start + rng.choice([1, 3, 10, 40, 200])]
-    at = rng.choice([start, rng.randrange(len(text) + 1)])
-    return text[:at] + part * rng.choice([1, 1, 2, 30]) + text[at:]
-
-
-def with_piece(text, rng):
-    at = rng.randrange(len(text) + 1)
-    return text[:at] + rng.choice(PIECES) + text[at:]
-
-
-def with_other_lines(text, rng):
-    """Two lines change places, or one comes again or goes."""
-    lines = text.splitlines(keepends=True)
-    if len(lines) < 2:
-        return text
-    a, b = rng.randrange(len(lines)), rng.randrange(len(lines))
-    way = rng.randrange(3)
-    if way == 0:
-        lines[a], lines[b] = lines[b], lines[a]
-    elif way == 1:
-        lines.insert(a, lines[b])
-    else:
-        del lines[a]
-    return b"".join(lines)
-
-
-def cut(text, rng):
-    return text[: rng.randrange(len(text) + 1)]
-
-
-# what leaves the form as it is, and what may break it
-MILD = [other_number, other_number, other_number, other_word, with_other_lines]
-ROUGH = [other_byte, without_slice, with_slice_again, with_piece, cut]
-
-
 def bent(command, rng):
     """The command's files and words, with some of them bent."""
     files, words = dict(command.files), list(command.words)
@@ -251,8 +183,8 @@ def one_run(program, commands, seed, number, limit):
     """A run: the status, and what is wrong with it, its command's words and its files, or None."""
     rng = random.Random(f"{seed} {number}")
     known = {(command.name, len(command.files)) for command in commands}
-    kind = rng.choice(sorted(known))
-    command = rng.choice([command for command in commands if (command.name, len(command.files)) == kind])
+    kinds = sorted({command.kind for command in commands})
+    command = rng.choice([command for command in commands if command.kind == kinds[number % len(kinds)]])
     files, words = bent(command, rng)
     with tempfile.TemporaryDirectory(prefix="fuzz-") as name:
         status, written, error = command.run(program, Path(name), files, words, limit)
@@ -275,6 +207,7 @@ def arguments():
     given = argparse.ArgumentParser()
     given.add_argument("program", nargs="?", default=str(BUILT))
     given.add_argument("--seconds", type=float, default=60)
+    given.add_argument("--runs", type=int)
     given.add_argument("--seed", default="1")
     given.add_argument("--only", default="")
     given.add_argument("--limit", type=float, default=60)
@@ -290,12 +223,14 @@ def main():
         commands = [command for command in known_commands(program, Path(name)) if given.only in command.name]
     if not commands:
         sys.exit("there is no such command")
-    end = time.monotonic() + given.seconds
+    start = time.monotonic()
     counts, finds, ends = {}, 0, {}
-    numbers = itertools.count()
+    numbers = iter(range(given.runs)) if given.runs else itertools.count()
     with concurrent.futures.ThreadPoolExecutor(given.jobs) as pool:
-        while time.monotonic() < end:
+        while given.runs or time.monotonic() < start + given.seconds:
             batch = list(itertools.islice(numbers, 25 * given.jobs))
+            if not batch:
+                break
             for number, (command, status, find) in zip(batch, pool.map(lambda n: one_run(program, commands, given.seed, n, given.limit), batch)):
                 counts[command] = counts.get(command, 0) + 1
                 ends[status] = ends.get(status, 0) + 1
@@ -304,7 +239,7 @@ def main():
                     keep(given.keep, given.seed, number, *find)
     print("runs:", ", ".join(f"{count} of {command}" for command, count in sorted(counts.items())))
     print("ends:", ", ".join(f"{count} with status {status}" for status, count in sorted(ends.items(), key=str)))
-    print(f"{finds} finds in {given.seconds:.0f} seconds")
+    print(f"{finds} finds in {time.monotonic() - start:.0f} seconds, seed {given.seed}")
     sys.exit(1 if finds else 0)
 
 

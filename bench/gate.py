@@ -1,11 +1,11 @@
 #!/usr/bin/env python3
-"""Runs the gate from nothing, and prints what each crate takes of it: processor time for its proof, its tests and its edits, and memory.
+"""Runs the gate, and prints what each crate takes of it: processor time for its proof, its tests and its edits, and memory.
 
     python3 bench/gate.py [--tables FILE] [COMMAND ..]
     python3 bench/gate.py [--tables FILE] --watch PID
 
-COMMAND is `rt ci --anew` where none is given. It runs at the top, what it writes goes on to standard output, and each line that says
-that a crate is done is preceded by the time since the start. With --watch a run that goes on already is watched to its end, and what
+COMMAND is `rt ci` where none is given. With a kit that keeps what it passed, `rt ci --anew` proves everything. It runs at the top, what it
+writes goes on to standard output, and each line that says that a crate is done is preceded by the time since the start. With --watch a run that goes on already is watched to its end, and what
 it did before isn't counted. The processor times are those of the prover's processes, looked at twice a second, so each may be half a
 second too small; where other work runs beside it they are greater than on an idle machine. The tables, in the form of a page of docs/,
 go to standard error: the crates, and the edits that took longest. FILE gets them once a minute too, with every edit, while the run goes
@@ -201,7 +201,7 @@ def main():
         watch = Watch(words.watch, anew=False)
         watched(watch, lambda: os.path.exists(f"/proc/{watch.top}/stat"), words.tables)
         return 0
-    command, place = (words.command, None) if words.command else (["rt", "ci", "--anew"], TOP)
+    command, place = (words.command, None) if words.command else (["rt", "ci"], TOP)
     run = subprocess.Popen(command, cwd=place, stdout=subprocess.PIPE, stderr=subprocess.STDOUT, text=True, errors="replace")
     reader = threading.Thread(target=pass_on, args=(run.stdout, time.monotonic()))
     reader.start()

@@ -1,11 +1,8 @@
 """Task sets for the benchmarks, made from a number."""
 import random
-import sys
-from pathlib import Path
 
-sys.path.append(str(Path(__file__).resolve().parent.parent / "tests" / "cli"))
-
-from sets import resource, set_of, task  # noqa: E402
+import commands  # its import says where sets is
+from sets import resource, set_of, task
 
 PERIODS = (10000, 20000, 25000, 40000, 50000, 100000, 200000, 1000000)
 

@@ -20,11 +20,8 @@ import tempfile
 import time
 from pathlib import Path
 
-TOP = Path(__file__).resolve().parent.parent
-sys.path.insert(0, str(TOP / "tools"))
-
-from block_calls import BUILT  # noqa: E402
-from generated_sets import generated, seeded  # noqa: E402
+from commands import BUILT
+from generated_sets import generated, seeded
 
 TRIES = 3
 ALONE = 'for set in sets/*.json; do "$0" analyse fmlp+ "$set" >"$set.answer"; done'

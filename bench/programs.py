@@ -1,5 +1,5 @@
 #!/usr/bin/env python3
-"""Times `protocol_programs::program` beside the forming of the same programs in Python (tools/blocking_programs.py), and prints
+"""Times `protocol_programs::program` beside the forming of the same programs in Python (tools/cizborg/blocking_programs.py), and prints
 programs per second.
 
     python3 bench/programs.py
@@ -12,17 +12,13 @@ It is no test: no gate runs it, and it bounds nothing.
 """
 import json
 import shutil
-import sys
 import tempfile
 import time
 from pathlib import Path
 
 from commands import TOP, run
-
-sys.path.insert(0, str(TOP / "tools"))
-
-from blocking_programs import TaskSet, program_of  # noqa: E402
-from generated_sets import generated_at_limits, seeded  # noqa: E402
+from cizborg.blocking_programs import TaskSet, program_of
+from generated_sets import generated_at_limits, seeded
 
 WANTED = ["protocol_programs", "program_sources", "program_form", "taskset_json", "sporadic_model"]
 PROTOCOLS = ["mpcp", "fmlp+", "dpcp"]

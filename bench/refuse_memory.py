@@ -1,19 +1,21 @@
 #!/usr/bin/env python3
 """Refuses the program one allocation at a time, and shows each run that ends neither as usual nor with status 7 and nothing written.
 
-    python3 bench/refuse_memory.py [--program PROGRAM] [--rest] [--most N] [--jobs N] [WORDS ..]
+    python3 bench/refuse_memory.py [--program PROGRAM] [--rest] [--most N] [--seed SEED] [--jobs N] [WORDS ..]
 
 WORDS are those of one run, with paths from where you stand; where none are given, each command that the program has is run over the
-examples. First a run counts the allocations, then as many runs follow, in each of which one more of them is refused: the first, the
+examples, under each protocol. First a run counts the allocations, then as many runs follow, in each of which one more of them is refused: the first, the
 second, and so on. With --rest all later ones are refused too. Where there are more than N (2,000 where none is given), N of them are
-taken, evenly spread. PROGRAM is what `rt ci` or `./block` built, where none is given.
+taken, evenly spread from a first one that the seed gives. PROGRAM is what `rt ci` or `./block` built, where none is given.
 
-It needs Python's standard library, `cc` and the GNU C library. It is no test: no gate runs it. Where threads take memory, which one
-comes as the Nth is not the same in each run.
+It needs Python's standard library, `cc` and the GNU C library. The gate makes some runs of it, whose seed is the commit (.ci/run).
+Where threads take memory, which one comes as the Nth is not the same in each run.
 """
 import argparse
 import concurrent.futures
 import os
+import random
+import re
 import shutil
 import subprocess
 import sys
@@ -78,6 +80,7 @@ class Refusals:
     def __init__(self, program, folder, rest):
         self.program = program
         self.folder = folder
+        self.seen = 0
         self.environment = {**os.environ, "LD_PRELOAD": str(folder / "refuser.so"), **({"REFUSED_REST": "1"} if rest else {})}
 
     def count(self, words):
@@ -94,10 +97,12 @@ class Refusals:
             return "not ended", b"", b""
         return ran.returncode, ran.stdout, ran.stderr
 
-    def try_each(self, words, most, jobs):
+    def try_each(self, words, most, jobs, seed):
         """Refuses each allocation of a run in turn. Returns how many runs ended otherwise than they may."""
         usual, count = self.end_of(words, 0), self.count(words)
-        numbers = range(1, count + 1) if count <= most else sorted({1 + step * count // most for step in range(most)})
+        self.seen += count
+        first = random.Random(f"{seed} {words}").randrange(count) if count else 0
+        numbers = range(1, count + 1) if count <= most else sorted({1 + (first + step * count // most) % count for step in range(most)})
         sevens, finds = 0, 0
         with concurrent.futures.ThreadPoolExecutor(jobs) as pool:
             for number, end in zip(numbers, pool.map(lambda n: self.end_of(words, n), numbers)):
@@ -116,20 +121,24 @@ def shown(word):
     return os.path.relpath(word, TOP) if word.startswith(f"{TOP}/") else os.path.basename(word)
 
 
+def over_pair(program, folder, protocol):
+    """Words of each command that reads a certificate or a recording, over the pair of tasks under a protocol."""
+    pair, short, jobs, rows = (str(EXAMPLES / name) for name in ("pair.json", "pair-short.json", "pair-jobs.csv", "pair-rows.csv"))
+    certificate, old, refusal = (folder / f"{kind}-{protocol}" for kind in ("certificate", "old", "refusal"))
+    certificate.write_bytes(subprocess.run([program, "analyse", protocol, pair], capture_output=True).stdout)
+    old.write_bytes(re.sub(rb'"set":"[0-9a-f]{64}",', b"", certificate.read_bytes()).replace(b'"version":2', b'"version":1'))
+    refusal.write_bytes(subprocess.run([program, "refute", protocol, short], capture_output=True).stdout)
+    yield from (["check", protocol, pair, str(certificate)], ["report", protocol, pair, str(certificate)], ["upgrade", protocol, pair, str(old)])
+    yield from (["refute", protocol, short], ["confirm", protocol, short, str(refusal)])
+    yield from (["conform", protocol, pair, jobs, rows], ["simulate", protocol, pair, jobs, "50"], ["audit", protocol, pair, str(certificate), jobs, rows])
+
+
 def commands_of(program, folder):
     """Words of each command that the program has, over the examples."""
-    pair, jobs, rows = (str(EXAMPLES / name) for name in ("pair.json", "pair-jobs.csv", "pair-rows.csv"))
-    certificate = folder / "certificate"
-    ran = subprocess.run([program, "analyse", "fmlp+", pair], capture_output=True)
-    certificate.write_bytes(ran.stdout)
     plant = str(EXAMPLES / "plant.json")
-    every = [["analyse", protocol, plant] for protocol in PROTOCOLS]
-    every += [["report", "fmlp+", plant], ["analyse", "mpcp", str(EXAMPLES / "overloaded.json")], ["analyse", "fmlp+", str(EXAMPLES / "none.json")], ["--help"]]
-    every += [["conform", protocol, pair, jobs, rows] for protocol in PROTOCOLS]
-    short, refusal = (str(EXAMPLES / name) for name in ("pair-short.json", "pair-short-refusal.json"))
-    every += [["refute", "mpcp", short], ["confirm", "mpcp", short, refusal]]
-    every += [["check", "fmlp+", pair, str(certificate)], ["report", "fmlp+", pair, str(certificate)]]
-    every += [["audit", "fmlp+", pair, str(certificate), jobs, rows], ["simulate", "fmlp+", pair, jobs, "50"], ["study", "0", "1"]]
+    every = [[command, protocol, plant] for protocol in PROTOCOLS for command in ("analyse", "report")]
+    every += [["analyse", "mpcp", str(EXAMPLES / "overloaded.json")], ["analyse", "fmlp+", str(EXAMPLES / "none.json")], ["--help"], ["study", "0", "1"]]
+    every += [words for protocol in PROTOCOLS for words in over_pair(program, folder, protocol)]
     for words in every:
         if words == ["--help"] or subprocess.run([program, *words], capture_output=True).returncode != 2:
             yield words
@@ -142,6 +151,7 @@ def arguments():
     given.add_argument("--program", default=str(BUILT))
     given.add_argument("--rest", action="store_true")
     given.add_argument("--most", type=int, default=2000)
+    given.add_argument("--seed", default="1")
     given.add_argument("--jobs", type=int, default=1)
     given.add_argument("words", nargs=argparse.REMAINDER)
     return given.parse_args()
@@ -158,7 +168,9 @@ def main():
         run(["cc", "-O1", "-shared", "-fPIC", "refuser.c", "-o", "refuser.so"], folder)
         refusals = Refusals(program, folder, given.rest)
         every = [given.words] if given.words else list(commands_of(program, folder))
-        finds = sum(refusals.try_each(words, given.most, given.jobs) for words in every)
+        finds = sum(refusals.try_each(words, given.most, given.jobs, given.seed) for words in every)
+    if not refusals.seen:
+        sys.exit("no allocation was seen, so nothing was tried: the program doesn't take its memory from the C library")
     sys.exit(1 if finds else 0)
 
 

@@ -30,7 +30,7 @@ from pathlib import Path
 from commands import TOP, run
 from program_lines import as_line, read
 
-CRATES = ["number_laws", "bounded_sums", "fraction128", "program_form", "exchange_runs", "small_runs", "row_marks", "whole_rows", "whole_runs", "simplex"]
+CRATES = ["number_laws", "fraction128", "program_form", "exchange_runs", "whole_rows", "whole_runs", "simplex"]
 UNITS = 1_000_000
 TRIES = 3
 

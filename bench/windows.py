@@ -12,16 +12,15 @@ and it bounds nothing.
 import argparse
 import json
 import statistics
-import sys
 import time
 from dataclasses import dataclass
 from pathlib import Path
 
-TOP = Path(__file__).resolve().parent.parent
-sys.path.insert(0, str(TOP / "tools"))
-
-from block_calls import BUILT, DONE, LACKING, NOT_SHOWN, Block, Stop, folder_of_calls, run_tool  # noqa: E402
-from generated_sets import generated, seeded  # noqa: E402
+from commands import BUILT
+from cizborg.entry import end_with
+from cizborg.program import Block, folder_of_calls
+from cizborg.statuses import Status, Stop
+from generated_sets import generated, seeded
 
 SIZES = (8, 16, 32, 64)
 
@@ -39,15 +38,15 @@ def analysed(block, parts):
     begun = time.perf_counter()
     answer = block.analysed(parts)
     seconds = time.perf_counter() - begun
-    return Analysed(answer.status, json.loads(answer.text)["bounds"] if answer.status == DONE else None, seconds)
+    return Analysed(answer.status, json.loads(answer.text)["bounds"] if answer.status == Status.DONE else None, seconds)
 
 
 def falls_of(pairs):
     """By which share each bound falls, of the sets that have bounds under both."""
     both = [(plain.bounds, windows.bounds) for plain, windows in pairs if plain.bounds and windows.bounds]
     falls = [(bound - less) / bound for bounds, lesser in both for bound, less in zip(bounds, lesser)]
-    if min(falls, default=0) < 0 or any((plain.status, windows.status) == (DONE, NOT_SHOWN) for plain, windows in pairs):
-        raise Stop("a bound is greater with windows, or is there without them alone", LACKING)
+    if min(falls, default=0) < 0 or any((plain.status, windows.status) == (Status.DONE, Status.NO) for plain, windows in pairs):
+        raise Stop("a bound is greater with windows, or is there without them alone", Status.LACKING)
     return falls
 
 
@@ -76,7 +75,7 @@ def main():
         for size in given.sizes:
             sets = [generated(size, draw) for _ in range(given.sets)]
             print(line_of(size, [tuple(analysed(block, parts) for block in blocks) for parts in sets]), flush=True)
-    return DONE
+    return Status.DONE
 
 
-run_tool(main)
+end_with("windows.py", main)

@@ -11,7 +11,6 @@ given. WORD picks the cases whose file or text has it.
 import argparse
 import importlib
 import os
-import re
 import shutil
 import sys
 import tempfile
@@ -20,6 +19,9 @@ from pathlib import Path
 import schemas
 import setting
 from setting import TOP, Case
+
+sys.path.append(str(TOP / "tools"))
+from shown_commands import commands_of, documents_in  # noqa: E402
 
 HERE = Path(__file__).resolve().parent
 BUILT = TOP / "crates" / "block_cli" / "out" / "block_cli"
@@ -35,44 +37,15 @@ def built_program():
     return BUILT
 
 
-def blocks_of(text):
-    """The blocks between fences that name no language."""
-    inside, block = None, []
-    for line in text.splitlines(keepends=True):
-        if line.startswith("```"):
-            if inside == "":
-                yield "".join(block)
-            inside, block = (line[3:].strip() if inside is None else None), []
-        elif inside is not None:
-            block.append(line)
-
-
-def shown_commands(document, folder):
-    """The commands that a document shows, with the answers that it gives: lines that begin with `$ ./block`, and what follows them.
-
-    They run one after the other in a folder that has the examples; one may save its answer to a file that a later one reads.
-    """
-    for block in blocks_of((TOP / document).read_text()):
-        for shown in re.split(r"^\$ ", block, flags=re.M)[1:]:
-            line, _, answer = shown.partition("\n")
-            if not line.startswith("./block "):
-                continue
-            words, _, saves = line.removeprefix("./block ").partition(" >")
-            # the status isn't shown: it follows from the answer
-            starts = {"not shown ": 1, "broken ": 1, "invalid ": 1, "refused ": 3, "wide ": 5}
-            status = next((status for start, status in starts.items() if answer.startswith(start)), 0)
-            yield Case(f"as shown: {line}", words, None if saves else answer, status, at=folder, saves=saves.strip())
-
-
 def table(folder):
     """Every case, with the name of the file in which it stands. Commands of documents run in the folder."""
     for path in sorted(HERE.glob("cases/*.py")):
         for case in importlib.import_module(f"cases.{path.stem}").CASES:
             yield path.stem, case
     (folder / "examples").symlink_to(TOP / "examples")
-    for document in ("README.md", "docs/GUIDE.md"):
-        for case in shown_commands(document, folder):
-            yield document, case
+    for document in documents_in(TOP):
+        for shown in commands_of(document):
+            yield document.name, Case(f"as shown: {shown.line}", shown.words, None if shown.saves else shown.answer, shown.status, at=folder, saves=shown.saves)
 
 
 def clipped(text):

@@ -25,10 +25,10 @@ def kind_of(value):
 
 def shown_certificates():
     """The certificates and refusals that the documents show."""
-    for document in ("README.md", "docs/GUIDE.md", "docs/FORMATS.md"):
-        for line in (TOP / document).read_text().splitlines():
+    for document in (TOP / "README.md", TOP / "docs" / "FORMATS.md", *sorted((TOP / "docs").glob("GUIDE*.md"))):
+        for line in document.read_text().splitlines():
             if re.fullmatch(r'\{"(bounds|protocol)":.*\}', line):
-                yield document, json.loads(line)
+                yield document.name, json.loads(line)
 
 
 def examples():

@@ -1,4 +1,4 @@
-"""The sets, jobs and rows of `crates/worked_files`, which crates of cases read too: each constant under its name."""
+"""The sets, jobs and rows of `crates/worked_sets/src/files.rt`, which crates of cases read too: each constant under its name."""
 import re
 
 from setting import TOP
@@ -12,4 +12,4 @@ def text_of(raw, escaped):
     return raw if escaped is None else re.sub(r"\\(.)", lambda found: ESCAPES[found[1]], escaped)
 
 
-FILES = {name: text_of(raw, escaped) for name, raw, escaped in (one.group(1, 2, 3) for one in CONSTANT.finditer((TOP / "crates/worked_files/src/lib.rt").read_text()))}
+FILES = {name: text_of(raw, escaped) for name, raw, escaped in (one.group(1, 2, 3) for one in CONSTANT.finditer((TOP / "crates/worked_sets/src/files.rt").read_text()))}

@@ -1,4 +1,4 @@
-"""The worked schedules of `crates/worked_files`, and long ones: what `conform`, `simulate` and `audit` say of them."""
+"""The worked schedules of `crates/worked_sets/src/files.rt`, and long ones: what `conform`, `simulate` and `audit` say of them."""
 from setting import Case
 from sets import certificate
 from worked import FILES

@@ -1,0 +1,338 @@
+"""Blocking programs as docs/ANALYSIS.md words them, for the tools and for benchmarks.
+
+It shares nothing with the program that it is compared with. A blocking program is its columns' costs and its rows, each row a list of
+(column, coefficient) and a limit, in the order of that page.
+"""
+from __future__ import annotations
+
+from typing import Callable, Iterator, NamedTuple, Optional, Sequence
+
+from .program import Parts
+from .protocols import AT_HOMES
+
+# one bound for each task
+Bounds = Sequence[int]
+# a row: the columns that it has, each with its coefficient
+Row = list[tuple[int, int]]
+
+
+class Column(NamedTuple):
+    """A column: the requests of a resource by a task that block in one way."""
+
+    task: int
+    resource: int
+    way: str
+
+
+class TaskSet:
+    """A set as its JSON has it, with counts and lengths by task and resource."""
+
+    def __init__(self, parts: Parts) -> None:
+        self.parts = parts
+        self.tasks: list[Parts] = parts["tasks"]
+        self.n = len(self.tasks)
+        self.resources: list[Parts] = parts.get("resources", [])
+        number = {resource["name"]: q for q, resource in enumerate(self.resources)}
+        self.home: list[Optional[int]] = [resource.get("home") for resource in self.resources]
+        self.processor: list[int] = [task["processor"] for task in self.tasks]
+        self.period: list[int] = [task["period"] for task in self.tasks]
+        self.cost: list[int] = [task["cost"] for task in self.tasks]
+        self.jitter: list[int] = [task.get("jitter", 0) for task in self.tasks]
+        self.deadline: list[int] = [task.get("deadline", task["period"]) for task in self.tasks]
+        self.latest = [deadline - jitter for deadline, jitter in zip(self.deadline, self.jitter)]
+        self.local: list[int] = [task.get("local", task["cost"]) for task in self.tasks]
+        self.count: list[dict[int, int]] = [{} for _ in self.tasks]
+        self.length: list[dict[int, int]] = [{} for _ in self.tasks]
+        for x, task in enumerate(self.tasks):
+            for request in task.get("requests", []):
+                self.count[x][number[request["resource"]]] = request["count"]
+                self.length[x][number[request["resource"]]] = request["length"]
+
+    def users(self, q: int) -> list[int]:
+        """Who requests q, the highest first."""
+        return [x for x in range(self.n) if q in self.count[x]]
+
+    def boost(self, q: int, k: int) -> int:
+        """The highest user of q that isn't on processor k, and where there is none the highest."""
+        return min([x for x in self.users(q) if self.processor[x] != k] or self.users(q))
+
+    def jobs(self, bounds: Bounds, i: int, x: int) -> int:
+        """How many jobs of x run while one of i does, at most."""
+        return self.jobs_in(bounds[i], bounds, x)
+
+    def jobs_in(self, ticks: int, bounds: Bounds, x: int) -> int:
+        """How many jobs of x run in so many ticks, at most."""
+        return -(-(ticks + bounds[x] + self.jitter[x]) // self.period[x])
+
+    def time_at(self, x: int, k: Optional[int]) -> int:
+        """For how many ticks the requests of a job of x run on processor k, at most."""
+        return sum(n * self.length[x][q] for q, n in self.count[x].items() if self.home[q] == k)
+
+    def window(self, bounds: Bounds, i: int, q: int) -> Optional[int]:
+        """Within how many ticks of its issue a request of q by i ends under DPCP, or None where no such number is within the deadline."""
+        k = self.home[q]
+        lower = [self.length[x][r] for x in range(i + 1, self.n) for r in self.count[x] if self.home[r] == k and min(self.users(r)) <= i]
+        ticks, least = 0, 1
+        while ticks < least <= self.deadline[i]:
+            ticks = least
+            higher = sum(self.jobs_in(ticks, bounds, x) * self.time_at(x, k) for x in range(i))
+            least = self.length[i][q] + max(lower, default=0) + higher
+        return ticks if least <= ticks else None
+
+    def interfering(self, protocol: str, bounds: Bounds, i: int) -> Iterator[tuple[int, int, int]]:
+        """Of each higher task on i's processor the task, how many of its jobs run in i's window, and the ticks that one of them takes there."""
+        for h in range(i):
+            if self.processor[h] == self.processor[i]:
+                each = self.local[h] if protocol in AT_HOMES else self.cost[h]
+                yield h, -(-(bounds[i] + bounds[h] + self.jitter[h] - each) // self.period[h]), each
+
+    def interference(self, protocol: str, bounds: Bounds, i: int) -> int:
+        """The ticks that jobs of higher tasks on i's processor take in its window."""
+        return sum(jobs * each for _, jobs, each in self.interfering(protocol, bounds, i))
+
+
+def has_path(s: TaskSet, protocol: str, i: int, x: int, q: int) -> bool:
+    """May a holder on x's processor that i waits for be kept from running by x's request of q?"""
+    k = s.processor[x]
+    for y in range(s.n):
+        if y in (x, i) or s.processor[y] != k:
+            continue
+        for r in s.count[y]:
+            if r != q and r in s.count[i] and (protocol != "mpcp" or s.boost(q, k) <= s.boost(r, k)):
+                return True
+    return False
+
+
+def ways_beside(s: TaskSet, protocol: str, i: int, x: int, q: int) -> Iterator[str]:
+    """The ways in which x's requests of q may block i where each runs on its task's processor, and who waits is suspended."""
+    here = s.processor[x] == s.processor[i]
+    if here and x < i:
+        return
+    if q in s.count[i]:
+        yield "direct"
+    if has_path(s, protocol, i, x, q):
+        yield "indirect"
+    if here:
+        yield "preemption"
+
+
+def ways_at_home(s: TaskSet, protocol: str, i: int, x: int, q: int) -> Iterator[str]:
+    """The ways in which x's requests of q may block i where they run on q's home. Only DPCP has ceilings, which keep lower ones away."""
+    if q in s.count[i]:
+        yield "direct"
+    beside = any(r != q and s.home[r] == s.home[q] for r in s.count[i])
+    if beside and (protocol == "dflp" or x < i or min(s.users(q)) <= i):
+        yield "indirect"
+    if s.home[q] == s.processor[i]:
+        yield "preemption"
+
+
+def ways_by_spinning(s: TaskSet, _: str, i: int, x: int, q: int) -> Iterator[str]:
+    """The ways in which x's requests of q may block i where who waits spins, and no job in a request is preempted."""
+    k = s.processor[i]
+    if s.processor[x] == k:
+        if x > i:
+            yield "preemption"
+        return
+    if q in s.count[i]:
+        yield "direct"
+    if any(z != i and s.processor[z] == k for z in s.users(q)):
+        yield "indirect"
+
+
+def columns_of(s: TaskSet, protocol: str, i: int) -> list[Column]:
+    """The columns of task i."""
+    ways = ways_by_spinning if protocol == "spin" else ways_at_home if protocol in AT_HOMES else ways_beside
+    others = [x for x in range(s.n) if x != i]
+    return [Column(x, q, way) for x in others for q in sorted(s.count[x]) for way in ways(s, protocol, i, x, q)]
+
+
+def holdings(s: TaskSet, bounds: Bounds, i: int, x: int) -> int:
+    """How often another task of x's processor can hold what i waits for."""
+    k = s.processor[x]
+    held = 0
+    for r in s.count[i]:
+        beside = [y for y in range(s.n) if y not in (x, i) and s.processor[y] == k and r in s.count[y]]
+        held += sum(s.count[y][r] * s.jobs(bounds, i, y) for y in beside if y < i)
+        held += s.count[i][r] if any(y > i for y in beside) else 0
+    return held
+
+
+class Shape:
+    """What bounds leave as it is in task i's program: its columns' costs, and its rows with limits as functions of the bounds."""
+
+    def __init__(self, s: TaskSet, protocol: str, i: int) -> None:
+        self.s, self.i = s, i
+        self.columns = columns_of(s, protocol, i)
+        self.costs = [s.length[x][q] for x, q, _ in self.columns]
+        self.rows: list[tuple[Row, Callable[[Bounds], int]]] = []
+        self.others = [x for x in range(s.n) if x != i]
+        self.processors = range(1, s.parts["processors"] + 1)
+        self.every = list(enumerate(self.columns))
+        self.of_task = {x: [(c, column) for c, column in enumerate(self.columns) if column[0] == x] for x in self.others}
+        for kind in KINDS[protocol]:
+            kind(self)
+
+    def add(self, limit: Callable[[Bounds], int], columns: list[tuple[int, Column]], weight: Callable[[Column], int]) -> None:
+        """Adds the row of these columns, each with its weight, where one has a weight above 0."""
+        row = [(c, weight(column)) for c, column in columns if weight(column)]
+        if row:
+            self.rows.append((row, limit))
+
+    def add_requests(self) -> None:
+        """Of a task and a resource: no more requests than its jobs make."""
+        for x in self.others:
+            for q in sorted(self.s.count[x]):
+                self.add_requests_of(x, q)
+
+    def add_requests_of(self, x: int, q: int) -> None:
+        """The row of x and q."""
+        self.add(lambda r: self.s.count[x][q] * self.s.jobs(r, self.i, x), self.of_task[x], lambda c: int(c.resource == q))
+
+    def add_time(self) -> None:
+        """Of a task: no longer than its jobs execute."""
+        for x in self.others:
+            self.add_time_of(x)
+
+    def add_time_of(self, x: int) -> None:
+        """The row of x."""
+        self.add(lambda r: self.s.cost[x] * self.s.jobs(r, self.i, x), self.of_task[x], lambda c: self.s.length[x][c.resource])
+
+    def add_intervals(self) -> None:
+        """Of a lower local task: one request after each time at which i becomes ready."""
+        for x in self.others:
+            if x > self.i and self.s.processor[x] == self.s.processor[self.i]:
+                self.add(lambda r: 1 + self.requests(), self.of_task[x], lambda c: int(c.way == "preemption"))
+
+    def add_turns(self) -> None:
+        """Of a task and a resource: one request before each of i."""
+        for x in self.others:
+            for q in sorted(self.s.count[x]):
+                self.add_own(self.of_task[x], q, lambda c: True)
+
+    def add_own(self, columns: list[tuple[int, Column]], q: int, is_counted: Callable[[Column], bool]) -> None:
+        """A row of those of these columns that block directly by q, no more of which than i has requests of q."""
+        self.add(lambda r: self.s.count[self.i].get(q, 0), columns, lambda c: int(c[1:] == (q, "direct") and is_counted(c)))
+
+    def add_queues(self) -> None:
+        """Of a task: one request before each of i."""
+        for x in self.others:
+            self.add(lambda r: self.requests(), self.of_task[x], lambda c: int(c.way != "preemption"))
+
+    def add_lower_holders(self) -> None:
+        """Of a resource: one lower holder before each request of i."""
+        for q in range(len(self.s.resources)):
+            self.add_own(self.every, q, lambda c: c.task > self.i)
+
+    def add_holdings(self) -> None:
+        """Of a task: one request in each holding that i waits for."""
+        for x in self.others:
+            self.add_holdings_of(x)
+
+    def add_holdings_of(self, x: int) -> None:
+        """The row of x."""
+        self.add(lambda r: holdings(self.s, r, self.i, x), self.of_task[x], lambda c: int(c.way == "indirect"))
+
+    def add_homes(self) -> None:
+        """Of a processor: one lower request before each of i there."""
+        for k in self.processors:
+            self.add_home(k, self.every, lambda c: c.task > self.i)
+
+    def add_home_queues(self) -> None:
+        """Of a task and a processor: one request before each of i there."""
+        for x in self.others:
+            for k in self.processors:
+                self.add_home(k, self.of_task[x], lambda c: True)
+
+    def add_home(self, k: int, columns: list[tuple[int, Column]], is_counted: Callable[[Column], bool]) -> None:
+        """A row of those of these columns that are waited for at home k, no more of which than i has requests there."""
+        here = [(c, column) for c, column in columns if is_counted(column) and self.s.home[column.resource] == k]
+        self.add(lambda r: self.requests_at(k), here, lambda c: int(c.way != "preemption"))
+
+    def add_windows(self) -> None:
+        """Of a higher task and a resource: what runs in the windows of requests."""
+        for x in range(self.i):
+            for q in sorted(self.s.count[x]):
+                self.add_window(x, q)
+
+    def add_window(self, x: int, q: int) -> None:
+        """The row of x and q."""
+        self.add(lambda r: self.requests_met(r, x, q), self.of_task[x], lambda c: int(c.resource == q and c.way != "preemption"))
+
+    def add_lower_requests(self) -> None:
+        """One request of a lower local task."""
+        self.add(lambda r: 1, self.every, lambda c: int(c.way == "preemption"))
+
+    def add_spinning(self) -> None:
+        """Of a processor and a resource: one request for each that spins."""
+        for k in self.processors:
+            for q in range(len(self.s.resources)):
+                self.add_spinning_of(k, q)
+
+    def add_spinning_of(self, k: int, q: int) -> None:
+        """The row of k and q."""
+        columns = [(c, column) for c, column in self.every if self.s.processor[column.task] == k]
+        self.add(lambda r: self.spins(r, q), columns, lambda c: int(c.resource == q and c.way != "preemption"))
+
+    def add_own_spinning(self) -> None:
+        """Of a processor and a resource: one request for each of i that spins."""
+        for k in self.processors:
+            columns = [(c, column) for c, column in self.every if self.s.processor[column.task] == k]
+            for q in range(len(self.s.resources)):
+                self.add_own(columns, q, lambda c: True)
+
+    def spins(self, bounds: Bounds, q: int) -> int:
+        """How many requests of q from i's processor may spin while a job of i is there."""
+        s, i = self.s, self.i
+        beside = [x for x in s.users(q) if x != i and s.processor[x] == s.processor[i]]
+        higher = sum(s.count[h][q] * s.jobs(bounds, i, h) for h in beside if h < i)
+        return s.count[i].get(q, 0) + higher + int(any(x > i for x in beside))
+
+    def requests_met(self, bounds: Bounds, x: int, q: int) -> int:
+        """The requests of q by x that i waits for at its home: no more than run within the windows of i's own requests there."""
+        s, i = self.s, self.i
+        every = s.count[x][q] * s.jobs(bounds, i, x)
+        windows = {r: s.window(bounds, i, r) for r in s.count[i] if s.home[r] == s.home[q]}
+        met = 0
+        for r, ticks in windows.items():
+            if ticks is None:
+                return every
+            met += s.count[i][r] * s.count[x][q] * s.jobs_in(ticks, bounds, x)
+        return min(every, met)
+
+    def requests(self) -> int:
+        """All requests of i."""
+        return sum(self.s.count[self.i].values())
+
+    def requests_at(self, k: int) -> int:
+        """The requests of i that run on processor k."""
+        return sum(n for q, n in self.s.count[self.i].items() if self.s.home[q] == k)
+
+    def limits(self, bounds: Bounds) -> list[int]:
+        """The limits of the rows at these bounds."""
+        return [limit(bounds) for _, limit in self.rows]
+
+
+# the kinds of rows of each protocol, in the order in which they stand
+COMMON = (Shape.add_requests, Shape.add_time, Shape.add_intervals)
+KINDS: dict[str, tuple[Callable[[Shape], None], ...]] = {
+    "mpcp": (*COMMON, Shape.add_lower_holders, Shape.add_holdings),
+    "fmlp+": (*COMMON, Shape.add_turns, Shape.add_queues),
+    "dpcp": (*COMMON, Shape.add_homes),
+    "dflp": (*COMMON, Shape.add_turns, Shape.add_home_queues),
+    "dpcp-w": (*COMMON, Shape.add_homes, Shape.add_windows),
+    "spin": (Shape.add_requests, Shape.add_time, Shape.add_lower_requests, Shape.add_spinning, Shape.add_own_spinning),
+}
+
+
+def program_of(s: TaskSet, protocol: str, i: int, bounds: Bounds) -> tuple[list[int], list[tuple[Row, int]]]:
+    """The costs of task i's program, and its rows with their limits at these bounds."""
+    shape = Shape(s, protocol, i)
+    return shape.costs, [(row, limit) for (row, _), limit in zip(shape.rows, shape.limits(bounds))]
+
+
+def as_lp(costs: Sequence[int], rows: Sequence[tuple[Row, int]]) -> str:
+    """The program in the format of CPLEX, which glpsol and esolver read: columns y0, y1, .. and rows r0, r1, .."""
+    lines = ["Maximize", " worth: " + (" + ".join(f"{cost} y{c}" for c, cost in enumerate(costs)) or "0 y0"), "Subject To"]
+    lines += [f" r{k}: " + " + ".join(f"{weight} y{c}" for c, weight in row) + f" <= {limit}" for k, (row, limit) in enumerate(rows)]
+    return "\n".join(lines + ["End", ""])
