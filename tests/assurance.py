@@ -114,7 +114,7 @@ def table() -> str:
             f"- Tests: {'; '.join(map(shown_place, one.tests))}",
             f"- Wrong bodies that the prover refuses: {', '.join(f'`{edit}`' for edit in one.edits) or 'none of its own, since it is a law of others'}",
         ]
-        parts.append(f"**R{one.number}.** {one.says}\n\n" + "\n".join(rests) + "\n")
+        parts.append(f"**Requirement {one.number}.** {one.says}\n\n" + "\n".join(rests) + "\n")
     return "\n".join(parts)
 
 
