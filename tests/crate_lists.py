@@ -77,12 +77,12 @@ def crate_problems(top: Path) -> Iterator[str | None]:
         yield edits_problem(top, crate, more)
 
 
-def problems(folder: Path, program: Path) -> Iterator[str | None]:
+def problems(folder: str, program: Path) -> Iterator[str | None]:
     """What is wrong, or None: with what is found in a tree of known faults, and with each crate here."""
     for name, text in FAULTY.items():
-        file = folder / name
+        file = Path(folder) / name
         file.parent.mkdir(parents=True, exist_ok=True)
         file.write_text(text)
-    found = [problem for problem in crate_problems(folder) if problem is not None]
+    found = [problem for problem in crate_problems(Path(folder)) if problem is not None]
     yield None if found == SAID else f"of a tree of known faults is said {found}"
     yield from crate_problems(TOP)
