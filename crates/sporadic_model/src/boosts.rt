@@ -1,4 +1,4 @@
-//! How each processor sees the ceilings of the resources: found once, and read by position.
+//! The ceiling of each resource as each processor sees it. The table is made once, and read by position.
 
 ghost use Rattle.std.specs.Prelude.{◌≡◌, ◌<◌, ◌==◌, [], length, map, not, slice_index_or, option_map, IfOk, None, find};
 ghost use Rattle.std.specs.List.{All};
@@ -65,8 +65,8 @@ fn boosts_of_processor(
     Ok(row)
 }
 
-/// The ceiling of each resource as each processor sees it, processor by processor from 0. Processors count from 1;
-/// with a row for 0 each row's position is its processor.
+/// The ceiling of each resource as each processor sees it: one row for each processor, and one for 0. Processors are numbered from 1, so a
+/// row's position is its processor's number.
 pub(crate) fn boosts_of_processors(
     alloc: Global,
     parts: &Parts,
