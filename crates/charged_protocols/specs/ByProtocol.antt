@@ -1,4 +1,4 @@
--- What a tick is charged to, by the name of the protocol.
+-- To what each of the three protocols charges a tick, by its name.
 use Rattle.std.specs.Prelude.{ℕ, Option}
 use Rattle.sporadic_model.specs.declared.ids.Protocol.{Protocol}
 use Rattle.sporadic_model.specs.declared.ids.Protocol.TheVariants as protocol

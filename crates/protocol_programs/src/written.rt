@@ -8,7 +8,7 @@ use program_sources::ProgramSource;
 use sporadic_model::{Protocol, TaskId, TaskSet};
 use std::alloc::{AllocError, Global};
 
-/// The programs of a protocol as they are written down in this repository: a source for the analysis.
+/// The programs of MPCP, FMLP+ or DPCP, as a source for the analysis.
 #[derive(Clone, Copy, Debug, PartialEq, Eq)]
 pub struct Written(pub Protocol);
 

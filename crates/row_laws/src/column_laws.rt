@@ -13,7 +13,7 @@ ghost use Rattle.fragments.specs.Columns.{columns_of};
 ghost use Rattle.charge_laws.specs.Charges.{shared_charge, dpcp_charge};
 ghost use Rattle.charge_laws.specs.Fractions.{charged_column};
 
-/// In rows that keep a protocol's rules each blocked tick of a lawful job lies in a column of its task's program.
+/// In rows that keep a protocol's rules each blocked tick of a lawful job is charged in a column of its task's program.
 pub fn blocked_ticks_lie_in_columns()
     ensures mpcp { (w : Trace) (n t j : ℕ) → AreLawfulJobs (jobs_of w) → KeepsBefore (shared_rule mpcp) w n → t < n
         → is_blocked is_shared_interference w t j ≡ true

@@ -19,9 +19,9 @@ ghost use Rattle.charge_laws.specs.Fractions.{charged_column};
 ghost use Rattle.row_laws.specs.Meeting.{Charges, TicksMeet};
 ghost use Rattle.charge_laws.specs.Windows.{bound_end, window_end, EndedWithin};
 
-/// Whatever the protocol: where the ticks of a job's window meet each row of a list, and each tick at which the job is blocked lies in
-/// one of the columns that pass the test, its blocked ticks are at most the value of each dual that covers the columns of the program
-/// over these.
+/// Whatever the protocol: let the ticks of a job's window meet each row of a list. Let each tick at which the job is blocked be charged in
+/// one of the columns that pass the test. Then its blocked ticks are at most the value of each dual that covers the columns of the program
+/// over these columns and rows.
 pub fn duals_bound_charged_ticks()
     ensures { (charges : Charges) (test : ColumnDef → Bool) (rows : List ConstraintDef) (interferes : Trace → ℕ → ℕ → Bool) (w : Trace)
         (bounds : List ℕ) (n j den : ℕ) (num : ℕ → ℕ) → IsAccepted w.set → AreRequests test w.set
@@ -33,8 +33,8 @@ pub fn duals_bound_charged_ticks()
         ≤ dual_value (program_with w.set (columns_where test w.set) rows bounds) den num }
 {}
 
-/// Under the premises of `fractions_meet_every_row` the blocked ticks of the job's window are at most the value of each dual that covers its
-/// program's columns.
+/// Under the premises of `fractions_meet_every_row` the blocked ticks of the job's window are at most the value of each dual that covers
+/// the columns of its program.
 pub fn duals_bound_blocked_ticks()
     ensures mpcp { (w : Trace) (bounds : List ℕ) (n j den : ℕ) (num : ℕ → ℕ) → IsAccepted w.set → AreLawfulJobs (jobs_of w)
         → KeepsBefore (shared_rule mpcp) w n → j < length w.jobs

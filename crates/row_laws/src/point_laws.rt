@@ -18,8 +18,8 @@ ghost use Rattle.charge_laws.specs.Charges.{shared_charge, dpcp_charge};
 ghost use Rattle.charge_laws.specs.Windows.{bound_end, EndedWithin};
 ghost use Rattle.charge_laws.specs.Fractions.{product_of_lengths, fractions_of};
 
-/// Whatever the protocol: take columns that pass a test and are requests by users, and rows each of which the ticks of a job's window
-/// meet, as they are charged. Then the fractions of the window meet every row of the program over these columns and rows.
+/// Whatever the protocol: take columns that pass a test and are requests by users, and rows that the charged ticks of a job's window meet.
+/// Then the fractions of the window meet every row of the program over these columns and rows.
 pub fn met_rows_make_a_point()
     ensures { (charges : Charges) (test : ColumnDef → Bool) (rows : List ConstraintDef) (w : Trace) (bounds : List ℕ) (n j : ℕ)
         → IsAccepted w.set → AreRequests test w.set → All (TicksMeet charges w (slice_index bounds) n j) rows
@@ -27,9 +27,9 @@ pub fn met_rows_make_a_point()
         (fractions_of charges w (slice_index bounds) n j (columns_where test w.set)) }
 {}
 
-/// In a lawful schedule of an accepted set take a job, and let each job whose release plus bound is less than that job's, and lies
-/// within the rows, be finished by its own release plus its bound. Then the fractions of the job's window meet every row of its
-/// task's program at these bounds.
+/// Take a job in a lawful schedule of an accepted set. Let each job whose release plus bound is less than this job's, and lies within the
+/// rows, be finished by its own release plus its bound. Then the fractions of this job's window meet every row of its task's program at
+/// these bounds.
 pub fn fractions_meet_every_row()
     ensures mpcp { (w : Trace) (bounds : List ℕ) (n j : ℕ) → IsAccepted w.set → AreLawfulJobs (jobs_of w)
         → KeepsBefore (shared_rule mpcp) w n → j < length w.jobs
