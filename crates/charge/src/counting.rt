@@ -24,7 +24,7 @@ use sporadic_model::TaskId;
 use std::alloc::AllocError;
 use std::collections::BTreeMap;
 
-/// The place of the request that the blocker is in.
+/// The place of the blocker's request in the table.
 fn place_of(machine: &Machine, j: JobId, y: JobId, class: Class) -> Option<ChargePlace>
     requires { y.0 < length machine.now.list.jobs }
     ensures { result ≡ option_map (place_of j.0) (request_in (record { job = y.0; class = class }) (phase_now machine.now y.0)) }
@@ -42,7 +42,7 @@ fn place_of(machine: &Machine, j: JobId, y: JobId, class: Class) -> Option<Charg
     }
 }
 
-/// The place to which the tick that the machine stands at is counted for the job, in a row that keeps the rules: none where it is not
+/// The place to which the tick at the machine's position is counted for the job, in a row that keeps the rules. None if the job isn't
 /// blocked, or its window has ended.
 fn place_at<P: ChargedProtocol, R: RowReader>(
     protocol: &P,
@@ -70,7 +70,7 @@ fn place_at<P: ChargedProtocol, R: RowReader>(
     }
 }
 
-/// The same for the task's active job, where it has one.
+/// The same for the task's active job, if it has one.
 fn place_in<P: ChargedProtocol, R: RowReader>(
     protocol: &P,
     rows: &R,
@@ -95,8 +95,8 @@ fn place_in<P: ChargedProtocol, R: RowReader>(
     }
 }
 
-/// Counts so many ticks as the one that the machine stands at, in a row that keeps the rules: one job of each task is active, or
-/// none, and no other is blocked.
+/// Counts this many ticks like the one at the machine's position, in a row that keeps the rules. At most one job of each task is active,
+/// and no other job is blocked.
 pub(crate) fn charge_ticks<P: ChargedProtocol, R: RowReader>(
     protocol: &P,
     rows: &R,

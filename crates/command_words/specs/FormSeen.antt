@@ -24,8 +24,7 @@ abbrev pub form_seen : Command → Form
 form_seen (command.OnSet protocol set work) = form_on protocol set.now work
 form_seen (command.Study seed sets) = Study seed sets
 
--- Are the ticks of a simulation, where the form asks for one, as many as a schedule may have, and the sets of a study as many as
--- a step may have?
+-- Are the ticks of a simulation, if the form is one, within the limit of a schedule? Are the sets of a study within the limit of a step?
 abbrev pub HasFittingNumbers : Form → Type 0
 HasFittingNumbers (Simulate protocol set jobs ticks) = (1 ≤ ticks) × (ticks ≤ MOST_TICKS)
 HasFittingNumbers (Study seed sets) = (1 ≤ sets) × (sets ≤ 1000)

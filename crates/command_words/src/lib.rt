@@ -1,4 +1,4 @@
-//! The forms of words that the program answers.
+//! The forms of words that the program takes.
 #![tactic(auto)]
 
 mod spelled;

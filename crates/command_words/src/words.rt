@@ -12,7 +12,7 @@ use protocol_names::{ProtocolName, protocol_named};
 use sporadic_model::MOST_TICKS;
 use text_pieces::number_between;
 
-/// The units that the programs of an analysis may take in all, where the words don't say.
+/// The units that all programs of an analysis together may take, if the words don't say.
 pub const DEFAULT_ALLOWANCE: u64 = 1_000_000;
 
 /// The most units that the words may allow.
@@ -30,21 +30,21 @@ pub enum Command<'a> {
         set: &'a str,
         work: Work<'a>,
     },
-    /// Make so many sets for each step from the seed, and count which are schedulable.
+    /// Make this many sets for each step from the seed, and count which are schedulable.
     Study {
         seed: u64,
         sets: u32,
     },
 }
 
-/// What is asked for of a set. Further inputs stand by their names.
+/// The work on a set. Its further inputs are given by their names.
 #[derive(Clone, Copy, Debug)]
 pub enum Work<'a> {
-    /// Find the least bounds of the set within so many units.
+    /// Find the least bounds of the set within this many units.
     Analyse {
         allowance: u64,
     },
-    /// Show by a certificate of refusal that the set has no bounds, within so many units.
+    /// Show by a certificate of refusal that no bounds of the set fit, within this many units.
     Refute {
         allowance: u64,
     },
@@ -66,17 +66,17 @@ pub enum Work<'a> {
     FullReport {
         certificate: &'a str,
     },
-    /// Judge the rows, which are of the jobs.
+    /// Judge the rows for the jobs.
     Conform {
         jobs: &'a str,
         rows: &'a str,
     },
-    /// Make the schedule of so many ticks for the jobs.
+    /// Make the schedule of this many ticks for the jobs.
     Simulate {
         jobs: &'a str,
         ticks: u64,
     },
-    /// Judge the certificate and the rows, which are of the jobs, and set what the rows did beside what the certificate proves.
+    /// Judge the certificate and the rows for the jobs. Give what the rows did, and what the certificate proves.
     Audit {
         certificate: &'a str,
         jobs: &'a str,
@@ -125,7 +125,7 @@ fn command_of_three<'a>(command: &str, second: &str, set: &'a str) -> Option<Com
     })
 }
 
-/// The allowance that a word writes.
+/// The allowance that a word gives.
 fn allowance_of(word: &str) -> Option<u64>
     ensures { result ≡ number_between 1 GREATEST_ALLOWANCE word.now }
 {
@@ -225,7 +225,7 @@ fn command_of_six<'a>(
     })
 }
 
-/// What the words ask for, or none where they have no form. The words are read by exact number and place.
+/// What the words ask for, or none if they have no form. The words are read by exact number and position.
 pub fn command_of(words: &[String]) -> Option<Command<'_>>
     ensures form { option_map form_seen result ≡ form_of (words_seen words.now) }
     ensures ticks { IfSome result (λ c. HasFittingNumbers (form_seen c)) }

@@ -18,11 +18,11 @@ use std::alloc::{AllocError, Global};
 pub struct JobCount {
     /// The ticks so far at which it was blocked.
     pub blocked: u64,
-    /// The tick after the last one so far at which it was active; 0 before the first.
+    /// The tick after the last one so far at which it was active, and 0 before the first.
     pub end: u64,
 }
 
-/// The counts of so many jobs before the first row: nothing is counted yet.
+/// The counts of this many jobs before the first row: nothing is counted yet.
 pub fn no_counts(alloc: Global, jobs: u32) -> Result<Vec<JobCount>, AllocError>
     ensures { IfOk result (λ v. (interferes : Trace → ℕ → ℕ → Bool) (w : Trace) → length w.jobs ≡ jobs → AreCounts interferes w 0 v.items) }
 {
@@ -33,8 +33,8 @@ pub fn no_counts(alloc: Global, jobs: u32) -> Result<Vec<JobCount>, AllocError>
     Ok(counts)
 }
 
-/// The count of an active job after so many ticks from the one on that the machine stands at, in a row that keeps the rules; it
-/// is blocked at each of them or at none.
+/// The count of an active job after this many ticks from the machine's tick on, in a row that keeps the rules. The job is blocked at each
+/// of them, or at none.
 fn counted<P: Judge, R: RowReader>(
     protocol: &P,
     rows: &R,
@@ -98,8 +98,7 @@ pub(crate) fn tasks_of(machine: &Machine) -> u32
     machine.jobs().set().tasks()
 }
 
-/// Counts so many ticks as the one that the machine stands at, in a row that keeps the rules: one job of each task is active, or
-/// none.
+/// Counts this many ticks like the one at the machine's position, in a row that keeps the rules. At most one job of each task is active.
 pub(crate) fn count_ticks<P: Judge, R: RowReader>(
     protocol: &P,
     rows: &R,

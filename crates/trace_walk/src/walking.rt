@@ -12,8 +12,8 @@ use schedule_answers::{Breach, Unlawful};
 use schedule_model::{JobList, RowReader};
 use std::alloc::Global;
 
-/// Judges the row of the run that the reader stands at, of which so many ticks are left, and keeps and takes the ticks of the steady
-/// stretch that it begins, as far as they are of the run and the keeper takes them at once. How many these were.
+/// Judges the row of the reader's run, of which this many ticks are left. Takes the ticks of the steady stretch that it begins, as far as
+/// they are of this run and the keeper takes them at once. Answers how many these were.
 fn walk_stretch<P: Judge, K: Keeper<P>, R: RowReader>(
     protocol: &P,
     rows: &R,
@@ -45,7 +45,7 @@ fn walk_stretch<P: Judge, K: Keeper<P>, R: RowReader>(
     Ok(ticks)
 }
 
-/// Judges, keeps and takes each row of the run that the reader stands at, one steady stretch after the other.
+/// Judges each row of the reader's run, and takes it, one steady stretch after the other.
 fn walk_run<P: Judge, K: Keeper<P>, R: RowReader>(
     protocol: &P,
     rows: &R,
@@ -71,7 +71,7 @@ fn walk_run<P: Judge, K: Keeper<P>, R: RowReader>(
     Ok(())
 }
 
-/// Judges, keeps and takes all rows, up to the first that breaks a rule.
+/// Judges all rows and takes them, up to the first that breaks a rule.
 fn walk_all<P: Judge, K: Keeper<P>, R: RowReader>(
     protocol: &P,
     rows: &mut R,
@@ -97,9 +97,9 @@ fn walk_all<P: Judge, K: Keeper<P>, R: RowReader>(
     Ok(())
 }
 
-/// Judges each row by the protocol's rules, and keeps what the keeper keeps: Ok, with the machine that has taken all rows, exactly where
-/// every row keeps all five rules and there was memory; else the first row that breaks one. At first the reader stands at the first run, and the notes
-/// are those of no ticks.
+/// Judges each row by the protocol's rules, and keeps what the keeper keeps. It is Ok, with the machine that has taken all rows, exactly if
+/// every row keeps all five rules and there was enough memory. Else it names the first row that breaks a rule. You give a reader at the
+/// first run, and the notes of no ticks.
 pub fn walk<'a, P: Judge, K: Keeper<P>, R: RowReader>(
     alloc: Global,
     protocol: &P,
