@@ -1,4 +1,4 @@
-//! The protocol's programs: so its sets are analysed, and its certificates are checked.
+//! The protocol's programs. So its sets can be analysed, and its certificates checked.
 
 ghost use Rattle.std.specs.Prelude.{◌<◌, map, length, OnOk};
 ghost use Rattle.sporadic_model.specs.Homes.{EachHasHome};
@@ -25,7 +25,7 @@ use protocol_programs::{
 use sporadic_model::{Protocol, TaskId, TaskSet};
 use std::alloc::{AllocError, Global};
 
-/// The test of a task's columns, which has by resource whether the task requests another one of its home.
+/// The test of a task's columns. It has a table that says of each resource whether the task requests another one of its home.
 #[derive(Drop)]
 struct DflpColumns {
     beside: Vec<bool>,
@@ -144,7 +144,7 @@ impl ProgramSource for Dflp {
         keeps_jobs(set, i, earlier, bounds)
     }
 
-    /// A job interferes as under DPCP, for its local limit.
+    /// A job interferes as under DPCP: for its local limit.
     fn interference(&self, set: &TaskSet, i: TaskId, bounds: &[u64]) -> u64 {
         interference(set, Protocol::Dpcp, i, bounds)
     }

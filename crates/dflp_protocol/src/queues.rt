@@ -16,7 +16,7 @@ use fragments::{
 use sporadic_model::{TaskId, TaskSet};
 use std::alloc::{AllocError, Global};
 
-/// Of a task and a processor: each request of the analysed task that runs there waits for at most one of the task's.
+/// Of a task and a processor: each request of the analysed task that runs there waits for at most one request of the task.
 #[derive(Drop)]
 struct HomeQueueRow {
     task: TaskId,
@@ -45,7 +45,7 @@ impl Constraint for HomeQueueRow {
     }
 }
 
-/// The rows of the queues with a task, whose columns are those of the stretch, at each processor.
+/// The rows of the queues with one task, at each processor. The stretch has the task's columns.
 #[derive(Drop)]
 struct QueuesWith {
     task: TaskId,
@@ -108,7 +108,7 @@ impl PerTask for Queues {
     }
 }
 
-/// Adds the rows of the queues with each task at each processor behind those that the taker has, over any columns that stand in order.
+/// Adds the rows of the queues with each task at each processor behind those that the taker has, over any columns in order.
 pub(crate) fn add_queues<T: RowTaker>(
     alloc: Global,
     taker: &mut T,

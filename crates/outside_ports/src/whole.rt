@@ -43,16 +43,14 @@ impl From<AllocError> for LoadFault {
     }
 }
 
-/// All bytes of the named input, read to its end.
+/// Loads the named input: all of its bytes, read to the end.
 ///
-/// `Absent` comes exactly where the shelf's `start` answered so, `Read` only where the shelf's count of faults rose
-/// in this call, and `TooLong` exactly where more than [`GREATEST_INPUT_BYTES`] bytes were given. Want of memory, as
-/// success, leaves the count as it was: a fault that was counted is answered as one. After an error the
-/// shelf stands where its last call left it. A shelf that counts its calls shows that there are at most two more of
-/// them than an input may have bytes.
+/// `Absent` comes exactly if the shelf's `start` answered so. `Read` comes only if the shelf's count of faults rose in this call. `TooLong`
+/// comes exactly if more than [`GREATEST_INPUT_BYTES`] bytes were given. Want of memory leaves the count as it was, and so does success: a
+/// counted fault is always answered as one. After an error the shelf is as its last call left it. If a shelf counts its calls, there are at
+/// most two more of them than an input may have bytes.
 ///
-/// The shelf's readings get one more, of this name. The bytes are what that reading gave, from its start to its end
-/// (`leaves`).
+/// The shelf's readings get one more, of this name. The result is what that reading gave, from its start to its end (`leaves`).
 pub fn load<S: Shelf>(alloc: Global, shelf: &mut S, name: &str) -> Result<Vec<u8>, LoadFault>
     ensures whole { IfOk result (λ bytes. IsNamed (S.seen shelf.old).names name.now bytes.items) }
     ensures ended { OnOk result (IsAtEnd (S.seen shelf.new).rest) }
@@ -118,10 +116,10 @@ fn read_all<S: Shelf>(alloc: Global, shelf: &mut S) -> Result<Vec<u8>, LoadFault
     }
 }
 
-/// Writes all of the text.
+/// Writes the whole text.
 ///
-/// An error comes only where the sink's count of faults rose in this call; the sink has then taken a proper prefix
-/// of the text. A sink that counts its writes shows that there is at most one for each byte.
+/// An error comes only if the sink's count of faults rose in this call. The sink has then taken a proper prefix of the text. If a sink
+/// counts its writes, there is at most one for each byte.
 pub fn put_all<K: Sink>(sink: &mut K, text: &[u8]) -> Result<(), SinkFault>
     ensures whole { OnOk result (Appends (K.seen sink.old).written (K.seen sink.new).written text.now) }
     ensures part { OnErr result (AppendsPart (K.seen sink.old).written (K.seen sink.new).written text.now) }

@@ -1,4 +1,4 @@
-//! What the protocol's programs are made of: their columns and rows.
+//! The parts of the protocol's programs: their columns and rows.
 
 ghost use Rattle.std.specs.Prelude.{◌≡◌, ℕ, ◌<◌, ◌≤◌, ◌+◌, ◌&&◌, ◌==◌, not, length, map, IfOk, OnOk};
 ghost use Rattle.schedule_model.specs.Protocols.{EachSetSuits};
@@ -48,7 +48,7 @@ fn is_used_beside(set: &TaskSet, i: TaskId, q: ResourceId) -> bool
     false
 }
 
-/// By resource, whether another task of `i`'s processor uses it.
+/// For each resource, whether another task of `i`'s processor uses it.
 fn used_beside(alloc: Global, set: &TaskSet, i: TaskId) -> Result<Vec<bool>, AllocError>
     requires { i.0 < length set.now.tasks }
     ensures { IfOk result (λ v. AreUsedBeside set.now i.0 v.items) }
@@ -77,7 +77,7 @@ fn blocks_by_spinning(set: &TaskSet, i: TaskId, column: Fragment, used: &[bool])
     }
 }
 
-/// The test of a task's columns, which has by resource whether another task of its processor uses it.
+/// The test of a task's columns. It has a table that says of each resource whether another task of its processor uses it.
 #[derive(Drop)]
 struct SpinColumns {
     used: Vec<bool>,
@@ -98,7 +98,7 @@ impl ColumnTest for SpinColumns {
     }
 }
 
-/// Adds the rows of this kind of each processor behind those that the taker has.
+/// Adds the rows of this kind, for each processor, behind those that the taker has.
 fn add_spinning_rows<T: RowTaker>(
     alloc: Global,
     taker: &mut T,

@@ -1,4 +1,4 @@
-//! The rows that spin locks have of their own, as far as they are computed.
+//! The code of the rows that only spin locks have.
 
 ghost use Rattle.std.specs.Prelude.{◌≡◌, ℕ, ◌<◌, ◌≤◌, ◌*◌, ◌&&◌, ◌+◌, [], ◌∷◌, length, slice_index};
 ghost use Rattle.number_laws.specs.Sums.{flag};
@@ -20,7 +20,7 @@ use std::alloc::{AllocError, Global};
 /// How many requests of lower tasks block a job by preemption: the one that was open at its release.
 const LOWER_REQUESTS: u64 = 1;
 
-/// So many requests of lower tasks block by preemption.
+/// At most this many requests of lower tasks block by preemption.
 #[derive(Drop)]
 pub(crate) struct LowerRequestRow;
 
@@ -42,7 +42,7 @@ impl Constraint for LowerRequestRow {
     }
 }
 
-/// Is it a column of requests of the resource from the processor?
+/// Is it a column of requests of the resource by a task of the processor?
 fn is_from(set: &TaskSet, processor: u32, resource: ResourceId, column: Fragment) -> bool
     requires { column.task.0 < length set.now.tasks }
     ensures { result ≡ is_from set.now processor resource.0 (column_seen column) }
@@ -75,7 +75,7 @@ fn is_used_below(set: &TaskSet, i: TaskId, q: ResourceId) -> bool
     false
 }
 
-/// One where the test passes, else none.
+/// 1 if the test passes, and else 0.
 fn one_if(test: bool) -> u64
     ensures { result ≡ flag test }
 {
@@ -101,8 +101,8 @@ fn higher_requests(set: &TaskSet, i: TaskId, q: ResourceId, bounds: &[u64]) -> u
     total
 }
 
-/// How many requests of the resource from `i`'s processor can spin while a job of `i` runs? Its own, those of higher tasks, and one of
-/// a lower task.
+/// How many requests of the resource from `i`'s processor can spin while a job of `i` runs? Three kinds count: its own, those of higher
+/// tasks, and one of a lower task.
 fn spinning_requests(set: &TaskSet, i: TaskId, q: ResourceId, bounds: &[u64]) -> u64
     requires task { i.0 < length set.now.tasks }
     requires resource { q.0 < length set.now.resources }
@@ -125,7 +125,7 @@ pub(crate) enum Spinning {
     Own,
 }
 
-/// Of a processor, counted from 1, and a resource: each of these requests of it spins for at most one from there.
+/// Of a processor, counted from 1, and a resource: each of these requests of it spins for at most one request from that processor.
 #[derive(Drop)]
 struct SpinningRow {
     spinning: Spinning,
@@ -158,7 +158,7 @@ impl Constraint for SpinningRow {
     }
 }
 
-/// The rows of a processor, counted from 1, for each resource.
+/// The rows of a processor, counted from 1, one for each resource.
 #[derive(Drop)]
 struct SpinningFrom {
     spinning: Spinning,
