@@ -37,7 +37,7 @@ over_used set i f = sum_below (length set.resources) (λ q. only_if (is_user set
 abbrev pub awaited : SetDef → (ℕ → ℕ) → ℕ → ℕ → ℕ → ℕ
 awaited set bounds i m y = sum_below m (λ q. only_if (is_user set q i) (requests_in set bounds i y q))
 
--- Are these the holdings beside each task?
+-- Are these, for each task, the holdings of other tasks on its processor?
 pub record AreHoldings (set : SetDef) (bounds : ℕ → ℕ) (i : ℕ) (limits : List ℕ) : Type 0 where
   pub one_each : length limits ≡ length set.tasks
   pub each : (x : ℕ) → x < length set.tasks → slice_index limits x ≡ holdings set bounds i x

@@ -163,9 +163,8 @@ fn counted(
     Err("out of range".into())
 }
 
-// At the bounds 4 and 9 two jobs of cost 2 count: the quotient of 9 + (4 - 2) and 10, rounded up, is 2. Of the task with a
-// local limit, at the bounds 6 and 9, two jobs: of its cost 4 under MPCP, where 9 + (6 - 4) is 11, and of its local limit 2
-// under DPCP, where 9 + (6 - 2) is 13.
+// At the bounds 4 and 9 two jobs of cost 2 count: 9 + (4 - 2) over 10, rounded up, is 2. Of the task with a local limit two jobs count at
+// the bounds 6 and 9: with its cost 4 under MPCP, where 9 + (6 - 4) is 11, and with its local limit 2 under DPCP, where 9 + (6 - 2) is 13.
 #[test]
 fn counts_the_interference(rt: HostRuntime) -> Result<(), Fail> {
     let alloc = rt.alloc();
@@ -254,7 +253,7 @@ fn gives_direct_and_indirect_rows(rt: HostRuntime) -> Result<(), Fail> {
     Ok(())
 }
 
-// The bounds 60 and 60 are more than a period of 100 together, so two jobs count.
+// The bounds 60 and 60 together are more than a period of 100, so two jobs count.
 #[test]
 fn counts_the_requests_in_a_window(rt: HostRuntime) -> Result<(), Fail> {
     let set = set_of(rt.alloc(), PATHS)?;

@@ -29,7 +29,7 @@ Reads (Err fault.NotJson) word bytes = (d : Data) → IsValue bytes d → ⊥
 Reads (Err fault.Memory) word bytes = Unit {0}
 Reads answer word bytes = (d : Data) × IsValue bytes d × JudgesValue answer word d
 
--- Does the answer give these steps with this digest, but for want of memory?
+-- Does the answer give these steps with this digest, except for want of memory?
 abbrev pub Gives : Result (Refusal × List ℕ) ReadFault → List StepDef → List ℕ → Type 0
 Gives (Ok given) steps digest = (steps_seen given.0 ≡ steps) × (given.1 ≡ digest)
 Gives (Err f) steps digest = f ≡ fault.Memory

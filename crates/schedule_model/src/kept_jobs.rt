@@ -15,7 +15,7 @@ use sporadic_model::{MOST_RESOURCES, MOST_TICKS, TaskId};
 use std::alloc::{AllocError, Global};
 use std::marker::Model;
 
-/// What is kept of a job beside its segments.
+/// What is kept of a job, without its segments.
 #[derive(Clone, Copy, Debug)]
 pub(crate) struct KeptJob {
     task: TaskId,

@@ -126,7 +126,7 @@ fn names_only(row: &Row, jobs: u32) -> bool
     name_below(&row.running, jobs) && name_below(&row.holders, jobs)
 }
 
-/// Has the row a place for so many processors and resources, and does it name only jobs whose number is below this?
+/// Has the row a place for each of this many processors and resources, and does it name only jobs whose number is below this?
 fn fits_sizes(row: &Row, processors: u32, resources: u32, jobs: u32) -> bool
     ensures { result ≡ fits_row processors resources jobs (row_seen row.now) }
 {

@@ -52,7 +52,7 @@ pub(crate) fn is_listed_script(script: &[Segment]) -> bool
     are_requests(&script[..script.len() - 1])
 }
 
-/// Does the script take at most so many ticks?
+/// Does the script take at most this many ticks?
 fn takes_at_most(script: &[Segment], most: u64) -> bool
     ensures { result ≡ nat_le (total_ticks (map segment_seen script.now)) most }
 {
@@ -76,7 +76,7 @@ fn ticks_of_request(segment: &Segment) -> u64
     }
 }
 
-/// Does the script take at most so many ticks outside its requests?
+/// Does the script take at most this many ticks outside its requests?
 fn stays_local_at_most(script: &[Segment], most: u64) -> bool
     ensures { result ≡ nat_le (local_ticks (map segment_seen script.now)) most }
 {
