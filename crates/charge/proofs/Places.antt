@@ -22,7 +22,7 @@ use Rattle.charge.specs.declared.tally.ChargePlace.{ChargePlace}
 use Rattle.charge.specs.Table.{item_cmp}
 use Rattle.charge.specs.Tally.{place_cmp, by_class, is_same_place, item_of}
 
--- As keys, classes stand as they are ranked.
+-- As keys, classes are in the order of their ranks.
 classes_ordered : (a b : Class) → by_class a b ≡ class_cmp a b
 classes_ordered Direct Direct = refl
 classes_ordered Direct Indirect = refl

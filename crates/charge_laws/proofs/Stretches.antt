@@ -24,7 +24,7 @@ stays_where_alike suits keeps charges same w t n fits lawful steady row i j l = 
   | inr none ↦ let here : t + i ≡ t = omega (arith, none) in ap (λ u. charges w u j) here
 ]
 
--- Where a job waits: what holds and runs stands in the row.
+-- If a job waits, the holder and what runs are in the row.
 waiting_alike : (w : Trace) (t u : ℕ) (p : Phase) → IsAlike w t u → charge_of_waiting w u p ≡ charge_of_waiting w t p
 waiting_alike w t u Local a = refl
 waiting_alike w t u Finished a = refl

@@ -1,4 +1,4 @@
--- Coefficients that aren't zero, and the full rows that they stand for.
+-- Nonzero coefficients, and the full rows that they give.
 use Rattle.std.proofs.Common.{◌≡◌, ◌≢◌, inl, inr, ℕ, zero, suc, ◌+◌, ◌<◌, ◌≤◌, List, [], ◌∷◌, ◌++◌, length, replicate, set, take}
 use Rattle.std.proofs.Common.{slice_index, refl, sym, ◌∙◌, ap, arith, get_or-set_same, get_or-set_other, get_or-take, length-take-le}
 use Rattle.std.proofs.lemmas.Bool.{cases_eq, cases_lt, eq-eqb, ne_eqb}
@@ -140,7 +140,7 @@ full_row_is n cs xs long each =
 pub full_row_none : (n : ℕ) → full_row n [] ≡ replicate n 0
 full_row_none n = full_row_is n [] (replicate n 0) (length-replicate n 0) (λ v l. sym (get_or-replicate n v 0 0 l))
 
--- one coefficient more writes its number at its column, where zero stood
+-- one more coefficient writes its number at its column, where zero was
 pub full_row_push : (n : ℕ) (cs : List Coefficient) (c : Coefficient) → AreCoefficients c.column cs → c.column < n
     → full_row n (cs ++ c ∷ []) ≡ set (full_row n cs) c.column c.number
 full_row_push n cs c h within =

@@ -171,7 +171,7 @@ to_next m A h last j l = elim (cases_lt j m) [
   | inr end ↦ let same : m ≡ j = omega arith in subst A same last
 ]
 
--- The next row beside the steepest so far.
+-- The next row compared with the steepest so far.
 steeper : (m : ℕ) (rest cell : ℕ → ℤ) (i : ℕ) → IsSteepest m rest cell i → cell m <ℤ pos 0 → pos 0 <ℤ rest m → (i : ℕ)
     × IsSteepest (suc m) rest cell i
 steeper m rest cell i h below above = elim (le_either (rest m *ℤ neg_ℤ (cell i)) (rest i *ℤ neg_ℤ (cell m))) [

@@ -1,4 +1,4 @@
--- Lists of coefficients that say what stands in the rows of a program.
+-- Lists of the coefficients in the rows of a program.
 use Rattle.std.proofs.Common.{◌≡◌, inl, inr, ℕ, ◌+◌, ◌<◌, ◌≤◌, List, [], ◌∷◌, ◌++◌, map, length, refl, sym, ◌∙◌, ap, arith}
 use Rattle.std.proofs.lemmas.Bool.{cases_eq, cases_lt}
 use Rattle.std.proofs.lemmas.List.{length-map, get_or-map, ext_get_or, length_push, get_or_at, get_or_append_left}

@@ -39,7 +39,7 @@ request_row_among set i x q rows a b =
 flag_itself : (x q : ℕ) → flag ((x == x) && (q == q)) ≡ 1
 flag_itself x q = rw (eq-eqb x x refl, eq-eqb q q refl) refl
 
--- What stands where a row stands among the rows that are there.
+-- The coefficient of a column in a row, by the row's position among the rows of the program.
 coefficient_at : (cs : List ColumnDef) (rows : List ConstraintDef) (row : ConstraintDef) (r c : ℕ) (d : ColumnDef)
     → r < length rows → slice_index_or rows r row ≡ row → c < length cs
     → slice_index (slice_index_or (map (λ k. map k.coefficient cs) rows) r []) c ≡ row.coefficient (slice_index_or cs c d)

@@ -9,7 +9,7 @@ use Rattle.std.proofs.lemmas.List.Elements.{All-head, All-tail, Contains-append_
 use Rattle.number_laws.specs.Sums.{sum_below, collect_below}
 use Rattle.number_laws.proofs.SumLaws.{sum_below-monotone, sum_below-constant}
 
--- Where each number of a list is at most m, so is what stands at any place.
+-- If each number of a list is at most m, so is the number at any place.
 pub index_at_most : (m : ℕ) (xs : List ℕ) → All (λ x. x ≤ m) xs → (c : ℕ) → slice_index xs c ≤ m
 index_at_most m [] h zero = omega arith
 index_at_most m [] h (suc c) = omega arith

@@ -15,7 +15,7 @@ use Rattle.fragments.specs.Columns.{columns_by}
 use Rattle.fragments.specs.Constraints.{ConstraintDef, holds_some, rows_there, coefficients_of, limits_of}
 use Rattle.program_laws.specs.Programs.{program_with, source_with}
 
--- A list of rows with more behind: its numbers stand before theirs.
+-- A list of rows with more rows after it: its numbers come before theirs.
 there_append : (cs : List ColumnDef) (rows more : List ConstraintDef) → rows_there cs (rows ++ more) ≡ rows_there cs rows ++ rows_there cs more
 there_append cs rows more = filter-append (holds_some cs) rows more
 

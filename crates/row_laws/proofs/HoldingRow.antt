@@ -48,7 +48,7 @@ holder_active w bound n j x s share q y t c l a =
     open_active w n t (first_holder w j t) a.for.facts.holding (own_resource w j t) c.window.active (omega arith)
     (c.window.lawful.each (first_holder w j t) a.for.facts.listed).script a.for.facts.held
 
--- While task y holds q, there is one for each request of q that its jobs make in the window, where y is beside x.
+-- While task y of x's processor holds q, there is one for each request of q that its jobs make in the window.
 task_paid : (w : Trace) (bound : ℕ → ℕ) (n j x s : ℕ) (share : ℕ → ℕ → ℕ) (q y : ℕ) → Holding w bound n j x s share
     → y < length w.set.tasks
     → sum_below (window_end w bound n j) (λ t. task_part w j x share q y t)
@@ -108,7 +108,7 @@ high_paid w bound n j x s share q c =
             | inr same ↦ absurd (a.facts.other (omega arith))
           ]
 
--- While lower tasks hold q, where there is one beside x that uses it.
+-- While lower tasks hold q, if one beside x uses it.
 lower_paid : (w : Trace) (bound : ℕ → ℕ) (n j x s : ℕ) (share : ℕ → ℕ → ℕ) (q : ℕ) → Holding w bound n j x s share
     → sum_below (window_end w bound n j) (λ t. low_part w j x share q t) ≤ s * lower_holdings w.set (task_of w j) x q
 lower_paid w bound n j x s share q c =

@@ -39,7 +39,7 @@ abbrev pub resource_of : Phase → ℕ
 resource_of (Asking k q) = q
 resource_of _ = 0
 
--- The resource that job j waits for, and who holds it.
+-- The resource that job j waits for, and its holder.
 abbrev pub own_resource : Trace → ℕ → ℕ → ℕ
 own_resource w j t = resource_of (phase_of w t j)
 

@@ -79,7 +79,7 @@ class_among x q Direct = (0, omega arith, refl)
 class_among x q Indirect = (1, omega arith, refl)
 class_among x q Preemption = (2, omega arith, refl)
 
--- A column of the set that passes the test stands among those that do.
+-- A column of the set that passes the test is among those that do.
 pub passing_among : (test : ColumnDef → Bool) (set : SetDef) (x q : ℕ) (c : Class) → x < length set.tasks → q < length set.resources
     → test (record { task = x; resource = q; class = c }) ≡ true
     → Contains (columns_where test set) (record { task = x; resource = q; class = c })

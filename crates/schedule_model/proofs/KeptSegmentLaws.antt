@@ -1,4 +1,4 @@
--- Segments that three lists make: how many they are, which stands where, and what more of them add.
+-- The segments of three lists: how many there are, which is where, and what more of them add.
 use Rattle.std.proofs.Common.{◌≡◌, ℕ, zero, suc, ◌<◌, ◌==◌, ◌++◌, true, false, List, [], ◌∷◌, map, length, get_or, refl}
 use Rattle.std.proofs.Common.{ap, arith, inl, inr, Option, Some, None}
 use Rattle.std.specs.Option.{option_map_or}

@@ -31,14 +31,14 @@ jittery name processor period cost jitter = record {
   requests = [];
 }
 
--- One request of the resource of this name, for so many ticks.
+-- One request of the resource of this name, for this many ticks.
 abbrev pub once : ℕ → ℕ → RequestDef
 once name length = record { resource = name ∷ []; count = 1; length = length }
 
 abbrev pub resource : ℕ → Option ℕ → ResourceDef
 resource name home = record { name = name ∷ []; home = home }
 
--- Local ticks, then a request of resource q for so many ticks; and local ticks alone.
+-- Local ticks, then a request of resource q for a number of ticks. And local ticks alone.
 abbrev pub then_request : ℕ → ℕ → ℕ → SegmentDef
 then_request local q length = record { local = local; request = Some (q, length) }
 

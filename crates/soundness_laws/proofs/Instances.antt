@@ -35,8 +35,8 @@ use Rattle.soundness_laws.specs.Analyses.{Analyses}
 use Rattle.program_form.specs.Points.{IsScaledPoint}
 use Rattle.charge_laws.specs.Fractions.{product_of_lengths, fractions_of}
 
--- What a protocol owes for its programs, on sets that suit it: no interfering cost is above the cost, a job interferes within it, the
--- columns are worth their requests' lengths, the fractions of a window are a point of the program, and each blocked tick is charged in
+-- What is asked of a protocol for its programs, on sets that suit it. No interfering cost is above the cost, and a job interferes within
+-- it. The columns are worth their requests' lengths. The fractions of a window are a point of the program. Each blocked tick is charged in
 -- one of the columns.
 pub record Owed (keeps : Rule → Trace → ℕ → Type 0) (interferes : Trace → ℕ → ℕ → Bool) (suits : SetDef → Type 0) (source : SetDef
     → SourceDef) (charges : Charges) (columns : SetDef → ℕ → List ColumnDef) : Type 0 where

@@ -41,7 +41,7 @@ task_part w j k q share h t = only_if (task_of w (spinner_at w j t) == h) (high_
 abbrev low_part : Trace → ℕ → ℕ → ℕ → (ℕ → ℕ → ℕ) → ℕ → ℕ
 low_part w j k q share t = only_if (nat_lt (task_of w j) (task_of w (spinner_at w j t))) (amount w j k q share t)
 
--- What a tick that counts says: who spins, and that j is active.
+-- What a tick that counts says: which job spins, and that j is active.
 record Counts (w : Trace) (j k q t : ℕ) : Type 0 where
   blocker : ℕ
   spun : SpunTick w j k q t blocker
@@ -92,7 +92,7 @@ near_paid w bound n j k q s share h c there =
           → sum_below (window_end w bound n j) (λ t. spun_part w j z (λ u. task_part w j k q share h u) t) ≤ count_of w.set h q * s
       each z b task = rw task at (spinner_paid w bound n j k q s share (λ u. task_part w j k q share h u) z c small b)
 
--- A job that spins beside j is of a task that shares its processor, so the requests of others count nothing.
+-- A job that spins on j's processor is of a task of that processor. So the requests of other processors don't count.
 task_paid : (w : Trace) (bound : ℕ → ℕ) (n j k q s : ℕ) (share : ℕ → ℕ → ℕ) (h : ℕ) → Spins w bound n j s share → h < length w.set.tasks
     → sum_below (window_end w bound n j) (λ t. task_part w j k q share h t)
     ≤ only_if (have_one_processor w.set h (task_of w j)) (requests_in w.set bound (task_of w j) h q) * s

@@ -1,4 +1,4 @@
--- A resource is used beside a task where one of its users is there.
+-- A resource is used beside a task if one of its users is another task of the same processor.
 use Rattle.std.proofs.Common.{◌≡◌, ℕ, ◌==◌, ◌&&◌, not, Bool, List, map, length, ◌∙◌}
 use Rattle.std.proofs.Math.Bool.{and_comm}
 use Rattle.std.specs.List.{list_any}

@@ -1,4 +1,4 @@
--- What a set keeps beside its parts, in the words of the field.
+-- What the tables of a set say, in terms of its definitions.
 use Rattle.std.proofs.Common.{◌≡◌, ℕ, ◌+◌, ◌<◌, ◌≤◌, not, ◌==◌, List, [], length, map, ap, subst, sym, ◌∙◌, refl, arith}
 use Rattle.std.proofs.Common.{Option, Some, None, nat_lt, IfSome, IfNone, Result, Ok, Err, IfOk, IfErr}
 use Rattle.std.specs.List.{slice_index_or, find}
@@ -61,7 +61,7 @@ demand_ranges set x q accepted h =
     demand_of_entry set x (entry_of set x q) (numbers_of_accepted set x accepted h)
     (λ e found. entry_of_accepted set x (λ d. bytes_eq d.resource (resource_at set q).name) e accepted h found)
 
--- What is kept as the ceiling of a resource is its highest user, and nothing where it has none.
+-- The ceiling that is kept for a resource is its highest user, or none if it has no user.
 pub ceiling_highest : (set : SetDef) (q : ℕ) (kept : Option TaskId) → option_map (λ x. x.0) kept ≡ ceiling_of set q
     → IfSome kept (λ x. IsHighestUser set q x.0)
 ceiling_highest set q None e = tt
@@ -72,7 +72,7 @@ pub ceiling_none : (set : SetDef) (q : ℕ) (kept : Option TaskId) → option_ma
 ceiling_none set q None e = no_user set q (sym e)
 ceiling_none set q (Some x) e = tt
 
--- What the first of the users that isn't on processor k is, and else the first of all, is the ceiling as k sees it.
+-- The first of the users that isn't on processor k, or if there is none the first of all, is the ceiling as k sees it.
 pub ceiling_seen : (set : SetDef) (q k : ℕ) (users : List TaskId) (found : Option TaskId) → map (λ x. x.0) users ≡ users_of set q
     → option_map (λ x. x.0) found ≡ find (λ x. not ((task_at set x).processor == k)) (map (λ x. x.0) users)
     → option_or (option_map (λ x. x.0) found) (ceiling_of set q) ≡ remote_ceiling_of set q k
@@ -80,7 +80,7 @@ ceiling_seen set q k users found listed first =
     ap (λ o. option_or o (ceiling_of set q)) (first ∙ ap (find (λ x. not ((task_at set x).processor == k))) listed
     ∙ sym (find_filter (is_user set q) (λ x. not ((task_at set x).processor == k)) (numbers (length set.tasks))))
 
--- What is kept as the ceiling that a processor sees is the boost of a resource there, and nothing where it has no user.
+-- What is kept as the ceiling that a processor sees is the boost of a resource there, or none if it has no user.
 pub boost_highest : (set : SetDef) (q k : ℕ) (kept : Option TaskId) → option_map (λ x. x.0) kept ≡ remote_ceiling_of set q k
     → IfSome kept (λ x. IsBoost set q k x.0)
 boost_highest set q k None e = tt
@@ -116,7 +116,7 @@ boost_kept set rows k q kept h i =
     kept_at (option_map (λ (x : TaskId). x.0)) (λ r. remote_ceiling_of set r k) (slice_index_or rows k []) (length set.resources) q None
     (boosts_row set rows k kept h) i
 
--- Accepted parts are judged rightly by the set that keeps them, and by want of memory.
+-- The set that keeps accepted parts judges them rightly, and so does want of memory.
 pub judged : (parts : SetDef) (answer : Result SetDef ModelRefusal) → IsAccepted parts
     → IfOk answer (λ set. set ≡ parts) → IfErr answer (λ r. r ≡ refusal.Memory) → Judged answer parts
 judged parts (Ok set) accepted same none = (accepted, same)

@@ -62,7 +62,7 @@ rows_to set i accepted here =
       f.pairs,
     )
 
--- The rows of requests stand among them.
+-- The rows of requests are among them.
 among : (set : SetDef) (i x q : ℕ) → x < length set.tasks → q < length set.resources
     → Contains (windowed_rows set i) (request_row set i x q)
 among set i x q a b =
@@ -85,6 +85,6 @@ windowed_covered set i r c within =
     covered_by set i (columns_of protocol.Dpcp set i) (windowed_rows set i) r c (passing_known (is_column protocol.Dpcp set i) set)
     (λ x q a b. among set i x q a b) within
 
--- What comes up at some bounds, no less comes up at greater ones.
+-- For each response time that is possible at some bounds, one that is no less is possible at greater bounds.
 pub windowed_above : (set : SetDef) → ComesUpAbove (windowed_source set)
 windowed_above set = comes_up_above (windowed_source set) (λ i r s here most. windowed_rises set i r s here most)

@@ -100,8 +100,8 @@ none_of : {A : Type 0} (o : Option A) → is_none o ≡ true → o ≡ None
 none_of None h = refl
 none_of (Some a) h = absurd (cc)
 
--- Where a request at p's home has no window, the requests met are no fewer than those that x makes while the job runs: the bound stands
--- in for that window, and the job makes at least one such request.
+-- If a request at p's home has no window, the requests met are no fewer than those that x makes while the job runs. The bound takes that
+-- window's place, and the job makes at least one such request.
 pub lacking : (set : SetDef) (bounds : ℕ → ℕ) (i x p : ℕ) → lacks_window set bounds i p ≡ true
     → requests_in set bounds i x p ≤ requests_met set bounds i x p
 lacking set bounds i x p lacks =
