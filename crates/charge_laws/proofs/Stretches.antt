@@ -1,4 +1,4 @@
--- Each tick of a steady stretch is charged as its first, for its row, and what each job is in, are those of the first.
+-- Each tick of a steady stretch is charged as its first tick is. Its row is that of the first, and so is each job's phase.
 use Rattle.std.proofs.Common.{◌≡◌, ℕ, ◌+◌, refl, ap, ◌∙◌, arith, inl, inr, Option, Some, None}
 use Rattle.std.specs.Prelude.{if◌then◌else◌, option_map}
 use Rattle.std.specs.Option.{option_and_then}
@@ -52,7 +52,7 @@ shared_charge_alike w t u j a =
           ∙ ap (λ c. if is_ready w t j then charge_to Preemption (running_on (w.row t) (processor_of w j)) else c)
           (ap (charge_of_waiting w u) (a.phase j) ∙ waiting_alike w t u (phase_of w t j) a)
 
--- Where requests run on their resource's home: what runs there, and the request that it is in.
+-- If requests run on their resource's home: what runs there, and the request that it is in.
 abbrev to_home : Trace → ℕ → ℕ → Option ℕ → Option Charge
 to_home w t q o = option_map (λ y. record { job = y; class = class_at_home q (phase_of w t y) }) o
 

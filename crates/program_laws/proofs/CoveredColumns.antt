@@ -22,8 +22,8 @@ use Rattle.program_laws.proofs.Lists.{contains_filter, contains_collected}
 some_column : ColumnDef
 some_column = record { task = 0; resource = 0; class = class.Direct }
 
--- The row of the requests of a task and a resource of the set is one of the rows that every protocol has, and of any that have these
--- first.
+-- The row of the requests of a task and a resource of the set is one of the rows that every protocol has, and of any rows that begin with
+-- these.
 pub request_row_among : (set : SetDef) (i x q : ℕ) (rows : List ConstraintDef) → x < length set.tasks → q < length set.resources
     → Contains (common_rows set i ++ rows) (request_row set i x q)
 request_row_among set i x q rows a b =
@@ -47,7 +47,7 @@ coefficient_at cs rows row r c d within same here =
     ap (λ (l : List ℕ). slice_index l c) (get_or-map (λ (k : ConstraintDef). map k.coefficient cs) rows r row [] within)
     ∙ (ap (λ (k : ConstraintDef). slice_index (map k.coefficient cs) c) same ∙ get_or-map row.coefficient cs c d 0 here)
 
--- So where these rows are among the rows, each column is covered.
+-- So if these rows are among the rows, each column is covered.
 pub covered_by : (set : SetDef) (i : ℕ) (cs : List ColumnDef) (rows : List ConstraintDef) (r : List ℕ) (c : ℕ)
     → All (IsKnown (length set.tasks) (length set.resources)) cs
     → ((x q : ℕ) → x < length set.tasks → q < length set.resources → Contains rows (request_row set i x q))

@@ -47,7 +47,7 @@ triple_times (suc n) m = omega (arith, triple_times n m)
 triples : (n m : ℕ) → n * m ≤ 2048 → n * (m * 3) ≤ 6144
 triples n m h = omega (arith, h, triple_times n m)
 
--- So it is with the columns that pass a test.
+-- The same for the columns that pass a test.
 pub passing_few : (test : ColumnDef → Bool) (set : SetDef) → IsAccepted set → length (columns_where test set) ≤ 6144
 passing_few test set accepted =
     let n = length set.tasks in

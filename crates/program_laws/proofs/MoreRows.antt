@@ -1,4 +1,4 @@
--- More rows let fewer points be, so bounds that fit with fewer rows fit with more.
+-- More rows allow fewer points. So bounds that fit with fewer rows fit with more.
 use Rattle.std.proofs.Common.{◌≡◌, ℕ, ◌*◌, ◌<◌, ◌≤◌, ◌++◌, Bool, List, [], length, map, get_or, sym, ap, ◌∙◌, arith}
 use Rattle.std.specs.Prelude.{slice_index}
 use Rattle.std.proofs.lemmas.List.{get_or_append_left, map-append, length-append, length-map}
@@ -31,7 +31,7 @@ limits_append cs rows more bounds =
     ap (map (λ (row : ConstraintDef). row.limit (slice_index bounds))) (there_append cs rows more)
     ∙ map-append (λ (row : ConstraintDef). row.limit (slice_index bounds)) (rows_there cs rows) (rows_there cs more)
 
--- A point of a program with more rows is one of the program without them.
+-- A point of a program with more rows is a point of the program without them.
 pub fewer_rows : (set : SetDef) (cs : List ColumnDef) (rows more : List ConstraintDef) (bounds : List ℕ) (s : ℕ) (ys : ℕ → ℕ)
     → IsScaledPoint (program_with set cs (rows ++ more) bounds) s ys → IsScaledPoint (program_with set cs rows bounds) s ys
 fewer_rows set cs rows more bounds s ys point = record { positive = point.positive; kept = λ r l. kept r l } where

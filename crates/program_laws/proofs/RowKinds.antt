@@ -37,7 +37,7 @@ common_each P set i request time =
     (all_per_pair P (length set.tasks) (length set.resources) (request_row set i) request)
     (all_per P (length set.tasks) (time_row set i) time)
 
--- And what is true of each row of intervals, of the rows of preemption.
+-- What is true of each row of intervals is true of the rows of preemption.
 pub preemption_each : (P : ConstraintDef → Type 0) (set : SetDef) (i : ℕ)
     → ((x : ℕ) → x < length set.tasks → is_lower_local set i x ≡ true → P (interval_row set i x)) → All P (preemption_rows set i)
 preemption_each P set i interval = all_per_where P (is_lower_local set i) (length set.tasks) (interval_row set i) interval
@@ -69,7 +69,7 @@ each_row P p set i each =
     All-append P (common_rows set i) (preemption_rows set i ++ protocol_rows p set i) (common_each P set i each.request each.time)
     (All-append P (preemption_rows set i) (protocol_rows p set i) (preemption_each P set i each.interval) (protocol_each P p set i each))
 
--- A protocol's own rows are those of direct blocking, and behind them those of indirect blocking.
+-- A protocol's own rows are those of direct blocking, and after them those of indirect blocking.
 pub direct_then_indirect : (p : Protocol) (set : SetDef) (i : ℕ) → own_rows p set i ++ indirect_rows p set i ≡ protocol_rows p set i
 direct_then_indirect protocol.FmlpPlus set i = refl
 direct_then_indirect protocol.Mpcp set i = refl

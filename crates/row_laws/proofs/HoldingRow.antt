@@ -1,4 +1,4 @@
--- Row of holdings, under MPCP: the parts by resource and by holder, summed.
+-- The row of holdings, under MPCP: the sum of the parts by resource and by holder.
 use Rattle.std.proofs.Common.{◌≡◌, ℕ, ◌+◌, ◌*◌, ◌<◌, ◌≤◌, ◌==◌, ◌&&◌, not, Bool, true, false, length, refl, sym, ap}
 use Rattle.std.proofs.Common.{◌∙◌, arith, inl, inr, nat_lt}
 use Rattle.std.proofs.Math.Nat.{mul_comm, mul-add}
@@ -140,7 +140,7 @@ split_parts : (b : Bool) (n : ℕ) → n ≡ only_if b n + only_if (not b) n
 split_parts true n = omega arith
 split_parts false n = omega arith
 
--- Of what is waited for q.
+-- What is contributed while j waits for q.
 resource_paid : (w : Trace) (bound : ℕ → ℕ) (n j x s : ℕ) (share : ℕ → ℕ → ℕ) (q : ℕ) → Holding w bound n j x s share
     → sum_below (window_end w bound n j) (λ t. for_resource w j x share q t)
     ≤ s * only_if (is_user w.set q (task_of w j)) (higher_holdings w.set bound (task_of w j) x q + lower_holdings w.set (task_of w j) x q)

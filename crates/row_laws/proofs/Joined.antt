@@ -1,4 +1,5 @@
--- The laws of each protocol's programs, joined: the columns are there, the fractions are a point, and a dual bounds the blocked ticks.
+-- The laws of each protocol's programs, together: the columns are in the program, the fractions are a point, and a dual bounds the blocked
+-- ticks.
 use Rattle.std.proofs.Common.{◌≡◌, ℕ, ◌<◌, ◌≤◌, Bool, true, List, length, get_or, refl, arith, Option, Some, None, map}
 use Rattle.std.specs.Prelude.{slice_index}
 use Rattle.std.specs.Option.{option_map_or}
@@ -90,18 +91,18 @@ passing_among test set x q c a b passes =
     (contains_collected (length set.resources) q (λ r. classes_of x r) (record { task = x; resource = q; class = c }) b
     (class_among x q c))) passes
 
--- So does one that is one of task i's.
+-- So does a column that is one of task i's.
 pub placed_among : (p : Protocol) (w : Trace) (i x q : ℕ) (c : Class) → IsPlaced p w i x q c
     → Contains (columns_of p w.set i) (record { task = x; resource = q; class = c })
 placed_among p w i x q c a = passing_among (is_column p w.set i) w.set x q c a.task a.resource a.column
 
--- A tick lies in one of these columns.
+-- A tick is charged in one of these columns.
 pub record LiesIn (charges : Charges) (cs : List ColumnDef) (w : Trace) (t j : ℕ) : Type 0 where
   pub column : ColumnDef
   pub is_it : charged_column charges w t j ≡ Some column
   pub there : Contains cs column
 
--- A tick lies in a column of the program.
+-- A tick is charged in a column of the program.
 abbrev pub InColumn : Charges → Protocol → Trace → ℕ → ℕ → Type 0
 InColumn charges p w t j = LiesIn charges (columns_of p w.set (task_of w j)) w t j
 
@@ -181,7 +182,7 @@ abbrev pub ArePointOf : Charges → List ColumnDef → List ConstraintDef → Tr
 ArePointOf charges cs rows w bounds n j =
     IsScaledPoint (program_with w.set cs rows bounds) (product_of_lengths w.set cs) (fractions_of charges w (slice_index bounds) n j cs)
 
--- And of its task's program.
+-- And they are one of its task's program.
 abbrev pub ArePoint : Charges → Protocol → Trace → List ℕ → ℕ → ℕ → Type 0
 ArePoint charges p w bounds n j = ArePointOf charges (columns_of p w.set (task_of w j)) (rows_of p w.set (task_of w j)) w bounds n j
 
@@ -205,8 +206,8 @@ dpcp_point w bounds n j premises keeps =
     fractions_are_point dpcp_charge protocol.Dpcp w bounds n j (columns_have_lengths protocol.Dpcp w.set (task_of w j) premises.formed)
     (dpcp_rows_met w (slice_index bounds) n j (dpcp_window w bounds n j premises keeps) keeps)
 
--- Where the fractions are a point of a program with these columns, and each blocked tick lies in one of them, a dual bounds the blocked
--- ticks.
+-- Let the fractions be a point of a program with these columns, and let each blocked tick be charged in one of them. Then a dual bounds the
+-- blocked ticks.
 pub point_bounds : (charges : Charges) (interferes : Trace → ℕ → ℕ → Bool) (w : Trace) (bounds : List ℕ) (n j den : ℕ) (num : ℕ → ℕ)
     (program : ProgramDef) (cs : List ColumnDef) → program.costs ≡ map (cost_of w.set) cs
     → IsScaledPoint program (product_of_lengths w.set cs) (fractions_of charges w (slice_index bounds) n j cs)

@@ -58,7 +58,7 @@ pub start_of-first : (from : ℕ) (jobs : List KeptJob) → from ≡ start_of fr
 start_of-first from [] = refl
 start_of-first from (job ∷ jobs) = refl
 
--- The segments of a job behind the first begin where those of the one before it end.
+-- The segments of a job after the first begin where those of the one before it end.
 pub start_of-next : (from : ℕ) (jobs : List KeptJob) (j : ℕ) (d : KeptJob) → j < length jobs
     → start_of from jobs (suc j) ≡ (get_or jobs j d).end
 start_of-next from [] j d l = absurd (omega arith)

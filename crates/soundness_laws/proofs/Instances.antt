@@ -1,5 +1,5 @@
--- Programs over any columns and rows analyse a protocol whose blocked ticks lie in the columns and meet the rows: those of MPCP, FMLP+
--- and DPCP are instances.
+-- Programs over any columns and rows analyse a protocol if its blocked ticks are charged in the columns and meet the rows. Those of MPCP,
+-- FMLP+ and DPCP are instances.
 use Rattle.std.proofs.Common.{ℕ, ◌<◌, ◌≤◌, Bool, true, List, length, subst, sym, refl, arith, ◌≡◌, map}
 use Rattle.std.specs.Prelude.{slice_index}
 use Rattle.number_laws.specs.Tests.{count_below}
