@@ -9,7 +9,7 @@ use crate::limits::{
     MOST_COUNT, MOST_NAME, MOST_PROCESSORS, MOST_REQUESTS, MOST_RESOURCES, MOST_TASKS, MOST_TICKS,
 };
 
-/// No refusal of a task set is due exactly if all its sizes, names, numbers, entries and homes are in their ranges.
+/// No refusal of a task set is due if and only if all its sizes, names, numbers, entries and homes are in their ranges.
 pub fn refusals_are_exact()
     ensures { (set : SetDef) → (first_refusal set ≡ None) ↔ IsAccepted set }
 {}
