@@ -29,7 +29,7 @@ abbrev pub IsLonger : Option Inputs → List ℕ → ℕ → Type 0
 IsLonger None name limit = Unit {0}
 IsLonger (Some inputs) name limit = IsSomeAnd (bytes_of inputs name) (λ bytes. limit < length bytes)
 
--- Is the named input started, with this rest? If the names are not told, the rest isn't told either.
+-- Is the named input started, with this rest? If the rest isn't told, the names aren't told either.
 abbrev pub Opens : Option Inputs → List ℕ → Option (List ℕ) → Type 0
 Opens names name None = names ≡ None
 Opens names name (Some rest) = IsNamed names name rest

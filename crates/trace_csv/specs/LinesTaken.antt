@@ -1,4 +1,4 @@
--- What does it say that the lines of a file are taken, one after another, whatever is made of them?
+-- What is said when the lines of a file are taken, one after another, whatever is made of them.
 use Rattle.std.specs.Prelude.{◌≡◌, ◌<◌, ◌+◌, ◌⊎◌, ◌++◌, ℕ, List, [], ◌∷◌, length, take, Option, None, Some, Result, Ok, Err}
 use Rattle.trace_csv.specs.Records.{Fields, line_at}
 

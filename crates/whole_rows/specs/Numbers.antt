@@ -59,7 +59,7 @@ pub record IsCancelled (top bottom f p : ℤ) : Type 0 where
 abbrev pub DividesEach : ℕ → List ℤ → Type 0
 DividesEach d nums = (k : ℕ) → d ∣ unsigned_abs (number_at nums k)
 
--- Is each number, after a division, `by` times less than before?
+-- Is each number before a division `by` times what it is after?
 pub record AreDivided (before : List ℤ) (by : ℤ) (after : List ℤ) : Type 0 where
   pub as_many : length after ≡ length before
   pub each : (k : ℕ) → number_at before k ≡ number_at after k *ℤ by

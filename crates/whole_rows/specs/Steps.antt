@@ -11,7 +11,7 @@ pub record AreSmallCells (row : RowDef) : Type 0 where
   pub cells : (k : ℕ) → IsSmall (cell_at row k)
   pub limit : IsSmall (limit_of row)
 
--- Is `divided` the row divided by its cell at k? At k it has what was 1 before, the cell of the variable that leaves.
+-- Is `divided` the row divided by its cell at k? At k it has 1 divided by that cell, for the variable that leaves.
 pub record IsDividedRow (row : RowDef) (k : ℕ) (divided : RowDef) : Type 0 where
   pub as_many : length divided.nums ≡ length row.nums
   pub small : AreSmallCells divided

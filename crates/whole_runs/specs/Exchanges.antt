@@ -28,7 +28,7 @@ pub record IsLeft (p : ProgramDef) (i : ℕ) (row : Option RowDef) (k : ℕ) (di
   pub others : (j : ℕ) → j ≢ k → IsSmallLess (cell_seen p row i j) (cell_seen p row i k) (cell_at divided j) (cell_seen p left i j)
   pub limit : IsSmallLess (limit_seen p row i) (cell_seen p row i k) (limit_of divided) (limit_seen p left i)
 
--- Is row r divided by its cell at k? At k it has what was 1 before.
+-- Is row r divided by its cell at k? At k it has 1 divided by that cell, for the variable that leaves.
 pub record IsDivided (p : ProgramDef) (r : ℕ) (row : Option RowDef) (k : ℕ) (divided : RowDef) : Type 0 where
   pub small : AreSmallCells divided
   pub own : IsQuotient (whole (pos 1)) (cell_seen p row r k) (cell_at divided k)

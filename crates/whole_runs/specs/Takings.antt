@@ -31,7 +31,7 @@ pub record IsLeftAt (p : ProgramDef) (i : ℕ) (before : Option RowDef) (k : ℕ
 abbrev pub IsTaken : ProgramDef → ℕ → Option RowDef → ℕ → PivotDef → Option RowDef → Type 0
 IsTaken p i before k pivot after = (divided : RowDef) → IsPivotOf pivot divided → IsLeftAt p i before k divided after
 
--- For the first n rows but r: is each that the column lists changed in this way, and are the others as they were?
+-- Take the first n rows that the column lists. Is each of them but r changed in this way, and are all other rows as they were?
 pub record AreTakenTo (n : ℕ) (p : ProgramDef) (before after : List (Option RowDef)) (column : List Entry) (k r : ℕ) (pivot : PivotDef)
     : Type 0 where
   pub as_many : length after ≡ length before
