@@ -93,3 +93,21 @@ pub kept_at : {A B : Type 0} (id : A → B) (f : ℕ → B) (xs : List A) (n x :
 kept_at id f xs n x d kept h =
     sym (element-map id xs x d (f x) (omega (arith, kept_long id f xs n kept)))
     ∙ ap (λ l. slice_index_or l x (f x)) kept ∙ get_or-map-range_with_len f 0 n x x (f x) h (omega arith)
+
+-- What lists of ids, kept for each of some numbers, have at number x: those below m that pass the test.
+pub record HasIds {A V : Type 0} (items : V → List A) (id : A → ℕ) (p : ℕ → Bool) (m x : ℕ) (rows : List V) : Type 0 where
+  pub within : x < length rows
+  pub ids : map id (slice_index_or (map items rows) x []) ≡ filter p (numbers m)
+  pub below : All (λ a. id a < m) (slice_index_or (map items rows) x [])
+
+pub has_ids : {A V : Type 0} (items : V → List A) (id : A → ℕ) (p : ℕ → ℕ → Bool) (m n x : ℕ) (rows : List V)
+    → map (map id) (map items rows) ≡ map (λ k. filter (p k) (numbers m)) (numbers n) → x < n → HasIds items id (p x) m x rows
+has_ids items id p m n x rows kept h =
+    let long : length (map items rows) ≡ n = kept_long (map id) (λ k. filter (p k) (numbers m)) (map items rows) n kept in
+    let ids : map id (slice_index_or (map items rows) x []) ≡ filter (p x) (numbers m) =
+    kept_at (map id) (λ k. filter (p k) (numbers m)) (map items rows) n x [] kept h in
+    record {
+      within = omega (arith, long, length-map rows items);
+      ids = ids;
+      below = below_of_ids id (p x) m (slice_index_or (map items rows) x []) ids;
+    }

@@ -1,7 +1,7 @@
 -- What the tables of a set say, in terms of its definitions.
 use Rattle.std.proofs.Common.{◌≡◌, ℕ, ◌+◌, ◌<◌, ◌≤◌, not, ◌==◌, List, [], length, map, ap, subst, sym, ◌∙◌, refl, arith}
-use Rattle.std.proofs.Common.{Option, Some, None, nat_lt, IfSome, IfNone, Result, Ok, Err, IfOk, IfErr}
-use Rattle.std.specs.List.{slice_index_or, find}
+use Rattle.std.proofs.Common.{Bool, Option, Some, None, nat_lt, IfSome, IfNone, Result, Ok, Err, IfOk, IfErr}
+use Rattle.std.specs.List.{slice_index_or, find, filter}
 use Rattle.std.specs.Option.{option_map, option_or}
 use Rattle.std.specs.Str.{bytes_eq}
 use Rattle.std.proofs.lemmas.List.{length-map}
@@ -15,7 +15,7 @@ use Rattle.sporadic_model.specs.Refusals.{Judged}
 use Rattle.sporadic_model.specs.declared.refusal.ModelRefusal.{ModelRefusal}
 use Rattle.sporadic_model.specs.declared.refusal.ModelRefusal.TheVariants as refusal
 use Rattle.sporadic_model.proofs.Mapped.{element-map}
-use Rattle.sporadic_model.proofs.Filtered.{find_filter, kept_long, kept_at}
+use Rattle.sporadic_model.proofs.Filtered.{find_filter, kept_long, kept_at, HasIds, has_ids}
 use Rattle.sporadic_model.proofs.Laws.{numbers_of_accepted, entry_of_accepted, highest_user, no_user, boost_of_found}
 use Rattle.sporadic_model.proofs.Laws.{no_user_found, boost_is_task}
 
@@ -96,6 +96,16 @@ pub boost_none : (set : SetDef) (q k : ℕ) (kept : Option TaskId) → option_ma
     → IfNone kept (HasNoUser set q)
 boost_none set q k None e = no_user_found set q (find (is_remote_user set q k) (numbers (length set.tasks))) (sym e)
 boost_none set q k (Some x) e = tt
+
+-- What a set keeps in lists of ids, one for each of `long set` numbers, says at number x which of `most set` numbers pass its test. The
+-- set and the lists are those that a contract sees.
+pub ids_kept : {A V : Type 0} (items : V → List A) (id : A → ℕ) (test : SetDef → ℕ → ℕ → Bool) (most long : SetDef → ℕ) (x : ℕ)
+    (kept set : SetDef) (held rows : List V) → kept ≡ set → rows ≡ held
+    → map (map id) (map items held) ≡ map (λ k. filter (test kept k) (numbers (most kept))) (numbers (long kept)) → x < long set
+    → HasIds items id (test set x) (most set) x rows
+ids_kept items id test most long x kept set held rows same moved are h =
+    has_ids items id (test set) (most set) (long set) x rows (ap (λ l. map (map id) (map items l)) moved
+    ∙ subst (λ s. map (map id) (map items held) ≡ map (λ k. filter (test s k) (numbers (most s))) (numbers (long s))) same are) h
 
 -- The row kept for processor k has an entry for each resource.
 pub boosts_row : (set : SetDef) (rows : List (List (Option TaskId))) (k : ℕ) → AreBoosts set rows → k ≤ set.processors

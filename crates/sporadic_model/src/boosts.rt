@@ -11,7 +11,7 @@ ghost use Rattle.sporadic_model.specs.Demands.{AreUsers, AreBoosts, boosts_on};
 use crate::ids::TaskId;
 use crate::lookup::task_part;
 use crate::parts::Parts;
-use crate::users::users_at;
+use crate::users::row_at;
 use std::alloc::{AllocError, Global};
 
 /// Is task `x` on another processor than `k`?
@@ -41,7 +41,7 @@ fn boost_of(parts: &Parts, users: &[Vec<TaskId>], k: usize, q: usize) -> Option<
     requires resource { q < length (parts_seen parts.now).resources }
     ensures { option_map (λ x. x.0) result ≡ remote_ceiling_of (parts_seen parts.now) q k }
 {
-    let of_resource = users_at(users, q);
+    let of_resource = row_at(users, q);
     match first_beyond(parts, of_resource, k as u64) {
         Some(x) => Some(x),
         None => of_resource.first().copied(),

@@ -18,7 +18,7 @@ use crate::limits::{MOST_COUNT, MOST_PROCESSORS, MOST_RESOURCES, MOST_TASKS, MOS
 use crate::lookup::{place_of_resource, place_of_task, resource_part, task_part};
 use crate::parts::{Parts, ResourcePart, TaskPart};
 use crate::refusal::ModelRefusal;
-use crate::users::{used_at, used_by_tasks, users_at, users_of_resources};
+use crate::users::{row_at, used_by_tasks, users_of_resources};
 use std::alloc::Global;
 use std::marker::Model;
 
@@ -62,12 +62,12 @@ impl TaskSet {
     {
         match first_refusal(&parts) {
             Some(refusal) => Err(refusal),
-            None => TaskSet::resolved(alloc, parts),
+            None => TaskSet::with_tables(alloc, parts),
         }
     }
 
-    /// The set of accepted parts, with the requests of its tasks resolved.
-    fn resolved(alloc: Global, parts: Parts) -> Result<TaskSet, ModelRefusal>
+    /// The set of accepted parts, with the tables of what its tasks request and use.
+    fn with_tables(alloc: Global, parts: Parts) -> Result<TaskSet, ModelRefusal>
         requires { IsAccepted (parts_seen parts) }
         ensures ok { IfOk result (λ set. set ≡ parts_seen parts) }
         ensures err { IfErr result (λ refusal. refusal ≡ ModelRefusal.Memory) }
@@ -267,7 +267,7 @@ impl TaskSet {
         ensures value { map (λ q. q.0) result.now ≡ used_by self.now x.0 }
         ensures within { All (λ q. q.0 < length self.now.resources) result.now }
     {
-        used_at(&self.used, x.0 as usize)
+        row_at(&self.used, x.0 as usize)
     }
 
     /// The tasks whose jobs may request the resource, from the highest to the lowest.
@@ -276,7 +276,7 @@ impl TaskSet {
         ensures value { map (λ x. x.0) result.now ≡ users_of self.now q.0 }
         ensures within { All (λ x. x.0 < length self.now.tasks) result.now }
     {
-        users_at(&self.users, q.0 as usize)
+        row_at(&self.users, q.0 as usize)
     }
 
     /// The resource's home, the processor that runs its requests under a protocol that needs one. None if the set gives no home.
