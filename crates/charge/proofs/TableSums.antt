@@ -16,7 +16,7 @@ use Rattle.number_laws.proofs.OnlyIfLaws.{only_if-nothing}
 use Rattle.number_laws.proofs.CountLaws.{flag-at_most, flag-of_true}
 use Rattle.schedule_model.specs.RowDef.{Trace}
 use Rattle.schedule_model.specs.BlockedTicks.{is_blocked}
-use Rattle.fragments.specs.ClassOrder.{class_rank}
+use Rattle.blocking_columns.specs.ClassOrder.{class_rank}
 use Rattle.row_laws.proofs.ColumnSums.{sum_by-swap, sum_by-element}
 use Rattle.charge_laws.specs.Charges.{Charge}
 use Rattle.charge_laws.specs.Windows.{window_end}

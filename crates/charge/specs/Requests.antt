@@ -4,7 +4,7 @@ use Rattle.std.specs.Option.{option_and_then}
 use Rattle.schedule_model.specs.RowDef.{Trace}
 use Rattle.schedule_model.specs.Phase.{Phase, phase_of}
 use Rattle.schedule_model.specs.Phase.Phase.{Asking}
-use Rattle.fragments.specs.declared.columns.Class.{Class}
+use Rattle.blocking_columns.specs.declared.columns.Class.{Class}
 use Rattle.charge_laws.specs.Charges.{Charge}
 
 -- A request that blocks: the job that makes it, its number among the segments of the job's script, its resource, and the way in which it

@@ -8,8 +8,8 @@ use Rattle.std.specs.declared.cmp.Ordering.{Ordering}
 use Rattle.number_laws.specs.Tests.{count_below}
 use Rattle.schedule_model.specs.RowDef.{Trace}
 use Rattle.schedule_model.specs.BlockedTicks.{is_blocked}
-use Rattle.fragments.specs.ClassOrder.{class_rank, class_cmp}
-use Rattle.fragments.specs.declared.columns.Class.{Class}
+use Rattle.blocking_columns.specs.ClassOrder.{class_rank, class_cmp}
+use Rattle.blocking_columns.specs.declared.columns.Class.{Class}
 use Rattle.charge_laws.specs.Charges.{Charge}
 use Rattle.charge_laws.specs.Windows.{window_end}
 use Rattle.charge.specs.declared.item.ChargeItem.{ChargeItem}

@@ -9,9 +9,9 @@ use Rattle.number_laws.specs.Sums.{only_if}
 use Rattle.number_laws.specs.Tests.{count_below}
 use Rattle.schedule_model.specs.RowDef.{Trace}
 use Rattle.schedule_model.specs.Activity.{task_of}
-use Rattle.fragments.specs.ClassOrder.{class_rank}
-use Rattle.fragments.specs.contracts.columns.ClassOrd.TheImpl as class_order
-use Rattle.fragments.specs.declared.columns.Class.{Class}
+use Rattle.blocking_columns.specs.ClassOrder.{class_rank}
+use Rattle.blocking_columns.specs.contracts.columns.ClassOrd.TheImpl as class_order
+use Rattle.blocking_columns.specs.declared.columns.Class.{Class}
 use Rattle.charge_laws.specs.Charges.{Charge}
 use Rattle.charge_laws.specs.Windows.{bound_end}
 use Rattle.charge.specs.declared.tally.ChargePlace.{ChargePlace}

@@ -3,7 +3,7 @@ ghost use Rattle.sporadic_model.specs.Homes.{HasHomesFor};
 ghost use Rattle.schedule_model.specs.RowDef.{trace_in, ticks_of};
 ghost use Rattle.schedule_model.specs.Fitting.{is_fitting};
 ghost use Rattle.charge_laws.specs.Windows.{AreBounds};
-ghost use Rattle.fragments.specs.Columns.{columns_of};
+ghost use Rattle.blocking_columns.specs.Columns.{columns_of};
 ghost use Rattle.program_laws.specs.Programs.{program_of};
 ghost use Rattle.schedule_model.specs.ByProtocol.{rules_of, interference_of};
 ghost use Rattle.charged_protocols.specs.ByProtocol.{charges_of};

@@ -6,7 +6,7 @@ ghost use Rattle.schedule_model.specs.Keeping.{KeepsRow};
 ghost use Rattle.phase_machine.specs.MachineDef.{under};
 ghost use Rattle.phase_machine.specs.Now.{phase_now, current_now};
 ghost use Rattle.phase_machine.specs.Shows.{Shows};
-ghost use Rattle.fragments.specs.declared.columns.Class.{Class as ClassDef};
+ghost use Rattle.blocking_columns.specs.declared.columns.Class.{Class as ClassDef};
 ghost use Rattle.charge_laws.specs.Charges.{Charge};
 ghost use Rattle.charge_laws.specs.Windows.{AreBounds};
 ghost use Rattle.trace_walk.specs.Runs.{IsAtRun};
@@ -15,8 +15,8 @@ ghost use Rattle.charge.specs.Tally.{IsTally, AreCountedAlike, place_of, place_a
 
 use crate::due::end_of;
 use crate::tally::{ChargePlace, add_named};
+use blocking_columns::Class;
 use charged_protocols::ChargedProtocol;
-use fragments::Class;
 use phase_machine::lookup::tasks_of;
 use phase_machine::{Machine, Phase};
 use schedule_model::{JobId, RowReader};

@@ -1,6 +1,6 @@
 ghost use Rattle.std.specs.Prelude.{◌≡◌};
 
-use fragments::Class;
+use blocking_columns::Class;
 use schedule_answers::Breach;
 use schedule_model::JobId;
 use sporadic_model::ResourceId;

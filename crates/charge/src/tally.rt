@@ -6,7 +6,7 @@ ghost use Rattle.charge_laws.specs.Charges.{Charge};
 ghost use Rattle.charge.specs.Ledgers.{IsLedger};
 ghost use Rattle.charge.specs.Tally.{IsTally, count_at, is_same_place, is_place};
 
-use fragments::Class;
+use blocking_columns::Class;
 use schedule_model::JobId;
 use std::alloc::{AllocError, Global};
 use std::collections::BTreeMap;

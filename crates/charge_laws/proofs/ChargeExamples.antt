@@ -18,9 +18,9 @@ use Rattle.schedule_model.proofs.DpcpTests.{passes_dpcp, dpcp_from}
 use Rattle.schedule_model.proofs.KeepingTests.{keeps_from}
 use Rattle.schedule_model.proofs.WorkedFiles.{task, once, resource, then_request, local_only, job, run, trace_a}
 use Rattle.schedule_model.proofs.WorkedFiles.{set_home, trace_home, trace_one}
-use Rattle.fragments.specs.declared.columns.Class.{Class}
-use Rattle.fragments.specs.declared.columns.Class.TheVariants.{Direct, Indirect, Preemption}
-use Rattle.fragments.specs.ColumnDef.{ColumnDef}
+use Rattle.blocking_columns.specs.declared.columns.Class.{Class}
+use Rattle.blocking_columns.specs.declared.columns.Class.TheVariants.{Direct, Indirect, Preemption}
+use Rattle.blocking_columns.specs.ColumnDef.{ColumnDef}
 use Rattle.charge_laws.specs.Charges.{Charge, shared_charge, dpcp_charge}
 use Rattle.charge_laws.specs.Interferers.{interferes_with_some, is_interference_of}
 use Rattle.charge_laws.specs.Fractions.{ticks_in, product_of_lengths, fractions_of}

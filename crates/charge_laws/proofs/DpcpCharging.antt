@@ -19,9 +19,9 @@ use Rattle.schedule_laws.proofs.ActiveJobs.{Active, active_is, active_listed, on
 use Rattle.schedule_laws.proofs.Rows.{runs_from}
 use Rattle.schedule_laws.proofs.RuleUses.{locals_busy, requests_busy, request_among}
 use Rattle.schedule_laws.proofs.KindsOfTicks.{Blocked, blocked_is, delayed_from, higher_local_from}
-use Rattle.fragments.specs.declared.columns.Class.{Class}
+use Rattle.blocking_columns.specs.declared.columns.Class.{Class}
 use Rattle.charge_laws.specs.Charges.{Charge, class_at_home, dpcp_charge, Executes}
-use Rattle.fragments.specs.declared.columns.Class.TheVariants.{Direct, Indirect, Preemption}
+use Rattle.blocking_columns.specs.declared.columns.Class.TheVariants.{Direct, Indirect, Preemption}
 
 -- Job r runs on processor k, in a request of a resource that has its home there, and holds it.
 pub record RunsRequest (w : Trace) (t k r : ℕ) : Type 0 where

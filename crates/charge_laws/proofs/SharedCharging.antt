@@ -18,9 +18,9 @@ use Rattle.schedule_laws.proofs.Rows.{runs_from, ReadyHolder, ready_holder_is, r
 use Rattle.schedule_laws.proofs.Rows.{ready_holding, ready_active, ready_listed}
 use Rattle.schedule_laws.proofs.RuleUses.{ready_busy, requested_held}
 use Rattle.schedule_laws.proofs.KindsOfTicks.{Blocked, blocked_is, delayed_from, higher_local_from}
-use Rattle.fragments.specs.declared.columns.Class.{Class}
+use Rattle.blocking_columns.specs.declared.columns.Class.{Class}
 use Rattle.charge_laws.specs.Charges.{Charge, charge_by_holder, shared_charge, Executes}
-use Rattle.fragments.specs.declared.columns.Class.TheVariants.{Direct, Indirect, Preemption}
+use Rattle.blocking_columns.specs.declared.columns.Class.TheVariants.{Direct, Indirect, Preemption}
 
 -- Job j is ready, and job r, a ready holder of a lower task, runs on its processor.
 pub record PreemptedBy (w : Trace) (t j r : ℕ) : Type 0 where

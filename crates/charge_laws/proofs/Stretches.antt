@@ -12,7 +12,7 @@ use Rattle.schedule_model.specs.BlockedTicks.{is_shared_interference, is_dpcp_in
 use Rattle.schedule_model.specs.DpcpRules.{home_of}
 use Rattle.schedule_model.specs.declared.rule.Rule.{Rule}
 use Rattle.schedule_laws.proofs.Alike.{IsAlike, alike_through, ready_alike, running_alike, shared_blocked_alike, dpcp_blocked_alike}
-use Rattle.fragments.specs.declared.columns.Class.TheVariants.{Direct, Indirect, Preemption}
+use Rattle.blocking_columns.specs.declared.columns.Class.TheVariants.{Direct, Indirect, Preemption}
 use Rattle.charge_laws.specs.Charges.{Charge, charge_to, charge_of_waiting, shared_charge, class_at_home, charge_by_phase, dpcp_charge}
 use Rattle.charge_laws.specs.Stretches.{StaysCharged}
 

@@ -2,7 +2,7 @@
 use Rattle.std.specs.Prelude.{◌≡◌, ℕ, List, Option, Some}
 use Rattle.std.specs.List.{Contains}
 use Rattle.schedule_model.specs.RowDef.{Trace}
-use Rattle.fragments.specs.ColumnDef.{ColumnDef}
+use Rattle.blocking_columns.specs.ColumnDef.{ColumnDef}
 use Rattle.charge_laws.specs.Charges.{Charge, Executes}
 use Rattle.charge_laws.specs.Fractions.{charged_column}
 

@@ -12,9 +12,9 @@ ghost use Rattle.charged_protocols.specs.Seen.{charge_seen};
 ghost use Rattle.charged_protocols.specs.ChargeNow.{home_charge_now, dpcp_charge_now};
 
 use crate::shared::charge_to;
+use blocking_columns::Class;
 use dpcp_rules::blocking::blocked;
 use dpcp_rules::lookup::home_of;
-use fragments::Class;
 use phase_machine::lookup::{column_at, running_beside};
 use phase_machine::{Machine, Phase};
 use schedule_model::{JobId, Row};

@@ -14,7 +14,7 @@ ghost use Rattle.schedule_model.specs.Seen.{row_seen};
 ghost use Rattle.phase_machine.specs.MachineDef.{under};
 ghost use Rattle.phase_machine.specs.Shows.{Shows};
 ghost use Rattle.phase_machine.specs.Taking.{IsRowFor};
-ghost use Rattle.fragments.specs.ColumnDef.{ColumnDef};
+ghost use Rattle.blocking_columns.specs.ColumnDef.{ColumnDef};
 ghost use Rattle.program_laws.specs.Programs.{cost_of};
 ghost use Rattle.charge_laws.specs.Charges.{Charge};
 ghost use Rattle.charge_laws.specs.ChargedTicks.{IsCharged};
@@ -24,7 +24,7 @@ ghost use Rattle.charge_laws.specs.Fractions.{product_of_lengths, fractions_of};
 ghost use Rattle.charge_laws.specs.Stretches.{StaysCharged};
 ghost use Rattle.charged_protocols.specs.Seen.{charge_seen};
 
-use fragments::Class;
+use blocking_columns::Class;
 use phase_machine::{Judge, Machine};
 use program_sources::ProgramSource;
 use schedule_model::{JobId, Row};

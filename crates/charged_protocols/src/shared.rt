@@ -5,12 +5,12 @@ ghost use Rattle.schedule_model.specs.Seen.{row_seen, place_seen};
 ghost use Rattle.phase_machine.specs.MachineDef.{under};
 ghost use Rattle.phase_machine.specs.Shows.{Shows};
 ghost use Rattle.phase_machine.specs.Taking.{IsRowFor};
-ghost use Rattle.fragments.specs.declared.columns.Class.{Class as ClassDef};
+ghost use Rattle.blocking_columns.specs.declared.columns.Class.{Class as ClassDef};
 ghost use Rattle.charge_laws.specs.Charges.{charge_to, shared_charge};
 ghost use Rattle.charged_protocols.specs.Seen.{charge_seen};
 ghost use Rattle.charged_protocols.specs.ChargeNow.{holder_charge_now, waiting_charge_now, shared_charge_now};
 
-use fragments::Class;
+use blocking_columns::Class;
 use phase_machine::lookup::{holder_at, may_run, running_beside};
 use phase_machine::{Machine, Phase};
 use schedule_model::{JobId, Row};

@@ -3,9 +3,9 @@ use Rattle.std.proofs.Common.{ℕ, ◌+◌, ◌<◌, ◌==◌, ◌&&◌, not, Li
 use Rattle.std.specs.Prelude.{slice_index}
 use Rattle.sporadic_model.specs.SetDef.{SetDef}
 use Rattle.sporadic_model.specs.Homes.{home_in}
-use Rattle.fragments.specs.declared.columns.Class.TheVariants.{Preemption}
-use Rattle.fragments.specs.ColumnDef.{is_class}
-use Rattle.fragments.specs.Columns.{blocks_at_home}
+use Rattle.blocking_columns.specs.declared.columns.Class.TheVariants.{Preemption}
+use Rattle.blocking_columns.specs.ColumnDef.{is_class}
+use Rattle.blocking_columns.specs.Columns.{blocks_at_home}
 use Rattle.fragments.specs.Constraints.{ConstraintDef, per_pair}
 use Rattle.direct_constraints.specs.Rows.{common_rows, turn_row}
 use Rattle.preempt_constraints.specs.Rows.{preemption_rows}

@@ -4,10 +4,10 @@ use Rattle.std.specs.Prelude.{slice_index}
 use Rattle.number_laws.specs.Sums.{flag}
 use Rattle.number_laws.specs.Tests.{any_below}
 use Rattle.sporadic_model.specs.SetDef.{SetDef}
-use Rattle.fragments.specs.declared.columns.Class.{Class}
-use Rattle.fragments.specs.declared.columns.Class.TheVariants as class
-use Rattle.fragments.specs.ColumnDef.{is_class}
-use Rattle.fragments.specs.Columns.{have_one_processor}
+use Rattle.blocking_columns.specs.declared.columns.Class.{Class}
+use Rattle.blocking_columns.specs.declared.columns.Class.TheVariants as class
+use Rattle.blocking_columns.specs.ColumnDef.{is_class}
+use Rattle.blocking_columns.specs.Columns.{have_one_processor}
 use Rattle.fragments.specs.Constraints.{per_pair}
 use Rattle.direct_constraints.specs.Rows.{common_rows}
 use Rattle.spin_charging.specs.SpinPrograms.{is_used_beside, blocks_by_spinning, lower_request_row, is_from, is_used_below, spinning_row}

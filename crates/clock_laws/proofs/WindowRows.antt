@@ -15,11 +15,11 @@ use Rattle.sporadic_model.specs.Homes.{home_in}
 use Rattle.sporadic_model.specs.declared.ids.Protocol.TheVariants as protocol
 use Rattle.schedule_model.specs.Measures.{greatest_below}
 use Rattle.program_sources.proofs.RecurrenceLaws.{div_ceil_rises}
-use Rattle.fragments.specs.declared.columns.Class.TheVariants.{Preemption}
-use Rattle.fragments.specs.ColumnDef.{is_class}
-use Rattle.fragments.specs.Columns.{columns_of}
+use Rattle.blocking_columns.specs.declared.columns.Class.TheVariants.{Preemption}
+use Rattle.blocking_columns.specs.ColumnDef.{is_class}
+use Rattle.blocking_columns.specs.Columns.{columns_of}
 use Rattle.fragments.specs.Constraints.{per_pair}
-use Rattle.fragments.specs.Windows.{jobs_during, requests_during, requests_in}
+use Rattle.blocking_columns.specs.Windows.{jobs_during, requests_during, requests_in}
 use Rattle.program_laws.specs.Programs.{rows_of}
 use Rattle.window_laws.specs.Windows.{time_at, may_hold_up, longest_lower, ticks_there, ticks_by, is_enough, window_of}
 use Rattle.window_laws.specs.WindowRows.{meets_there, requests_met, requests_there, lacks_window, window_row, windowed_rows, windowed_source}

@@ -25,7 +25,7 @@ ghost use Rattle.schedule_model.specs.Ranks.{mpcp, fmlp_plus};
 ghost use Rattle.schedule_model.specs.Protocols.{shared_rule, dpcp_rule};
 ghost use Rattle.program_sources.specs.Bounds.{AreWithinDeadlines};
 ghost use Rattle.program_sources.specs.Valid.{IsValid};
-ghost use Rattle.fragments.specs.Columns.{columns_of};
+ghost use Rattle.blocking_columns.specs.Columns.{columns_of};
 ghost use Rattle.program_laws.specs.Programs.{source_of};
 ghost use Rattle.soundness_laws.specs.Sound.{blocked_in_window};
 ghost use Rattle.soundness_laws.specs.Analyses.{AreValues};

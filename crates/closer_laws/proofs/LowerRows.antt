@@ -23,10 +23,10 @@ use Rattle.schedule_laws.proofs.ActiveJobs.{active_local_from, active_stays}
 use Rattle.schedule_laws.proofs.Holders.{open_at}
 use Rattle.schedule_laws.proofs.Issues.{issue_at_most, open_since}
 use Rattle.schedule_laws.proofs.Rows.{ready_active, ready_local}
-use Rattle.fragments.specs.declared.columns.Class.{Class}
-use Rattle.fragments.specs.declared.columns.Class.TheVariants.{Direct, Indirect, Preemption}
-use Rattle.fragments.specs.ColumnDef.{ColumnDef, is_preemption}
-use Rattle.fragments.specs.Columns.{is_lower_local}
+use Rattle.blocking_columns.specs.declared.columns.Class.{Class}
+use Rattle.blocking_columns.specs.declared.columns.Class.TheVariants.{Direct, Indirect, Preemption}
+use Rattle.blocking_columns.specs.ColumnDef.{ColumnDef, is_preemption}
+use Rattle.blocking_columns.specs.Columns.{is_lower_local}
 use Rattle.charge_laws.specs.Charges.{shared_charge}
 use Rattle.charge_laws.specs.Windows.{window_end}
 use Rattle.charge_laws.proofs.SharedCharging.{PreemptedBy, SharedReason, shared_reason}

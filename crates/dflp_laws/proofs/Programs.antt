@@ -10,11 +10,11 @@ use Rattle.sporadic_model.specs.SetDef.{SetDef}
 use Rattle.sporadic_model.specs.Homes.{home_in}
 use Rattle.sporadic_model.specs.Accepted.{IsAccepted}
 use Rattle.program_sources.specs.Bounds.{AtMost, AreWithinDeadlines}
-use Rattle.fragments.specs.ColumnDef.{is_preemption}
-use Rattle.fragments.specs.Columns.{is_lower_local}
-use Rattle.fragments.specs.Windows.{requests_at}
+use Rattle.blocking_columns.specs.ColumnDef.{is_preemption}
+use Rattle.blocking_columns.specs.Columns.{is_lower_local}
+use Rattle.blocking_columns.specs.Windows.{requests_at}
 use Rattle.fragments.specs.Constraints.{ConstraintDef, per_pair}
-use Rattle.fragments.proofs.KnownColumns.{passing_known}
+use Rattle.blocking_columns.proofs.KnownColumns.{passing_known}
 use Rattle.direct_constraints.specs.Rows.{common_rows, turn_row}
 use Rattle.preempt_constraints.specs.Rows.{preemption_rows, interval_row}
 use Rattle.program_laws.specs.Written.{IsSmallRow, Rises, HasJobsAtMost, KeepsJobs}

@@ -5,10 +5,10 @@ use Rattle.program_sources.specs.Recurrence.{SourceDef}
 use Rattle.sporadic_model.specs.SetDef.{SetDef}
 use Rattle.sporadic_model.specs.Homes.{home_in}
 use Rattle.sporadic_model.specs.declared.ids.Protocol.TheVariants as protocol
-use Rattle.fragments.specs.declared.columns.Class.TheVariants.{Preemption}
-use Rattle.fragments.specs.ColumnDef.{ColumnDef, is_class}
-use Rattle.fragments.specs.Columns.{blocks_at_home, is_column_by, columns_by}
-use Rattle.fragments.specs.Windows.{requests_at}
+use Rattle.blocking_columns.specs.declared.columns.Class.TheVariants.{Preemption}
+use Rattle.blocking_columns.specs.ColumnDef.{ColumnDef, is_class}
+use Rattle.blocking_columns.specs.Columns.{blocks_at_home, is_column_by, columns_by}
+use Rattle.blocking_columns.specs.Windows.{requests_at}
 use Rattle.fragments.specs.Constraints.{ConstraintDef, counting, per_pair}
 use Rattle.direct_constraints.specs.Rows.{common_rows, turn_row}
 use Rattle.preempt_constraints.specs.Rows.{preemption_rows}

@@ -6,11 +6,11 @@ use Rattle.program_form.specs.Program.{height, columns}
 use Rattle.sporadic_model.specs.SetDef.{SetDef}
 use Rattle.sporadic_model.specs.Homes.{home_in}
 use Rattle.sporadic_model.specs.Accepted.{IsAccepted}
-use Rattle.fragments.specs.ColumnDef.{ColumnDef, is_class}
-use Rattle.fragments.specs.Columns.{AreRequests, AreOfOthers}
+use Rattle.blocking_columns.specs.ColumnDef.{ColumnDef, is_class}
+use Rattle.blocking_columns.specs.Columns.{AreRequests, AreOfOthers}
 use Rattle.fragments.specs.Constraints.{per_pair, rows_there}
-use Rattle.fragments.specs.Columns.{blocks_at_home}
-use Rattle.fragments.specs.declared.columns.Class.TheVariants.{Preemption}
+use Rattle.blocking_columns.specs.Columns.{blocks_at_home}
+use Rattle.blocking_columns.specs.declared.columns.Class.TheVariants.{Preemption}
 use Rattle.direct_constraints.specs.Rows.{common_rows, turn_row}
 use Rattle.preempt_constraints.specs.Rows.{preemption_rows}
 use Rattle.program_laws.proofs.FewRows.{pair_rows_few, turn_of, common_there, preemption_there}

@@ -3,9 +3,9 @@
 ghost use Rattle.std.specs.Prelude.{◌<◌, map, length, OnOk};
 ghost use Rattle.sporadic_model.specs.Homes.{EachHasHome};
 ghost use Rattle.program_sources.specs.Bounds.{AreWithinDeadlines};
-ghost use Rattle.fragments.specs.ColumnDef.{column_seen, AreKnown};
-ghost use Rattle.fragments.specs.Asked.{AreAskedBeside};
-ghost use Rattle.fragments.specs.Stretches.{AreInOrder};
+ghost use Rattle.blocking_columns.specs.ColumnDef.{column_seen, AreKnown};
+ghost use Rattle.blocking_columns.specs.Asked.{AreAskedBeside};
+ghost use Rattle.blocking_columns.specs.Stretches.{AreInOrder};
 ghost use Rattle.dflp_laws.specs.Programs.{is_dflp_column, dflp_columns, dflp_rows, dflp_source};
 ghost use Rattle.dflp_laws.proofs.Programs.{dflp_covered, dflp_rises, dflp_is_program};
 
@@ -32,8 +32,8 @@ struct DflpColumns {
 }
 
 impl ColumnTest for DflpColumns {
-    ghost use Rattle.fragments.specs.Requested.{columns_are_requests};
-    ghost use Rattle.fragments.specs.Columns.{blocks_at_home};
+    ghost use Rattle.blocking_columns.specs.Requested.{columns_are_requests};
+    ghost use Rattle.blocking_columns.specs.Columns.{blocks_at_home};
 
     ghost passes = { λ k set i c. is_dflp_column set i c };
 

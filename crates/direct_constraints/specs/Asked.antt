@@ -3,8 +3,8 @@ use Rattle.std.specs.Prelude.{◌≡◌, ℕ, true, List}
 use Rattle.std.specs.List.{All}
 use Rattle.sporadic_model.specs.SetDef.{SetDef}
 use Rattle.sporadic_model.specs.Users.{is_user}
-use Rattle.fragments.specs.declared.columns.Fragment.{Fragment}
-use Rattle.fragments.specs.ColumnDef.{ColumnDef, column_seen, is_direct}
+use Rattle.blocking_columns.specs.declared.columns.Fragment.{Fragment}
+use Rattle.blocking_columns.specs.ColumnDef.{ColumnDef, column_seen, is_direct}
 
 -- Does the column's task use the column's resource? And if the column is of direct blocking, does task i use it too?
 abbrev pub IsAskedFor : SetDef → ℕ → ColumnDef → Type 0

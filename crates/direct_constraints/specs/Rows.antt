@@ -5,9 +5,9 @@ use Rattle.sporadic_model.specs.SetDef.{SetDef, task_at}
 use Rattle.sporadic_model.specs.Users.{count_of, length_of}
 use Rattle.sporadic_model.specs.declared.ids.Protocol.{Protocol}
 use Rattle.sporadic_model.specs.declared.ids.Protocol.TheVariants as protocol
-use Rattle.fragments.specs.declared.columns.Class.TheVariants.{Direct}
-use Rattle.fragments.specs.ColumnDef.{is_class}
-use Rattle.fragments.specs.Windows.{jobs_during, requests_during}
+use Rattle.blocking_columns.specs.declared.columns.Class.TheVariants.{Direct}
+use Rattle.blocking_columns.specs.ColumnDef.{is_class}
+use Rattle.blocking_columns.specs.Windows.{jobs_during, requests_during}
 use Rattle.fragments.specs.Constraints.{ConstraintDef, counting, per, per_pair}
 
 -- Requests: of q by x, in all classes together, at most as many as x makes while a job of i runs.

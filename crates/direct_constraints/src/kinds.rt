@@ -4,9 +4,9 @@ ghost use Rattle.std.specs.Prelude.{◌<◌, ◌+◌, ◌&&◌, [], ◌∷◌, l
 ghost use Rattle.std.proofs.Common.{ap};
 ghost use Rattle.number_laws.specs.Sums.{flag, only_if};
 ghost use Rattle.sporadic_model.specs.Users.{length_of};
-ghost use Rattle.fragments.specs.declared.columns.Class.TheVariants.{Direct};
-ghost use Rattle.fragments.specs.ColumnDef.{is_class};
-ghost use Rattle.fragments.specs.Stretches.{slot, BeginsAt};
+ghost use Rattle.blocking_columns.specs.declared.columns.Class.TheVariants.{Direct};
+ghost use Rattle.blocking_columns.specs.ColumnDef.{is_class};
+ghost use Rattle.blocking_columns.specs.Stretches.{slot, BeginsAt};
 ghost use Rattle.direct_constraints.specs.Asked.{AreAskedFor};
 ghost use Rattle.direct_constraints.specs.Rows.{request_row, time_row, turn_row, lower_holder_row};
 

@@ -10,7 +10,7 @@ use Rattle.number_laws.proofs.SumLaws.{sum_below-agree}
 use Rattle.number_laws.proofs.CountLaws.{count_below-from, count_below-none}
 use Rattle.number_laws.proofs.TestLaws.{any_below-some, any_below-none}
 use Rattle.sporadic_model.specs.SetDef.{SetDef, task_at}
-use Rattle.fragments.specs.Columns.{have_one_processor}
+use Rattle.blocking_columns.specs.Columns.{have_one_processor}
 use Rattle.sporadic_model.specs.Users.{is_user, count_of}
 use Rattle.indirect_constraints.specs.Rows.{is_beside, lower_holdings}
 use Rattle.indirect_constraints.specs.Tables.{lower_user}

@@ -4,7 +4,7 @@ use Rattle.number_laws.specs.Sums.{sum_below, only_if}
 use Rattle.number_laws.proofs.SumLaws.{sum_below-agree, sum_below-plus, sum_below-swap, sum_below-zero}
 use Rattle.sporadic_model.specs.SetDef.{SetDef}
 use Rattle.sporadic_model.specs.Users.{is_user}
-use Rattle.fragments.specs.Windows.{requests_in}
+use Rattle.blocking_columns.specs.Windows.{requests_in}
 use Rattle.indirect_constraints.specs.Rows.{is_beside, higher_holdings, lower_holdings, holdings}
 use Rattle.indirect_constraints.specs.Tables.{awaited}
 

@@ -13,8 +13,8 @@ use Rattle.sporadic_model.specs.SetDef.{SetDef, task_at}
 use Rattle.sporadic_model.specs.Users.{numbers, is_user, count_of, users_of, used_by}
 use Rattle.sporadic_model.specs.declared.ids.TaskId.{TaskId}
 use Rattle.sporadic_model.specs.declared.ids.ResourceId.{ResourceId}
-use Rattle.fragments.specs.Windows.{requests_in, jobs_in}
-use Rattle.fragments.proofs.KeptNumbers.{sum_of_kept}
+use Rattle.blocking_columns.specs.Windows.{requests_in, jobs_in}
+use Rattle.blocking_columns.proofs.KeptNumbers.{sum_of_kept}
 use Rattle.indirect_constraints.specs.Tables.{sum_on, lower_user}
 
 -- At most as many are kept as there are.

@@ -4,8 +4,8 @@ use Rattle.std.specs.List.{All}
 use Rattle.sporadic_model.specs.SetDef.{SetDef}
 use Rattle.sporadic_model.specs.Users.{is_user}
 use Rattle.sporadic_model.specs.Homes.{home_in}
-use Rattle.fragments.specs.declared.columns.Fragment.{Fragment}
-use Rattle.fragments.specs.ColumnDef.{ColumnDef, column_seen, is_preemption}
+use Rattle.blocking_columns.specs.declared.columns.Fragment.{Fragment}
+use Rattle.blocking_columns.specs.ColumnDef.{ColumnDef, column_seen, is_preemption}
 
 -- Does task i use a resource of the home of the column's resource? Nothing is asked of a column of preemption.
 abbrev pub IsAskedAtHome : SetDef → ℕ → ColumnDef → Type 0

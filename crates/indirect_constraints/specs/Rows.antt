@@ -7,10 +7,10 @@ use Rattle.sporadic_model.specs.Users.{count_of, is_user}
 use Rattle.sporadic_model.specs.declared.ids.Protocol.{Protocol}
 use Rattle.sporadic_model.specs.declared.ids.Protocol.TheVariants as protocol
 use Rattle.sporadic_model.specs.Homes.{home_in}
-use Rattle.fragments.specs.declared.columns.Class.TheVariants.{Indirect, Preemption}
-use Rattle.fragments.specs.ColumnDef.{is_class}
-use Rattle.fragments.specs.Columns.{have_one_processor}
-use Rattle.fragments.specs.Windows.{requests_by_higher, all_requests, requests_at}
+use Rattle.blocking_columns.specs.declared.columns.Class.TheVariants.{Indirect, Preemption}
+use Rattle.blocking_columns.specs.ColumnDef.{is_class}
+use Rattle.blocking_columns.specs.Columns.{have_one_processor}
+use Rattle.blocking_columns.specs.Windows.{requests_by_higher, all_requests, requests_at}
 use Rattle.fragments.specs.Constraints.{ConstraintDef, counting, per}
 
 -- Queues: if requests are served in the order of issue, each request of i waits for at most one request of x, of any resource.

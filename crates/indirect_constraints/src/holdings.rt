@@ -3,7 +3,7 @@
 ghost use Rattle.std.specs.Prelude.{◌≡◌, ℕ, ◌+◌, ◌<◌, ◌≤◌, length, slice_index, IfOk, OnOk};
 ghost use Rattle.sporadic_model.specs.Users.{count_of};
 ghost use Rattle.program_sources.specs.Bounds.{AreWithinDeadlines};
-ghost use Rattle.fragments.specs.Windows.{requests_in};
+ghost use Rattle.blocking_columns.specs.Windows.{requests_in};
 ghost use Rattle.indirect_constraints.specs.Tables.{AreHoldings, AreSums, awaited, held_on, held_alone, lower_user, over_used};
 
 use crate::tables::{add_at, leave_own, sum_lower, sums_of, where_passed};

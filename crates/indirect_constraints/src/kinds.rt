@@ -3,10 +3,10 @@
 ghost use Rattle.std.specs.Prelude.{◌≡◌, ◌<◌, ◌≤◌, ◌+◌, ◌&&◌, not, [], ◌∷◌, slice_index};
 ghost use Rattle.std.proofs.Common.{ap};
 ghost use Rattle.number_laws.specs.Sums.{flag};
-ghost use Rattle.fragments.specs.declared.columns.Class.TheVariants.{Indirect, Preemption};
-ghost use Rattle.fragments.specs.ColumnDef.{is_class};
-ghost use Rattle.fragments.specs.Stretches.{slot, BeginsAt};
-ghost use Rattle.fragments.specs.Windows.{all_requests};
+ghost use Rattle.blocking_columns.specs.declared.columns.Class.TheVariants.{Indirect, Preemption};
+ghost use Rattle.blocking_columns.specs.ColumnDef.{is_class};
+ghost use Rattle.blocking_columns.specs.Stretches.{slot, BeginsAt};
+ghost use Rattle.blocking_columns.specs.Windows.{all_requests};
 ghost use Rattle.indirect_constraints.specs.Asked.{AreAskedAtHome};
 ghost use Rattle.indirect_constraints.specs.Rows.{queue_row, holding_row, home_row};
 ghost use Rattle.indirect_constraints.specs.Tables.{AreHoldings};

@@ -1,4 +1,4 @@
-use fragments::Class;
+use blocking_columns::Class;
 use sporadic_model::Protocol;
 use worked_sets::{BESIDE, EntryRow, SetRow, THREE, TaskRow, task_row};
 

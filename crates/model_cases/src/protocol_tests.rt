@@ -3,7 +3,7 @@ ghost use Rattle.program_sources.specs.Bounds.{AreWithinDeadlines};
 
 use crate::protocol_rows::{CASES, Case, LOCAL, PATHS};
 use crate::threads::may_cross_threads;
-use fragments::{Class, Fragment, TaskPlace, cnt, columns_stand_in_order, task_places};
+use blocking_columns::{Class, Fragment, TaskPlace, cnt, columns_stand_in_order, task_places};
 use program_form::{Coefficient, Program, RowBlock, SparseProgram};
 use protocol_programs::{ProgramSource, Written};
 use request_windows::DpcpWindows;
@@ -62,7 +62,7 @@ fn gives_the_columns(rt: HostRuntime) -> Result<(), Fail> {
         if case.task >= set.tasks() || !suits(&set, case.protocol) {
             return Err("out of range".into());
         }
-        let columns = fragments::fragments(alloc, &set, case.protocol, TaskId(case.task))?;
+        let columns = blocking_columns::fragments(alloc, &set, case.protocol, TaskId(case.task))?;
         assert!(rt; are_columns(&columns, case.columns));
     }
     Ok(())
@@ -197,7 +197,7 @@ fn gives_common_rows_and_those_of_preemption(rt: HostRuntime) -> Result<(), Fail
         return Err("out of range".into());
     }
     let (i, mpcp) = (TaskId(3), Protocol::Mpcp);
-    let columns = fragments::fragments(alloc, &set, mpcp, i)?;
+    let columns = blocking_columns::fragments(alloc, &set, mpcp, i)?;
     let common = direct_constraints::common(alloc, &set, mpcp, i, &PATH_BOUNDS, &columns)?;
     let limits = [1, 1, 1, 1, 10, 10, 10, 10];
     assert_eq!(rt; common.limits.as_slice(), limits.as_slice());
@@ -219,7 +219,7 @@ fn gives_the_places_of_tasks(rt: HostRuntime) -> Result<(), Fail> {
         return Err("out of range".into());
     }
     let (i, mpcp) = (TaskId(3), Protocol::Mpcp);
-    let columns = fragments::fragments(alloc, &set, mpcp, i)?;
+    let columns = blocking_columns::fragments(alloc, &set, mpcp, i)?;
     let columns = columns.as_slice();
     columns_stand_in_order(&set, mpcp, i, columns);
     let places = task_places(alloc, &set, i, &PATH_BOUNDS, columns)?;
@@ -245,7 +245,7 @@ fn gives_direct_and_indirect_rows(rt: HostRuntime) -> Result<(), Fail> {
         return Err("out of range".into());
     }
     let (i, mpcp) = (TaskId(3), Protocol::Mpcp);
-    let columns = fragments::fragments(alloc, &set, mpcp, i)?;
+    let columns = blocking_columns::fragments(alloc, &set, mpcp, i)?;
     let own = direct_constraints::own(alloc, &set, mpcp, i, &PATH_BOUNDS, &columns)?;
     assert!(rt; is_block(&own, &[&[0, 0, 0, 1]], &[1]));
     let indirect = indirect_constraints::rows(alloc, &set, mpcp, i, &PATH_BOUNDS, &columns)?;

@@ -1,5 +1,5 @@
 use crate::protocol_tests::are_within;
-use fragments::uses;
+use blocking_columns::uses;
 use program_form::Certificate;
 use request_windows::{DpcpWindows, program, window};
 use response_fixpoint::{Verdict, analyse, analyse_with};

@@ -16,7 +16,7 @@ use Rattle.protocol_names.specs.declared.ProtocolName.{ProtocolName}
 use Rattle.protocol_names.specs.declared.ProtocolName.TheVariants as name
 use Rattle.sporadic_model.specs.Users.{is_user}
 use Rattle.program_sources.proofs.RecurrenceLaws.{comes_up_above}
-use Rattle.fragments.specs.Columns.{blocks_at_home}
+use Rattle.blocking_columns.specs.Columns.{blocks_at_home}
 use Rattle.dflp_laws.specs.Programs.{dflp_source, is_dflp_column}
 use Rattle.dflp_laws.proofs.Programs.{dflp_rises}
 use Rattle.dflp_laws.proofs.Soundness.{dflp_sound}

@@ -1,10 +1,10 @@
 -- The rows of preemption blocking, the same under every protocol. In each, i is the analysed task.
 use Rattle.std.specs.Prelude.{ℕ, ◌+◌, ◌==◌, ◌&&◌, List, length}
 use Rattle.sporadic_model.specs.SetDef.{SetDef}
-use Rattle.fragments.specs.declared.columns.Class.TheVariants.{Preemption}
-use Rattle.fragments.specs.ColumnDef.{is_class}
-use Rattle.fragments.specs.Columns.{is_lower_local}
-use Rattle.fragments.specs.Windows.{all_requests}
+use Rattle.blocking_columns.specs.declared.columns.Class.TheVariants.{Preemption}
+use Rattle.blocking_columns.specs.ColumnDef.{is_class}
+use Rattle.blocking_columns.specs.Columns.{is_lower_local}
+use Rattle.blocking_columns.specs.Windows.{all_requests}
 use Rattle.fragments.specs.Constraints.{ConstraintDef, counting, per_where}
 
 -- Intervals: a job of i can be preempted from its release on, and again after each of its requests. Each time at most one request of x

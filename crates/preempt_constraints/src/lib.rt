@@ -7,13 +7,13 @@ ghost use Rattle.number_laws.specs.Sums.{flag};
 ghost use Rattle.program_form.specs.RowBlock.{block_seen};
 ghost use Rattle.program_sources.specs.Bounds.{AreWithinDeadlines};
 ghost use Rattle.sporadic_model.specs.Homes.{HasHomesFor};
-ghost use Rattle.fragments.specs.declared.columns.Class.TheVariants.{Preemption};
-ghost use Rattle.fragments.specs.ColumnDef.{column_seen, is_class, AreKnown};
-ghost use Rattle.fragments.specs.Columns.{columns_of, is_lower_local};
-ghost use Rattle.fragments.specs.Windows.{all_requests};
+ghost use Rattle.blocking_columns.specs.declared.columns.Class.TheVariants.{Preemption};
+ghost use Rattle.blocking_columns.specs.ColumnDef.{column_seen, is_class, AreKnown};
+ghost use Rattle.blocking_columns.specs.Columns.{columns_of, is_lower_local};
+ghost use Rattle.blocking_columns.specs.Windows.{all_requests};
 ghost use Rattle.fragments.specs.Constraints.{block_of};
-ghost use Rattle.fragments.specs.Stretches.{AreInOrder};
-ghost use Rattle.fragments.specs.TaskPlaces.{ArePlaces};
+ghost use Rattle.blocking_columns.specs.Stretches.{AreInOrder};
+ghost use Rattle.blocking_columns.specs.TaskPlaces.{ArePlaces};
 ghost use Rattle.preempt_constraints.specs.Rows.{interval_row, preemption_rows};
 
 use fragments::{

@@ -9,11 +9,11 @@ use Rattle.number_laws.specs.Sums.{flag}
 use Rattle.program_form.specs.Program.{IsCovered, columns}
 use Rattle.sporadic_model.specs.SetDef.{SetDef}
 use Rattle.sporadic_model.specs.declared.ids.Protocol.{Protocol}
-use Rattle.fragments.specs.declared.columns.Class.TheVariants as class
-use Rattle.fragments.specs.ColumnDef.{ColumnDef, IsKnown}
-use Rattle.fragments.specs.Columns.{columns_of}
+use Rattle.blocking_columns.specs.declared.columns.Class.TheVariants as class
+use Rattle.blocking_columns.specs.ColumnDef.{ColumnDef, IsKnown}
+use Rattle.blocking_columns.specs.Columns.{columns_of}
 use Rattle.fragments.specs.Constraints.{ConstraintDef, per, per_pair, holds_some, rows_there, coefficients_of}
-use Rattle.fragments.proofs.KnownColumns.{columns_known}
+use Rattle.blocking_columns.proofs.KnownColumns.{columns_known}
 use Rattle.direct_constraints.specs.Rows.{request_row, time_row, common_rows}
 use Rattle.preempt_constraints.specs.Rows.{preemption_rows}
 use Rattle.program_laws.specs.Programs.{protocol_rows, rows_of, program_with, program_of, cost_of}

@@ -16,10 +16,10 @@ use Rattle.sporadic_model.specs.Users.{is_user, length_of}
 use Rattle.sporadic_model.specs.Accepted.{IsAccepted}
 use Rattle.sporadic_model.specs.declared.ids.Protocol.{Protocol}
 use Rattle.sporadic_model.specs.declared.ids.Protocol.TheVariants as protocol
-use Rattle.fragments.specs.ColumnDef.{ColumnDef, is_direct, is_indirect, is_preemption}
-use Rattle.fragments.specs.Columns.{is_column, columns_where, columns_of, is_lower_local, AreRequests, AreOfOthers}
+use Rattle.blocking_columns.specs.ColumnDef.{ColumnDef, is_direct, is_indirect, is_preemption}
+use Rattle.blocking_columns.specs.Columns.{is_column, columns_where, columns_of, is_lower_local, AreRequests, AreOfOthers}
 use Rattle.fragments.specs.Constraints.{ConstraintDef, per, per_where, per_pair, holds_some, rows_there}
-use Rattle.fragments.proofs.KnownColumns.{passing_pass, columns_are_requests, columns_are_of_others}
+use Rattle.blocking_columns.proofs.KnownColumns.{passing_pass, columns_are_requests, columns_are_of_others}
 use Rattle.direct_constraints.specs.Rows.{request_row, time_row, turn_row, lower_holder_row, common_rows}
 use Rattle.preempt_constraints.specs.Rows.{interval_row, preemption_rows}
 use Rattle.indirect_constraints.specs.Rows.{queue_row, holding_row, home_row}

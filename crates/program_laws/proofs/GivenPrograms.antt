@@ -8,10 +8,10 @@ use Rattle.program_form.specs.Program.{IsProgram, HasLengths, AreSmall}
 use Rattle.program_form.specs.Limits.{HasLimitsAtMost}
 use Rattle.sporadic_model.specs.SetDef.{SetDef}
 use Rattle.sporadic_model.specs.Accepted.{IsAccepted}
-use Rattle.fragments.specs.ColumnDef.{ColumnDef, IsKnown}
-use Rattle.fragments.specs.Columns.{columns_where}
+use Rattle.blocking_columns.specs.ColumnDef.{ColumnDef, IsKnown}
+use Rattle.blocking_columns.specs.Columns.{columns_where}
 use Rattle.fragments.specs.Constraints.{ConstraintDef, holds_some, rows_there, limits_of}
-use Rattle.fragments.proofs.KnownColumns.{passing_known}
+use Rattle.blocking_columns.proofs.KnownColumns.{passing_known}
 use Rattle.direct_constraints.specs.Rows.{request_row}
 use Rattle.program_laws.specs.Programs.{program_with, cost_of}
 use Rattle.program_laws.specs.Written.{IsSmallRow, Rises, AreWritten}

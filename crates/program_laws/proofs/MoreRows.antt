@@ -9,9 +9,9 @@ use Rattle.program_form.specs.Program.{ProgramDef, columns, height, entry, limit
 use Rattle.program_form.specs.Points.{IsScaledPoint}
 use Rattle.sporadic_model.specs.SetDef.{SetDef}
 use Rattle.program_sources.specs.Fitting.{AreFitting}
-use Rattle.fragments.specs.ColumnDef.{ColumnDef}
-use Rattle.fragments.specs.declared.columns.Class.{Class}
-use Rattle.fragments.specs.Columns.{columns_by}
+use Rattle.blocking_columns.specs.ColumnDef.{ColumnDef}
+use Rattle.blocking_columns.specs.declared.columns.Class.{Class}
+use Rattle.blocking_columns.specs.Columns.{columns_by}
 use Rattle.fragments.specs.Constraints.{ConstraintDef, holds_some, rows_there, coefficients_of, limits_of}
 use Rattle.program_laws.specs.Programs.{program_with, source_with}
 

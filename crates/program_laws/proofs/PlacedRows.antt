@@ -13,11 +13,11 @@ use Rattle.program_form.specs.Program.{height, columns}
 use Rattle.sporadic_model.specs.SetDef.{SetDef}
 use Rattle.sporadic_model.specs.Users.{is_user, length_of}
 use Rattle.sporadic_model.specs.Accepted.{IsAccepted}
-use Rattle.fragments.specs.declared.columns.Class.{Class}
-use Rattle.fragments.specs.ColumnDef.{ColumnDef, IsKnown}
-use Rattle.fragments.specs.Columns.{is_column_by, columns_where, AreRequests, AreOfOthers}
+use Rattle.blocking_columns.specs.declared.columns.Class.{Class}
+use Rattle.blocking_columns.specs.ColumnDef.{ColumnDef, IsKnown}
+use Rattle.blocking_columns.specs.Columns.{is_column_by, columns_where, AreRequests, AreOfOthers}
 use Rattle.fragments.specs.Constraints.{ConstraintDef, per_pair, holds_some, rows_there}
-use Rattle.fragments.proofs.KnownColumns.{passing_pass, passing_known}
+use Rattle.blocking_columns.proofs.KnownColumns.{passing_pass, passing_known}
 use Rattle.program_laws.specs.Programs.{program_with}
 use Rattle.program_laws.proofs.FewRows.{kept_pairs, held}
 use Rattle.program_laws.proofs.UsedResources.{pairs_few}

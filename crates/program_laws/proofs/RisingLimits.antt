@@ -10,7 +10,7 @@ use Rattle.sporadic_model.specs.Users.{count_of, is_user}
 use Rattle.sporadic_model.specs.declared.ids.Protocol.{Protocol}
 use Rattle.program_sources.specs.Bounds.{AtMost}
 use Rattle.program_sources.proofs.RecurrenceLaws.{div_ceil_rises}
-use Rattle.fragments.specs.Windows.{jobs_in, requests_in}
+use Rattle.blocking_columns.specs.Windows.{jobs_in, requests_in}
 use Rattle.direct_constraints.specs.Rows.{time_row, common_rows}
 use Rattle.preempt_constraints.specs.Rows.{preemption_rows}
 use Rattle.indirect_constraints.specs.Rows.{is_beside, higher_holdings, lower_holdings, holdings}

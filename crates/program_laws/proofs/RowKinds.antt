@@ -5,9 +5,9 @@ use Rattle.std.proofs.lemmas.List.Elements.{All-nil, All-cons, All-append}
 use Rattle.sporadic_model.specs.SetDef.{SetDef}
 use Rattle.sporadic_model.specs.declared.ids.Protocol.{Protocol}
 use Rattle.sporadic_model.specs.declared.ids.Protocol.TheVariants as protocol
-use Rattle.fragments.specs.Columns.{is_lower_local}
+use Rattle.blocking_columns.specs.Columns.{is_lower_local}
 use Rattle.fragments.specs.Constraints.{ConstraintDef, per, per_where, per_pair}
-use Rattle.fragments.proofs.KnownColumns.{all_collected}
+use Rattle.blocking_columns.proofs.KnownColumns.{all_collected}
 use Rattle.direct_constraints.specs.Rows.{request_row, time_row, turn_row, lower_holder_row, common_rows, own_rows}
 use Rattle.preempt_constraints.specs.Rows.{interval_row, preemption_rows}
 use Rattle.indirect_constraints.specs.Rows.{queue_row, holding_row, home_row, indirect_rows}

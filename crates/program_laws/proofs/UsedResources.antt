@@ -18,10 +18,10 @@ use Rattle.sporadic_model.specs.Users.{is_user}
 use Rattle.sporadic_model.specs.Accepted.{IsAccepted, AreNamed}
 use Rattle.sporadic_model.specs.declared.ids.Protocol.{Protocol}
 use Rattle.sporadic_model.proofs.Laws.{sizes_of_accepted, names_of_accepted}
-use Rattle.fragments.specs.declared.columns.Class.TheVariants as class
-use Rattle.fragments.specs.ColumnDef.{ColumnDef, classes_of}
-use Rattle.fragments.specs.Columns.{is_column, columns_where, columns_of, AreRequests}
-use Rattle.fragments.proofs.KnownColumns.{columns_are_requests}
+use Rattle.blocking_columns.specs.declared.columns.Class.TheVariants as class
+use Rattle.blocking_columns.specs.ColumnDef.{ColumnDef, classes_of}
+use Rattle.blocking_columns.specs.Columns.{is_column, columns_where, columns_of, AreRequests}
+use Rattle.blocking_columns.proofs.KnownColumns.{columns_are_requests}
 use Rattle.program_laws.proofs.Lists.{filter_shorter}
 
 -- Is the entry one of a resource of this name?

@@ -6,9 +6,9 @@ use Rattle.sporadic_model.specs.Users.{length_of}
 use Rattle.sporadic_model.specs.declared.ids.Protocol.{Protocol}
 use Rattle.sporadic_model.specs.declared.ids.Protocol.TheVariants as protocol
 use Rattle.program_sources.specs.Recurrence.{SourceDef}
-use Rattle.fragments.specs.declared.columns.Class.{Class}
-use Rattle.fragments.specs.ColumnDef.{ColumnDef}
-use Rattle.fragments.specs.Columns.{may_block, columns_by, columns_of}
+use Rattle.blocking_columns.specs.declared.columns.Class.{Class}
+use Rattle.blocking_columns.specs.ColumnDef.{ColumnDef}
+use Rattle.blocking_columns.specs.Columns.{may_block, columns_by, columns_of}
 use Rattle.fragments.specs.Constraints.{ConstraintDef, per, per_pair, rows_there}
 use Rattle.direct_constraints.specs.Rows.{common_rows, turn_row, lower_holder_row}
 use Rattle.preempt_constraints.specs.Rows.{preemption_rows}

@@ -3,9 +3,9 @@ use Rattle.std.specs.Prelude.{◌≡◌, ℕ, ◌<◌, ◌≤◌, ◌^◌, List,
 use Rattle.std.specs.List.{All, Contains}
 use Rattle.program_form.specs.declared.TheConstants.{MOST_NUMBER}
 use Rattle.sporadic_model.specs.SetDef.{SetDef}
-use Rattle.fragments.specs.ColumnDef.{ColumnDef, IsKnown}
+use Rattle.blocking_columns.specs.ColumnDef.{ColumnDef, IsKnown}
 use Rattle.fragments.specs.Constraints.{ConstraintDef}
-use Rattle.fragments.specs.Windows.{jobs_in}
+use Rattle.blocking_columns.specs.Windows.{jobs_in}
 use Rattle.direct_constraints.specs.Rows.{request_row}
 
 -- Are the row's coefficients and its limit at these bounds small?

@@ -6,7 +6,7 @@ ghost use Rattle.program_form.specs.Program.{IsProgram};
 ghost use Rattle.sporadic_model.specs.SetDef.{SetDef};
 ghost use Rattle.sporadic_model.specs.Accepted.{IsAccepted};
 ghost use Rattle.program_sources.specs.Bounds.{AreWithinDeadlines};
-ghost use Rattle.fragments.specs.ColumnDef.{ColumnDef, column_seen, AreKnown};
+ghost use Rattle.blocking_columns.specs.ColumnDef.{ColumnDef, column_seen, AreKnown};
 ghost use Rattle.fragments.specs.Constraints.{ConstraintDef};
 ghost use Rattle.program_laws.specs.Programs.{cost_of, program_with};
 ghost use Rattle.protocol_programs.specs.Lists.{lists_of};

@@ -14,7 +14,7 @@ pub struct Written(pub Protocol);
 
 impl ProgramParts for Written {
     ghost use Rattle.sporadic_model.specs.Homes.{HasHomesFor};
-    ghost use Rattle.fragments.specs.Columns.{columns_of};
+    ghost use Rattle.blocking_columns.specs.Columns.{columns_of};
     ghost use Rattle.program_laws.specs.Programs.{rows_of};
     ghost use Rattle.program_laws.proofs.WrittenPrograms.{written_program};
 

@@ -6,11 +6,11 @@ use Rattle.program_form.specs.Program.{height, columns}
 use Rattle.sporadic_model.specs.SetDef.{SetDef}
 use Rattle.sporadic_model.specs.Accepted.{IsAccepted}
 use Rattle.sporadic_model.specs.declared.ids.Protocol.TheVariants as protocol
-use Rattle.fragments.specs.ColumnDef.{ColumnDef, is_class}
-use Rattle.fragments.specs.declared.columns.Class.TheVariants.{Preemption}
-use Rattle.fragments.specs.Columns.{is_column, columns_of}
+use Rattle.blocking_columns.specs.ColumnDef.{ColumnDef, is_class}
+use Rattle.blocking_columns.specs.declared.columns.Class.TheVariants.{Preemption}
+use Rattle.blocking_columns.specs.Columns.{is_column, columns_of}
 use Rattle.fragments.specs.Constraints.{per_pair, holds_some, rows_there}
-use Rattle.fragments.proofs.KnownColumns.{columns_are_requests, columns_are_of_others}
+use Rattle.blocking_columns.proofs.KnownColumns.{columns_are_requests, columns_are_of_others}
 use Rattle.direct_constraints.specs.Rows.{common_rows}
 use Rattle.preempt_constraints.specs.Rows.{preemption_rows}
 use Rattle.indirect_constraints.specs.Rows.{home_row}

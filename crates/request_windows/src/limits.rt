@@ -4,7 +4,7 @@ ghost use Rattle.std.specs.Prelude.{◌≡◌, ◌<◌, ◌≤◌, ◌*◌, true
 ghost use Rattle.number_laws.specs.Sums.{only_if};
 ghost use Rattle.sporadic_model.specs.Users.{is_user, count_of};
 ghost use Rattle.program_sources.specs.Bounds.{AreWithinDeadlines};
-ghost use Rattle.fragments.specs.Windows.{jobs_in};
+ghost use Rattle.blocking_columns.specs.Windows.{jobs_in};
 ghost use Rattle.window_laws.specs.WindowRows.{meets_there, requests_there, requests_met, window_row};
 ghost use Rattle.request_windows.specs.Windows.{AreWindows};
 

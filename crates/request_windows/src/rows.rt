@@ -3,9 +3,9 @@
 ghost use Rattle.std.specs.Prelude.{◌≡◌, ◌<◌, map, length, slice_index, OnOk};
 ghost use Rattle.sporadic_model.specs.Homes.{EachHasHome};
 ghost use Rattle.program_sources.specs.Bounds.{AreWithinDeadlines};
-ghost use Rattle.fragments.specs.ColumnDef.{column_seen, AreKnown};
-ghost use Rattle.fragments.specs.Stretches.{AreInOrder};
-ghost use Rattle.fragments.specs.TaskPlaces.{ArePlaces};
+ghost use Rattle.blocking_columns.specs.ColumnDef.{column_seen, AreKnown};
+ghost use Rattle.blocking_columns.specs.Stretches.{AreInOrder};
+ghost use Rattle.blocking_columns.specs.TaskPlaces.{ArePlaces};
 ghost use Rattle.window_laws.specs.WindowRows.{window_row, window_rows};
 ghost use Rattle.request_windows.specs.Windows.{AreWindows};
 

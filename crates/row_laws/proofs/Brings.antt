@@ -14,7 +14,7 @@ use Rattle.schedule_model.specs.Phase.{Phase, phase_of}
 use Rattle.schedule_model.specs.Phase.Phase.{Local, Asking, Finished}
 use Rattle.schedule_model.specs.Activity.{task_of, is_active}
 use Rattle.schedule_laws.specs.Agreement.{RunsActiveBefore}
-use Rattle.fragments.specs.ColumnDef.{ColumnDef}
+use Rattle.blocking_columns.specs.ColumnDef.{ColumnDef}
 use Rattle.charge_laws.specs.Charges.{Charge, Executes}
 use Rattle.charge_laws.specs.Windows.{EndedBy}
 use Rattle.charge_laws.specs.Fractions.{column_in}

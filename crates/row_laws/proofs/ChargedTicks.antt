@@ -16,8 +16,8 @@ use Rattle.schedule_model.specs.Ranks.{mpcp, fmlp_plus}
 use Rattle.schedule_model.specs.Protocols.{shared_rule, dpcp_rule}
 use Rattle.schedule_model.specs.Keeping.{KeepsBefore}
 use Rattle.schedule_model.specs.BlockedTicks.{is_shared_interference, is_dpcp_interference, is_blocked}
-use Rattle.fragments.specs.ColumnDef.{ColumnDef}
-use Rattle.fragments.specs.Columns.{columns_of}
+use Rattle.blocking_columns.specs.ColumnDef.{ColumnDef}
+use Rattle.blocking_columns.specs.Columns.{columns_of}
 use Rattle.program_laws.specs.Programs.{cost_of}
 use Rattle.charge_laws.specs.Charges.{Charge, shared_charge, dpcp_charge, Executes}
 use Rattle.charge_laws.specs.ChargedTicks.{IsCharged}

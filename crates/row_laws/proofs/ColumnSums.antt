@@ -10,9 +10,9 @@ use Rattle.number_laws.specs.Tests.{count_below}
 use Rattle.number_laws.proofs.SumLaws.{sum_below-agree, sum_below-plus, sum_below-monotone, sum_below-zero}
 use Rattle.number_laws.proofs.SumLaws.{sum_below-times_right, sum_below-list_by, sum_below-term}
 use Rattle.number_laws.proofs.CountLaws.{flag-at_most}
-use Rattle.fragments.specs.declared.columns.Class.{Class}
-use Rattle.fragments.specs.declared.columns.Class.TheVariants.{Direct, Indirect, Preemption}
-use Rattle.fragments.specs.ColumnDef.{ColumnDef, classes_of, all_columns}
+use Rattle.blocking_columns.specs.declared.columns.Class.{Class}
+use Rattle.blocking_columns.specs.declared.columns.Class.TheVariants.{Direct, Indirect, Preemption}
+use Rattle.blocking_columns.specs.ColumnDef.{ColumnDef, classes_of, all_columns}
 use Rattle.charge_laws.specs.Fractions.{is_same_class, is_same_column, is_in}
 use Rattle.row_laws.specs.Meeting.{brought}
 use Rattle.row_laws.proofs.Numbers.{sum_below-only}

@@ -17,10 +17,10 @@ use Rattle.schedule_model.specs.BlockedTicks.{is_dpcp_interference, is_blocked}
 use Rattle.schedule_laws.proofs.ActiveJobs.{active_listed}
 use Rattle.schedule_laws.proofs.KindsOfTicks.{Blocked, blocked_is}
 use Rattle.schedule_laws.proofs.Segments.{open_listed, open_resource, open_user}
-use Rattle.fragments.specs.declared.columns.Class.{Class}
-use Rattle.fragments.specs.declared.columns.Class.TheVariants.{Direct, Indirect, Preemption}
-use Rattle.fragments.specs.Ceilings.{ceiling_rank}
-use Rattle.fragments.specs.Columns.{requests_beside, may_block}
+use Rattle.blocking_columns.specs.declared.columns.Class.{Class}
+use Rattle.blocking_columns.specs.declared.columns.Class.TheVariants.{Direct, Indirect, Preemption}
+use Rattle.blocking_columns.specs.Ceilings.{ceiling_rank}
+use Rattle.blocking_columns.specs.Columns.{requests_beside, may_block}
 use Rattle.charge_laws.proofs.DpcpCharging.{HomeBlocked, LocalBlocked, DirectAtHome, DpcpReason}
 use Rattle.row_laws.proofs.SharedPlacement.{IsPlaced, other_task, passes_not}
 use Rattle.row_laws.proofs.HomeRow.{low_runner, runner_resource}

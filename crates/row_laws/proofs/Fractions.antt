@@ -16,8 +16,8 @@ use Rattle.sporadic_model.specs.Users.{length_of}
 use Rattle.sporadic_model.specs.declared.ids.Protocol.{Protocol}
 use Rattle.schedule_model.specs.RowDef.{Trace}
 use Rattle.schedule_model.specs.Activity.{task_of}
-use Rattle.fragments.specs.ColumnDef.{ColumnDef}
-use Rattle.fragments.specs.Columns.{is_column, columns_where, columns_of}
+use Rattle.blocking_columns.specs.ColumnDef.{ColumnDef}
+use Rattle.blocking_columns.specs.Columns.{is_column, columns_where, columns_of}
 use Rattle.fragments.specs.Constraints.{ConstraintDef, holds_some, rows_there}
 use Rattle.program_laws.specs.Programs.{cost_of, rows_of, program_with, program_of}
 use Rattle.program_laws.proofs.RowKinds.{EachKind, each_row}

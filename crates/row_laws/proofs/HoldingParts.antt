@@ -14,7 +14,7 @@ use Rattle.schedule_model.specs.Protocols.{shared_rule}
 use Rattle.schedule_model.specs.Keeping.{KeepsBefore}
 use Rattle.schedule_laws.proofs.Ticks.{open_between}
 use Rattle.schedule_laws.proofs.Holders.{shared_holder_stays}
-use Rattle.fragments.specs.ColumnDef.{is_indirect}
+use Rattle.blocking_columns.specs.ColumnDef.{is_indirect}
 use Rattle.charge_laws.specs.Charges.{shared_charge}
 use Rattle.charge_laws.specs.Windows.{window_end}
 use Rattle.row_laws.specs.Meeting.{brings}

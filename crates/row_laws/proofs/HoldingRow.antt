@@ -15,7 +15,7 @@ use Rattle.schedule_model.specs.Ranks.{mpcp}
 use Rattle.schedule_model.specs.Protocols.{shared_rule}
 use Rattle.schedule_model.specs.Keeping.{KeepsBefore}
 use Rattle.schedule_laws.proofs.Holders.{open_active}
-use Rattle.fragments.specs.Windows.{jobs_in, requests_in}
+use Rattle.blocking_columns.specs.Windows.{jobs_in, requests_in}
 use Rattle.indirect_constraints.specs.Rows.{is_beside, higher_holdings, lower_holdings, holding_row}
 use Rattle.charge_laws.specs.Charges.{shared_charge}
 use Rattle.charge_laws.specs.Windows.{window_end}

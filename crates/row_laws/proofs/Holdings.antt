@@ -19,7 +19,7 @@ use Rattle.schedule_model.specs.Keeping.{KeepsBefore}
 use Rattle.schedule_laws.proofs.ActiveJobs.{active_listed, one_active, Requester}
 use Rattle.schedule_laws.proofs.Rows.{runs_from, runs_where, ReadyHolder, ready_holder_is, ready_holder_from, ready_holding}
 use Rattle.schedule_laws.proofs.Segments.{open_resource, open_user}
-use Rattle.fragments.specs.ColumnDef.{ColumnDef, is_indirect}
+use Rattle.blocking_columns.specs.ColumnDef.{ColumnDef, is_indirect}
 use Rattle.indirect_constraints.specs.Rows.{is_beside}
 use Rattle.charge_laws.specs.Charges.{shared_charge}
 use Rattle.charge_laws.specs.Windows.{window_end}

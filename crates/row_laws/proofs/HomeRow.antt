@@ -17,9 +17,9 @@ use Rattle.schedule_laws.proofs.ActiveJobs.{active_listed, one_active, requester
 use Rattle.schedule_laws.proofs.DpcpLaws.{dpcp_runs_active}
 use Rattle.schedule_laws.proofs.Ticks.{one_resource}
 use Rattle.schedule_laws.proofs.Rows.{job_named}
-use Rattle.fragments.specs.declared.columns.Class.{Class}
-use Rattle.fragments.specs.declared.columns.Class.TheVariants.{Direct, Indirect, Preemption}
-use Rattle.fragments.specs.ColumnDef.{ColumnDef, is_preemption}
+use Rattle.blocking_columns.specs.declared.columns.Class.{Class}
+use Rattle.blocking_columns.specs.declared.columns.Class.TheVariants.{Direct, Indirect, Preemption}
+use Rattle.blocking_columns.specs.ColumnDef.{ColumnDef, is_preemption}
 use Rattle.sporadic_model.specs.Homes.{home_in}
 use Rattle.indirect_constraints.specs.Rows.{home_row}
 use Rattle.charge_laws.specs.Charges.{dpcp_charge}

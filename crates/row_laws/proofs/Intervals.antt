@@ -30,10 +30,10 @@ use Rattle.schedule_laws.proofs.Rows.{ready_local, ready_holding, ready_active}
 use Rattle.schedule_laws.proofs.Begun.{requests_begun_up, requests_begun_at_most, open_if_begun}
 use Rattle.schedule_laws.proofs.Holders.{shared_holder_stays}
 use Rattle.schedule_laws.proofs.OwnRequests.{all_requests}
-use Rattle.fragments.specs.declared.columns.Class.{Class}
-use Rattle.fragments.specs.declared.columns.Class.TheVariants.{Preemption}
-use Rattle.fragments.specs.ColumnDef.{ColumnDef, is_preemption}
-use Rattle.fragments.specs.Columns.{is_lower_local, have_one_processor}
+use Rattle.blocking_columns.specs.declared.columns.Class.{Class}
+use Rattle.blocking_columns.specs.declared.columns.Class.TheVariants.{Preemption}
+use Rattle.blocking_columns.specs.ColumnDef.{ColumnDef, is_preemption}
+use Rattle.blocking_columns.specs.Columns.{is_lower_local, have_one_processor}
 use Rattle.preempt_constraints.specs.Rows.{interval_row}
 use Rattle.charge_laws.specs.Charges.{shared_charge, dpcp_charge, Charge}
 use Rattle.charge_laws.specs.Windows.{window_end}

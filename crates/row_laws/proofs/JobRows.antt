@@ -19,8 +19,8 @@ use Rattle.schedule_laws.proofs.Ticks.{asking_is}
 use Rattle.schedule_laws.proofs.Rows.{runs_where}
 use Rattle.schedule_laws.proofs.Counts.{asking_at_most, executed_within}
 use Rattle.schedule_laws.proofs.Spacing.{arrived_within}
-use Rattle.fragments.specs.ColumnDef.{ColumnDef}
-use Rattle.fragments.specs.Windows.{jobs_in}
+use Rattle.blocking_columns.specs.ColumnDef.{ColumnDef}
+use Rattle.blocking_columns.specs.Windows.{jobs_in}
 use Rattle.direct_constraints.specs.Rows.{request_row, time_row}
 use Rattle.charge_laws.specs.Charges.{Executes}
 use Rattle.charge_laws.specs.Windows.{bound_end, window_end, EndedBy}

@@ -32,12 +32,12 @@ use Rattle.schedule_model.specs.Keeping.{KeepsBefore}
 use Rattle.schedule_model.specs.BlockedTicks.{is_shared_interference, is_dpcp_interference, is_blocked}
 use Rattle.schedule_laws.proofs.KindsOfTicks.{Blocked, blocked_is}
 use Rattle.schedule_laws.proofs.SharedLaws.{shared_runs_active}
-use Rattle.fragments.specs.declared.columns.Class.{Class}
-use Rattle.fragments.specs.declared.columns.Class.TheVariants.{Direct, Indirect, Preemption}
-use Rattle.fragments.specs.ColumnDef.{ColumnDef, classes_of, all_columns, IsKnown}
-use Rattle.fragments.specs.Columns.{is_column, columns_where, columns_of, AreRequests}
+use Rattle.blocking_columns.specs.declared.columns.Class.{Class}
+use Rattle.blocking_columns.specs.declared.columns.Class.TheVariants.{Direct, Indirect, Preemption}
+use Rattle.blocking_columns.specs.ColumnDef.{ColumnDef, classes_of, all_columns, IsKnown}
+use Rattle.blocking_columns.specs.Columns.{is_column, columns_where, columns_of, AreRequests}
 use Rattle.fragments.specs.Constraints.{ConstraintDef}
-use Rattle.fragments.proofs.KnownColumns.{passing_known, passing_pass, columns_are_requests}
+use Rattle.blocking_columns.proofs.KnownColumns.{passing_known, passing_pass, columns_are_requests}
 use Rattle.program_laws.specs.Programs.{cost_of, rows_of, program_with, program_of}
 use Rattle.program_laws.proofs.Lists.{contains_filter, contains_collected}
 use Rattle.charge_laws.specs.Charges.{Charge, shared_charge, dpcp_charge, Executes}

@@ -17,7 +17,7 @@ use Rattle.schedule_model.specs.Keeping.{KeepsBefore}
 use Rattle.schedule_laws.proofs.Ticks.{open_between}
 use Rattle.schedule_laws.proofs.ActiveJobs.{active_stays, Requester, requester_is, requester_from, requester_listed}
 use Rattle.schedule_laws.proofs.Rows.{job_named, named_job}
-use Rattle.fragments.specs.ColumnDef.{ColumnDef, is_direct}
+use Rattle.blocking_columns.specs.ColumnDef.{ColumnDef, is_direct}
 use Rattle.direct_constraints.specs.Rows.{lower_holder_row}
 use Rattle.charge_laws.specs.Charges.{shared_charge}
 use Rattle.charge_laws.specs.Windows.{window_end}

@@ -18,7 +18,7 @@ use Rattle.schedule_model.specs.Phase.{Phase, phase_of}
 use Rattle.schedule_model.specs.Phase.Phase.{Asking}
 use Rattle.schedule_model.specs.Activity.{task_of}
 use Rattle.schedule_laws.proofs.Segments.{RequestAt, open_segment, asks_some}
-use Rattle.fragments.specs.ColumnDef.{ColumnDef}
+use Rattle.blocking_columns.specs.ColumnDef.{ColumnDef}
 use Rattle.charge_laws.specs.Windows.{window_end}
 use Rattle.row_laws.specs.Meeting.{Charges, brings}
 use Rattle.row_laws.proofs.Brings.{Window, Hit}

@@ -9,9 +9,9 @@ use Rattle.schedule_model.specs.Activity.{task_of, is_active, is_requester}
 use Rattle.schedule_laws.specs.Agreement.{RunsActiveBefore}
 use Rattle.schedule_laws.proofs.ActiveJobs.{one_active, Requester, requester_is, requester_from}
 use Rattle.schedule_laws.proofs.Holders.{open_active, open_at}
-use Rattle.fragments.specs.declared.columns.Class.{Class}
-use Rattle.fragments.specs.declared.columns.Class.TheVariants.{Direct, Indirect, Preemption}
-use Rattle.fragments.specs.ColumnDef.{is_direct, is_indirect, is_preemption}
+use Rattle.blocking_columns.specs.declared.columns.Class.{Class}
+use Rattle.blocking_columns.specs.declared.columns.Class.TheVariants.{Direct, Indirect, Preemption}
+use Rattle.blocking_columns.specs.ColumnDef.{is_direct, is_indirect, is_preemption}
 use Rattle.schedule_model.specs.SharedRules.{Ranks}
 use Rattle.charge_laws.proofs.SharedCharging.{WaitsFor, DirectBy, IndirectBy, SharedReason}
 use Rattle.row_laws.proofs.SlotRow.{OneRequest}

@@ -22,10 +22,10 @@ use Rattle.schedule_laws.proofs.ActiveJobs.{active_listed, one_active}
 use Rattle.schedule_laws.proofs.Rows.{runs_from, runs_where, ReadyHolder, ready_holder_is, ready_active, ready_holding}
 use Rattle.schedule_laws.proofs.KindsOfTicks.{Blocked, blocked_is, delayed_from, HigherLocal, higher_local_is}
 use Rattle.schedule_laws.proofs.Segments.{open_listed, open_resource, open_user}
-use Rattle.fragments.specs.declared.columns.Class.{Class}
-use Rattle.fragments.specs.declared.columns.Class.TheVariants.{Direct, Indirect, Preemption}
-use Rattle.fragments.specs.Ceilings.{remote_ceiling_rank}
-use Rattle.fragments.specs.Columns.{may_run_before, is_path, has_path, blocks_by_sharing, may_block, is_column}
+use Rattle.blocking_columns.specs.declared.columns.Class.{Class}
+use Rattle.blocking_columns.specs.declared.columns.Class.TheVariants.{Direct, Indirect, Preemption}
+use Rattle.blocking_columns.specs.Ceilings.{remote_ceiling_rank}
+use Rattle.blocking_columns.specs.Columns.{may_run_before, is_path, has_path, blocks_by_sharing, may_block, is_column}
 use Rattle.charge_laws.proofs.SharedCharging.{IndirectBy, SharedReason}
 
 -- A column of task i, by its task, its resource and its class.

@@ -15,7 +15,7 @@ use Rattle.schedule_model.specs.Phase.Phase.{Asking}
 use Rattle.schedule_model.specs.Activity.{task_of}
 use Rattle.schedule_laws.specs.Counting.{executed_in, is_request}
 use Rattle.schedule_laws.proofs.Counts.{request_at_most}
-use Rattle.fragments.specs.ColumnDef.{ColumnDef}
+use Rattle.blocking_columns.specs.ColumnDef.{ColumnDef}
 use Rattle.charge_laws.specs.Windows.{window_end}
 use Rattle.row_laws.specs.Meeting.{Charges, brings}
 use Rattle.row_laws.proofs.Brings.{Window, Hit, hit, only_if-parts, sum_below-passing}

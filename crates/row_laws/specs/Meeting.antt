@@ -5,7 +5,7 @@ use Rattle.number_laws.specs.Sums.{sum_below}
 use Rattle.sporadic_model.specs.Users.{length_of}
 use Rattle.schedule_model.specs.RowDef.{Trace}
 use Rattle.schedule_model.specs.Activity.{is_active}
-use Rattle.fragments.specs.ColumnDef.{ColumnDef}
+use Rattle.blocking_columns.specs.ColumnDef.{ColumnDef}
 use Rattle.fragments.specs.Constraints.{ConstraintDef}
 use Rattle.charge_laws.specs.Charges.{Charge}
 use Rattle.charge_laws.specs.Windows.{window_end}

@@ -8,8 +8,8 @@ ghost use Rattle.schedule_model.specs.Ranks.{mpcp, fmlp_plus};
 ghost use Rattle.schedule_model.specs.Protocols.{shared_rule, dpcp_rule};
 ghost use Rattle.schedule_model.specs.Keeping.{KeepsBefore};
 ghost use Rattle.schedule_model.specs.BlockedTicks.{is_shared_interference, is_dpcp_interference, is_blocked};
-ghost use Rattle.fragments.specs.ColumnDef.{ColumnDef};
-ghost use Rattle.fragments.specs.Columns.{columns_of};
+ghost use Rattle.blocking_columns.specs.ColumnDef.{ColumnDef};
+ghost use Rattle.blocking_columns.specs.Columns.{columns_of};
 ghost use Rattle.charge_laws.specs.Charges.{shared_charge, dpcp_charge};
 ghost use Rattle.charge_laws.specs.Fractions.{charged_column};
 

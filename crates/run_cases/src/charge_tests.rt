@@ -1,5 +1,5 @@
+use blocking_columns::Class;
 use charge::{ChargeItem, ChargeStop, ChargeTable, are_bounds, charge};
-use fragments::Class;
 use schedule_model::{JobId, JobList, RowList, Rule};
 use sporadic_model::{Protocol, ResourceId, TaskSet};
 use std::alloc::{AllocError, Global};

@@ -11,9 +11,9 @@ use Rattle.schedule_model.specs.SharedRules.{KeepsRun}
 use Rattle.schedule_model.specs.Keeping.{KeepsBefore}
 use Rattle.schedule_laws.proofs.ActiveJobs.{Requester}
 use Rattle.schedule_laws.proofs.Rows.{ReadyHolder, ready_holder_is}
-use Rattle.fragments.specs.declared.columns.Class.{Class}
-use Rattle.fragments.specs.declared.columns.Class.TheVariants.{Direct, Preemption}
-use Rattle.fragments.specs.ColumnDef.{ColumnDef, is_direct, is_preemption}
+use Rattle.blocking_columns.specs.declared.columns.Class.{Class}
+use Rattle.blocking_columns.specs.declared.columns.Class.TheVariants.{Direct, Preemption}
+use Rattle.blocking_columns.specs.ColumnDef.{ColumnDef, is_direct, is_preemption}
 use Rattle.charge_laws.specs.Charges.{Charge}
 use Rattle.charge_laws.specs.Windows.{window_end}
 use Rattle.row_laws.specs.Meeting.{TicksMeet}

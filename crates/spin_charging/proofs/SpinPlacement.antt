@@ -16,9 +16,9 @@ use Rattle.schedule_model.specs.BlockedTicks.{is_shared_interference, is_blocked
 use Rattle.schedule_laws.proofs.ActiveJobs.{active_listed, one_active, Requester}
 use Rattle.schedule_laws.proofs.KindsOfTicks.{Blocked, blocked_is}
 use Rattle.schedule_laws.proofs.Segments.{open_listed, open_resource, open_user}
-use Rattle.fragments.specs.declared.columns.Class.{Class}
-use Rattle.fragments.specs.declared.columns.Class.TheVariants.{Direct, Indirect, Preemption}
-use Rattle.fragments.specs.Columns.{have_one_processor, AreRequests}
+use Rattle.blocking_columns.specs.declared.columns.Class.{Class}
+use Rattle.blocking_columns.specs.declared.columns.Class.TheVariants.{Direct, Indirect, Preemption}
+use Rattle.blocking_columns.specs.Columns.{have_one_processor, AreRequests}
 use Rattle.charge_laws.specs.Charges.{Executes}
 use Rattle.charge_laws.specs.ChargedTicks.{IsCharged}
 use Rattle.row_laws.proofs.Brings.{column_with}

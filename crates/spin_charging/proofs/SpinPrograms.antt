@@ -15,10 +15,10 @@ use Rattle.sporadic_model.specs.SetDef.{SetDef, task_at}
 use Rattle.sporadic_model.specs.Accepted.{IsAccepted, TaskNumbers}
 use Rattle.sporadic_model.proofs.Laws.{sizes_of_accepted}
 use Rattle.program_sources.specs.Bounds.{AtMost, AreWithinDeadlines}
-use Rattle.fragments.specs.Columns.{have_one_processor}
+use Rattle.blocking_columns.specs.Columns.{have_one_processor}
 use Rattle.fragments.specs.Constraints.{ConstraintDef, per_pair}
-use Rattle.fragments.specs.Windows.{requests_in}
-use Rattle.fragments.proofs.KnownColumns.{passing_known}
+use Rattle.blocking_columns.specs.Windows.{requests_in}
+use Rattle.blocking_columns.proofs.KnownColumns.{passing_known}
 use Rattle.direct_constraints.specs.Rows.{common_rows}
 use Rattle.program_laws.specs.Written.{IsSmallRow, Rises, HasJobsAtMost, KeepsJobs}
 use Rattle.program_laws.proofs.Lists.{sum_at_most}

@@ -16,8 +16,8 @@ use Rattle.schedule_model.specs.Activity.{task_of, is_active}
 use Rattle.schedule_model.specs.Keeping.{KeepsBefore}
 use Rattle.schedule_laws.proofs.ActiveJobs.{active_listed, one_active}
 use Rattle.schedule_laws.proofs.Segments.{open_user}
-use Rattle.fragments.specs.Columns.{have_one_processor, is_lower_local}
-use Rattle.fragments.specs.Windows.{jobs_in, requests_in}
+use Rattle.blocking_columns.specs.Columns.{have_one_processor, is_lower_local}
+use Rattle.blocking_columns.specs.Windows.{jobs_in, requests_in}
 use Rattle.charge_laws.specs.Windows.{window_end}
 use Rattle.row_laws.specs.Meeting.{TicksMeet}
 use Rattle.row_laws.proofs.Brings.{Window, Hit, hit, only_if-parts}

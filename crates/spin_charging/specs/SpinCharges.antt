@@ -9,7 +9,7 @@ use Rattle.schedule_model.specs.Phase.{Phase, phase_of}
 use Rattle.schedule_model.specs.Phase.Phase.{Asking}
 use Rattle.schedule_model.specs.Activity.{processor_of, active_job_of}
 use Rattle.schedule_model.specs.BlockedTicks.{is_shared_interference, is_blocked}
-use Rattle.fragments.specs.declared.columns.Class.TheVariants.{Direct, Indirect, Preemption}
+use Rattle.blocking_columns.specs.declared.columns.Class.TheVariants.{Direct, Indirect, Preemption}
 use Rattle.charge_laws.specs.Charges.{Charge, charge_to}
 use Rattle.spin_rules.specs.SpinRules.{spins}
 

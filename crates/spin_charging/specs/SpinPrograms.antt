@@ -6,12 +6,12 @@ use Rattle.program_form.specs.Program.{ProgramDef}
 use Rattle.sporadic_model.specs.SetDef.{SetDef, task_at}
 use Rattle.sporadic_model.specs.Users.{count_of, is_user}
 use Rattle.program_sources.specs.Recurrence.{SourceDef}
-use Rattle.fragments.specs.declared.columns.Class.{Class}
-use Rattle.fragments.specs.declared.columns.Class.TheVariants as class
-use Rattle.fragments.specs.ColumnDef.{ColumnDef, is_class}
-use Rattle.fragments.specs.Columns.{have_one_processor, is_lower_local, is_column_by, columns_by}
+use Rattle.blocking_columns.specs.declared.columns.Class.{Class}
+use Rattle.blocking_columns.specs.declared.columns.Class.TheVariants as class
+use Rattle.blocking_columns.specs.ColumnDef.{ColumnDef, is_class}
+use Rattle.blocking_columns.specs.Columns.{have_one_processor, is_lower_local, is_column_by, columns_by}
 use Rattle.fragments.specs.Constraints.{ConstraintDef, counting, per_pair}
-use Rattle.fragments.specs.Windows.{requests_by_higher}
+use Rattle.blocking_columns.specs.Windows.{requests_by_higher}
 use Rattle.direct_constraints.specs.Rows.{common_rows}
 use Rattle.program_laws.specs.Programs.{program_with, source_with}
 

@@ -3,9 +3,9 @@
 ghost use Rattle.std.specs.Prelude.{◌≡◌, ℕ, ◌<◌, ◌≤◌, ◌+◌, ◌&&◌, ◌==◌, not, length, map, IfOk, OnOk};
 ghost use Rattle.schedule_model.specs.Protocols.{EachSetSuits};
 ghost use Rattle.program_sources.specs.Bounds.{AreWithinDeadlines};
-ghost use Rattle.fragments.specs.ColumnDef.{column_seen, AreKnown};
-ghost use Rattle.fragments.specs.Stretches.{AreInOrder};
-ghost use Rattle.fragments.specs.Columns.{have_one_processor};
+ghost use Rattle.blocking_columns.specs.ColumnDef.{column_seen, AreKnown};
+ghost use Rattle.blocking_columns.specs.Stretches.{AreInOrder};
+ghost use Rattle.blocking_columns.specs.Columns.{have_one_processor};
 ghost use Rattle.fragments.specs.Constraints.{per_pair};
 ghost use Rattle.spin_charging.specs.SpinPrograms.{is_used_beside, blocks_by_spinning, is_spin_column};
 ghost use Rattle.spin_charging.specs.SpinPrograms.{spin_columns, spinning_rows, spin_rows};
@@ -84,7 +84,7 @@ struct SpinColumns {
 }
 
 impl ColumnTest for SpinColumns {
-    ghost use Rattle.fragments.specs.Requested.{columns_are_requests};
+    ghost use Rattle.blocking_columns.specs.Requested.{columns_are_requests};
     ghost use Rattle.spin_charging.specs.SpinPrograms.{blocks_by_spinning};
 
     ghost passes = { λ k set i. is_spin_column set i };

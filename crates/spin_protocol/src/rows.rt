@@ -4,8 +4,8 @@ ghost use Rattle.std.specs.Prelude.{◌≡◌, ℕ, ◌<◌, ◌≤◌, ◌*◌,
 ghost use Rattle.number_laws.specs.Sums.{flag};
 ghost use Rattle.sporadic_model.specs.Users.{count_of, is_user};
 ghost use Rattle.program_sources.specs.Bounds.{AreWithinDeadlines};
-ghost use Rattle.fragments.specs.ColumnDef.{column_seen};
-ghost use Rattle.fragments.specs.Columns.{is_lower_local};
+ghost use Rattle.blocking_columns.specs.ColumnDef.{column_seen};
+ghost use Rattle.blocking_columns.specs.Columns.{is_lower_local};
 ghost use Rattle.fragments.specs.Constraints.{per};
 ghost use Rattle.spin_charging.specs.SpinPrograms.{lower_request_row, is_from, is_used_below, higher_requests};
 ghost use Rattle.spin_protocol.specs.SpinRows.{row_of_kind};

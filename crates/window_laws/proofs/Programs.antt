@@ -13,9 +13,9 @@ use Rattle.sporadic_model.specs.declared.ids.Protocol.TheVariants as protocol
 use Rattle.program_sources.specs.Fitting.{ComesUpAbove}
 use Rattle.program_sources.proofs.RecurrenceLaws.{comes_up_above}
 use Rattle.program_sources.specs.Bounds.{AtMost, AreWithinDeadlines}
-use Rattle.fragments.specs.Columns.{is_column, columns_of}
+use Rattle.blocking_columns.specs.Columns.{is_column, columns_of}
 use Rattle.fragments.specs.Constraints.{ConstraintDef}
-use Rattle.fragments.proofs.KnownColumns.{passing_known}
+use Rattle.blocking_columns.proofs.KnownColumns.{passing_known}
 use Rattle.direct_constraints.specs.Rows.{common_rows, request_row}
 use Rattle.preempt_constraints.specs.Rows.{preemption_rows}
 use Rattle.program_laws.specs.Programs.{protocol_rows, rows_of}

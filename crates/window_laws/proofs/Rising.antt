@@ -11,7 +11,7 @@ use Rattle.sporadic_model.specs.SetDef.{SetDef, task_at}
 use Rattle.sporadic_model.specs.Users.{count_of, is_user}
 use Rattle.sporadic_model.specs.Homes.{home_in}
 use Rattle.program_sources.proofs.RecurrenceLaws.{div_ceil_rises}
-use Rattle.fragments.specs.Windows.{requests_in}
+use Rattle.blocking_columns.specs.Windows.{requests_in}
 use Rattle.window_laws.specs.Windows.{time_at, ticks_by, ticks_there, is_enough, window_of}
 use Rattle.window_laws.specs.WindowRows.{meets_there, lacks_window, requests_there, requests_met, window_row}
 use Rattle.window_laws.proofs.Least.{Found, found_from}

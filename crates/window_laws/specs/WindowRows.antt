@@ -8,10 +8,10 @@ use Rattle.sporadic_model.specs.Users.{count_of, is_user}
 use Rattle.sporadic_model.specs.Homes.{home_in}
 use Rattle.sporadic_model.specs.declared.ids.Protocol.TheVariants as protocol
 use Rattle.program_sources.specs.Recurrence.{SourceDef}
-use Rattle.fragments.specs.declared.columns.Class.TheVariants.{Preemption}
-use Rattle.fragments.specs.ColumnDef.{is_class}
-use Rattle.fragments.specs.Columns.{may_block, columns_of}
-use Rattle.fragments.specs.Windows.{requests_during}
+use Rattle.blocking_columns.specs.declared.columns.Class.TheVariants.{Preemption}
+use Rattle.blocking_columns.specs.ColumnDef.{is_class}
+use Rattle.blocking_columns.specs.Columns.{may_block, columns_of}
+use Rattle.blocking_columns.specs.Windows.{requests_during}
 use Rattle.fragments.specs.Constraints.{ConstraintDef, counting, per_pair}
 use Rattle.program_laws.specs.Programs.{program_with, source_with, rows_of, interfering_cost}
 use Rattle.window_laws.specs.Windows.{window_of}

@@ -6,8 +6,8 @@ use Rattle.sporadic_model.specs.SetDef.{SetDef, task_at}
 use Rattle.sporadic_model.specs.Users.{count_of, length_of, is_user}
 use Rattle.sporadic_model.specs.Homes.{home_in}
 use Rattle.schedule_model.specs.Measures.{greatest_below}
-use Rattle.fragments.specs.Ceilings.{ceiling_rank}
-use Rattle.fragments.specs.Windows.{jobs_during}
+use Rattle.blocking_columns.specs.Ceilings.{ceiling_rank}
+use Rattle.blocking_columns.specs.Windows.{jobs_during}
 
 -- How many ticks may all requests of one job of task x run on processor k?
 abbrev pub time_at : SetDef → ℕ → ℕ → ℕ

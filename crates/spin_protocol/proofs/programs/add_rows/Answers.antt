@@ -1,5 +1,5 @@
 use Rattle.std.proofs.Common.{◌∷◌, [], map}
-use Rattle.fragments.specs.ColumnDef.{column_seen}
+use Rattle.blocking_columns.specs.ColumnDef.{column_seen}
 use Rattle.direct_constraints.specs.Rows.{common_rows}
 use Rattle.spin_charging.specs.SpinPrograms.{lower_request_row, spinning_rows}
 use Rattle.spin_protocol.proofs.programs.add_rows.Goals as goal
