@@ -6,7 +6,7 @@ ghost use Rattle.charge_laws.specs.Windows.{AreBounds};
 ghost use Rattle.blocking_columns.specs.Columns.{columns_of};
 ghost use Rattle.program_laws.specs.Programs.{program_of};
 ghost use Rattle.schedule_model.specs.ByProtocol.{rules_of, interference_of};
-ghost use Rattle.charged_protocols.specs.ByProtocol.{charges_of};
+ghost use Rattle.charge_laws.specs.ByProtocol.{charges_of};
 ghost use Rattle.charge.specs.Charging.{Charged, MeetRows};
 
 use crate::charger::Charger;

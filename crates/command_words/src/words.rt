@@ -6,7 +6,7 @@ ghost use Rattle.command_words.specs.declared.words.TheConstants.{MOST_SETS};
 ghost use Rattle.command_words.specs.declared.words.TheConstants.{GREATEST_ALLOWANCE};
 ghost use Rattle.command_words.specs.Words.{study_form, simulate_form, form_of_three, form_of_four};
 ghost use Rattle.command_words.specs.Words.{form_of_five, form_of, words_seen, form_of_six};
-ghost use Rattle.command_words.specs.FormSeen.{form_on, form_seen, HasFittingNumbers};
+ghost use Rattle.command_words.specs.FormSeen.{plain_form, form_seen, HasFittingNumbers};
 
 use protocol_names::{ProtocolName, protocol_named};
 use sporadic_model::MOST_TICKS;
@@ -40,6 +40,32 @@ pub enum Command<'a> {
 /// The work on a set. Its further inputs are given by their names.
 #[derive(Clone, Copy, Debug)]
 pub enum Work<'a> {
+    /// No certificate is made or read.
+    Plain(PlainWork<'a>),
+    /// A certificate is made or read. It carries the digest of the set's bytes.
+    Tied(TiedWork<'a>),
+}
+
+/// What is asked for of a set without a certificate.
+#[derive(Clone, Copy, Debug)]
+pub enum PlainWork<'a> {
+    /// Write the table of the set.
+    Report,
+    /// Judge the rows for the jobs.
+    Conform {
+        jobs: &'a str,
+        rows: &'a str,
+    },
+    /// Make the schedule of this many ticks for the jobs.
+    Simulate {
+        jobs: &'a str,
+        ticks: u64,
+    },
+}
+
+/// What is asked for of a set and a certificate of it, or one of refusal.
+#[derive(Clone, Copy, Debug)]
+pub enum TiedWork<'a> {
     /// Find the least bounds of the set within this many units.
     Analyse {
         allowance: u64,
@@ -60,28 +86,20 @@ pub enum Work<'a> {
     Upgrade {
         certificate: &'a str,
     },
-    /// Write the table of the set.
-    Report,
     /// Write the table with what the certificate proves.
     FullReport {
         certificate: &'a str,
     },
-    /// Judge the rows for the jobs.
-    Conform {
-        jobs: &'a str,
-        rows: &'a str,
-    },
-    /// Make the schedule of this many ticks for the jobs.
-    Simulate {
-        jobs: &'a str,
-        ticks: u64,
-    },
-    /// Judge the certificate and the rows for the jobs. Give what the rows did, and what the certificate proves.
-    Audit {
-        certificate: &'a str,
-        jobs: &'a str,
-        rows: &'a str,
-    },
+    /// Judge the certificate and the rows, and set what the rows did beside what the certificate proves.
+    Audit(AuditInputs<'a>),
+}
+
+/// The names of the inputs of an audit behind its set. The rows are of the jobs.
+#[derive(Clone, Copy, Debug)]
+pub struct AuditInputs<'a> {
+    pub certificate: &'a str,
+    pub jobs: &'a str,
+    pub rows: &'a str,
 }
 
 /// What the words of `study` ask for.
@@ -107,13 +125,13 @@ fn command_of_three<'a>(command: &str, second: &str, set: &'a str) -> Option<Com
     ensures ticks { IfSome result (λ c. HasFittingNumbers (form_seen c)) }
 {
     let work = match command {
-        "analyse" => Work::Analyse {
+        "analyse" => Work::Tied(TiedWork::Analyse {
             allowance: DEFAULT_ALLOWANCE,
-        },
-        "refute" => Work::Refute {
+        }),
+        "refute" => Work::Tied(TiedWork::Refute {
             allowance: DEFAULT_ALLOWANCE,
-        },
-        "report" => Work::Report,
+        }),
+        "report" => Work::Plain(PlainWork::Report),
         "study" => return study_of(second, set),
         _ => return None,
     };
@@ -144,33 +162,33 @@ fn command_of_four<'a>(
 {
     let protocol = protocol_named(protocol)?;
     let work = match command {
-        "analyse" => Work::Analyse {
+        "analyse" => TiedWork::Analyse {
             allowance: allowance_of(last)?,
         },
-        "refute" => Work::Refute {
+        "refute" => TiedWork::Refute {
             allowance: allowance_of(last)?,
         },
-        "check" => Work::Check { certificate: last },
-        "confirm" => Work::Confirm { refusal: last },
-        "upgrade" => Work::Upgrade { certificate: last },
-        "report" => Work::FullReport { certificate: last },
+        "check" => TiedWork::Check { certificate: last },
+        "confirm" => TiedWork::Confirm { refusal: last },
+        "upgrade" => TiedWork::Upgrade { certificate: last },
+        "report" => TiedWork::FullReport { certificate: last },
         _ => return None,
     };
     Some(Command::OnSet {
         protocol,
         set,
-        work,
+        work: Work::Tied(work),
     })
 }
 
 /// The simulation that the words of its jobs and its ticks ask for.
-fn simulation<'a>(jobs: &'a str, ticks: &str) -> Option<Work<'a>>
+fn simulation<'a>(jobs: &'a str, ticks: &str) -> Option<PlainWork<'a>>
     ensures form { (protocol : ProtocolName) (set : List ℕ)
-        → option_map (form_on protocol set) result ≡ simulate_form (Some protocol) set jobs.now (number_between 1 MOST_TICKS ticks.now) }
-    ensures ticks { (protocol : ProtocolName) (set : List ℕ) → IfSome result (λ work. HasFittingNumbers (form_on protocol set work)) }
+        → option_map (plain_form protocol set) result ≡ simulate_form (Some protocol) set jobs.now (number_between 1 MOST_TICKS ticks.now) }
+    ensures ticks { (protocol : ProtocolName) (set : List ℕ) → IfSome result (λ work. HasFittingNumbers (plain_form protocol set work)) }
 {
     let ticks = number_between(ticks.as_bytes(), 1, MOST_TICKS)?;
-    Some(Work::Simulate { jobs, ticks })
+    Some(PlainWork::Simulate { jobs, ticks })
 }
 
 /// What five words ask for.
@@ -186,14 +204,14 @@ fn command_of_five<'a>(
 {
     let protocol = protocol_named(protocol)?;
     let work = match command {
-        "conform" => Work::Conform { jobs, rows: last },
+        "conform" => PlainWork::Conform { jobs, rows: last },
         "simulate" => simulation(jobs, last)?,
         _ => return None,
     };
     Some(Command::OnSet {
         protocol,
         set,
-        work,
+        work: Work::Plain(work),
     })
 }
 
@@ -213,7 +231,7 @@ fn command_of_six<'a>(
     if command != "audit" {
         return None;
     }
-    let work = Work::Audit {
+    let inputs = AuditInputs {
         certificate,
         jobs,
         rows,
@@ -221,7 +239,7 @@ fn command_of_six<'a>(
     Some(Command::OnSet {
         protocol,
         set,
-        work,
+        work: Work::Tied(TiedWork::Audit(inputs)),
     })
 }
 

@@ -8,7 +8,7 @@ use Rattle.schedule_model.specs.declared.rule.Rule.{Rule}
 use Rattle.program_sources.specs.Recurrence.{SourceDef, source_at}
 use Rattle.program_laws.specs.Programs.{source_of as source_written}
 use Rattle.charge_laws.specs.Charges.{Charge}
-use Rattle.charged_protocols.specs.ByProtocol.{charges_of as charges_at}
+use Rattle.charge_laws.specs.ByProtocol.{charges_of as charges_at}
 use Rattle.soundness_laws.specs.Sound.{Sound}
 use Rattle.schedule_model.specs.BlockedTicks.{is_shared_interference, is_dpcp_interference}
 use Rattle.charge_laws.specs.Charges.{dpcp_charge}

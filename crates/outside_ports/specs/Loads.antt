@@ -1,6 +1,9 @@
--- What a load of an input adds to the readings of a shelf.
-use Rattle.std.specs.Prelude.{◌≡◌, ℕ, ◌<◌, List, ◌∷◌, length, Result, Ok, Err, Vec}
+-- What a load of an input makes of a shelf, and leaves in its readings.
+use Rattle.std.specs.Prelude.{◌≡◌, ℕ, ◌<◌, ◌≤◌, ◌↔◌, true, List, ◌∷◌, length, vec_len, is_some, Result, Ok, Err, IfOk, OnOk, IsErrOf, Vec}
+use Rattle.std.specs.Io.KnownBytes.{IsAtEnd}
 use Rattle.std.specs.Global.{Global}
+use Rattle.outside_ports.specs.Counts.{Rose}
+use Rattle.outside_ports.specs.Ports.{ShelfDef}
 use Rattle.outside_ports.specs.Past.{Asked, begun, unbegun, wholly, partly}
 use Rattle.outside_ports.specs.declared.shelf.ShelfFault.TheVariants as shelf
 use Rattle.outside_ports.specs.declared.whole.LoadFault.{LoadFault}
@@ -18,3 +21,18 @@ Leaves (Err _) name old new = (asked : Asked) × (new ≡ asked ∷ old) × (ask
 -- The same for a load after its start.
 abbrev pub LeavesBegun : Result (Vec ℕ Global) LoadFault → List Asked → List Asked → Type 0
 LeavesBegun answer old new = (name : List ℕ) → (earlier : List Asked) → old ≡ begun name ∷ earlier → Leaves answer name earlier new
+
+-- What a load makes of a shelf, and what its answer says of it. With all bytes the rest is at its end. `Read` comes only where the count
+-- of faults rose, and `TooLong` exactly where more than the limit was given. Success and want of memory leave the count as it was. A
+-- shelf that promises that no call fails promises it still, and raised no count.
+pub record LoadsFrom (old new : ShelfDef) (answer : Result (Vec ℕ Global) LoadFault) : Type 0 where
+  pub ended : OnOk answer (IsAtEnd new.rest)
+  pub size : IfOk answer (λ bytes. (vec_len bytes ≡ new.given) × (vec_len bytes ≤ GREATEST_INPUT_BYTES))
+  pub read : IsErrOf answer load.Read → Rose old.faults new.faults
+  pub too_long : (IsErrOf answer load.TooLong) ↔ (GREATEST_INPUT_BYTES < new.given)
+  pub same : new.names ≡ old.names
+  pub tells : is_some new.rest ≡ is_some old.rest
+  pub later : old.faults ≤ new.faults
+  pub calm : OnOk answer (new.faults ≡ old.faults)
+  pub want : IsErrOf answer load.Memory → new.faults ≡ old.faults
+  pub steady : old.steady ≡ true → (new.steady ≡ true) × (new.faults ≡ old.faults) × (IsErrOf answer load.Read → ⊥)

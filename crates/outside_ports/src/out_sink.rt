@@ -47,7 +47,7 @@ impl<W: Write + Drop> Sink for OutSink<W> {
         ensures failed { OnErr result (Rose self.old.faults self.new.faults) }
     {
         let answer = self.out.write(piece);
-        let result = counted(answer);
+        let result = bytes_taken(answer);
         match result {
             Ok(count) => self.history = self.history.with(&Note::Took(&piece[..count])),
             Err(SinkFault) => self.faults = self.faults.saturating_add(1),
@@ -57,7 +57,7 @@ impl<W: Write + Drop> Sink for OutSink<W> {
 }
 
 /// The answer for a write of the writer. One that took no byte is a fault.
-fn counted(answer: io::Result<usize>) -> Result<usize, SinkFault>
+fn bytes_taken(answer: io::Result<usize>) -> Result<usize, SinkFault>
     ensures { FollowsWrite answer result }
 {
     match answer {

@@ -1,8 +1,7 @@
-ghost use Rattle.std.specs.Prelude.{◌≡◌, ◌+◌, ◌<◌, ◌≤◌, length, true};
-ghost use Rattle.sporadic_model.specs.declared.limits.TheConstants.{MOST_TICKS};
+ghost use Rattle.std.specs.Prelude.{◌≡◌, ◌+◌, ◌<◌, length, true};
 ghost use Rattle.schedule_model.specs.RowDef.{row_in, trace_in, ticks_of};
 ghost use Rattle.schedule_model.specs.Fitting.{is_fitting};
-ghost use Rattle.trace_walk.specs.Runs.{IsAtRun, StandsFor, ticks_before};
+ghost use Rattle.trace_walk.specs.Runs.{IsInRun, IsBeforeRun, ticks_before};
 ghost use Rattle.trace_walk.specs.Reached.{IsReached, GoesOn, GoesSome};
 ghost use Rattle.trace_walk.specs.Walked.{Walks};
 
@@ -24,10 +23,7 @@ fn walk_stretch<P: Judge, K: Keeper<P>, R: RowReader>(
 ) -> Result<u64, Unlawful>
     requires suits { P.suits protocol.now machine.old.list.set }
     requires fits { K.fits keeper.now machine.old.list.set }
-    requires at { IsAtRun (R.rows rows.now) (R.at rows.now) machine.old }
-    requires stands { StandsFor (R.rows rows.now).runs (R.at rows.now) machine.old.tick left }
-    requires some { 1 ≤ left }
-    requires early { machine.old.tick + left ≤ MOST_TICKS }
+    requires run { IsInRun (R.rows rows.now) (R.at rows.now) machine.old left }
     requires reached { IsReached (P.keeps protocol.now) (K.kept keeper.now protocol.now) (row_in (R.rows rows.now).runs) machine.old notes.old }
     ensures list { machine.new.list ≡ machine.old.list }
     ensures walked { GoesSome (P.keeps protocol.now) (K.kept keeper.now protocol.now) (row_in (R.rows rows.now).runs) left
@@ -56,9 +52,7 @@ fn walk_run<P: Judge, K: Keeper<P>, R: RowReader>(
     requires suits { P.suits protocol.now machine.old.list.set }
     requires keeper { K.fits keeper.now machine.old.list.set }
     requires within { R.at rows.now < length (R.rows rows.now).runs }
-    requires fits { is_fitting (R.rows rows.now) machine.old.list ≡ true }
-    requires most { ticks_of (R.rows rows.now).runs ≤ MOST_TICKS }
-    requires start { machine.old.tick ≡ ticks_before (R.rows rows.now).runs (R.at rows.now) }
+    requires before { IsBeforeRun (R.rows rows.now) (R.at rows.now) machine.old }
     requires reached { IsReached (P.keeps protocol.now) (K.kept keeper.now protocol.now) (row_in (R.rows rows.now).runs) machine.old notes.old }
     ensures list { machine.new.list ≡ machine.old.list }
     ensures walked { GoesOn (P.keeps protocol.now) (K.kept keeper.now protocol.now) (row_in (R.rows rows.now).runs)
@@ -81,10 +75,8 @@ fn walk_all<P: Judge, K: Keeper<P>, R: RowReader>(
 ) -> Result<(), Unlawful>
     requires suits { P.suits protocol.now machine.old.list.set }
     requires keeper { K.fits keeper.now machine.old.list.set }
-    requires fits { is_fitting (R.rows rows.old) machine.old.list ≡ true }
-    requires most { ticks_of (R.rows rows.old).runs ≤ MOST_TICKS }
     requires first { R.at rows.old ≡ 0 }
-    requires start { machine.old.tick ≡ 0 }
+    requires before { IsBeforeRun (R.rows rows.old) 0 machine.old }
     requires reached { IsReached (P.keeps protocol.now) (K.kept keeper.now protocol.now) (row_in (R.rows rows.old).runs) machine.old notes.old }
     ensures list { machine.new.list ≡ machine.old.list }
     ensures walked { GoesOn (P.keeps protocol.now) (K.kept keeper.now protocol.now) (row_in (R.rows rows.old).runs) (ticks_of (R.rows rows.old).runs)

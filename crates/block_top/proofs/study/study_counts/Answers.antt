@@ -1,5 +1,5 @@
 use Rattle.std.proofs.Common.{ℕ, List, ap}
-use Rattle.block_top.proofs.study.counted.Goals as goal
+use Rattle.block_top.proofs.study.study_counts.Goals as goal
 
 pub returns : goal.returns
 returns g c =

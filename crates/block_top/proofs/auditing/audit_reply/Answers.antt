@@ -7,10 +7,10 @@ use Rattle.std.specs.Prelude.{slice_index_or}
 use Rattle.reply_texts.specs.Texts.{kept_text}
 use Rattle.command_inputs.specs.Halts.{reply_seen}
 use Rattle.run_plans.proofs.AuditLaws.{kept_audit}
-use Rattle.block_top.proofs.auditing.audited_rows.Goals as goal
+use Rattle.block_top.proofs.auditing.audit_reply.Goals as goal
 
-pub figured-requires-clause-fits : goal.figured-requires-clause-fits
-figured-requires-clause-fits c = made_fits c.args.rows.now c.args.jobs.now c.ticks-ticks.ensures.listed c.requires.made
+pub figures_of_text-requires-clause-fits : goal.figures_of_text-requires-clause-fits
+figures_of_text-requires-clause-fits c = made_fits c.args.rows.now c.args.jobs.now c.ticks-ticks.ensures.listed c.requires.made
 
 pub returns-in_ok-kept_reply-in-Ok : goal.returns-in_ok-kept_reply-in-Ok
 returns-in_ok-kept_reply-in-Ok c =

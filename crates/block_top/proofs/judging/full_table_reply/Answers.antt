@@ -3,7 +3,7 @@ use Rattle.std.specs.Prelude.{slice_index}
 use Rattle.program_form.specs.Certificate.{CertificateDef, certificate_seen}
 use Rattle.report.specs.FullTable.{full_text}
 use Rattle.run_plans.proofs.JudgementLaws.{listed_table}
-use Rattle.block_top.proofs.judging.tabled.Goals as goal
+use Rattle.block_top.proofs.judging.full_table_reply.Goals as goal
 
 pub returns : goal.returns
 returns c =
