@@ -41,7 +41,12 @@ pub fn refute(
         ProtocolName::Dflp => refusal_cert::refute(alloc, set, &Dflp, allowance),
         ProtocolName::Spin => refusal_cert::refute(alloc, set, &Spin, allowance),
         ProtocolName::DpcpWindows => refusal_cert::refute(alloc, set, &DpcpWindows, allowance),
-        ProtocolName::FmlpPlusCloser => refusal_cert::refute(alloc, set, &CloserFmlpPlus, allowance),
+        ProtocolName::FmlpPlusCloser => refusal_cert::refute(
+            alloc,
+            set,
+            &CloserFmlpPlus,
+            allowance,
+        ),
     }
 }
 
