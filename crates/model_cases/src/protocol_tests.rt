@@ -4,6 +4,7 @@ ghost use Rattle.program_sources.specs.Bounds.{AreWithinDeadlines};
 use crate::protocol_rows::{CASES, Case, LOCAL, PATHS};
 use crate::threads::may_cross_threads;
 use blocking_columns::{Class, Fragment, TaskPlace, cnt, columns_stand_in_order, task_places};
+use closer_fmlp::CloserFmlpPlus;
 use program_form::{Coefficient, Program, RowBlock, SparseProgram};
 use protocol_programs::{ProgramSource, Written};
 use request_windows::DpcpWindows;
@@ -269,5 +270,6 @@ fn counts_the_requests_in_a_window(rt: HostRuntime) -> Result<(), Fail> {
 fn sources_may_cross_threads() {
     may_cross_threads(&Written(Protocol::Mpcp));
     may_cross_threads(&DpcpWindows);
+    may_cross_threads(&CloserFmlpPlus);
     may_cross_threads(&(Class::Direct, TaskId(0)));
 }

@@ -21,3 +21,6 @@ returns-in-Spin g c = rw c.in-Spin.is c.audit_rows_with-in-Spin.ensures
 
 pub returns-in-DpcpWindows : goal.returns-in-DpcpWindows
 returns-in-DpcpWindows g c = rw c.in-DpcpWindows.is c.audit_rows_with-in-DpcpWindows.ensures
+
+pub returns-in-FmlpPlusCloser : goal.returns-in-FmlpPlusCloser
+returns-in-FmlpPlusCloser g c = rw c.in-FmlpPlusCloser.is c.audit_rows_with-in-FmlpPlusCloser.ensures
