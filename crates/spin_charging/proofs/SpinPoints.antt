@@ -27,8 +27,8 @@ use Rattle.spin_rules.proofs.SpinFacts.{spin_runs_active}
 use Rattle.spin_charging.specs.SpinCharges.{spin_charge}
 use Rattle.spin_charging.specs.SpinPrograms.{is_spin_column, spin_columns, spin_rows}
 use Rattle.spin_charging.proofs.SpinCharging.{spin_charge_blocked, spin_executes}
-use Rattle.spin_charging.proofs.PlainRows.{lower_request_row_met, own_spinning_row_met}
-use Rattle.spin_charging.proofs.SpinningRow.{spinning_row_met}
+use Rattle.spin_charging.proofs.OwnSpinning.{own_spinning_row_met}
+use Rattle.spin_charging.proofs.SpunRows.{spinning_row_met, lower_request_row_met}
 use Rattle.spin_charging.proofs.SpinPlacement.{spin_requests}
 use Rattle.spin_charging.proofs.SpinPrograms.{spin_each}
 
