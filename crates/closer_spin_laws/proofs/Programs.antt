@@ -5,7 +5,7 @@ use Rattle.std.specs.List.{All}
 use Rattle.std.proofs.Math.Nat.{mul-le-mul_right}
 use Rattle.std.proofs.lemmas.List.{length-append}
 use Rattle.std.proofs.lemmas.List.Elements.{All-append, All-cons}
-use Rattle.number_laws.specs.Sums.{sum_below, only_if}
+use Rattle.number_laws.specs.Sums.{only_if}
 use Rattle.number_laws.proofs.CountLaws.{flag-at_most}
 use Rattle.number_laws.proofs.SumLaws.{only_if-at_most, sum_below-monotone}
 use Rattle.number_laws.proofs.OnlyIfLaws.{only_if-rises}

@@ -1,5 +1,5 @@
 -- The ticks of a window meet the closer rows: each is the row of what is spun for and of lower requests that run, for some resources.
-use Rattle.std.proofs.Common.{◌≡◌, ℕ, ◌+◌, ◌<◌, ◌≤◌, ◌==◌, ◌&&◌, ◌||◌, not, Bool, true, false, length, sym, ap, ◌∙◌, arith, inl, inr, nat_lt}
+use Rattle.std.proofs.Common.{◌≡◌, ℕ, ◌+◌, ◌<◌, ◌≤◌, ◌==◌, ◌&&◌, ◌||◌, not, Bool, true, false, length, refl, sym, ap, ◌∙◌, arith, inl, inr, nat_lt}
 use Rattle.std.proofs.lemmas.Bool.{cases_Bool, both_ways, and_parts, eqb-true, not-true}
 use Rattle.number_laws.specs.Sums.{flag}
 use Rattle.number_laws.specs.Tests.{count_below}
@@ -14,7 +14,7 @@ use Rattle.row_laws.proofs.Brings.{Window}
 use Rattle.row_laws.proofs.Numbers.{sum_below-only}
 use Rattle.spin_rules.specs.SpinRules.{spin_rule}
 use Rattle.spin_charging.specs.SpinCharges.{spin_charge}
-use Rattle.spin_charging.specs.SpinPrograms.{is_used_below, higher_requests, upper_requests}
+use Rattle.spin_charging.specs.SpinPrograms.{is_used_below, higher_requests}
 use Rattle.spin_charging.proofs.SpinningParts.{Kinds}
 use Rattle.spin_charging.proofs.SpinningRow.{has_lower, counted_row, counted_row_met}
 use Rattle.spin_charging.proofs.SpunRows.{met_by}

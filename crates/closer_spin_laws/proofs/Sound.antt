@@ -1,6 +1,6 @@
 -- The programs with the closer rows analyse spin locks, so valid certificates over them are sound. And they raise no bound: each row of
 -- spin locks is dominated by one of theirs.
-use Rattle.std.proofs.Common.{◌≡◌, ℕ, ◌+◌, ◌<◌, ◌≤◌, ◌==◌, ◌&&◌, ◌∷◌, ◌++◌, not, Bool, true, false, List, length, refl, arith, if◌then◌else◌}
+use Rattle.std.proofs.Common.{ℕ, ◌+◌, ◌<◌, ◌≤◌, ◌==◌, ◌&&◌, ◌∷◌, ◌++◌, not, Bool, true, false, List, [], length, refl, arith, if◌then◌else◌}
 use Rattle.std.specs.List.{All, Contains}
 use Rattle.std.proofs.lemmas.List.Elements.{All-weaker, All-contains_itself, Contains-append_left, Contains-append_right}
 use Rattle.number_laws.specs.Sums.{flag}
@@ -13,7 +13,7 @@ use Rattle.schedule_laws.proofs.SharedLaws.{shared_one_of_three}
 use Rattle.program_sources.specs.Bounds.{AtMost}
 use Rattle.program_sources.specs.Fitting.{AreFitting, AreLeastFitting}
 use Rattle.program_sources.specs.Valid.{IsValid}
-use Rattle.fragments.specs.ColumnDef.{ColumnDef, is_preemption}
+use Rattle.fragments.specs.ColumnDef.{is_preemption}
 use Rattle.fragments.specs.Constraints.{ConstraintDef, per, per_pair}
 use Rattle.direct_constraints.specs.Rows.{common_rows}
 use Rattle.program_laws.proofs.Lists.{contains_collected}
@@ -76,8 +76,8 @@ rows_dominated bounds set i =
     (λ k q a b. record {
       row = closer_spinning_row set i (k + 1) q;
       among = behind (closer_spinning_row set i (k + 1) q) (Contains-append_left (closer_spinning_rows set i) further
-      (closer_spinning_row set i (k + 1) q)
-      (pair_among set.processors (length set.resources) k q (λ m r. closer_spinning_row set i (m + 1) r) a b));
+          (closer_spinning_row set i (k + 1) q)
+          (pair_among set.processors (length set.resources) k q (λ m r. closer_spinning_row set i (m + 1) r) a b));
       says = spinning_dominates bounds set i (k + 1) q;
     })
     (λ k q a b. itself_dominated bounds rows (own_spinning_row set i (k + 1) q) (behind (own_spinning_row set i (k + 1) q)

@@ -1,7 +1,7 @@
 -- What the ticks of a window bring to a row of requests that are spun for, and of lower requests that run. They are parted by the job
 -- of the analysed job's processor that is in a request: the analysed job, a job of a higher task, one of a lower task. What one job
 -- spins for is paid by its requests.
-use Rattle.std.proofs.Common.{◌≡◌, ◌⊎◌, ℕ, ◌+◌, ◌*◌, ◌<◌, ◌≤◌, ◌==◌, ◌&&◌, ◌||◌, Bool, true, false, length, sym, refl}
+use Rattle.std.proofs.Common.{◌≡◌, ◌⊎◌, ℕ, ◌*◌, ◌<◌, ◌≤◌, ◌==◌, ◌&&◌, ◌||◌, Bool, true, false, length, sym, refl}
 use Rattle.std.proofs.Common.{ap, subst, ◌∙◌, arith, Option, Some, inl, inr, if◌then◌else◌}
 use Rattle.std.specs.Option.{option_map_or}
 use Rattle.std.proofs.lemmas.Bool.{and_parts, eqb-true}
@@ -25,7 +25,7 @@ use Rattle.charge_laws.specs.Windows.{window_end}
 use Rattle.row_laws.specs.Meeting.{brings}
 use Rattle.row_laws.proofs.Brings.{Window, Hit, column_with, flag_times-at_most, flag_times-passes, only_if-parts}
 use Rattle.row_laws.proofs.SlotRow.{OneRequest, Shares}
-use Rattle.row_laws.proofs.Numbers.{OwnRequest, paid_by}
+use Rattle.row_laws.proofs.Numbers.{paid_by}
 use Rattle.spin_rules.specs.SpinRules.{spin_rule}
 use Rattle.spin_rules.proofs.InRequests.{InRequest}
 use Rattle.spin_charging.specs.SpinCharges.{spinner_on, spin_charge}

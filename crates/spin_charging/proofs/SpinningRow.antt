@@ -18,7 +18,7 @@ use Rattle.schedule_model.specs.LawfulJobs.{IsLawfulJob}
 use Rattle.schedule_model.specs.RowDef.{Trace}
 use Rattle.schedule_model.specs.Phase.{phase_of}
 use Rattle.schedule_model.specs.Phase.Phase.{Asking}
-use Rattle.schedule_model.specs.Activity.{task_of, processor_of, is_active}
+use Rattle.schedule_model.specs.Activity.{task_of, is_active}
 use Rattle.schedule_model.specs.Keeping.{KeepsBefore}
 use Rattle.schedule_laws.proofs.ActiveJobs.{active_listed, one_active}
 use Rattle.schedule_laws.proofs.Segments.{open_user, open_resource}

@@ -3,18 +3,15 @@ use Rattle.std.proofs.Common.{◌≡◌, ℕ, ◌+◌, ◌*◌, ◌<◌, ◌≤�
 use Rattle.std.proofs.Common.{Option, Some, None, refl, sym, ap, ◌∙◌, if◌then◌else◌}
 use Rattle.std.proofs.Math.Nat.{mul-le-mul_left, mul-le-mul_right}
 use Rattle.std.proofs.lemmas.Bool.{cases_Bool, and_parts, eqb-true}
-use Rattle.number_laws.specs.Sums.{sum_below, flag, only_if}
-use Rattle.number_laws.specs.Tests.{any_below}
+use Rattle.number_laws.specs.Sums.{flag}
 use Rattle.number_laws.proofs.SumLaws.{sum_below-monotone, sum_below-zero}
 use Rattle.number_laws.proofs.CountLaws.{flag-at_most}
 use Rattle.number_laws.proofs.TestLaws.{any_below-some}
-use Rattle.sporadic_model.specs.SetDef.{SetDef, task_at}
+use Rattle.sporadic_model.specs.SetDef.{SetDef}
 use Rattle.sporadic_model.specs.Users.{count_of}
 use Rattle.schedule_model.specs.RowDef.{Trace}
 use Rattle.schedule_model.specs.Activity.{task_of}
 use Rattle.schedule_model.specs.Keeping.{KeepsBefore}
-use Rattle.fragments.specs.declared.columns.Class.{Class}
-use Rattle.fragments.specs.declared.columns.Class.TheVariants.{Direct, Indirect, Preemption}
 use Rattle.fragments.specs.ColumnDef.{ColumnDef, is_preemption}
 use Rattle.fragments.specs.Constraints.{ConstraintDef}
 use Rattle.charge_laws.specs.Windows.{window_end}
@@ -24,7 +21,7 @@ use Rattle.row_laws.proofs.Brings.{Window}
 use Rattle.row_laws.proofs.Numbers.{sum_below-only}
 use Rattle.spin_rules.specs.SpinRules.{spin_rule}
 use Rattle.spin_charging.specs.SpinCharges.{spin_charge}
-use Rattle.spin_charging.specs.SpinPrograms.{is_from, is_used_below, higher_requests, upper_requests, lower_request_row, spinning_row}
+use Rattle.spin_charging.specs.SpinPrograms.{is_from, is_used_below, higher_requests, lower_request_row, spinning_row}
 use Rattle.spin_charging.proofs.SpinningParts.{Kinds, is_counted}
 use Rattle.spin_charging.proofs.SpinningRow.{has_lower, counted_row, counted_row_met}
 
