@@ -3,21 +3,18 @@ use Rattle.std.proofs.Common.{◌≡◌, ℕ, ◌+◌, ◌<◌, ◌==◌, ◌&&�
 use Rattle.std.specs.Prelude.{slice_index}
 use Rattle.number_laws.specs.Sums.{sum_below, only_if}
 use Rattle.number_laws.specs.Tests.{any_below, count_below}
-use Rattle.sporadic_model.specs.SetDef.{SetDef, task_at}
-use Rattle.sporadic_model.specs.Users.{count_of}
+use Rattle.sporadic_model.specs.SetDef.{SetDef}
 use Rattle.fragments.specs.declared.columns.Class.TheVariants as class
 use Rattle.fragments.specs.ColumnDef.{is_class}
-use Rattle.fragments.specs.Constraints.{ConstraintDef, per, per_pair}
+use Rattle.fragments.specs.Constraints.{per, per_pair}
 use Rattle.direct_constraints.specs.Rows.{common_rows}
-use Rattle.spin_charging.specs.SpinPrograms.{blocks_by_spinning, lower_request_row, is_from, own_spinning_row, spinning_row, spin_columns}
-use Rattle.spin_charging.specs.SpinPrograms.{higher_requests, upper_requests}
+use Rattle.spin_charging.specs.SpinPrograms.{blocks_by_spinning, lower_request_row, is_from, own_spinning_row, spin_columns}
 use Rattle.closer_spin_laws.specs.CloserSpinRows.{is_used_on, is_spun_below, is_spun_beside, is_of_slot, closer_spinning_row, together_row}
 use Rattle.closer_spin_laws.specs.CloserSpinRows.{lower_spinning_row, other_lower_spinning_row, closer_spinning_rows, own_spinning_rows}
 use Rattle.closer_spin_laws.specs.CloserSpinRows.{together_rows, spin_closer_rows, spin_closer_source}
 use Rattle.clock_laws.specs.Cycles.{in_cycles, times_each}
 use Rattle.clock_laws.proofs.Sets.{tasks_in, processor_in, count_in, users_in}
 use Rattle.clock_laws.proofs.Columns.{columns_same}
-use Rattle.clock_laws.proofs.Jobs.{fine}
 use Rattle.clock_laws.proofs.Rescaled.{AreRescaled, IsRescaledRow, counted_same, appended, each_per, each_pair}
 use Rattle.clock_laws.proofs.BaseRows.{common_in}
 use Rattle.clock_laws.proofs.Programs.{IsRescaled, programs_rescaled}
