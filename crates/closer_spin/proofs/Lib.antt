@@ -1,2 +1,2 @@
 mod UsersThere
-mod Tables
+mod Told

@@ -33,7 +33,16 @@ fn add_together_rows<T: RowTaker>(
     ensures { OnOk result (T.takes taker.old (map column_seen columns.now) (together_rows set.now i.0) bounds.now taker.new) }
 {
     let processors = set.processors();
-    add_per_number(alloc, taker, &LowerSpinningRows, set, processors, i, bounds, columns)?;
+    add_per_number(
+        alloc,
+        taker,
+        &LowerSpinningRows,
+        set,
+        processors,
+        i,
+        bounds,
+        columns,
+    )?;
     add_per_number(
         alloc,
         taker,
@@ -63,7 +72,16 @@ fn add_all_spinning<T: RowTaker>(
         (closer_spinning_rows set.now i.0 ++ (own_spinning_rows set.now i.0 ++ together_rows set.now i.0)) bounds.now taker.new) }
 {
     let processors = set.processors();
-    add_per_number(alloc, taker, &CloserSpinningRows, set, processors, i, bounds, columns)?;
+    add_per_number(
+        alloc,
+        taker,
+        &CloserSpinningRows,
+        set,
+        processors,
+        i,
+        bounds,
+        columns,
+    )?;
     add_own_spinning(alloc, taker, set, i, bounds, columns)?;
     add_together_rows(alloc, taker, set, i, bounds, columns)?;
     Ok(())

@@ -11,7 +11,7 @@ use Rattle.number_laws.proofs.CountLaws.{flag-passes, count_below-agree}
 use Rattle.sporadic_model.specs.SetDef.{SetDef}
 use Rattle.sporadic_model.specs.Users.{count_of}
 use Rattle.fragments.specs.ColumnDef.{ColumnDef}
-use Rattle.fragments.specs.Constraints.{ConstraintDef, holds_some}
+use Rattle.fragments.specs.Constraints.{holds_some}
 use Rattle.program_laws.proofs.FewRows.{held}
 use Rattle.spin_charging.specs.SpinPrograms.{higher_requests, upper_requests}
 use Rattle.closer_spin_laws.specs.CloserSpinRows.{is_of_slot, together_row}
