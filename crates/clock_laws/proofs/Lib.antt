@@ -9,6 +9,7 @@ pub mod RoundedJobs
 pub mod Roundings
 pub mod FifoRows
 pub mod SpinRows
+pub mod CloserSpinRows
 pub mod WindowRows
 pub mod CloserRows
 pub mod WorkedClock

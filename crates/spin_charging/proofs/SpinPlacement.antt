@@ -31,7 +31,7 @@ use Rattle.spin_charging.specs.SpinCharges.{spin_charge}
 use Rattle.spin_charging.specs.SpinPrograms.{blocks_by_spinning, is_spin_column, spin_columns}
 use Rattle.spin_charging.proofs.SpinCharging.{SpunBy, SpinReason, SpinCharged, spin_charged, spin_executes}
 use Rattle.spin_charging.proofs.OneSpin.{holder_asks}
-use Rattle.spin_charging.proofs.PlainRows.{spun_resource}
+use Rattle.spin_charging.proofs.OwnSpinning.{spun_resource}
 
 -- The columns are requests by users of their resources.
 pub spin_requests : (set : SetDef) (i : ℕ) → AreRequests (is_spin_column set i) set

@@ -1,6 +1,6 @@
 -- The columns and rows of blocking programs under spin locks. In each, i is the analysed task.
 use Rattle.std.specs.Prelude.{ℕ, ◌+◌, ◌==◌, ◌&&◌, not, Bool, List, ◌∷◌, ◌++◌, length}
-use Rattle.number_laws.specs.Sums.{flag}
+use Rattle.number_laws.specs.Sums.{sum_below, flag, only_if}
 use Rattle.number_laws.specs.Tests.{any_below}
 use Rattle.program_form.specs.Program.{ProgramDef}
 use Rattle.sporadic_model.specs.SetDef.{SetDef, task_at}
@@ -77,3 +77,8 @@ spin_program set i bounds = program_with set (spin_columns set i) (spin_rows set
 
 abbrev pub higher_requests : SetDef → (ℕ → ℕ) → ℕ → ℕ → ℕ
 higher_requests set bounds i q = requests_by_higher set bounds i (λ h. have_one_processor set h i) q
+
+-- How many requests of the resources that pass do i and the higher tasks of its processor make while a job of i runs?
+abbrev pub upper_requests : SetDef → (ℕ → ℕ) → ℕ → (ℕ → Bool) → ℕ
+upper_requests set bounds i passes =
+    sum_below (length set.resources) (λ q. only_if (passes q) (count_of set i q + higher_requests set bounds i q))

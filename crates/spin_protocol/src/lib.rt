@@ -13,6 +13,8 @@ mod programs;
 mod rows;
 
 pub use laws::{each_lawful_schedule_has_a_next_row, programs_are_small};
+pub use programs::{add_lower_requests, add_own_spinning, spin_fragments};
+pub use rows::{higher_requests, is_from, is_used_below, spinning_requests};
 
 /// Non-preemptive FIFO spin locks under partitioned fixed-priority scheduling. A job that waits for a resource spins: its processor runs
 /// nothing. Homes don't matter.

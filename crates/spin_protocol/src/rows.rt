@@ -43,7 +43,7 @@ impl Constraint for LowerRequestRow {
 }
 
 /// Is it a column of requests of the resource by a task of the processor?
-fn is_from(set: &TaskSet, processor: u32, resource: ResourceId, column: Fragment) -> bool
+pub fn is_from(set: &TaskSet, processor: u32, resource: ResourceId, column: Fragment) -> bool
     requires { column.task.0 < length set.now.tasks }
     ensures { result ≡ is_from set.now processor resource.0 (column_seen column) }
 {
@@ -62,7 +62,7 @@ fn is_lower_user(set: &TaskSet, i: TaskId, q: ResourceId, x: TaskId) -> bool
 }
 
 /// Does a lower task of `i`'s processor use the resource?
-fn is_used_below(set: &TaskSet, i: TaskId, q: ResourceId) -> bool
+pub fn is_used_below(set: &TaskSet, i: TaskId, q: ResourceId) -> bool
     requires task { i.0 < length set.now.tasks }
     requires resource { q.0 < length set.now.resources }
     ensures { result ≡ is_used_below set.now i.0 q.0 }
@@ -83,7 +83,7 @@ fn one_if(test: bool) -> u64
 }
 
 /// How many requests of the resource can the higher tasks of `i`'s processor make while a job of `i` runs?
-fn higher_requests(set: &TaskSet, i: TaskId, q: ResourceId, bounds: &[u64]) -> u64
+pub fn higher_requests(set: &TaskSet, i: TaskId, q: ResourceId, bounds: &[u64]) -> u64
     requires task { i.0 < length set.now.tasks }
     requires resource { q.0 < length set.now.resources }
     requires within { AreWithinDeadlines set.now bounds.now }
@@ -103,7 +103,7 @@ fn higher_requests(set: &TaskSet, i: TaskId, q: ResourceId, bounds: &[u64]) -> u
 
 /// How many requests of the resource from `i`'s processor can spin while a job of `i` runs? Three kinds count: its own, those of higher
 /// tasks, and one of a lower task.
-fn spinning_requests(set: &TaskSet, i: TaskId, q: ResourceId, bounds: &[u64]) -> u64
+pub fn spinning_requests(set: &TaskSet, i: TaskId, q: ResourceId, bounds: &[u64]) -> u64
     requires task { i.0 < length set.now.tasks }
     requires resource { q.0 < length set.now.resources }
     requires within { AreWithinDeadlines set.now bounds.now }
