@@ -1,4 +1,5 @@
 use Rattle.clock_laws.proofs.Instances.{mpcp_on_clocks, fmlp_on_clocks, dpcp_on_clocks, dflp_on_clocks, windows_on_clocks, spin_on_clocks}
+use Rattle.clock_laws.proofs.Instances.{dpcp_closer_on_clocks, dflp_closer_on_clocks}
 use Rattle.clock_laws.proofs.valid_certificates_are_sound_on_clocks.Goals as goal
 
 pub returns-clause-mpcp : goal.returns-clause-mpcp
@@ -18,3 +19,9 @@ returns-clause-dpcp_windows c = windows_on_clocks
 
 pub returns-clause-spin : goal.returns-clause-spin
 returns-clause-spin c = spin_on_clocks
+
+pub returns-clause-dpcp_closer : goal.returns-clause-dpcp_closer
+returns-clause-dpcp_closer c = dpcp_closer_on_clocks
+
+pub returns-clause-dflp_closer : goal.returns-clause-dflp_closer
+returns-clause-dflp_closer c = dflp_closer_on_clocks
