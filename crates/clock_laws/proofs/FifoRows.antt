@@ -28,7 +28,7 @@ queues_in k set bounds i some = each_pair k bounds (length set.tasks) (length (i
     (λ c. ((c.task == x) && not (is_class Preemption c.class)) && (home_in set c.resource == m + 1)) _ _ some refl
     (requests_at_in k set i (m + 1)))
 
-fifo_rows_in : (k : ℕ) (set : SetDef) (bounds : ℕ → ℕ) (i : ℕ) → 0 < k → AreRescaled k bounds (dflp_rows set i) (dflp_rows (in_cycles k set) i)
+pub fifo_rows_in : (k : ℕ) (set : SetDef) (bounds : ℕ → ℕ) (i : ℕ) → 0 < k → AreRescaled k bounds (dflp_rows set i) (dflp_rows (in_cycles k set) i)
 fifo_rows_in k set bounds i some = appended k bounds (common_rows set i) (common_rows (in_cycles k set) i)
     (preemption_rows set i ++ (turns ++ queues)) (preemption_rows (in_cycles k set) i ++ (fine_turns ++ fine_queues))
     (common_in k set bounds i some)

@@ -21,6 +21,8 @@ use Rattle.window_laws.specs.WindowRows.{windowed_source}
 use Rattle.window_laws.proofs.Sound.{windows_analyse}
 use Rattle.closer_laws.specs.CloserRows.{fmlp_closer_source}
 use Rattle.closer_laws.proofs.Sound.{fmlp_closer_analyses}
+use Rattle.closer_distributed_laws.specs.CloserRows.{dpcp_closer_source, dflp_closer_source}
+use Rattle.closer_distributed_laws.proofs.Sound.{dpcp_closer_analyses, dflp_closer_analyses}
 use Rattle.spin_rules.specs.SpinRules.{spin_rule}
 use Rattle.spin_rules.proofs.SpinLaws.{spin_sound_row}
 use Rattle.spin_charging.specs.SpinPrograms.{spin_source}
@@ -33,6 +35,7 @@ use Rattle.clock_laws.proofs.FifoRows.{fifo_rescaled}
 use Rattle.clock_laws.proofs.SpinRows.{spin_rescaled}
 use Rattle.clock_laws.proofs.WindowRows.{windowed_rescaled}
 use Rattle.clock_laws.proofs.CloserRows.{closer_rescaled}
+use Rattle.clock_laws.proofs.CloserHomeRows.{dpcp_closer_rescaled, dflp_closer_rescaled}
 use Rattle.clock_laws.proofs.OnClocks.{sound_on_clocks}
 
 pub mpcp_on_clocks : (set : SetDef) (c : CertificateDef) (values : List ℕ) → IsAccepted set → IsValid (source_of protocol.Mpcp set) c
@@ -83,3 +86,17 @@ pub spin_on_clocks : (set : SetDef) (c : CertificateDef) (values : List ℕ) →
     → SoundOnClocks spin_rule is_shared_interference (is_whole (spin_source set) c) set c.bounds values
 spin_on_clocks set c values accepted valid are = sound_on_clocks spin_rule is_shared_interference spin_source set c values
     shared_one_of_three spin_sound_row spin_analyses (record { programs = spin_rescaled; interfering = cost_in }) accepted valid are
+
+pub dpcp_closer_on_clocks : (set : SetDef) (c : CertificateDef) (values : List ℕ) → IsAccepted set → IsValid (dpcp_closer_source set) c
+    → AreValues (dpcp_closer_source set) c values
+    → SoundOnClocks dpcp_rule is_dpcp_interference (is_whole (dpcp_closer_source set) c) set c.bounds values
+dpcp_closer_on_clocks set c values accepted valid are = sound_on_clocks dpcp_rule is_dpcp_interference dpcp_closer_source set c values
+    dpcp_one_of_three dpcp_sound_row dpcp_closer_analyses (record { programs = dpcp_closer_rescaled; interfering = local_in }) accepted
+    valid are
+
+pub dflp_closer_on_clocks : (set : SetDef) (c : CertificateDef) (values : List ℕ) → IsAccepted set → IsValid (dflp_closer_source set) c
+    → AreValues (dflp_closer_source set) c values
+    → SoundOnClocks dflp_rule is_dpcp_interference (is_whole (dflp_closer_source set) c) set c.bounds values
+dflp_closer_on_clocks set c values accepted valid are = sound_on_clocks dflp_rule is_dpcp_interference dflp_closer_source set c values
+    dpcp_one_of_three dflp_sound_row dflp_closer_analyses (record { programs = dflp_closer_rescaled; interfering = local_in }) accepted
+    valid are

@@ -12,6 +12,7 @@ pub mod SpinRows
 pub mod CloserSpinRows
 pub mod WindowRows
 pub mod CloserRows
+pub mod CloserHomeRows
 pub mod WorkedClock
 pub mod Spared
 pub mod Deadlines

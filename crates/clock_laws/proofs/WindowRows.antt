@@ -137,7 +137,7 @@ window_limit_fine k set bounds i x p some =
       | inr none ↦ omega (arith, same, met_fine k set bounds i x p some none)
     ]
 
-windowed_rows_in : (k : ℕ) (set : SetDef) (bounds : ℕ → ℕ) (i : ℕ) → 0 < k
+pub windowed_rows_in : (k : ℕ) (set : SetDef) (bounds : ℕ → ℕ) (i : ℕ) → 0 < k
     → AreRescaled k bounds (windowed_rows set i) (windowed_rows (in_cycles k set) i)
 windowed_rows_in k set bounds i some = appended k bounds (rows_of protocol.Dpcp set i) (rows_of protocol.Dpcp (in_cycles k set) i)
     (per_pair i (length set.resources) (window_row set i)) (per_pair i (length set.resources) (window_row (in_cycles k set) i))

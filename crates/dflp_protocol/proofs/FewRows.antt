@@ -35,9 +35,9 @@ requests set i = columns_by_requests (λ x. blocks_at_home set i) set i
 of_others : (set : SetDef) (i : ℕ) → AreOfOthers (is_dflp_column set i) i
 of_others set i = columns_by_of_others (λ x. blocks_at_home set i) set i
 
-rows_at_most : (set : SetDef) (i : ℕ) → IsAccepted set → i < length set.tasks
+pub dflp_rows_at_most : (set : SetDef) (i : ℕ) → IsAccepted set → i < length set.tasks
     → length (rows_there (dflp_columns set i) (dflp_rows set i)) ≤ 894
-rows_at_most set i accepted here =
+dflp_rows_at_most set i accepted here =
     let test : ColumnDef → Bool = is_dflp_column set i in
     let cs : List ColumnDef = dflp_columns set i in
     let preemption = preemption_rows set i in
@@ -57,7 +57,7 @@ rows_at_most set i accepted here =
 
 pub dflp_height : (set : SetDef) (i : ℕ) (r : List ℕ) → IsAccepted set → i < length set.tasks → height (dflp_program set i r) ≤ 894
 dflp_height set i r accepted here =
-    omega (arith, height_is set (dflp_columns set i) (dflp_rows set i) r, rows_at_most set i accepted here)
+    omega (arith, height_is set (dflp_columns set i) (dflp_rows set i) r, dflp_rows_at_most set i accepted here)
 
 pub dflp_width : (set : SetDef) (i : ℕ) (r : List ℕ) → IsAccepted set → columns (dflp_program set i r) ≤ 768
 dflp_width set i r accepted = omega (

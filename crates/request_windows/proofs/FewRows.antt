@@ -29,9 +29,9 @@ window_of_pair set i x q c some =
     let pair : ((c.task == x) ≡ true) × ((c.resource == q) ≡ true) = and_parts _ _ both.0 in
     (eqb-true _ _ pair.0, eqb-true _ _ pair.1)
 
-rows_at_most : (set : SetDef) (i : ℕ) → IsAccepted set → i < length set.tasks
+pub windowed_rows_at_most : (set : SetDef) (i : ℕ) → IsAccepted set → i < length set.tasks
     → length (rows_there (columns_of protocol.Dpcp set i) (windowed_rows set i)) ≤ 702
-rows_at_most set i accepted here =
+windowed_rows_at_most set i accepted here =
     let test : ColumnDef → Bool = is_column protocol.Dpcp set i in
     let cs : List ColumnDef = columns_of protocol.Dpcp set i in
     let f : Few set = few set accepted in
@@ -54,7 +54,7 @@ rows_at_most set i accepted here =
 pub windowed_height : (set : SetDef) (i : ℕ) (r : List ℕ) → IsAccepted set → i < length set.tasks
     → height (windowed_program set i r) ≤ 702
 windowed_height set i r accepted here =
-    omega (arith, height_is set (columns_of protocol.Dpcp set i) (windowed_rows set i) r, rows_at_most set i accepted here)
+    omega (arith, height_is set (columns_of protocol.Dpcp set i) (windowed_rows set i) r, windowed_rows_at_most set i accepted here)
 
 pub windowed_width : (set : SetDef) (i : ℕ) (r : List ℕ) → IsAccepted set → columns (windowed_program set i r) ≤ 768
 windowed_width set i r accepted = omega (
