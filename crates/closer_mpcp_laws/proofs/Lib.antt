@@ -1,0 +1,5 @@
+pub mod LowerWaits
+pub mod SharedIntervals
+pub mod Programs
+pub mod Points
+pub mod Sound
