@@ -10,6 +10,7 @@ pub mod Roundings
 pub mod FifoRows
 pub mod SpinRows
 pub mod WindowRows
+pub mod CloserRows
 pub mod WorkedClock
 pub mod Spared
 pub mod Deadlines
