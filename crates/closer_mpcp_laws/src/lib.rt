@@ -46,9 +46,10 @@ pub fn closer_programs_are_accepted()
         → (mpcp_closer_program set i r).limits ≡ (mpcp_closer_program set i s).limits }
 {}
 
-/// Such a program has at most 766 rows: the 701 of MPCP, of shared intervals one for each of 63 other tasks, and two more.
+/// Such a program has at most 1085 rows: the 701 of MPCP, of holdings by resource one for each of 256 request entries, of shared holdings
+/// and of shared intervals one for each of 63 other tasks, and two more.
 pub fn closer_rows_are_few()
-    ensures { (set : SetDef) (i : ℕ) (r : List ℕ) → IsAccepted set → i < length set.tasks → height (mpcp_closer_program set i r) ≤ 766 }
+    ensures { (set : SetDef) (i : ℕ) (r : List ℕ) → IsAccepted set → i < length set.tasks → height (mpcp_closer_program set i r) ≤ 1085 }
 {}
 
 /// In a lawful schedule of an accepted set, under MPCP, take a job, and let each job whose release plus bound is less than that job's, and
