@@ -1,2 +1,1 @@
-pub mod HeldUp
 pub mod FewColumns

@@ -13,16 +13,17 @@ ghost use Rattle.blocking_columns.specs.TaskPlaces.{ArePlaces};
 ghost use Rattle.closer_laws.specs.CloserRows.{is_shared_out, requests_where, closer_rows};
 ghost use Rattle.closer_laws.specs.CloserRows.{holder_row, other_holder_row, lower_row};
 ghost use Rattle.closer_laws.specs.CloserRows.{local_preemption_row, local_wait_row, local_runner_row};
-ghost use Rattle.closer_fmlp.specs.Held.{AreSharedOut, AreHeldUp};
-ghost use Rattle.closer_fmlp.specs.declared.holders.Holders.TheVariants as holders;
+ghost use Rattle.shared_requests.specs.Held.{AreSharedOut, AreHeldUp};
+ghost use Rattle.shared_requests.specs.declared.holders.Holders.TheVariants as holders;
 
-use crate::counts::{held_up, held_up_of, requests_shared_out};
-use crate::holders::Holders;
-use crate::sharing::{is_shared_out, shared_out};
 use fragments::{
     Constraint, EachTask, Fragment, PerRequest, PerTask, RowKind, RowTaker, TaskPlace, TaskRow,
     add_per_lower_task, add_per_request_at, add_per_task, add_row, add_row_limited,
     add_row_of_task, lower_local,
+};
+use shared_requests::{
+    Holders, LocalPreemptionRow, held_up, held_up_of, is_shared_out, requests_shared_out,
+    shared_out,
 };
 use sporadic_model::{ResourceId, TaskId, TaskSet};
 use std::alloc::{AllocError, Global};
@@ -164,26 +165,6 @@ impl PerTask for LowerRows {
         add_row_of_task(
             alloc, taker, &self.0, set, i, x, jobs, bounds, columns, stretch,
         )
-    }
-}
-
-/// In so many intervals at most one request of what only the analysed task's processor uses preempts its job.
-#[derive(Drop)]
-struct LocalPreemptionRow;
-
-impl RowKind for LocalPreemptionRow {
-    ghost row_of = { λ k. local_preemption_row };
-
-    ghost fits = { λ k set. Unit {0} };
-
-    ghost over = { λ k set i c. Unit {0} };
-
-    fn coefficient(&self, set: &TaskSet, i: TaskId, column: Fragment) -> u64 {
-        if column.class.is_preemption() && !is_shared_out(set, i, column.resource) {
-            1
-        } else {
-            0
-        }
     }
 }
 

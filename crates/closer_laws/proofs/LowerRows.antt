@@ -135,7 +135,7 @@ lower_row_met w bound n j x window keeps lower s share fair = granted_slots w bo
       (omega arith) active why b.request same low local runs)
 
 -- Who preempts job j is of a lower local task.
-preempting_low : (w : Trace) (t j y : ℕ) → KeepsRun w t → PreemptedBy w t j y → LowerLocal w (task_of w j) (task_of w y)
+pub preempting_low : (w : Trace) (t j y : ℕ) → KeepsRun w t → PreemptedBy w t j y → LowerLocal w (task_of w j) (task_of w y)
 preempting_low w t j y run why = record { lower = why.lower; processor = sym (run.column (processor_of w j) y why.runs) }
 
 -- Two jobs in requests that only their processor's tasks use, at one tick: they are one.
@@ -148,10 +148,19 @@ either_local o w n t r y m q k p keeps lawful l one only_one two only_two place 
       | inl second ↦ sym (one_local o w n t y r k p m q keeps lawful l two only_two one (sym place) (omega arith))
     ]
 
--- The row of local preemption.
-pub local_preemption_row_met : (w : Trace) (bound : ℕ → ℕ) (n j : ℕ) → Window shared_charge w bound n j
-    → KeepsBefore (shared_rule fmlp_plus) w n → TicksMeet shared_charge w bound n j (local_preemption_row w.set (task_of w j))
-local_preemption_row_met w bound n j window keeps s share fair = granted_slots w bound n j s share counts window fair one where
+-- What preempts job j at the later of two ticks with as many granted, of a lower local task, was open at the earlier one.
+pub preempting_open : (o : Ranks) (w : Trace) (bound : ℕ → ℕ) (n u v j y z m q : ℕ) → Window shared_charge w bound n j
+    → KeepsBefore (shared_rule o) w n → u ≤ v → v < n → PreemptedBy w u j y → PreemptedBy w v j z → z < length w.jobs
+    → granted w j u ≡ granted w j v → LowerLocal w (task_of w j) (task_of w z) → phase_of w v z ≡ Asking m q → phase_of w u z ≡ Asking m q
+preempting_open o w bound n u v j y z m q window keeps order l early late listed same low asks =
+    open_at w u v z m q (window.lawful.each z listed).script order asks
+    (λ t from before local runs. no_local_run o w bound n u t v j z window keeps from (omega arith) l
+    (ready_active w u j early.ready) late.ready (omega (arith, same)) low local runs)
+
+-- The row of local preemption, in whatever order requests are granted and holders run.
+pub local_preemption_row_met : (o : Ranks) (w : Trace) (bound : ℕ → ℕ) (n j : ℕ) → Window shared_charge w bound n j
+    → KeepsBefore (shared_rule o) w n → TicksMeet shared_charge w bound n j (local_preemption_row w.set (task_of w j))
+local_preemption_row_met o w bound n j window keeps s share fair = granted_slots w bound n j s share counts window fair one where
   counts : ColumnDef → Bool
   counts = λ c. is_preemption c.class && not (is_shared_out w.set (task_of w j) c.resource)
 
@@ -162,8 +171,8 @@ local_preemption_row_met w bound n j window keeps s share fair = granted_slots w
   by t l h =
       let both : (is_preemption h.charge.class ≡ true) × (not (is_shared_out w.set (task_of w j) h.resource) ≡ true) =
       and_parts _ _ (hit_passes shared_charge w j t share counts h) in
-      preempted_by fmlp_plus w t j h.charge.job h.charge.class (preemption_is h.charge.class both.0)
-      (shared_reason fmlp_plus w t j h.charge (keeps t l) h.is_it)
+      preempted_by o w t j h.charge.job h.charge.class (preemption_is h.charge.class both.0)
+      (shared_reason o w t j h.charge (keeps t l) h.is_it)
 
   only : (t : ℕ) → t < n → (h : Hit shared_charge w f j t) → OnlyOn w.set h.resource (processor_of w j)
   only t l h =
@@ -177,17 +186,15 @@ local_preemption_row_met w bound n j window keeps s share fair = granted_slots w
       let early : PreemptedBy w u j a.charge.job = by u (omega arith) a in
       let late : PreemptedBy w v j b.charge.job = by v (omega arith) b in
       let later : HitJob shared_charge w bound j v b.charge.job = hit_job shared_charge w bound n j v f window l b in
-      let lawful : IsLawfulJob w.set (job_of w.jobs b.charge.job) = window.lawful.each b.charge.job later.listed in
       let first : LowerLocal w (task_of w j) (task_of w a.charge.job) =
       preempting_low w u j a.charge.job (keeps u (omega arith) rule.Run) early in
       let low : LowerLocal w (task_of w j) (task_of w b.charge.job) =
       preempting_low w v j b.charge.job (keeps v (omega arith) rule.Run) late in
       let open_u : phase_of w u b.charge.job ≡ Asking b.number b.resource =
-      open_at w u v b.charge.job b.number b.resource lawful.script order b.request
-      (λ t from before local runs. no_local_run fmlp_plus w bound n u t v j b.charge.job window keeps from (omega arith) (omega arith)
-      (ready_active w u j early.ready) late.ready (omega (arith, same)) low local runs) in
+      preempting_open o w bound n u v j a.charge.job b.charge.job b.number b.resource window keeps order (omega arith) early late
+      later.listed same low b.request in
       let one_job : a.charge.job ≡ b.charge.job =
-      either_local fmlp_plus w n u a.charge.job b.charge.job a.number a.resource b.number b.resource keeps window.lawful (omega arith)
+      either_local o w n u a.charge.job b.charge.job a.number a.resource b.number b.resource keeps window.lawful (omega arith)
       a.request (rw first.processor (only u (omega arith) a)) open_u (rw low.processor (only v (omega arith) b))
       (first.processor ∙ sym low.processor) in
       record { job = one_job; phase = ap (phase_of w u) one_job ∙ open_u ∙ sym b.request }

@@ -30,7 +30,7 @@ closer_rows_met w bound n j window keeps = record {
   holder = λ x a. holder_row_met w bound n j x window keeps;
   other = λ x q a b. other_holder_row_met w bound n j x q window keeps;
   lower = λ x a lower. lower_row_met w bound n j x window keeps lower;
-  preemption = local_preemption_row_met w bound n j window keeps;
+  preemption = local_preemption_row_met fmlp_plus w bound n j window keeps;
   wait = local_wait_row_met w bound n j window keeps;
   runner = local_runner_row_met w bound n j window keeps;
 }

@@ -10,6 +10,7 @@ use Rattle.program_form.specs.Program.{IsProgram, IsCovered, columns, height}
 use Rattle.program_form.specs.Limits.{HasLimitsAtMost}
 use Rattle.sporadic_model.specs.SetDef.{SetDef}
 use Rattle.sporadic_model.specs.Accepted.{IsAccepted}
+use Rattle.sporadic_model.specs.declared.ids.Protocol.{Protocol}
 use Rattle.sporadic_model.specs.declared.ids.Protocol.TheVariants as protocol
 use Rattle.program_sources.specs.Bounds.{AtMost, AreWithinDeadlines}
 use Rattle.program_sources.specs.Fitting.{ComesUpAbove}
@@ -100,7 +101,7 @@ fmlp_closer_follows set i r s here same =
     limits_stay set (columns_of protocol.FmlpPlus set i) (fmlp_closer_rows set i) r s (rows_rise set i r s here both.0)
     (rows_rise set i s r here both.1)
 
-requests_small : (set : SetDef) (i : ℕ) (passes : ℕ → Bool) → IsAccepted set → i < length set.tasks → requests_where set i passes ≤ 32000
+pub requests_small : (set : SetDef) (i : ℕ) (passes : ℕ → Bool) → IsAccepted set → i < length set.tasks → requests_where set i passes ≤ 32000
 requests_small set i passes accepted here = home_small set i passes accepted here
 
 small : (set : SetDef) (i : ℕ) (r : List ℕ) → IsAccepted set → i < length set.tasks → EachCloser (IsSmallRow r) set i
@@ -142,12 +143,16 @@ rows_to set i accepted = omega (
   closer_few set i (few set accepted),
 )
 
--- The rows of requests stand among them.
+-- The rows of requests stand among those of a protocol with further rows behind.
+pub request_among : (p : Protocol) (set : SetDef) (i : ℕ) (more : List ConstraintDef) (x q : ℕ) → x < length set.tasks
+    → q < length set.resources → Contains (rows_of p set i ++ more) (request_row set i x q)
+request_among p set i more x q a b =
+    let rest : List ConstraintDef = preemption_rows set i ++ protocol_rows p set i in
+    rw (append_assoc (common_rows set i) rest more) (request_row_among set i x q (rest ++ more) a b)
+
 among : (set : SetDef) (i x q : ℕ) → x < length set.tasks → q < length set.resources
     → Contains (fmlp_closer_rows set i) (request_row set i x q)
-among set i x q a b =
-    let rest : List ConstraintDef = preemption_rows set i ++ protocol_rows protocol.FmlpPlus set i in
-    rw (append_assoc (common_rows set i) rest (closer_rows set i)) (request_row_among set i x q (rest ++ closer_rows set i) a b)
+among set i x q a b = request_among protocol.FmlpPlus set i (closer_rows set i) x q a b
 
 pub fmlp_closer_is_program : (set : SetDef) (i : ℕ) (r : List ℕ) → IsAccepted set → i < length set.tasks → AreWithinDeadlines set r
     → IsProgram (fmlp_closer_program set i r)
@@ -170,7 +175,7 @@ pub fmlp_closer_above : (set : SetDef) → ComesUpAbove (fmlp_closer_source set)
 fmlp_closer_above set = comes_up_above (fmlp_closer_source set) (λ i r s here most. fmlp_closer_rises set i r s here most)
 
 -- Of these rows, beside those of FMLP+, few are there.
-first_of : (a b : Bool) → 0 < flag (a && b) → a ≡ true
+pub first_of : (a b : Bool) → 0 < flag (a && b) → a ≡ true
 first_of a b h = (and_parts a b (flag-passes (a && b) h)).0
 
 holder_of : (set : SetDef) (i x : ℕ) → IsOfTask x (holder_row set i x)

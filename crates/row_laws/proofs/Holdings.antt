@@ -139,7 +139,7 @@ held_at o w bound n t j x share window keeps l h =
     (shared_reason o w t j h.charge (keeps t l) h.is_it))
 
 -- While job z holds q, no job of its processor runs a Local tick.
-no_local_beside : (o : Ranks) (w : Trace) (n t q z y : ℕ) → KeepsBefore (shared_rule o) w n → t < n → holder_in (w.row t) q ≡ Some z
+pub no_local_beside : (o : Ranks) (w : Trace) (n t q z y : ℕ) → KeepsBefore (shared_rule o) w n → t < n → holder_in (w.row t) q ≡ Some z
     → processor_of w y ≡ processor_of w z → phase_of w t y ≡ Local
     → runs_in (w.row t) y ≡ true → ⊥
 no_local_beside o w n t q z y keeps l holds same local runs =

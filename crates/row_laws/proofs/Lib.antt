@@ -8,6 +8,7 @@ pub mod Numbers
 pub mod Fifo
 pub mod LowerHolders
 pub mod Holdings
+pub mod HeldResources
 pub mod HoldingParts
 pub mod HoldingRow
 pub mod Ordered

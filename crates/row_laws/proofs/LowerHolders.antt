@@ -30,7 +30,7 @@ use Rattle.row_laws.proofs.Requests.{direct_is, direct_by, held_resource, one_re
 use Rattle.row_laws.proofs.Numbers.{by_number_of}
 
 -- A new holder isn't of a lower task than a requester.
-mpcp_new : (w : Trace) (t q y j : ℕ) → KeepsGrant mpcp w t → holder_in (w.row t) q ≡ Some y → is_job y (held_before w t q) ≡ false
+pub mpcp_new : (w : Trace) (t q y j : ℕ) → KeepsGrant mpcp w t → holder_in (w.row t) q ≡ Some y → is_job y (held_before w t q) ≡ false
     → is_requester w t q j ≡ true → task_of w y ≤ task_of w j
 unfolding mpcp
 mpcp_new w t q y j grant holds new asks =

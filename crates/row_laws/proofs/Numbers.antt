@@ -80,28 +80,30 @@ pub record OwnRequest (w : Trace) (t j : ℕ) (ok : ℕ → Bool) : Type 0 where
   pub request : phase_of w t j ≡ Asking number resource
   pub passes : ok resource ≡ true
 
--- How the requests of job z that pass pay for a part g of what the ticks contribute. At each tick that counts z is in such a request. What
--- is charged while z is in one of them is one request.
-pub record PaidBy (charges : Charges) (w : Trace) (bound : ℕ → ℕ) (n j z : ℕ) (f : ColumnDef → ℕ) (g : ℕ → ℕ) (ok : ℕ
-    → Bool) : Type 0 where
+-- How a part g of what the ticks bring is paid for by the requests of job z that pass: at some tick of each tick that counts z is in one,
+-- and what is charged at ticks of one of these requests is one request.
+pub record PaidAt (charges : Charges) (w : Trace) (bound : ℕ → ℕ) (n j z : ℕ) (f : ColumnDef → ℕ) (g : ℕ → ℕ) (ok : ℕ → Bool) (at : ℕ
+    → ℕ) : Type 0 where
   pub below : (t : ℕ) → t < window_end w bound n j → g t ≤ brings charges w f j t
-  pub own : (t : ℕ) → t < window_end w bound n j → 0 < g t → Hit charges w f j t → OwnRequest w t z ok
+  pub own : (t : ℕ) → t < window_end w bound n j → 0 < g t → Hit charges w f j t → OwnRequest w (at t) z ok
   pub one : (u v k q r : ℕ) → u ≤ v → v < window_end w bound n j → 0 < g u → 0 < g v → (a : Hit charges w f j u)
-      → (b : Hit charges w f j v) → phase_of w u z ≡ Asking k q → phase_of w v z ≡ Asking k r → OneRequest w u v a.charge.job b.charge.job
+      → (b : Hit charges w f j v) → phase_of w (at u) z ≡ Asking k q → phase_of w (at v) z ≡ Asking k r
+      → OneRequest w u v a.charge.job b.charge.job
 
 -- Each of these requests pays for one.
-pub paid_by : (charges : Charges) (w : Trace) (bound : ℕ → ℕ) (n j z s : ℕ) (share : ℕ → ℕ → ℕ) (f : ColumnDef → ℕ) (g : ℕ → ℕ) (ok : ℕ
-    → Bool) → Window charges w bound n j → Shares w s share f → z < length w.jobs → PaidBy charges w bound n j z f g ok
+pub paid_at : (charges : Charges) (w : Trace) (bound : ℕ → ℕ) (n j z s : ℕ) (share : ℕ → ℕ → ℕ) (f : ColumnDef → ℕ) (g : ℕ → ℕ) (ok : ℕ
+    → Bool) (at : ℕ → ℕ) → Window charges w bound n j → Shares w s share f → z < length w.jobs
+    → PaidAt charges w bound n j z f g ok at
     → sum_below (window_end w bound n j) g
     ≤ s * sum_below (length w.set.resources) (λ q. only_if (ok q) (count_of w.set (task_of w z) q))
-paid_by charges w bound n j z s share f g ok window shares listed paid =
+paid_at charges w bound n j z s share f g ok at window shares listed paid =
     let most : sum_below (window_end w bound n j) g ≤ count_below (length script) test * s =
     parts_paid charges w bound n j (length script) s share f g slot test window
     (record {
       below = paid.below;
-      within = λ t l some h. let a : OwnRequest w t z ok = paid.own t l some h in
-          rw a.request ((open_segment w t z a.number a.resource a.request).within);
-      passes = λ t l some h. passes t (paid.own t l some h);
+      within = λ t l some h. let a : OwnRequest w (at t) z ok = paid.own t l some h in
+          rw a.request ((open_segment w (at t) z a.number a.resource a.request).within);
+      passes = λ t l some h. passes (at t) (paid.own t l some h);
       one = λ u v order l first second a b same. together u v order l first second a b (paid.own u (omega arith) first a)
           (paid.own v l second b) same;
     })
@@ -120,12 +122,12 @@ paid_by charges w bound n j z s share f g ok window shares listed paid =
       script = (job_of w.jobs z).script
 
       slot : ℕ → ℕ
-      slot = λ t. number_of (phase_of w t z)
+      slot = λ t. number_of (phase_of w (at t) z)
 
       test : ℕ → Bool
       test = λ k. asks_passing ok (get_or script k no_segment)
 
-      passes : (t : ℕ) → OwnRequest w t z ok → test (slot t) ≡ true
+      passes : (t : ℕ) → OwnRequest w t z ok → test (number_of (phase_of w t z)) ≡ true
       passes t a =
           let at : RequestAt script a.number a.resource = open_segment w t z a.number a.resource a.request in
           let some : (l : ℕ) × ((get_or script a.number no_segment).request ≡ Some (a.resource, l)) =
@@ -133,12 +135,28 @@ paid_by charges w bound n j z s share f g ok window shares listed paid =
           rw (a.request, some.1) a.passes
 
       together : (u v : ℕ) → u ≤ v → v < window_end w bound n j → 0 < g u → 0 < g v → (a : Hit charges w f j u)
-          → (b : Hit charges w f j v) → OwnRequest w u z ok → OwnRequest w v z ok → slot u ≡ slot v
+          → (b : Hit charges w f j v) → OwnRequest w (at u) z ok → OwnRequest w (at v) z ok → slot u ≡ slot v
           → OneRequest w u v a.charge.job b.charge.job
       together u v order l first second a b mine later same =
           let number : mine.number ≡ later.number = sym (ap number_of mine.request) ∙ same ∙ ap number_of later.request in
           paid.one u v mine.number mine.resource later.resource order l first second a b mine.request
           (later.request ∙ ap (λ k. Asking k later.resource) (sym number))
+
+-- The same where z is in the request at the tick that counts.
+pub record PaidBy (charges : Charges) (w : Trace) (bound : ℕ → ℕ) (n j z : ℕ) (f : ColumnDef → ℕ) (g : ℕ → ℕ) (ok : ℕ
+    → Bool) : Type 0 where
+  pub below : (t : ℕ) → t < window_end w bound n j → g t ≤ brings charges w f j t
+  pub own : (t : ℕ) → t < window_end w bound n j → 0 < g t → Hit charges w f j t → OwnRequest w t z ok
+  pub one : (u v k q r : ℕ) → u ≤ v → v < window_end w bound n j → 0 < g u → 0 < g v → (a : Hit charges w f j u)
+      → (b : Hit charges w f j v) → phase_of w u z ≡ Asking k q → phase_of w v z ≡ Asking k r → OneRequest w u v a.charge.job b.charge.job
+
+pub paid_by : (charges : Charges) (w : Trace) (bound : ℕ → ℕ) (n j z s : ℕ) (share : ℕ → ℕ → ℕ) (f : ColumnDef → ℕ) (g : ℕ → ℕ) (ok : ℕ
+    → Bool) → Window charges w bound n j → Shares w s share f → z < length w.jobs → PaidBy charges w bound n j z f g ok
+    → sum_below (window_end w bound n j) g
+    ≤ s * sum_below (length w.set.resources) (λ q. only_if (ok q) (count_of w.set (task_of w z) q))
+paid_by charges w bound n j z s share f g ok window shares listed paid =
+    paid_at charges w bound n j z s share f g ok (λ t. t) window shares listed
+    (record { below = paid.below; own = paid.own; one = paid.one })
 
 -- The same for requests of one resource.
 pub record PaidByEach (charges : Charges) (w : Trace) (bound : ℕ → ℕ) (n j z q : ℕ) (f : ColumnDef → ℕ) (g : ℕ → ℕ) : Type 0 where

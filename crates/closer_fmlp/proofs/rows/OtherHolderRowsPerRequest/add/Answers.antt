@@ -4,7 +4,7 @@ use Rattle.number_laws.specs.Sums.{only_if}
 use Rattle.sporadic_model.specs.Users.{count_of}
 use Rattle.fragments.proofs.RowStretches.{stretch_of_requests, columns_of_requests}
 use Rattle.closer_laws.specs.CloserRows.{other_holder_row, requests_where, is_held_beside}
-use Rattle.closer_fmlp.proofs.HeldUp.{others_than}
+use Rattle.shared_requests.proofs.HeldUp.{others_than}
 use Rattle.closer_fmlp.proofs.rows.OtherHolderRowsPerRequest.add.Goals as goal
 
 pub overflow_sub-others : goal.overflow_sub-others

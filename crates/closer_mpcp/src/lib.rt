@@ -1,0 +1,11 @@
+//! MPCP with the closer analysis: its programs have further rows behind those of MPCP.
+#![tactic(auto)]
+
+mod laws;
+mod programs;
+mod protocol;
+mod rows;
+
+pub use laws::programs_are_small;
+pub use programs::program;
+pub use protocol::CloserMpcp;

@@ -1,0 +1,183 @@
+//! The closer rows.
+
+ghost use Rattle.std.specs.Prelude.{◌≡◌, ◌<◌, ◌+◌, ◌==◌, ◌&&◌, [], ◌∷◌, ◌++◌, map, length, slice_index, OnOk, if◌then◌else◌};
+ghost use Rattle.std.proofs.Common.{ap};
+ghost use Rattle.number_laws.specs.Sums.{flag};
+ghost use Rattle.program_sources.specs.Bounds.{AreWithinDeadlines};
+ghost use Rattle.blocking_columns.specs.declared.columns.Class.TheVariants.{Preemption};
+ghost use Rattle.blocking_columns.specs.ColumnDef.{column_seen, is_class, AreKnown};
+ghost use Rattle.blocking_columns.specs.Columns.{is_lower_local};
+ghost use Rattle.fragments.specs.Constraints.{per_where};
+ghost use Rattle.blocking_columns.specs.Stretches.{AreInOrder};
+ghost use Rattle.blocking_columns.specs.TaskPlaces.{ArePlaces};
+ghost use Rattle.closer_laws.specs.CloserRows.{is_shared_out, requests_where, local_preemption_row};
+ghost use Rattle.closer_mpcp_laws.specs.CloserMpcpRows.{shared_interval_row, lower_wait_row, further_rows};
+
+use fragments::{
+    Constraint, Fragment, PerTask, RowKind, RowTaker, TaskPlace, TaskRow, add_per_lower_task,
+    add_row, add_row_limited, add_row_of_task, lower_local,
+};
+use shared_requests::{LocalPreemptionRow, requests_shared_out, shared_out};
+use sporadic_model::{TaskId, TaskSet};
+use std::alloc::{AllocError, Global};
+
+/// Of a task: from its release on, and behind each of its requests that is shared out, a job of the analysed task is preempted by at most
+/// one of the task's requests.
+#[derive(Drop)]
+struct SharedIntervalRow {
+    /// How many such intervals a job of the analysed task has.
+    intervals: u64,
+}
+
+impl TaskRow for SharedIntervalRow {
+    ghost row_of = { λ k. shared_interval_row };
+
+    ghost fits = { λ k set i bounds. k.intervals ≡ 1 + requests_where set i (is_shared_out set i) };
+
+    ghost alone = { λ k set i x c other. ap (λ b. flag (b && is_class Preemption c.class)) other };
+
+    fn coefficient(&self, _set: &TaskSet, _i: TaskId, _x: TaskId, column: Fragment) -> u64 {
+        if column.class.is_preemption() { 1 } else { 0 }
+    }
+
+    fn limit(&self, _set: &TaskSet, _i: TaskId, _x: TaskId, _jobs: u64, _bounds: &[u64]) -> u64 {
+        self.intervals
+    }
+}
+
+/// The rows of shared intervals, one for each lower task on the analysed task's processor.
+#[derive(Drop)]
+struct SharedIntervalRows(SharedIntervalRow);
+
+impl PerTask for SharedIntervalRows {
+    ghost rows_of = { λ k set i x. if is_lower_local set i x then shared_interval_row set i x ∷ [] else [] };
+
+    ghost fits = { λ k set i bounds. k.0.intervals ≡ 1 + requests_where set i (is_shared_out set i) };
+
+    fn add<T: RowTaker>(
+        &self,
+        alloc: Global,
+        taker: &mut T,
+        set: &TaskSet,
+        i: TaskId,
+        x: TaskId,
+        jobs: u64,
+        bounds: &[u64],
+        columns: &[Fragment],
+        stretch: (usize, usize),
+    ) -> Result<(), AllocError> {
+        if !lower_local(set, i, x) {
+            return Ok(());
+        }
+        add_row_of_task(
+            alloc, taker, &self.0, set, i, x, jobs, bounds, columns, stretch,
+        )
+    }
+}
+
+/// No request of a lower task of the analysed task's processor is waited for.
+#[derive(Drop)]
+struct LowerWaitRow;
+
+impl RowKind for LowerWaitRow {
+    ghost row_of = { λ k. lower_wait_row };
+
+    ghost fits = { λ k set. Unit {0} };
+
+    ghost over = { λ k set i c. Unit {0} };
+
+    fn coefficient(&self, set: &TaskSet, i: TaskId, column: Fragment) -> u64 {
+        if column.class.is_direct() && lower_local(set, i, column.task) {
+            1
+        } else {
+            0
+        }
+    }
+}
+
+impl Constraint for LowerWaitRow {
+    fn limit(&self, _set: &TaskSet, _i: TaskId, _bounds: &[u64]) -> u64 {
+        0
+    }
+}
+
+// Adds the row of shared intervals of each lower task of the analysed task's processor.
+fn add_interval_rows<T: RowTaker>(
+    alloc: Global,
+    taker: &mut T,
+    set: &TaskSet,
+    i: TaskId,
+    bounds: &[u64],
+    columns: &[Fragment],
+    places: &[TaskPlace],
+    intervals: u64,
+) -> Result<(), AllocError>
+    requires task { i.0 < length set.now.tasks }
+    requires within { AreWithinDeadlines set.now bounds.now }
+    requires known { AreKnown (length set.now.tasks) (length set.now.resources) columns.now }
+    requires order { AreInOrder columns.now }
+    requires places { ArePlaces set.now (slice_index bounds.now) i.0 (length set.now.tasks) columns.now places.now }
+    requires intervals { intervals ≡ 1 + requests_where set.now i.0 (is_shared_out set.now i.0) }
+    ensures { OnOk result (T.takes taker.old (map column_seen columns.now)
+        (per_where (is_lower_local set.now i.0) (length set.now.tasks) (shared_interval_row set.now i.0)) bounds.now taker.new) }
+{
+    let rows = SharedIntervalRows(SharedIntervalRow { intervals });
+    add_per_lower_task(alloc, taker, &rows, set, i, bounds, columns, places)
+}
+
+// Adds the rows of local preemption and of lower waits.
+fn add_single_rows<T: RowTaker>(
+    alloc: Global,
+    taker: &mut T,
+    set: &TaskSet,
+    i: TaskId,
+    bounds: &[u64],
+    columns: &[Fragment],
+    intervals: u64,
+) -> Result<(), AllocError>
+    requires task { i.0 < length set.now.tasks }
+    requires within { AreWithinDeadlines set.now bounds.now }
+    requires known { AreKnown (length set.now.tasks) (length set.now.resources) columns.now }
+    requires intervals { intervals ≡ 1 + requests_where set.now i.0 (is_shared_out set.now i.0) }
+    ensures { OnOk result (T.takes taker.old (map column_seen columns.now)
+        (local_preemption_row set.now i.0 ∷ lower_wait_row set.now i.0 ∷ []) bounds.now taker.new) }
+{
+    let all = (0, columns.len());
+    add_row_limited(
+        alloc,
+        taker,
+        &LocalPreemptionRow,
+        set,
+        i,
+        bounds,
+        columns,
+        all,
+        intervals,
+    )?;
+    add_row(alloc, taker, &LowerWaitRow, set, i, bounds, columns)?;
+    Ok(())
+}
+
+/// Adds the closer rows, in their order, behind those that the taker has, over any columns that stand in order.
+pub(crate) fn add_further_rows<T: RowTaker>(
+    alloc: Global,
+    taker: &mut T,
+    set: &TaskSet,
+    i: TaskId,
+    bounds: &[u64],
+    columns: &[Fragment],
+    places: &[TaskPlace],
+) -> Result<(), AllocError>
+    requires task { i.0 < length set.now.tasks }
+    requires within { AreWithinDeadlines set.now bounds.now }
+    requires known { AreKnown (length set.now.tasks) (length set.now.resources) columns.now }
+    requires order { AreInOrder columns.now }
+    requires places { ArePlaces set.now (slice_index bounds.now) i.0 (length set.now.tasks) columns.now places.now }
+    ensures { OnOk result (T.takes taker.old (map column_seen columns.now) (further_rows set.now i.0) bounds.now taker.new) }
+{
+    let shared = shared_out(alloc, set, i)?;
+    let intervals = 1 + requests_shared_out(set, i, &shared);
+    add_interval_rows(alloc, taker, set, i, bounds, columns, places, intervals)?;
+    add_single_rows(alloc, taker, set, i, bounds, columns, intervals)?;
+    Ok(())
+}

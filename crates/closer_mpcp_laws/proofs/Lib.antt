@@ -1,0 +1,6 @@
+pub mod LowerWaits
+pub mod SharedIntervals
+pub mod SharedHoldings
+pub mod Programs
+pub mod Points
+pub mod Sound

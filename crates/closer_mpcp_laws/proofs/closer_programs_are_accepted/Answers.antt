@@ -1,0 +1,11 @@
+use Rattle.closer_mpcp_laws.proofs.Programs.{mpcp_closer_is_program, mpcp_closer_rises, mpcp_closer_follows}
+use Rattle.closer_mpcp_laws.proofs.closer_programs_are_accepted.Goals as goal
+
+pub returns-clause-accepted : goal.returns-clause-accepted
+returns-clause-accepted c = mpcp_closer_is_program
+
+pub returns-clause-rises : goal.returns-clause-rises
+returns-clause-rises c = mpcp_closer_rises
+
+pub returns-clause-follows : goal.returns-clause-follows
+returns-clause-follows c = mpcp_closer_follows
