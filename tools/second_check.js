@@ -10,7 +10,7 @@
 "use strict";
 
 var SecondCheck = (function () {
-    const PROTOCOLS = ["mpcp", "fmlp+", "dpcp", "dflp", "dpcp-w", "spin"];
+    const PROTOCOLS = ["mpcp", "fmlp+", "dpcp", "dflp", "dpcp-w", "spin", "fmlp+-c"];
     const AT_HOMES = ["dpcp", "dflp", "dpcp-w"];
     const MOST_BYTES = 67108864;
     const MOST_LEVELS = 127;
@@ -432,6 +432,13 @@ var SecondCheck = (function () {
         met(x, q) {
             return sum_of(this.own_at(this.home(q)), (r) => this.me.count[r] * this.set.tasks[x].count[q] * this.jobs(x, this.window(r)));
         }
+
+        // Whether a task of another processor than x's uses q; and those of i's resources of which that is so for i.
+        is_shared_out(x, q) { return this.all.some((y) => this.uses(y, q) && this.processor(y) !== this.processor(x)); }
+        shared_out() { return this.own.filter((q) => this.is_shared_out(this.i, q)); }
+
+        // How many requests of i, of these resources, one of these tasks may hold up.
+        held_up(among, holders) { return this.own_requests(among.filter((q) => holders.some((y) => this.uses(y, q)))); }
     }
 
     const is_open = (column) => column.way !== PREEMPTION;
@@ -451,6 +458,15 @@ var SecondCheck = (function () {
         lower_requests: { row: (view, column) => !is_open(column) && [0], limit: () => 1n },
         spinning: { row: (view, column) => is_open(column) && [view.processor(column.x), column.q], limit: (view, k, q) => view.me.count[q] + view.holds(view.i, q, 1n) },
         own_spinning: { row: (view, { x, q, way }) => way === DIRECT && [view.processor(x), q], limit: (view, k, q) => view.me.count[q] },
+        holders: { row: (view, column) => is_open(column) && [column.x], limit: (view, x) => view.held_up(view.shared_out(), [x, ...view.beside(x)]) },
+        other_holders: {
+            row: (view, { x, q, way }) => way === INDIRECT && [x, q],
+            limit: (view, x, q) => view.held_up(view.shared_out().filter((r) => r !== q), view.beside(x)),
+        },
+        lower_tasks: { row: (view, { x }) => x > view.i && view.is_local(x) && [x], limit: (view) => 1n + view.own_requests(view.shared_out()) },
+        local_preemption: { row: (view, column) => !is_open(column) && !view.is_shared_out(view.i, column.q) && [0], limit: (view) => 1n + view.own_requests(view.shared_out()) },
+        local_waits: { row: (view, { q, way }) => way === DIRECT && !view.is_shared_out(view.i, q) && [0], limit: () => 0n },
+        local_runners: { row: (view, { x, q, way }) => way === INDIRECT && !view.is_shared_out(x, q) && [0], limit: () => 0n },
     };
 
     const KINDS_OF = {
@@ -461,6 +477,7 @@ var SecondCheck = (function () {
         "dpcp-w": ["requests", "time", "intervals", "homes", "windows"],
         spin: ["requests", "time", "lower_requests", "spinning", "own_spinning"],
     };
+    KINDS_OF["fmlp+-c"] = [...KINDS_OF["fmlp+"], "holders", "other_holders", "lower_tasks", "local_preemption", "local_waits", "local_runners"];
 
     // The rows of a kind, in rising order of whom each is for: its cells, each a column and how often that counts, and its limit.
     function rows_of(view, columns, { row, times, limit }) {

@@ -8,7 +8,7 @@ from __future__ import annotations
 from typing import Callable, Iterator, NamedTuple, Optional, Sequence
 
 from .program import Parts
-from .protocols import AT_HOMES
+from .protocols import AT_HOMES, PROTOCOLS
 
 # one bound for each task
 Bounds = Sequence[int]
@@ -51,6 +51,10 @@ class TaskSet:
     def users(self, q: int) -> list[int]:
         """Who requests q, the highest first."""
         return [x for x in range(self.n) if q in self.count[x]]
+
+    def is_shared_out(self, x: int, q: int) -> bool:
+        """Does a task of another processor than x's request q?"""
+        return any(self.processor[y] != self.processor[x] for y in self.users(q))
 
     def boost(self, q: int, k: int) -> int:
         """The highest user of q that isn't on processor k, and where there is none the highest."""
@@ -142,9 +146,10 @@ def ways_by_spinning(s: TaskSet, _: str, i: int, x: int, q: int) -> Iterator[str
 
 def columns_of(s: TaskSet, protocol: str, i: int) -> list[Column]:
     """The columns of task i."""
-    ways = ways_by_spinning if protocol == "spin" else ways_at_home if protocol in AT_HOMES else ways_beside
+    rules = PROTOCOLS[protocol].rules
+    ways = ways_by_spinning if rules == "spin" else ways_at_home if rules in AT_HOMES else ways_beside
     others = [x for x in range(s.n) if x != i]
-    return [Column(x, q, way) for x in others for q in sorted(s.count[x]) for way in ways(s, protocol, i, x, q)]
+    return [Column(x, q, way) for x in others for q in sorted(s.count[x]) for way in ways(s, rules, i, x, q)]
 
 
 def holdings(s: TaskSet, bounds: Bounds, i: int, x: int) -> int:
@@ -281,6 +286,54 @@ class Shape:
             for q in range(len(self.s.resources)):
                 self.add_own(columns, q, lambda c: True)
 
+    def add_holders(self) -> None:
+        """Of a task: one request before each of i that its processor may hold up."""
+        for x in self.others:
+            self.add_holders_of(x)
+
+    def add_holders_of(self, x: int) -> None:
+        """The row of x."""
+        self.add(lambda r: self.held_up(x, (self.i,)), self.of_task[x], lambda c: int(c.way != "preemption"))
+
+    def add_other_holders(self) -> None:
+        """Of a task and a resource: one request in each wait for another resource that another task of its processor may hold."""
+        for x in self.others:
+            for q in sorted(self.s.count[x]):
+                self.add_other_holders_of(x, q)
+
+    def add_other_holders_of(self, x: int, q: int) -> None:
+        """The row of x and q."""
+        self.add(lambda r: self.held_up(x, (self.i, x), q), self.of_task[x], lambda c: int(c[1:] == (q, "indirect")))
+
+    def add_lower_tasks(self) -> None:
+        """Of a lower local task: one request in each interval that a release or a request that is shared out begins."""
+        for x in self.others:
+            if x > self.i and self.s.processor[x] == self.s.processor[self.i]:
+                self.add(lambda r: 1 + self.shared_requests(), self.of_task[x], lambda c: 1)
+
+    def add_local_preemption(self) -> None:
+        """One request in each of these intervals, of what only i's processor requests."""
+        self.add(lambda r: 1 + self.shared_requests(), self.every, lambda c: int(c.way == "preemption" and not self.s.is_shared_out(self.i, c.resource)))
+
+    def add_local_waits(self) -> None:
+        """No request of what only i's processor requests is waited for."""
+        self.add(lambda r: 0, self.every, lambda c: int(c.way == "direct" and not self.s.is_shared_out(self.i, c.resource)))
+
+    def add_local_runners(self) -> None:
+        """No request of what only its task's processor requests runs before what i waits for."""
+        self.add(lambda r: 0, self.every, lambda c: int(c.way == "indirect" and not self.s.is_shared_out(c.task, c.resource)))
+
+    def shared_requests(self) -> int:
+        """The requests of i of what tasks of other processors request too."""
+        return sum(n for q, n in self.s.count[self.i].items() if self.s.is_shared_out(self.i, q))
+
+    def held_up(self, x: int, but: tuple[int, ...], left_out: Optional[int] = None) -> int:
+        """Those of them, of another resource than `left_out`, that tasks of x's processor may hold up, other than these."""
+        s, i = self.s, self.i
+        holders = [y for y in range(s.n) if y not in but and s.processor[y] == s.processor[x]]
+        shared = [q for q in s.count[i] if q != left_out and s.is_shared_out(i, q)]
+        return sum(s.count[i][q] for q in shared if any(q in s.count[y] for y in holders))
+
     def spins(self, bounds: Bounds, q: int) -> int:
         """How many requests of q from i's processor may spin while a job of i is there."""
         s, i = self.s, self.i
@@ -323,6 +376,15 @@ KINDS: dict[str, tuple[Callable[[Shape], None], ...]] = {
     "dpcp-w": (*COMMON, Shape.add_homes, Shape.add_windows),
     "spin": (Shape.add_requests, Shape.add_time, Shape.add_lower_requests, Shape.add_spinning, Shape.add_own_spinning),
 }
+KINDS["fmlp+-c"] = (
+    *KINDS["fmlp+"],
+    Shape.add_holders,
+    Shape.add_other_holders,
+    Shape.add_lower_tasks,
+    Shape.add_local_preemption,
+    Shape.add_local_waits,
+    Shape.add_local_runners,
+)
 
 
 def program_of(s: TaskSet, protocol: str, i: int, bounds: Bounds) -> tuple[list[int], list[tuple[Row, int]]]:

@@ -27,6 +27,7 @@ PROTOCOLS = {
         Protocol("dflp", "the distributed FIFO protocol", True, "dflp"),
         Protocol("dpcp-w", "DPCP with windows of requests", True, "dpcp"),
         Protocol("spin", "spin locks", False, "spin"),
+        Protocol("fmlp+-c", "FMLP+ with the closer analysis", False, "fmlp+"),
     )
 }
 WORDS = tuple(PROTOCOLS)

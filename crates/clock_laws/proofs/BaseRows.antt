@@ -64,7 +64,7 @@ turns_in k set bounds i some = each_pair k bounds (length set.tasks) (length (in
     counted_same k bounds (λ c. ((c.task == x) && (c.resource == q)) && is_class Direct c.class)
     (λ c. ((c.task == x) && (c.resource == q)) && is_class Direct c.class) _ _ some refl (count_in k set i q))
 
-beside_in : (k : ℕ) (set : SetDef) → is_beside (in_cycles k set) ≡ is_beside set
+pub beside_in : (k : ℕ) (set : SetDef) → is_beside (in_cycles k set) ≡ is_beside set
 beside_in k set = λ j x y. not (y == x) && one_processor_in k set j y x
 
 lower_holdings_in : (k : ℕ) (set : SetDef) (i x q : ℕ) → lower_holdings (in_cycles k set) i x q ≡ lower_holdings set i x q

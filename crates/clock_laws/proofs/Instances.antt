@@ -1,4 +1,4 @@
--- Each of the six analyses is sound on clocks.
+-- Each of the analyses is sound on clocks.
 use Rattle.std.proofs.Common.{ℕ, List}
 use Rattle.program_form.specs.Certificate.{CertificateDef}
 use Rattle.sporadic_model.specs.SetDef.{SetDef}
@@ -19,6 +19,8 @@ use Rattle.dflp_laws.proofs.Laws.{dflp_sound_row}
 use Rattle.dflp_laws.proofs.Soundness.{dflp_analyses}
 use Rattle.window_laws.specs.WindowRows.{windowed_source}
 use Rattle.window_laws.proofs.Sound.{windows_analyse}
+use Rattle.closer_laws.specs.CloserRows.{fmlp_closer_source}
+use Rattle.closer_laws.proofs.Sound.{fmlp_closer_analyses}
 use Rattle.spin_rules.specs.SpinRules.{spin_rule}
 use Rattle.spin_rules.proofs.SpinLaws.{spin_sound_row}
 use Rattle.spin_charging.specs.SpinPrograms.{spin_source}
@@ -30,6 +32,7 @@ use Rattle.clock_laws.proofs.BaseRows.{base_rescaled}
 use Rattle.clock_laws.proofs.FifoRows.{fifo_rescaled}
 use Rattle.clock_laws.proofs.SpinRows.{spin_rescaled}
 use Rattle.clock_laws.proofs.WindowRows.{windowed_rescaled}
+use Rattle.clock_laws.proofs.CloserRows.{closer_rescaled}
 use Rattle.clock_laws.proofs.OnClocks.{sound_on_clocks}
 
 pub mpcp_on_clocks : (set : SetDef) (c : CertificateDef) (values : List ℕ) → IsAccepted set → IsValid (source_of protocol.Mpcp set) c
@@ -67,6 +70,13 @@ pub windows_on_clocks : (set : SetDef) (c : CertificateDef) (values : List ℕ) 
     → SoundOnClocks dpcp_rule is_dpcp_interference (is_whole (windowed_source set) c) set c.bounds values
 windows_on_clocks set c values accepted valid are = sound_on_clocks dpcp_rule is_dpcp_interference windowed_source set c values
     dpcp_one_of_three dpcp_sound_row windows_analyse (record { programs = windowed_rescaled; interfering = local_in }) accepted valid are
+
+pub fmlp_closer_on_clocks : (set : SetDef) (c : CertificateDef) (values : List ℕ) → IsAccepted set → IsValid (fmlp_closer_source set) c
+    → AreValues (fmlp_closer_source set) c values
+    → SoundOnClocks (shared_rule fmlp_plus) is_shared_interference (is_whole (fmlp_closer_source set) c) set c.bounds values
+fmlp_closer_on_clocks set c values accepted valid are = sound_on_clocks (shared_rule fmlp_plus) is_shared_interference fmlp_closer_source
+    set c values shared_one_of_three (shared_sound_row fmlp_plus) fmlp_closer_analyses
+    (record { programs = closer_rescaled; interfering = cost_in }) accepted valid are
 
 pub spin_on_clocks : (set : SetDef) (c : CertificateDef) (values : List ℕ) → IsAccepted set → IsValid (spin_source set) c
     → AreValues (spin_source set) c values

@@ -22,6 +22,7 @@ named (name.Base protocol.Dpcp) = refl
 named name.Dflp = refl
 named name.Spin = refl
 named name.DpcpWindows = refl
+named name.FmlpPlusCloser = refl
 
 allowed_under : (make : ProtocolName → ℕ → Form) (p : ProtocolName) (o : Option ℕ)
     → option_map (λ a. make a.0 a.1) (both (Some p) o) ≡ option_map (make p) o
@@ -116,7 +117,8 @@ word_names word =
     (either (Names word) (bytes_eq word (codes "dpcp")) (Some (name.Base protocol.Dpcp)) _ (same word (codes "dpcp"))
     (either (Names word) (bytes_eq word (codes "dflp")) (Some name.Dflp) _ (same word (codes "dflp"))
     (either (Names word) (bytes_eq word (codes "spin")) (Some name.Spin) _ (same word (codes "spin"))
-    (either (Names word) (bytes_eq word (codes "dpcp-w")) (Some name.DpcpWindows) None (same word (codes "dpcp-w")) tt)))))
+    (either (Names word) (bytes_eq word (codes "dpcp-w")) (Some name.DpcpWindows) _ (same word (codes "dpcp-w"))
+    (either (Names word) (bytes_eq word (codes "fmlp+-c")) (Some name.FmlpPlusCloser) None (same word (codes "fmlp+-c")) tt))))))
 
 abbrev Spells : List (List ℕ) → Form → Type 0
 Spells words form = IsSpelled form words

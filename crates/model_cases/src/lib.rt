@@ -4,6 +4,8 @@
 #[cfg(test)]
 mod building_tests;
 #[cfg(test)]
+mod closer_tests;
+#[cfg(test)]
 mod confirm_tests;
 #[cfg(test)]
 mod form_tests;

@@ -3,6 +3,7 @@ ghost use Rattle.program_sources.specs.Bounds.{AreWithinDeadlines};
 
 use crate::protocol_rows::{CASES, Case, LOCAL, PATHS};
 use crate::threads::may_cross_threads;
+use closer_fmlp::CloserFmlpPlus;
 use fragments::{Class, Fragment, TaskPlace, cnt, columns_stand_in_order, task_places};
 use program_form::{Coefficient, Program, RowBlock, SparseProgram};
 use protocol_programs::{ProgramSource, Written};
@@ -270,5 +271,6 @@ fn counts_the_requests_in_a_window(rt: HostRuntime) -> Result<(), Fail> {
 fn sources_may_cross_threads() {
     may_cross_threads(&Written(Protocol::Mpcp));
     may_cross_threads(&DpcpWindows);
+    may_cross_threads(&CloserFmlpPlus);
     may_cross_threads(&(Class::Direct, TaskId(0)));
 }

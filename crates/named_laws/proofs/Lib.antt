@@ -6,3 +6,4 @@ pub mod EachName
 pub mod Values
 pub mod FigureLaws
 pub mod Refusals
+pub mod CloserNames

@@ -1,7 +1,8 @@
 -- What each protocol has, by its name: homes, rules, a choice of rows, ticks of interference, charges and programs.
-use Rattle.std.specs.Prelude.{ℕ, Bool, List, Option}
+use Rattle.std.specs.Prelude.{ℕ, Bool, List, Option, None, Some}
 use Rattle.sporadic_model.specs.SetDef.{SetDef}
 use Rattle.sporadic_model.specs.Homes.{HasHomesFor}
+use Rattle.sporadic_model.specs.declared.ids.Protocol.TheVariants as protocol
 use Rattle.schedule_model.specs.RowDef.{Trace}
 use Rattle.schedule_model.specs.ByProtocol.{rules_of as rules_at, choice_of as choice_at, interference_of as interference_at}
 use Rattle.schedule_model.specs.declared.rule.Rule.{Rule}
@@ -11,15 +12,17 @@ use Rattle.charge_laws.specs.Charges.{Charge}
 use Rattle.charged_protocols.specs.ByProtocol.{charges_of as charges_at}
 use Rattle.soundness_laws.specs.Sound.{Sound}
 use Rattle.schedule_model.specs.BlockedTicks.{is_shared_interference, is_dpcp_interference}
-use Rattle.charge_laws.specs.Charges.{dpcp_charge}
+use Rattle.charge_laws.specs.Charges.{shared_charge, dpcp_charge}
 use Rattle.dflp_laws.specs.Rules.{dflp_rule, IsDflpChoice}
 use Rattle.dflp_laws.specs.Programs.{dflp_source}
 use Rattle.spin_rules.specs.SpinRules.{spin_rule, IsSpinChoice}
 use Rattle.spin_charging.specs.SpinCharges.{spin_charge}
 use Rattle.spin_charging.specs.SpinPrograms.{spin_source}
-use Rattle.schedule_model.specs.Protocols.{dpcp_rule}
-use Rattle.schedule_model.specs.Chosen.{IsDpcpChoice}
+use Rattle.schedule_model.specs.Ranks.{fmlp_plus}
+use Rattle.schedule_model.specs.Protocols.{shared_rule, dpcp_rule}
+use Rattle.schedule_model.specs.Chosen.{IsSharedChoice, IsDpcpChoice}
 use Rattle.window_laws.specs.WindowRows.{windowed_source}
+use Rattle.closer_laws.specs.CloserRows.{fmlp_closer_source}
 use Rattle.clock_laws.specs.Clock.{SoundOnClocks}
 use Rattle.protocol_names.specs.Names.{homes_as}
 use Rattle.protocol_names.specs.declared.ProtocolName.{ProtocolName}
@@ -34,24 +37,28 @@ rules_of (name.Base p) = rules_at p
 rules_of name.Dflp = dflp_rule
 rules_of name.Spin = spin_rule
 rules_of name.DpcpWindows = dpcp_rule
+rules_of name.FmlpPlusCloser = shared_rule fmlp_plus
 
 abbrev pub choice_of : ProtocolName → Trace → ℕ → Type 0
 choice_of (name.Base p) = choice_at p
 choice_of name.Dflp = IsDflpChoice
 choice_of name.Spin = IsSpinChoice
 choice_of name.DpcpWindows = IsDpcpChoice
+choice_of name.FmlpPlusCloser = IsSharedChoice fmlp_plus
 
 abbrev pub interference_of : ProtocolName → Trace → ℕ → ℕ → Bool
 interference_of (name.Base p) = interference_at p
 interference_of name.Dflp = is_dpcp_interference
 interference_of name.Spin = is_shared_interference
 interference_of name.DpcpWindows = is_dpcp_interference
+interference_of name.FmlpPlusCloser = is_shared_interference
 
 abbrev pub charges_of : ProtocolName → Trace → ℕ → ℕ → Option Charge
 charges_of (name.Base p) = charges_at p
 charges_of name.Dflp = dpcp_charge
 charges_of name.Spin = spin_charge
 charges_of name.DpcpWindows = dpcp_charge
+charges_of name.FmlpPlusCloser = shared_charge
 
 -- What gives the programs of a set under the protocol, with its interfering costs; and the programs of just this set.
 abbrev pub sources : ProtocolName → SetDef → SourceDef
@@ -59,9 +66,18 @@ sources (name.Base p) = source_written p
 sources name.Dflp = dflp_source
 sources name.Spin = spin_source
 sources name.DpcpWindows = windowed_source
+sources name.FmlpPlusCloser = fmlp_closer_source
 
 abbrev pub source_of : ProtocolName → SetDef → SourceDef
 source_of n set = source_at (sources n) set
+
+-- Of which protocol is it a closer analysis, with the same rules, charges and columns, all its rows, and more?
+abbrev pub plain_of : ProtocolName → Option ProtocolName
+plain_of (name.Base p) = None
+plain_of name.Dflp = None
+plain_of name.Spin = None
+plain_of name.DpcpWindows = Some (name.Base protocol.Dpcp)
+plain_of name.FmlpPlusCloser = Some (name.Base protocol.FmlpPlus)
 
 -- Does every schedule that keeps the protocol's rules, of whatever lawful jobs of the set, keep these bounds and values?
 abbrev pub SoundUnder : ProtocolName → SetDef → List ℕ → List ℕ → Type 0

@@ -19,6 +19,7 @@ ghost use Rattle.figure_laws.specs.Figures.{blocked_sum, blocked_ticks};
 ghost use Rattle.named_laws.specs.Named.{HasHomes, rules_of, choice_of, interference_of, charges_of, source_of, SoundUnder};
 
 use audit_figures::{AuditStop, TaskFigures, audit_rows_with};
+use closer_fmlp::CloserFmlpPlus;
 use dflp_protocol::Dflp;
 use dual_check::{Invalid, Valid, check_with};
 use program_form::Certificate;
@@ -53,6 +54,7 @@ pub fn analyse<R: Threads + Sync>(
         ProtocolName::Dflp => analyse_with(rt, alloc, set, &Dflp, allowance),
         ProtocolName::Spin => analyse_with(rt, alloc, set, &Spin, allowance),
         ProtocolName::DpcpWindows => analyse_with(rt, alloc, set, &DpcpWindows, allowance),
+        ProtocolName::FmlpPlusCloser => analyse_with(rt, alloc, set, &CloserFmlpPlus, allowance),
     }
 }
 
@@ -74,6 +76,7 @@ pub fn check(
         ProtocolName::Dflp => check_with(alloc, &Dflp, set, certificate),
         ProtocolName::Spin => check_with(alloc, &Spin, set, certificate),
         ProtocolName::DpcpWindows => check_with(alloc, &DpcpWindows, set, certificate),
+        ProtocolName::FmlpPlusCloser => check_with(alloc, &CloserFmlpPlus, set, certificate),
     }
 }
 
@@ -95,6 +98,7 @@ pub fn conform_rows<R: RowReader>(
         ProtocolName::Dflp => conform_rows_with(alloc, &Dflp, jobs, rows),
         ProtocolName::Spin => conform_rows_with(alloc, &Spin, jobs, rows),
         ProtocolName::DpcpWindows => conform_rows_with(alloc, &DpcpWindows, jobs, rows),
+        ProtocolName::FmlpPlusCloser => conform_rows_with(alloc, &CloserFmlpPlus, jobs, rows),
     }
 }
 
@@ -131,6 +135,7 @@ pub fn simulate(
         ProtocolName::Dflp => simulate_with(alloc, &Dflp, jobs, ticks),
         ProtocolName::Spin => simulate_with(alloc, &Spin, jobs, ticks),
         ProtocolName::DpcpWindows => simulate_with(alloc, &DpcpWindows, jobs, ticks),
+        ProtocolName::FmlpPlusCloser => simulate_with(alloc, &CloserFmlpPlus, jobs, ticks),
     }
 }
 
@@ -161,6 +166,9 @@ pub fn audit_rows<R: RowReader>(
         ProtocolName::Dflp => audit_rows_with(alloc, &Dflp, certificate, jobs, rows),
         ProtocolName::Spin => audit_rows_with(alloc, &Spin, certificate, jobs, rows),
         ProtocolName::DpcpWindows => audit_rows_with(alloc, &DpcpWindows, certificate, jobs, rows),
+        ProtocolName::FmlpPlusCloser => {
+            audit_rows_with(alloc, &CloserFmlpPlus, certificate, jobs, rows)
+        }
     }
 }
 

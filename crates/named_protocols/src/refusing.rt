@@ -9,6 +9,7 @@ ghost use Rattle.refusal_cert.specs.Steps.{refusal_of};
 ghost use Rattle.refusal_cert.specs.Answers.{Refutes, IsAnswerOf, FollowsAnalysis, IsRight};
 ghost use Rattle.named_laws.specs.Named.{HasHomes, source_of};
 
+use closer_fmlp::CloserFmlpPlus;
 use dflp_protocol::Dflp;
 use protocol_names::ProtocolName;
 use protocol_programs::Written;
@@ -40,6 +41,12 @@ pub fn refute(
         ProtocolName::Dflp => refusal_cert::refute(alloc, set, &Dflp, allowance),
         ProtocolName::Spin => refusal_cert::refute(alloc, set, &Spin, allowance),
         ProtocolName::DpcpWindows => refusal_cert::refute(alloc, set, &DpcpWindows, allowance),
+        ProtocolName::FmlpPlusCloser => refusal_cert::refute(
+            alloc,
+            set,
+            &CloserFmlpPlus,
+            allowance,
+        ),
     }
 }
 
@@ -73,6 +80,13 @@ pub fn confirm<R: Threads + Sync>(
             alloc,
             set,
             &DpcpWindows,
+            refusal,
+        ),
+        ProtocolName::FmlpPlusCloser => refusal_confirm::confirm(
+            rt,
+            alloc,
+            set,
+            &CloserFmlpPlus,
             refusal,
         ),
     }

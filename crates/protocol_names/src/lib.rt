@@ -17,6 +17,8 @@ pub enum ProtocolName {
     Spin,
     /// DPCP, whose programs bound what runs within each request's window.
     DpcpWindows,
+    /// FMLP+, whose programs have the rows of the closer analysis too.
+    FmlpPlusCloser,
 }
 
 impl ProtocolName {
@@ -31,6 +33,7 @@ impl ProtocolName {
             ProtocolName::Dflp => "dflp",
             ProtocolName::Spin => "spin",
             ProtocolName::DpcpWindows => "dpcp-w",
+            ProtocolName::FmlpPlusCloser => "fmlp+-c",
         }
     }
 
@@ -43,6 +46,7 @@ impl ProtocolName {
             ProtocolName::Dflp => Protocol::Dpcp,
             ProtocolName::Spin => Protocol::Mpcp,
             ProtocolName::DpcpWindows => Protocol::Dpcp,
+            ProtocolName::FmlpPlusCloser => Protocol::FmlpPlus,
         }
     }
 }
@@ -58,6 +62,7 @@ pub fn protocol_named(word: &str) -> Option<ProtocolName>
         "dflp" => Some(ProtocolName::Dflp),
         "spin" => Some(ProtocolName::Spin),
         "dpcp-w" => Some(ProtocolName::DpcpWindows),
+        "fmlp+-c" => Some(ProtocolName::FmlpPlusCloser),
         _ => None,
     }
 }

@@ -28,4 +28,4 @@ pub mod AuditLaws
 pub mod JobsLaws
 pub mod KeptLaws
 pub mod Examples
-mod WindowGain
+mod CloserGain

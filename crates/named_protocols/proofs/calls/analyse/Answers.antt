@@ -32,3 +32,7 @@ returns-in-Spin-clause-never_wide g c nothing =
 pub returns-in-DpcpWindows-clause-never_wide : goal.returns-in-DpcpWindows-clause-never_wide
 returns-in-DpcpWindows-clause-never_wide g c nothing =
     c.analyse_with-in-DpcpWindows.ensures.never_wide (named_no_columns name.DpcpWindows c.args.set.now nothing)
+
+pub returns-in-FmlpPlusCloser-clause-never_wide : goal.returns-in-FmlpPlusCloser-clause-never_wide
+returns-in-FmlpPlusCloser-clause-never_wide g c nothing =
+    c.analyse_with-in-FmlpPlusCloser.ensures.never_wide (named_no_columns name.FmlpPlusCloser c.args.set.now nothing)

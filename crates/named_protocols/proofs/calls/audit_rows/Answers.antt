@@ -21,3 +21,6 @@ returns-in-Spin-clause-audits g c = rw c.in-Spin.is c.audit_rows_with-in-Spin.en
 
 pub returns-in-DpcpWindows-clause-audits : goal.returns-in-DpcpWindows-clause-audits
 returns-in-DpcpWindows-clause-audits g c = rw c.in-DpcpWindows.is c.audit_rows_with-in-DpcpWindows.ensures.audits
+
+pub returns-in-FmlpPlusCloser-clause-audits : goal.returns-in-FmlpPlusCloser-clause-audits
+returns-in-FmlpPlusCloser-clause-audits g c = rw c.in-FmlpPlusCloser.is c.audit_rows_with-in-FmlpPlusCloser.ensures.audits

@@ -19,3 +19,6 @@ returns-in-Spin g c = rw c.in-Spin.is c.conform_rows_with-in-Spin.ensures
 
 pub returns-in-DpcpWindows : goal.returns-in-DpcpWindows
 returns-in-DpcpWindows g c = rw c.in-DpcpWindows.is c.conform_rows_with-in-DpcpWindows.ensures
+
+pub returns-in-FmlpPlusCloser : goal.returns-in-FmlpPlusCloser
+returns-in-FmlpPlusCloser g c = rw c.in-FmlpPlusCloser.is c.conform_rows_with-in-FmlpPlusCloser.ensures

@@ -19,3 +19,6 @@ returns-in-Spin-clause-keeps c = rw c.in-Spin.is c.simulate_with-in-Spin.ensures
 
 pub returns-in-DpcpWindows-clause-keeps : goal.returns-in-DpcpWindows-clause-keeps
 returns-in-DpcpWindows-clause-keeps c = rw c.in-DpcpWindows.is c.simulate_with-in-DpcpWindows.ensures.keeps
+
+pub returns-in-FmlpPlusCloser-clause-keeps : goal.returns-in-FmlpPlusCloser-clause-keeps
+returns-in-FmlpPlusCloser-clause-keeps c = rw c.in-FmlpPlusCloser.is c.simulate_with-in-FmlpPlusCloser.ensures.keeps

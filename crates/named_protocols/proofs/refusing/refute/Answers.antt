@@ -30,3 +30,9 @@ returns-in-DpcpWindows-clause-only c =
     subst (λ (n : ProtocolName). (e : Ending) (ends : EndsIn (refuting (source_of n c.args.set.now)) c.args.allowance e)
     → IsAnswerOf c.refute-in-DpcpWindows.result e (refusal_of (refuting (source_of n c.args.set.now)) c.args.allowance e ends))
     (sym c.in-DpcpWindows.is) c.refute-in-DpcpWindows.ensures.only
+
+pub returns-in-FmlpPlusCloser-clause-only : goal.returns-in-FmlpPlusCloser-clause-only
+returns-in-FmlpPlusCloser-clause-only c =
+    subst (λ (n : ProtocolName). (e : Ending) (ends : EndsIn (refuting (source_of n c.args.set.now)) c.args.allowance e)
+    → IsAnswerOf c.refute-in-FmlpPlusCloser.result e (refusal_of (refuting (source_of n c.args.set.now)) c.args.allowance e ends))
+    (sym c.in-FmlpPlusCloser.is) c.refute-in-FmlpPlusCloser.ensures.only

@@ -1,0 +1,2 @@
+pub mod HeldUp
+pub mod FewColumns

@@ -1,0 +1,13 @@
+use Rattle.std.proofs.Common.{map}
+use Rattle.sporadic_model.specs.declared.ids.Protocol.TheVariants as protocol
+use Rattle.fragments.specs.ColumnDef.{column_seen}
+use Rattle.program_laws.specs.Programs.{rows_of}
+use Rattle.closer_laws.specs.CloserRows.{closer_rows}
+use Rattle.closer_fmlp.proofs.programs.add_rows.Goals as goal
+
+pub returns : goal.returns
+returns g c =
+    let set = c.args.set.now in
+    let i = c.args.i.0 in
+    g.met.T.RowTaker.behind c.args.taker.now c.add_rows.new.taker c.add_closer_rows.new.taker (map column_seen c.args.columns.now)
+    (rows_of protocol.FmlpPlus set i) (closer_rows set i) c.args.bounds.now c.in_ok-places.ensures.rows c.in_ok-add_closer_rows.ensures

@@ -1,0 +1,16 @@
+//! A law: it does nothing, and what it ensures holds for every set.
+
+ghost use Rattle.std.specs.Prelude.{ℕ, ◌<◌, ◌≤◌, List, length};
+ghost use Rattle.program_form.specs.Program.{height, columns};
+ghost use Rattle.sporadic_model.specs.SetDef.{SetDef};
+ghost use Rattle.sporadic_model.specs.Accepted.{IsAccepted};
+ghost use Rattle.closer_laws.specs.CloserRows.{fmlp_closer_program};
+
+/// A program of an accepted set has at most three columns for each of 256 request entries, so at most 768, and at most 1086 rows: the
+/// 701 of FMLP+, of other holders one for each of these entries, of holders and of lower tasks one for each of 63 other tasks, and three
+/// more.
+pub fn programs_are_small()
+    ensures columns { (set : SetDef) (i : ℕ) (r : List ℕ) → IsAccepted set → columns (fmlp_closer_program set i r) ≤ 768 }
+    ensures rows { (set : SetDef) (i : ℕ) (r : List ℕ) → IsAccepted set → i < length set.tasks
+        → height (fmlp_closer_program set i r) ≤ 1086 }
+{}

@@ -1,0 +1,85 @@
+//! What programs of the closer analysis are made of: the columns and rows of FMLP+, and the closer rows behind them.
+
+ghost use Rattle.std.specs.Prelude.{◌≡◌, ◌<◌, map, length, IfOk, OnOk};
+ghost use Rattle.sporadic_model.specs.declared.ids.Protocol.TheVariants as protocol;
+ghost use Rattle.schedule_model.specs.Protocols.{EachSetSuits};
+ghost use Rattle.program_sources.specs.Bounds.{AreWithinDeadlines};
+ghost use Rattle.fragments.specs.ColumnDef.{column_seen};
+ghost use Rattle.fragments.specs.Columns.{columns_of};
+ghost use Rattle.closer_laws.specs.CloserRows.{fmlp_closer_rows, fmlp_closer_program};
+ghost use Rattle.closer_laws.proofs.Programs.{fmlp_closer_is_program};
+
+use crate::protocol::CloserFmlpPlus;
+use crate::rows::add_closer_rows;
+use fragments::{Fragment, RowTaker, columns_stand_in_order, fragments};
+use program_form::Program;
+use protocol_programs::{ProgramParts, program_with};
+use sporadic_model::{Protocol, TaskId, TaskSet};
+use std::alloc::{AllocError, Global};
+
+/// Adds the rows of FMLP+, and behind them the closer rows, behind those that the taker has.
+fn add_rows<T: RowTaker>(
+    alloc: Global,
+    taker: &mut T,
+    set: &TaskSet,
+    i: TaskId,
+    bounds: &[u64],
+    columns: &[Fragment],
+) -> Result<(), AllocError>
+    requires task { i.0 < length set.now.tasks }
+    requires within { AreWithinDeadlines set.now bounds.now }
+    requires columns { map column_seen columns.now ≡ columns_of protocol.FmlpPlus set.now i.0 }
+    ensures { OnOk result (T.takes taker.old (map column_seen columns.now) (fmlp_closer_rows set.now i.0) bounds.now taker.new) }
+{
+    columns_stand_in_order(set, Protocol::FmlpPlus, i, columns);
+    let places = protocol_programs::add_rows(
+        alloc,
+        taker,
+        set,
+        Protocol::FmlpPlus,
+        i,
+        bounds,
+        columns,
+    )?;
+    add_closer_rows(alloc, taker, set, i, bounds, columns, &places)?;
+    Ok(())
+}
+
+impl ProgramParts for CloserFmlpPlus {
+    ghost serves = { λ p. EachSetSuits };
+
+    ghost columns = { λ p. columns_of protocol.FmlpPlus };
+
+    ghost rows = { λ p. fmlp_closer_rows };
+
+    fn take_rows<T: RowTaker>(
+        &self,
+        alloc: Global,
+        taker: &mut T,
+        set: &TaskSet,
+        i: TaskId,
+        bounds: &[u64],
+    ) -> Result<Vec<Fragment>, AllocError> {
+        let columns = fragments(alloc, set, Protocol::FmlpPlus, i)?;
+        columns_stand_in_order(set, Protocol::FmlpPlus, i, &columns);
+        add_rows(alloc, taker, set, i, bounds, &columns)?;
+        Ok(columns)
+    }
+
+    ghost is_program = { λ p set i r served accepted here within. fmlp_closer_is_program set i r accepted here within };
+}
+
+/// The blocking program of task `i`, where these are the bounds, in ticks: the columns and rows of FMLP+, and behind them the closer
+/// rows. It refuses for want of memory alone.
+pub fn program(
+    alloc: Global,
+    set: &TaskSet,
+    i: TaskId,
+    bounds: &[u64],
+) -> Result<Program, AllocError>
+    requires task { i.0 < length set.now.tasks }
+    requires within { AreWithinDeadlines set.now bounds.now }
+    ensures { IfOk result (λ p. p ≡ fmlp_closer_program set.now i.0 bounds.now) }
+{
+    program_with(alloc, &CloserFmlpPlus, set, i, bounds)
+}

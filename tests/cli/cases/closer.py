@@ -1,0 +1,95 @@
+"""Closer analyses, in each command that takes a protocol."""
+import re
+
+from setting import TOP, Case, runs_on
+from sets import PAIR, PAIR_FULL_TABLE, PAIR_JOBS, PAIR_MEASURED, PAIR_ROWS, PAIR_SIMULATED, certificate, old, refusal, resource, step, task, task_set, tied
+
+SHIPPED = (TOP / "examples" / "closer.json").read_text()
+PAIR_CERTIFICATE = certificate("fmlp+-c", [5, 5], [[2, 0, 0, 0, 0], [1, 0, 0, 0, 0]])
+
+# two tasks of one processor that request what nothing else does, the lower one twice
+ALONE = task_set(1, [resource("q")], task("t1", 1, 20, 3, ("q", 1)), task("t2", 1, 100, 10, ("q", 3, 2)))
+ALONE_CERTIFICATE = certificate("fmlp+-c", [6, 13], [[0, 0, 0, 0, 0, 0, 3, 0, 0], []], ALONE)
+TIGHT = ALONE.replace('"cost": 3,', '"cost": 3, "deadline": 8,')
+TIGHTER = ALONE.replace('"cost": 3,', '"cost": 3, "deadline": 5,')
+
+# of each further kind of rows a set in which one bound falls by that kind alone, with the bounds under FMLP+ and by the closer analysis
+THIRD = task("t4", 3, 200, 10, ("q", 1), ("s", 1))
+KINDS = {
+    "holders": (
+        task_set(3, [resource("r"), resource("s"), resource("q")],
+                 task("t1", 1, 100, 10, ("r", 1), ("s", 1)), task("t2", 2, 200, 10, ("r", 1)), task("t3", 2, 200, 20, ("q", 3), ("r", 3)), THIRD),
+        [18, 17, 32, 15], [15, 17, 32, 15]),
+    "other holders": (
+        task_set(3, [resource("r"), resource("s"), resource("q")],
+                 task("t1", 1, 100, 10, ("r", 1), ("s", 1)), task("t2", 2, 200, 10, ("r", 1)), task("t3", 2, 200, 20, ("q", 3, 2), ("s", 1)), task("t4", 3, 200, 10, ("q", 1))),
+        [17, 17, 32, 14], [15, 17, 32, 14]),
+    "lower tasks": (
+        task_set(2, [resource("q")], task("t1", 1, 100, 10, ("q", 1)), task("t2", 1, 200, 20, ("q", 3, 4)), task("t3", 2, 200, 10, ("q", 1))),
+        [20, 31, 14], [17, 31, 14]),
+    "local preemption": (
+        task_set(1, [resource("r")], task("t1", 1, 100, 10), task("t2", 1, 200, 20, ("r", 3)), task("t3", 1, 300, 20, ("r", 4))),
+        [17, 34, 50], [14, 34, 50]),
+    "local waits": (
+        task_set(2, [resource("r"), resource("s")], task("t1", 1, 200, 10, ("r", 1), ("s", 1)), task("t2", 1, 400, 30, ("r", 5, 3), ("s", 1)),
+                 task("t3", 1, 400, 30, ("r", 5, 3), ("s", 1)), task("t4", 2, 400, 10, ("s", 1))),
+        [43, 57, 71, 21], [23, 51, 71, 13]),
+    "local runners": (
+        task_set(2, [resource("r"), resource("q")], task("t1", 1, 100, 10, ("r", 1)), task("t2", 2, 200, 10, ("r", 1)), task("t3", 2, 200, 20, ("q", 3))),
+        [14, 14, 30], [11, 14, 30]),
+}
+
+run = runs_on(PAIR)
+
+
+def bounded(shows, protocol, bounds, set):
+    """The bounds of a set, whatever proves them."""
+    says = re.escape(f'{{"bounds":{bounds},'.replace(" ", "")) + r'"duals":.*,"protocol":"' + re.escape(protocol) + r'",.*\}\n'
+    return Case(f"{shows}, {protocol}", f"analyse {protocol} set", re.compile(says), 0, {"set": set})
+
+
+ANALYSES = [
+    *(case for kind, (text, plain, closer) in KINDS.items() for case in (bounded(kind, "fmlp+", plain, text), bounded(kind, "fmlp+-c", closer, text))),
+    run("a resource of one processor", "analyse fmlp+-c", ALONE_CERTIFICATE, 0, ALONE),
+    run("the same under FMLP+", "analyse fmlp+", certificate("fmlp+", [9, 13], [[3, 0, 0, 0, 0], []], ALONE), 0, ALONE),
+    run("what the closer analysis alone shows", "analyse fmlp+-c", certificate("fmlp+-c", [6, 13], [[0, 0, 0, 0, 0, 0, 3, 0, 0], []], TIGHT), 0, TIGHT),
+    run("and FMLP+ doesn't", "analyse fmlp+", "not shown t1 9 8\n", 1, TIGHT),
+    run("a pair on two processors, as under FMLP+", "analyse fmlp+-c", PAIR_CERTIFICATE),
+    bounded("the example", "fmlp+-c", [5, 16, 37, 60, 36], SHIPPED),
+    run("the example under FMLP+", "analyse fmlp+", "not shown control 35 16\n", 1, SHIPPED),
+    run("under MPCP", "analyse mpcp", "not shown control 19 16\n", 1, SHIPPED),
+    run("and under spin locks", "analyse spin", "not shown sample 8 5\n", 1, SHIPPED),
+]
+
+CERTIFICATES = [
+    run("its certificate", "check fmlp+-c", "valid\n", 0, ALONE, cert=ALONE_CERTIFICATE),
+    run("not under FMLP+", "check fmlp+", "refused cert otherprotocol\n", 3, ALONE, cert=ALONE_CERTIFICATE),
+    run("nor with the word of FMLP+", "check fmlp+", "invalid dualsize t1\n", 1, ALONE, cert=ALONE_CERTIFICATE.replace("fmlp+-c", "fmlp+")),
+    run("the bounds of FMLP+, with duals that are 0 at closer rows", "check fmlp+-c", "valid\n", 0, ALONE,
+        cert=certificate("fmlp+-c", [9, 13], [[3, 0, 0, 0, 0, 0, 0, 0, 0], []], ALONE)),
+    run("no bound below what local preemption lets be", "check fmlp+-c", "invalid small t1\n", 1, ALONE,
+        cert=certificate("fmlp+-c", [5, 13], [[0, 0, 0, 0, 0, 0, 3, 0, 0], []], ALONE)),
+    run("a dual that leaves preemption to local waits", "check fmlp+-c", "invalid cover t1 2\n", 1, ALONE,
+        cert=certificate("fmlp+-c", [6, 13], [[0, 0, 0, 0, 0, 0, 0, 0, 3], []], ALONE)),
+    run("a certificate of another set", "check fmlp+-c", "invalid otherset\n", 1, PAIR, cert=tied(PAIR_CERTIFICATE, ALONE)),
+    run("a certificate without a digest", "upgrade fmlp+-c", PAIR_CERTIFICATE, 0, PAIR, old=old(PAIR_CERTIFICATE)),
+    run("the table with bounds", "report fmlp+-c", PAIR_FULL_TABLE, cert=PAIR_CERTIFICATE),
+    run("a refusal", "refute fmlp+-c", refusal("fmlp+-c", TIGHTER, step(1, 6, 0, 1)), 0, TIGHTER),
+    run("confirmed", "confirm fmlp+-c", "confirmed\n", 0, TIGHTER, cert=refusal("fmlp+-c", TIGHTER, step(1, 6, 0, 1))),
+    run("a point at which t1 waits", "confirm fmlp+-c", "invalid step 1 row 6\n", 1, TIGHTER, cert=refusal("fmlp+-c", TIGHTER, step(1, 6, 1, 0))),
+    run("what FMLP+ refuses", "confirm fmlp+-c", "invalid step 1 row 6\n", 1, TIGHT, cert=refusal("fmlp+-c", TIGHT, step(1, 9, 1, 1))),
+]
+
+SCHEDULES = [
+    run("what FMLP+ allows", "conform fmlp+-c", PAIR_MEASURED, 0, jobs=PAIR_JOBS, rows=PAIR_ROWS),
+    Case("the schedule that FMLP+ chooses", "simulate fmlp+-c set jobs 5", PAIR_SIMULATED, 0, {"set": PAIR, "jobs": PAIR_JOBS}),
+    run("what was charged beside what is proved", "audit fmlp+-c", "kept 5\nt1 5 5 2 2 2 0 0\nt2 4 5 0 1 0 0 0\n", 0,
+        cert=PAIR_CERTIFICATE, jobs=PAIR_JOBS, rows=PAIR_ROWS),
+]
+
+WORDS = [
+    run("the word with a capital", "analyse fmlp+-C", "refused words\n", 2),
+    run("the word without its plus", "check fmlp-c", "refused words\n", 2, cert=PAIR_CERTIFICATE),
+]
+
+CASES = ANALYSES + CERTIFICATES + SCHEDULES + WORDS
