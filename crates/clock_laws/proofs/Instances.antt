@@ -21,6 +21,8 @@ use Rattle.window_laws.specs.WindowRows.{windowed_source}
 use Rattle.window_laws.proofs.Sound.{windows_analyse}
 use Rattle.closer_laws.specs.CloserRows.{fmlp_closer_source}
 use Rattle.closer_laws.proofs.Sound.{fmlp_closer_analyses}
+use Rattle.closer_spin_laws.specs.CloserSpinRows.{spin_closer_source}
+use Rattle.closer_spin_laws.proofs.Sound.{spin_closer_analyses}
 use Rattle.spin_rules.specs.SpinRules.{spin_rule}
 use Rattle.spin_rules.proofs.SpinLaws.{spin_sound_row}
 use Rattle.spin_charging.specs.SpinPrograms.{spin_source}
@@ -33,6 +35,7 @@ use Rattle.clock_laws.proofs.FifoRows.{fifo_rescaled}
 use Rattle.clock_laws.proofs.SpinRows.{spin_rescaled}
 use Rattle.clock_laws.proofs.WindowRows.{windowed_rescaled}
 use Rattle.clock_laws.proofs.CloserRows.{closer_rescaled}
+use Rattle.clock_laws.proofs.CloserSpinRows.{spin_closer_rescaled}
 use Rattle.clock_laws.proofs.OnClocks.{sound_on_clocks}
 
 pub mpcp_on_clocks : (set : SetDef) (c : CertificateDef) (values : List ℕ) → IsAccepted set → IsValid (source_of protocol.Mpcp set) c
@@ -83,3 +86,10 @@ pub spin_on_clocks : (set : SetDef) (c : CertificateDef) (values : List ℕ) →
     → SoundOnClocks spin_rule is_shared_interference (is_whole (spin_source set) c) set c.bounds values
 spin_on_clocks set c values accepted valid are = sound_on_clocks spin_rule is_shared_interference spin_source set c values
     shared_one_of_three spin_sound_row spin_analyses (record { programs = spin_rescaled; interfering = cost_in }) accepted valid are
+
+pub spin_closer_on_clocks : (set : SetDef) (c : CertificateDef) (values : List ℕ) → IsAccepted set → IsValid (spin_closer_source set) c
+    → AreValues (spin_closer_source set) c values
+    → SoundOnClocks spin_rule is_shared_interference (is_whole (spin_closer_source set) c) set c.bounds values
+spin_closer_on_clocks set c values accepted valid are = sound_on_clocks spin_rule is_shared_interference spin_closer_source set c values
+    shared_one_of_three spin_sound_row spin_closer_analyses (record { programs = spin_closer_rescaled; interfering = cost_in }) accepted
+    valid are

@@ -24,3 +24,6 @@ returns-in-DpcpWindows-clause-audits g c = rw c.in-DpcpWindows.is c.audit_rows_w
 
 pub returns-in-FmlpPlusCloser-clause-audits : goal.returns-in-FmlpPlusCloser-clause-audits
 returns-in-FmlpPlusCloser-clause-audits g c = rw c.in-FmlpPlusCloser.is c.audit_rows_with-in-FmlpPlusCloser.ensures.audits
+
+pub returns-in-SpinCloser-clause-audits : goal.returns-in-SpinCloser-clause-audits
+returns-in-SpinCloser-clause-audits g c = rw c.in-SpinCloser.is c.audit_rows_with-in-SpinCloser.ensures.audits
