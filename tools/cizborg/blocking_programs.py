@@ -286,6 +286,45 @@ class Shape:
             for q in range(len(self.s.resources)):
                 self.add_own(columns, q, lambda c: True)
 
+    def add_closer_spinning(self) -> None:
+        """Of a processor and a resource: one request for each that spins, or in place of the lower one a request of another resource that runs."""
+        for k in self.processors:
+            spun = self.spun_below(k)
+            for q in range(len(self.s.resources)):
+                self.add_closer_spinning_of(k, q, q in spun)
+
+    def add_closer_spinning_of(self, k: int, q: int, is_spun_below: bool) -> None:
+        """The row of k and q."""
+        processor = self.s.processor
+        self.add(lambda r: self.spins(r, q), self.every,
+                 lambda c: int(is_spun_below and c.resource != q if c.way == "preemption" else processor[c.task] == k and c.resource == q))
+
+    def add_lower_spinning(self) -> None:
+        """Of a processor: of all that lower local tasks spin for there, one request for each that spins, or a lower one of others that runs."""
+        for k in self.processors:
+            self.add_together(k, self.spun_below(k))
+
+    def add_other_lower_spinning(self) -> None:
+        """Of a processor and a resource: the same of the others of these."""
+        for k in self.processors:
+            spun = self.spun_below(k)
+            for q in spun:
+                self.add_together(k, [r for r in spun if r != q])
+
+    def add_together(self, k: int, resources: list[int]) -> None:
+        """The row of these resources, which is there if they are two or more."""
+        if len(resources) > 1:
+            processor = self.s.processor
+            self.add(lambda r: 1 + sum(self.spins_above(r, q) for q in resources), self.every,
+                     lambda c: int(c.resource not in resources if c.way == "preemption" else processor[c.task] == k and c.resource in resources))
+
+    def spun_below(self, k: int) -> list[int]:
+        """The resources which both a lower task of i's processor and a task of k, another processor, request."""
+        s, here = self.s, self.s.processor[self.i]
+        lower = [x for x in range(self.i + 1, s.n) if s.processor[x] == here]
+        there = [x for x in range(s.n) if s.processor[x] == k != here]
+        return [q for q in range(len(s.resources)) if any(q in s.count[x] for x in lower) and any(q in s.count[x] for x in there)]
+
     def add_holders(self) -> None:
         """Of a task: one request before each of i that its processor may hold up."""
         for x in self.others:
@@ -337,9 +376,13 @@ class Shape:
     def spins(self, bounds: Bounds, q: int) -> int:
         """How many requests of q from i's processor may spin while a job of i is there."""
         s, i = self.s, self.i
-        beside = [x for x in s.users(q) if x != i and s.processor[x] == s.processor[i]]
-        higher = sum(s.count[h][q] * s.jobs(bounds, i, h) for h in beside if h < i)
-        return s.count[i].get(q, 0) + higher + int(any(x > i for x in beside))
+        return self.spins_above(bounds, q) + int(any(x > i and s.processor[x] == s.processor[i] for x in s.users(q)))
+
+    def spins_above(self, bounds: Bounds, q: int) -> int:
+        """Those of them by i and by higher tasks."""
+        s, i = self.s, self.i
+        higher = [h for h in s.users(q) if h < i and s.processor[h] == s.processor[i]]
+        return s.count[i].get(q, 0) + sum(s.count[h][q] * s.jobs(bounds, i, h) for h in higher)
 
     def requests_met(self, bounds: Bounds, x: int, q: int) -> int:
         """The requests of q by x that i waits for at its home: no more than run within the windows of i's own requests there."""
@@ -384,6 +427,15 @@ KINDS["fmlp+-c"] = (
     Shape.add_local_preemption,
     Shape.add_local_waits,
     Shape.add_local_runners,
+)
+KINDS["spin-c"] = (
+    Shape.add_requests,
+    Shape.add_time,
+    Shape.add_lower_requests,
+    Shape.add_closer_spinning,
+    Shape.add_own_spinning,
+    Shape.add_lower_spinning,
+    Shape.add_other_lower_spinning,
 )
 
 

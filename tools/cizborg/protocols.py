@@ -28,6 +28,7 @@ PROTOCOLS = {
         Protocol("dpcp-w", "DPCP with windows of requests", True, "dpcp"),
         Protocol("spin", "spin locks", False, "spin"),
         Protocol("fmlp+-c", "FMLP+ with the closer analysis", False, "fmlp+"),
+        Protocol("spin-c", "spin locks with the closer analysis", False, "spin"),
     )
 }
 WORDS = tuple(PROTOCOLS)

@@ -23,6 +23,8 @@ use Rattle.closer_laws.specs.CloserRows.{fmlp_closer_source}
 use Rattle.closer_laws.proofs.Sound.{fmlp_closer_analyses}
 use Rattle.closer_distributed_laws.specs.CloserRows.{dpcp_closer_source, dflp_closer_source}
 use Rattle.closer_distributed_laws.proofs.Sound.{dpcp_closer_analyses, dflp_closer_analyses}
+use Rattle.closer_spin_laws.specs.CloserSpinRows.{spin_closer_source}
+use Rattle.closer_spin_laws.proofs.Sound.{spin_closer_analyses}
 use Rattle.spin_rules.specs.SpinRules.{spin_rule}
 use Rattle.spin_rules.proofs.SpinLaws.{spin_sound_row}
 use Rattle.spin_charging.specs.SpinPrograms.{spin_source}
@@ -36,6 +38,7 @@ use Rattle.clock_laws.proofs.SpinRows.{spin_rescaled}
 use Rattle.clock_laws.proofs.WindowRows.{windowed_rescaled}
 use Rattle.clock_laws.proofs.CloserRows.{closer_rescaled}
 use Rattle.clock_laws.proofs.CloserHomeRows.{dpcp_closer_rescaled, dflp_closer_rescaled}
+use Rattle.clock_laws.proofs.CloserSpinRows.{spin_closer_rescaled}
 use Rattle.clock_laws.proofs.OnClocks.{sound_on_clocks}
 
 pub mpcp_on_clocks : (set : SetDef) (c : CertificateDef) (values : List ℕ) → IsAccepted set → IsValid (source_of protocol.Mpcp set) c
@@ -99,4 +102,11 @@ pub dflp_closer_on_clocks : (set : SetDef) (c : CertificateDef) (values : List �
     → SoundOnClocks dflp_rule is_dpcp_interference (is_whole (dflp_closer_source set) c) set c.bounds values
 dflp_closer_on_clocks set c values accepted valid are = sound_on_clocks dflp_rule is_dpcp_interference dflp_closer_source set c values
     dpcp_one_of_three dflp_sound_row dflp_closer_analyses (record { programs = dflp_closer_rescaled; interfering = local_in }) accepted
+    valid are
+
+pub spin_closer_on_clocks : (set : SetDef) (c : CertificateDef) (values : List ℕ) → IsAccepted set → IsValid (spin_closer_source set) c
+    → AreValues (spin_closer_source set) c values
+    → SoundOnClocks spin_rule is_shared_interference (is_whole (spin_closer_source set) c) set c.bounds values
+spin_closer_on_clocks set c values accepted valid are = sound_on_clocks spin_rule is_shared_interference spin_closer_source set c values
+    shared_one_of_three spin_sound_row spin_closer_analyses (record { programs = spin_closer_rescaled; interfering = cost_in }) accepted
     valid are

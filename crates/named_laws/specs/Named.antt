@@ -23,6 +23,7 @@ use Rattle.schedule_model.specs.Protocols.{shared_rule, dpcp_rule}
 use Rattle.schedule_model.specs.Chosen.{IsSharedChoice, IsDpcpChoice}
 use Rattle.window_laws.specs.WindowRows.{windowed_source}
 use Rattle.closer_laws.specs.CloserRows.{fmlp_closer_source}
+use Rattle.closer_spin_laws.specs.CloserSpinRows.{spin_closer_source}
 use Rattle.clock_laws.specs.Clock.{SoundOnClocks}
 use Rattle.protocol_names.specs.Names.{homes_as}
 use Rattle.protocol_names.specs.declared.ProtocolName.{ProtocolName}
@@ -38,6 +39,7 @@ rules_of name.Dflp = dflp_rule
 rules_of name.Spin = spin_rule
 rules_of name.DpcpWindows = dpcp_rule
 rules_of name.FmlpPlusCloser = shared_rule fmlp_plus
+rules_of name.SpinCloser = spin_rule
 
 abbrev pub choice_of : ProtocolName → Trace → ℕ → Type 0
 choice_of (name.Base p) = choice_at p
@@ -45,6 +47,7 @@ choice_of name.Dflp = IsDflpChoice
 choice_of name.Spin = IsSpinChoice
 choice_of name.DpcpWindows = IsDpcpChoice
 choice_of name.FmlpPlusCloser = IsSharedChoice fmlp_plus
+choice_of name.SpinCloser = IsSpinChoice
 
 abbrev pub interference_of : ProtocolName → Trace → ℕ → ℕ → Bool
 interference_of (name.Base p) = interference_at p
@@ -52,6 +55,7 @@ interference_of name.Dflp = is_dpcp_interference
 interference_of name.Spin = is_shared_interference
 interference_of name.DpcpWindows = is_dpcp_interference
 interference_of name.FmlpPlusCloser = is_shared_interference
+interference_of name.SpinCloser = is_shared_interference
 
 abbrev pub charges_of : ProtocolName → Trace → ℕ → ℕ → Option Charge
 charges_of (name.Base p) = charges_at p
@@ -59,6 +63,7 @@ charges_of name.Dflp = dpcp_charge
 charges_of name.Spin = spin_charge
 charges_of name.DpcpWindows = dpcp_charge
 charges_of name.FmlpPlusCloser = shared_charge
+charges_of name.SpinCloser = spin_charge
 
 -- What gives the programs of a set under the protocol, with its interfering costs; and the programs of just this set.
 abbrev pub sources : ProtocolName → SetDef → SourceDef
@@ -67,17 +72,19 @@ sources name.Dflp = dflp_source
 sources name.Spin = spin_source
 sources name.DpcpWindows = windowed_source
 sources name.FmlpPlusCloser = fmlp_closer_source
+sources name.SpinCloser = spin_closer_source
 
 abbrev pub source_of : ProtocolName → SetDef → SourceDef
 source_of n set = source_at (sources n) set
 
--- Of which protocol is it a closer analysis, with the same rules, charges and columns, all its rows, and more?
+-- Of which protocol is it a closer analysis, with the same rules, charges and columns, and rows that say no less than its own?
 abbrev pub plain_of : ProtocolName → Option ProtocolName
 plain_of (name.Base p) = None
 plain_of name.Dflp = None
 plain_of name.Spin = None
 plain_of name.DpcpWindows = Some (name.Base protocol.Dpcp)
 plain_of name.FmlpPlusCloser = Some (name.Base protocol.FmlpPlus)
+plain_of name.SpinCloser = Some name.Spin
 
 -- Does every schedule that keeps the protocol's rules, of whatever lawful jobs of the set, keep these bounds and values?
 abbrev pub SoundUnder : ProtocolName → SetDef → List ℕ → List ℕ → Type 0

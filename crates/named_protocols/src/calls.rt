@@ -17,6 +17,7 @@ ghost use Rattle.named_laws.specs.Named.{HasHomes, rules_of, choice_of, interfer
 
 use audit_figures::{AuditStop, TaskFigures, audit_rows_with};
 use closer_fmlp::CloserFmlpPlus;
+use closer_spin::CloserSpin;
 use dflp_protocol::Dflp;
 use dual_check::{Invalid, Valid, check_with};
 use program_form::Certificate;
@@ -52,6 +53,7 @@ pub fn analyse<R: Threads + Sync>(
         ProtocolName::Spin => analyse_with(rt, alloc, set, &Spin, allowance),
         ProtocolName::DpcpWindows => analyse_with(rt, alloc, set, &DpcpWindows, allowance),
         ProtocolName::FmlpPlusCloser => analyse_with(rt, alloc, set, &CloserFmlpPlus, allowance),
+        ProtocolName::SpinCloser => analyse_with(rt, alloc, set, &CloserSpin, allowance),
     }
 }
 
@@ -74,6 +76,7 @@ pub fn check(
         ProtocolName::Spin => check_with(alloc, &Spin, set, certificate),
         ProtocolName::DpcpWindows => check_with(alloc, &DpcpWindows, set, certificate),
         ProtocolName::FmlpPlusCloser => check_with(alloc, &CloserFmlpPlus, set, certificate),
+        ProtocolName::SpinCloser => check_with(alloc, &CloserSpin, set, certificate),
     }
 }
 
@@ -96,6 +99,7 @@ pub fn conform_rows<R: RowReader>(
         ProtocolName::Spin => conform_rows_with(alloc, &Spin, jobs, rows),
         ProtocolName::DpcpWindows => conform_rows_with(alloc, &DpcpWindows, jobs, rows),
         ProtocolName::FmlpPlusCloser => conform_rows_with(alloc, &CloserFmlpPlus, jobs, rows),
+        ProtocolName::SpinCloser => conform_rows_with(alloc, &CloserSpin, jobs, rows),
     }
 }
 
@@ -119,6 +123,7 @@ pub fn simulate(
         ProtocolName::Spin => simulate_with(alloc, &Spin, jobs, ticks),
         ProtocolName::DpcpWindows => simulate_with(alloc, &DpcpWindows, jobs, ticks),
         ProtocolName::FmlpPlusCloser => simulate_with(alloc, &CloserFmlpPlus, jobs, ticks),
+        ProtocolName::SpinCloser => simulate_with(alloc, &CloserSpin, jobs, ticks),
     }
 }
 
@@ -146,5 +151,6 @@ pub fn audit_rows<R: RowReader>(
         ProtocolName::FmlpPlusCloser => {
             audit_rows_with(alloc, &CloserFmlpPlus, certificate, jobs, rows)
         }
+        ProtocolName::SpinCloser => audit_rows_with(alloc, &CloserSpin, certificate, jobs, rows),
     }
 }

@@ -10,6 +10,7 @@ ghost use Rattle.refusal_cert.specs.Answers.{Refutes, IsAnswerOf, FollowsAnalysi
 ghost use Rattle.named_laws.specs.Named.{HasHomes, source_of};
 
 use closer_fmlp::CloserFmlpPlus;
+use closer_spin::CloserSpin;
 use dflp_protocol::Dflp;
 use protocol_names::ProtocolName;
 use protocol_programs::Written;
@@ -47,6 +48,7 @@ pub fn refute(
             &CloserFmlpPlus,
             allowance,
         ),
+        ProtocolName::SpinCloser => refusal_cert::refute(alloc, set, &CloserSpin, allowance),
     }
 }
 
@@ -87,6 +89,13 @@ pub fn confirm<R: Threads + Sync>(
             alloc,
             set,
             &CloserFmlpPlus,
+            refusal,
+        ),
+        ProtocolName::SpinCloser => refusal_confirm::confirm(
+            rt,
+            alloc,
+            set,
+            &CloserSpin,
             refusal,
         ),
     }

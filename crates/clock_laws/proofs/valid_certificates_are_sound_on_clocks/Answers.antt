@@ -1,5 +1,5 @@
 use Rattle.clock_laws.proofs.Instances.{mpcp_on_clocks, fmlp_on_clocks, dpcp_on_clocks, dflp_on_clocks, windows_on_clocks, spin_on_clocks}
-use Rattle.clock_laws.proofs.Instances.{fmlp_closer_on_clocks}
+use Rattle.clock_laws.proofs.Instances.{fmlp_closer_on_clocks, spin_closer_on_clocks}
 use Rattle.clock_laws.proofs.Instances.{dpcp_closer_on_clocks, dflp_closer_on_clocks}
 use Rattle.clock_laws.proofs.valid_certificates_are_sound_on_clocks.Goals as goal
 
@@ -29,3 +29,6 @@ returns-clause-dpcp_closer c = dpcp_closer_on_clocks
 
 pub returns-clause-dflp_closer : goal.returns-clause-dflp_closer
 returns-clause-dflp_closer c = dflp_closer_on_clocks
+
+pub returns-clause-spin_closer : goal.returns-clause-spin_closer
+returns-clause-spin_closer c = spin_closer_on_clocks

@@ -36,3 +36,7 @@ returns-in-DpcpWindows-clause-never_wide g c nothing =
 pub returns-in-FmlpPlusCloser-clause-never_wide : goal.returns-in-FmlpPlusCloser-clause-never_wide
 returns-in-FmlpPlusCloser-clause-never_wide g c nothing =
     c.analyse_with-in-FmlpPlusCloser.ensures.never_wide (named_no_columns name.FmlpPlusCloser c.args.set.now nothing)
+
+pub returns-in-SpinCloser-clause-never_wide : goal.returns-in-SpinCloser-clause-never_wide
+returns-in-SpinCloser-clause-never_wide g c nothing =
+    c.analyse_with-in-SpinCloser.ensures.never_wide (named_no_columns name.SpinCloser c.args.set.now nothing)

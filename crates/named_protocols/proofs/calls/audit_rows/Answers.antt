@@ -24,3 +24,6 @@ returns-in-DpcpWindows g c = rw c.in-DpcpWindows.is c.audit_rows_with-in-DpcpWin
 
 pub returns-in-FmlpPlusCloser : goal.returns-in-FmlpPlusCloser
 returns-in-FmlpPlusCloser g c = rw c.in-FmlpPlusCloser.is c.audit_rows_with-in-FmlpPlusCloser.ensures
+
+pub returns-in-SpinCloser : goal.returns-in-SpinCloser
+returns-in-SpinCloser g c = rw c.in-SpinCloser.is c.audit_rows_with-in-SpinCloser.ensures

@@ -22,3 +22,6 @@ returns-in-DpcpWindows-clause-keeps c = rw c.in-DpcpWindows.is c.simulate_with-i
 
 pub returns-in-FmlpPlusCloser-clause-keeps : goal.returns-in-FmlpPlusCloser-clause-keeps
 returns-in-FmlpPlusCloser-clause-keeps c = rw c.in-FmlpPlusCloser.is c.simulate_with-in-FmlpPlusCloser.ensures.keeps
+
+pub returns-in-SpinCloser-clause-keeps : goal.returns-in-SpinCloser-clause-keeps
+returns-in-SpinCloser-clause-keeps c = rw c.in-SpinCloser.is c.simulate_with-in-SpinCloser.ensures.keeps
