@@ -212,7 +212,16 @@ fn audited_reply<S: Shelf>(
     ensures keeps { Keeps (S.seen shelf.old) (S.seen shelf.new) }
 {
     let file = get(alloc, shelf, &CertFor { protocol }, inputs.certificate)?;
-    audited_jobs_reply(alloc, shelf, protocol, digest, set, &file, inputs.jobs, inputs.rows)
+    audited_jobs_reply(
+        alloc,
+        shelf,
+        protocol,
+        digest,
+        set,
+        &file,
+        inputs.jobs,
+        inputs.rows,
+    )
 }
 
 /// Reads the set of this name, and then what else the work asks for, and does it.
