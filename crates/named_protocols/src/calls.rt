@@ -19,6 +19,7 @@ ghost use Rattle.figure_laws.specs.Figures.{blocked_sum, blocked_ticks};
 ghost use Rattle.named_laws.specs.Named.{HasHomes, rules_of, choice_of, interference_of, charges_of, source_of, SoundUnder};
 
 use audit_figures::{AuditStop, TaskFigures, audit_rows_with};
+use closer_distributed::{CloserDflp, CloserDpcp};
 use closer_fmlp::CloserFmlpPlus;
 use dflp_protocol::Dflp;
 use dual_check::{Invalid, Valid, check_with};
@@ -55,6 +56,8 @@ pub fn analyse<R: Threads + Sync>(
         ProtocolName::Spin => analyse_with(rt, alloc, set, &Spin, allowance),
         ProtocolName::DpcpWindows => analyse_with(rt, alloc, set, &DpcpWindows, allowance),
         ProtocolName::FmlpPlusCloser => analyse_with(rt, alloc, set, &CloserFmlpPlus, allowance),
+        ProtocolName::DpcpCloser => analyse_with(rt, alloc, set, &CloserDpcp, allowance),
+        ProtocolName::DflpCloser => analyse_with(rt, alloc, set, &CloserDflp, allowance),
     }
 }
 
@@ -77,6 +80,8 @@ pub fn check(
         ProtocolName::Spin => check_with(alloc, &Spin, set, certificate),
         ProtocolName::DpcpWindows => check_with(alloc, &DpcpWindows, set, certificate),
         ProtocolName::FmlpPlusCloser => check_with(alloc, &CloserFmlpPlus, set, certificate),
+        ProtocolName::DpcpCloser => check_with(alloc, &CloserDpcp, set, certificate),
+        ProtocolName::DflpCloser => check_with(alloc, &CloserDflp, set, certificate),
     }
 }
 
@@ -99,6 +104,8 @@ pub fn conform_rows<R: RowReader>(
         ProtocolName::Spin => conform_rows_with(alloc, &Spin, jobs, rows),
         ProtocolName::DpcpWindows => conform_rows_with(alloc, &DpcpWindows, jobs, rows),
         ProtocolName::FmlpPlusCloser => conform_rows_with(alloc, &CloserFmlpPlus, jobs, rows),
+        ProtocolName::DpcpCloser => conform_rows_with(alloc, &CloserDpcp, jobs, rows),
+        ProtocolName::DflpCloser => conform_rows_with(alloc, &CloserDflp, jobs, rows),
     }
 }
 
@@ -136,6 +143,8 @@ pub fn simulate(
         ProtocolName::Spin => simulate_with(alloc, &Spin, jobs, ticks),
         ProtocolName::DpcpWindows => simulate_with(alloc, &DpcpWindows, jobs, ticks),
         ProtocolName::FmlpPlusCloser => simulate_with(alloc, &CloserFmlpPlus, jobs, ticks),
+        ProtocolName::DpcpCloser => simulate_with(alloc, &CloserDpcp, jobs, ticks),
+        ProtocolName::DflpCloser => simulate_with(alloc, &CloserDflp, jobs, ticks),
     }
 }
 
@@ -169,6 +178,8 @@ pub fn audit_rows<R: RowReader>(
         ProtocolName::FmlpPlusCloser => {
             audit_rows_with(alloc, &CloserFmlpPlus, certificate, jobs, rows)
         }
+        ProtocolName::DpcpCloser => audit_rows_with(alloc, &CloserDpcp, certificate, jobs, rows),
+        ProtocolName::DflpCloser => audit_rows_with(alloc, &CloserDflp, certificate, jobs, rows),
     }
 }
 

@@ -9,6 +9,7 @@ ghost use Rattle.refusal_cert.specs.Steps.{refusal_of};
 ghost use Rattle.refusal_cert.specs.Answers.{Refutes, IsAnswerOf, FollowsAnalysis, IsRight};
 ghost use Rattle.named_laws.specs.Named.{HasHomes, source_of};
 
+use closer_distributed::{CloserDflp, CloserDpcp};
 use closer_fmlp::CloserFmlpPlus;
 use dflp_protocol::Dflp;
 use protocol_names::ProtocolName;
@@ -47,6 +48,8 @@ pub fn refute(
             &CloserFmlpPlus,
             allowance,
         ),
+        ProtocolName::DpcpCloser => refusal_cert::refute(alloc, set, &CloserDpcp, allowance),
+        ProtocolName::DflpCloser => refusal_cert::refute(alloc, set, &CloserDflp, allowance),
     }
 }
 
@@ -87,6 +90,20 @@ pub fn confirm<R: Threads + Sync>(
             alloc,
             set,
             &CloserFmlpPlus,
+            refusal,
+        ),
+        ProtocolName::DpcpCloser => refusal_confirm::confirm(
+            rt,
+            alloc,
+            set,
+            &CloserDpcp,
+            refusal,
+        ),
+        ProtocolName::DflpCloser => refusal_confirm::confirm(
+            rt,
+            alloc,
+            set,
+            &CloserDflp,
             refusal,
         ),
     }

@@ -19,6 +19,10 @@ pub enum ProtocolName {
     DpcpWindows,
     /// FMLP+, whose programs have the rows of the closer analysis too.
     FmlpPlusCloser,
+    /// DPCP, whose programs have the windows of requests and the rows of the closer analysis.
+    DpcpCloser,
+    /// The distributed FIFO protocol, whose programs have the rows of the closer analysis too.
+    DflpCloser,
 }
 
 impl ProtocolName {
@@ -34,6 +38,8 @@ impl ProtocolName {
             ProtocolName::Spin => "spin",
             ProtocolName::DpcpWindows => "dpcp-w",
             ProtocolName::FmlpPlusCloser => "fmlp+-c",
+            ProtocolName::DpcpCloser => "dpcp-c",
+            ProtocolName::DflpCloser => "dflp-c",
         }
     }
 
@@ -47,6 +53,8 @@ impl ProtocolName {
             ProtocolName::Spin => Protocol::Mpcp,
             ProtocolName::DpcpWindows => Protocol::Dpcp,
             ProtocolName::FmlpPlusCloser => Protocol::FmlpPlus,
+            ProtocolName::DpcpCloser => Protocol::Dpcp,
+            ProtocolName::DflpCloser => Protocol::Dpcp,
         }
     }
 }
@@ -63,6 +71,8 @@ pub fn protocol_named(word: &str) -> Option<ProtocolName>
         "spin" => Some(ProtocolName::Spin),
         "dpcp-w" => Some(ProtocolName::DpcpWindows),
         "fmlp+-c" => Some(ProtocolName::FmlpPlusCloser),
+        "dpcp-c" => Some(ProtocolName::DpcpCloser),
+        "dflp-c" => Some(ProtocolName::DflpCloser),
         _ => None,
     }
 }

@@ -24,3 +24,9 @@ returns-in-DpcpWindows-clause-audits g c = rw c.in-DpcpWindows.is c.audit_rows_w
 
 pub returns-in-FmlpPlusCloser-clause-audits : goal.returns-in-FmlpPlusCloser-clause-audits
 returns-in-FmlpPlusCloser-clause-audits g c = rw c.in-FmlpPlusCloser.is c.audit_rows_with-in-FmlpPlusCloser.ensures.audits
+
+pub returns-in-DpcpCloser-clause-audits : goal.returns-in-DpcpCloser-clause-audits
+returns-in-DpcpCloser-clause-audits g c = rw c.in-DpcpCloser.is c.audit_rows_with-in-DpcpCloser.ensures.audits
+
+pub returns-in-DflpCloser-clause-audits : goal.returns-in-DflpCloser-clause-audits
+returns-in-DflpCloser-clause-audits g c = rw c.in-DflpCloser.is c.audit_rows_with-in-DflpCloser.ensures.audits
