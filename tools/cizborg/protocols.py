@@ -28,6 +28,8 @@ PROTOCOLS = {
         Protocol("dpcp-w", "DPCP with windows of requests", True, "dpcp"),
         Protocol("spin", "spin locks", False, "spin"),
         Protocol("fmlp+-c", "FMLP+ with the closer analysis", False, "fmlp+"),
+        Protocol("dpcp-c", "DPCP with the closer analysis", True, "dpcp"),
+        Protocol("dflp-c", "the distributed FIFO protocol with the closer analysis", True, "dflp"),
     )
 }
 WORDS = tuple(PROTOCOLS)
