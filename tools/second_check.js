@@ -10,8 +10,8 @@
 "use strict";
 
 var SecondCheck = (function () {
-    const PROTOCOLS = ["mpcp", "fmlp+", "dpcp", "dflp", "dpcp-w", "spin", "fmlp+-c", "spin-c"];
-    const AT_HOMES = ["dpcp", "dflp", "dpcp-w"];
+    const PROTOCOLS = ["mpcp", "fmlp+", "dpcp", "dflp", "dpcp-w", "spin", "fmlp+-c", "spin-c", "dpcp-c", "dflp-c"];
+    const AT_HOMES = ["dpcp", "dflp", "dpcp-w", "dpcp-c", "dflp-c"];
     const MOST_BYTES = 67108864;
     const MOST_LEVELS = 127;
     const MOST_TICKS = 1000000000n;
@@ -362,6 +362,7 @@ var SecondCheck = (function () {
         beside(x) { return this.all.filter((y) => y !== x && y !== this.i && this.processor(y) === this.processor(x)); }
         ceiling(q) { return this.all.find((x) => this.uses(x, q)); }
         own_at(k) { return this.own.filter((q) => this.home(q) === k); }
+        own_away() { return this.own.filter((q) => this.home(q) !== this.processor(this.i)); }
         own_requests(among) { return sum_of(among, (q) => this.me.count[q]); }
 
         // The highest user of q that isn't on processor k, or where there is none the highest one.
@@ -388,7 +389,7 @@ var SecondCheck = (function () {
         ways(x, q) {
             const requested = this.uses(this.i, q), is_lower = x > this.i;
             if (AT_HOMES.includes(this.protocol)) {
-                const is_barred = this.protocol !== "dflp" && is_lower && this.ceiling(q) > this.i;
+                const is_barred = !["dflp", "dflp-c"].includes(this.protocol) && is_lower && this.ceiling(q) > this.i;
                 return [requested, !is_barred && this.own_at(this.home(q)).some((r) => r !== q), this.home(q) === this.processor(this.i)];
             }
             if (this.is_local(x) && (!is_lower || this.is_spinning)) return [false, false, is_lower];
@@ -498,6 +499,13 @@ var SecondCheck = (function () {
             limit: (view, k, q) => 1n + view.spins_above(view.spun_below(k).filter((r) => r !== q)),
         },
         local_runners: { row: (view, { x, q, way }) => way === INDIRECT && !view.is_shared_out(x, q) && [0], limit: () => 0n },
+        home_tasks: {
+            row: (view, column) => is_open(column) && view.processor(column.x) === view.home(column.q) && [view.home(column.q)],
+            limit: (view, k) => (k === view.processor(view.i) ? 0n : view.own_requests(view.own_at(k))),
+        },
+        lower_home_tasks: { row: (view, { x }) => x > view.i && view.is_local(x) && [x], limit: (view) => 1n + view.own_requests(view.own_away()) },
+        lower_preemption: { row: (view, { x, way }) => way === PREEMPTION && x > view.i && view.is_local(x) && [0], limit: (view) => 1n + view.own_requests(view.own_away()) },
+        lower_waits: { row: (view, column) => is_open(column) && column.x > view.i && view.home(column.q) === view.processor(view.i) && [0], limit: () => 0n },
     };
 
     const KINDS_OF = {
@@ -510,6 +518,8 @@ var SecondCheck = (function () {
     };
     KINDS_OF["fmlp+-c"] = [...KINDS_OF["fmlp+"], "holders", "other_holders", "lower_tasks", "local_preemption", "local_waits", "local_runners"];
     KINDS_OF["spin-c"] = ["requests", "time", "lower_requests", "closer_spinning", "own_spinning", "lower_spinning", "other_lower_spinning"];
+    KINDS_OF["dpcp-c"] = [...KINDS_OF["dpcp-w"], "home_tasks", "lower_home_tasks", "lower_preemption", "lower_waits"];
+    KINDS_OF["dflp-c"] = [...KINDS_OF.dflp, "home_tasks", "lower_home_tasks", "lower_preemption"];
 
     // The rows of a kind, in rising order of whom each is for: its cells, each a column and how often that counts, and its limit.
     function rows_of(view, columns, { row, rows, times, limit }) {

@@ -362,6 +362,37 @@ class Shape:
         """No request of what only its task's processor requests runs before what i waits for."""
         self.add(lambda r: 0, self.every, lambda c: int(c.way == "indirect" and not self.s.is_shared_out(c.task, c.resource)))
 
+    def add_home_tasks(self) -> None:
+        """Of a processor: one request of its own tasks before each of i there, and none where it is i's."""
+        for k in self.processors:
+            self.add_home_tasks_of(k)
+
+    def add_home_tasks_of(self, k: int) -> None:
+        """The row of k."""
+        s = self.s
+        here = [(c, column) for c, column in self.every if s.processor[column.task] == k == s.home[column.resource]]
+        self.add(lambda r: 0 if k == s.processor[self.i] else self.requests_at(k), here, lambda c: int(c.way != "preemption"))
+
+    def add_lower_home_tasks(self) -> None:
+        """Of a lower local task: one request in each interval that a release or a request elsewhere begins."""
+        for x in self.others:
+            if x > self.i and self.s.processor[x] == self.s.processor[self.i]:
+                self.add(lambda r: 1 + self.requests_away(), self.of_task[x], lambda c: 1)
+
+    def add_lower_preemption(self) -> None:
+        """One request of all lower local tasks in each of these intervals."""
+        lower = [(c, column) for c, column in self.every if column.task > self.i and self.s.processor[column.task] == self.s.processor[self.i]]
+        self.add(lambda r: 1 + self.requests_away(), lower, lambda c: int(c.way == "preemption"))
+
+    def add_lower_waits(self) -> None:
+        """No request of a lower task is waited for on i's processor."""
+        here = [(c, column) for c, column in self.every if column.task > self.i and self.s.home[column.resource] == self.s.processor[self.i]]
+        self.add(lambda r: 0, here, lambda c: int(c.way != "preemption"))
+
+    def requests_away(self) -> int:
+        """The requests of i that run on other processors."""
+        return self.requests() - self.requests_at(self.s.processor[self.i])
+
     def shared_requests(self) -> int:
         """The requests of i of what tasks of other processors request too."""
         return sum(n for q, n in self.s.count[self.i].items() if self.s.is_shared_out(self.i, q))
@@ -450,3 +481,5 @@ def as_lp(costs: Sequence[int], rows: Sequence[tuple[Row, int]]) -> str:
     lines = ["Maximize", " worth: " + (" + ".join(f"{cost} y{c}" for c, cost in enumerate(costs)) or "0 y0"), "Subject To"]
     lines += [f" r{k}: " + " + ".join(f"{weight} y{c}" for c, weight in row) + f" <= {limit}" for k, (row, limit) in enumerate(rows)]
     return "\n".join(lines + ["End", ""])
+KINDS["dpcp-c"] = (*KINDS["dpcp-w"], Shape.add_home_tasks, Shape.add_lower_home_tasks, Shape.add_lower_preemption, Shape.add_lower_waits)
+KINDS["dflp-c"] = (*KINDS["dflp"], Shape.add_home_tasks, Shape.add_lower_home_tasks, Shape.add_lower_preemption)

@@ -29,6 +29,8 @@ PROTOCOLS = {
         Protocol("spin", "spin locks", False, "spin"),
         Protocol("fmlp+-c", "FMLP+ with the closer analysis", False, "fmlp+"),
         Protocol("spin-c", "spin locks with the closer analysis", False, "spin"),
+        Protocol("dpcp-c", "DPCP with the closer analysis", True, "dpcp"),
+        Protocol("dflp-c", "the distributed FIFO protocol with the closer analysis", True, "dflp"),
     )
 }
 WORDS = tuple(PROTOCOLS)

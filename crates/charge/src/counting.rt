@@ -13,8 +13,8 @@ ghost use Rattle.charge.specs.Tally.{IsTally, AreCountedAlike, place_of, place_a
 
 use crate::due::end_of;
 use crate::tally::{ChargePlace, add_named};
-use charged_protocols::ChargedProtocol;
 use blocking_columns::Class;
+use charged_protocols::ChargedProtocol;
 use phase_machine::lookup::tasks_of;
 use phase_machine::{Machine, Phase};
 use schedule_model::{JobId, RowReader};

@@ -52,44 +52,26 @@ pub enum PlainWork<'a> {
     /// Write the table of the set.
     Report,
     /// Judge the rows for the jobs.
-    Conform {
-        jobs: &'a str,
-        rows: &'a str,
-    },
+    Conform { jobs: &'a str, rows: &'a str },
     /// Make the schedule of this many ticks for the jobs.
-    Simulate {
-        jobs: &'a str,
-        ticks: u64,
-    },
+    Simulate { jobs: &'a str, ticks: u64 },
 }
 
 /// What is asked for of a set and a certificate of it, or one of refusal.
 #[derive(Clone, Copy, Debug)]
 pub enum TiedWork<'a> {
     /// Find the least bounds of the set within this many units.
-    Analyse {
-        allowance: u64,
-    },
+    Analyse { allowance: u64 },
     /// Show by a certificate of refusal that no bounds of the set fit, within this many units.
-    Refute {
-        allowance: u64,
-    },
+    Refute { allowance: u64 },
     /// Judge the certificate.
-    Check {
-        certificate: &'a str,
-    },
+    Check { certificate: &'a str },
     /// Judge the certificate of refusal.
-    Confirm {
-        refusal: &'a str,
-    },
+    Confirm { refusal: &'a str },
     /// Judge the certificate, which is of the version before, and write it with the set's digest.
-    Upgrade {
-        certificate: &'a str,
-    },
+    Upgrade { certificate: &'a str },
     /// Write the table with what the certificate proves.
-    FullReport {
-        certificate: &'a str,
-    },
+    FullReport { certificate: &'a str },
     /// Judge the certificate and the rows, and set what the rows did beside what the certificate proves.
     Audit(AuditInputs<'a>),
 }

@@ -13,6 +13,7 @@ use Rattle.spin_charging.proofs.SpinPrograms.{spin_rises}
 use Rattle.window_laws.proofs.Programs.{windowed_rises}
 use Rattle.closer_laws.proofs.Programs.{fmlp_closer_rises}
 use Rattle.closer_spin_laws.proofs.Programs.{spin_closer_rises}
+use Rattle.closer_distributed_laws.proofs.Programs.{dpcp_closer_rises, dflp_closer_rises}
 use Rattle.response_fixpoint.specs.Rounds.{NotShown, EndsIn}
 use Rattle.response_fixpoint.proofs.RunLaws.{CostsFit}
 use Rattle.refusal_laws.specs.Steps.{StepDef, Holds}
@@ -40,6 +41,8 @@ named_rises name.Spin set = λ i r s here most. spin_rises set i r s here most
 named_rises name.DpcpWindows set = λ i r s here most. windowed_rises set i r s here most
 named_rises name.FmlpPlusCloser set = λ i r s here most. fmlp_closer_rises set i r s here most
 named_rises name.SpinCloser set = λ i r s here most. spin_closer_rises set i r s here most
+named_rises name.DpcpCloser set = λ i r s here most. dpcp_closer_rises set i r s here most
+named_rises name.DflpCloser set = λ i r s here most. dflp_closer_rises set i r s here most
 
 -- The costs of an accepted set are within its latest bounds.
 costs_fit : (n : ProtocolName) (set : SetDef) → IsAccepted set → CostsFit (source_of n set)

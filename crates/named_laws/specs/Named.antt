@@ -1,5 +1,5 @@
 -- What each protocol has, by its name: homes, rules, a choice of rows, ticks of interference, charges and programs.
-use Rattle.std.specs.Prelude.{ℕ, Bool, List, Option, None, Some}
+use Rattle.std.specs.Prelude.{◌≡◌, ◌⊎◌, ℕ, Bool, List, Option, None, Some}
 use Rattle.sporadic_model.specs.SetDef.{SetDef}
 use Rattle.sporadic_model.specs.Homes.{HasHomesFor}
 use Rattle.sporadic_model.specs.declared.ids.Protocol.TheVariants as protocol
@@ -24,6 +24,7 @@ use Rattle.schedule_model.specs.Chosen.{IsSharedChoice, IsDpcpChoice}
 use Rattle.window_laws.specs.WindowRows.{windowed_source}
 use Rattle.closer_laws.specs.CloserRows.{fmlp_closer_source}
 use Rattle.closer_spin_laws.specs.CloserSpinRows.{spin_closer_source}
+use Rattle.closer_distributed_laws.specs.CloserRows.{dpcp_closer_source, dflp_closer_source}
 use Rattle.clock_laws.specs.Clock.{SoundOnClocks}
 use Rattle.protocol_names.specs.Names.{homes_as}
 use Rattle.protocol_names.specs.declared.ProtocolName.{ProtocolName}
@@ -40,6 +41,8 @@ rules_of name.Spin = spin_rule
 rules_of name.DpcpWindows = dpcp_rule
 rules_of name.FmlpPlusCloser = shared_rule fmlp_plus
 rules_of name.SpinCloser = spin_rule
+rules_of name.DpcpCloser = dpcp_rule
+rules_of name.DflpCloser = dflp_rule
 
 abbrev pub choice_of : ProtocolName → Trace → ℕ → Type 0
 choice_of (name.Base p) = choice_at p
@@ -48,6 +51,8 @@ choice_of name.Spin = IsSpinChoice
 choice_of name.DpcpWindows = IsDpcpChoice
 choice_of name.FmlpPlusCloser = IsSharedChoice fmlp_plus
 choice_of name.SpinCloser = IsSpinChoice
+choice_of name.DpcpCloser = IsDpcpChoice
+choice_of name.DflpCloser = IsDflpChoice
 
 abbrev pub interference_of : ProtocolName → Trace → ℕ → ℕ → Bool
 interference_of (name.Base p) = interference_at p
@@ -56,6 +61,8 @@ interference_of name.Spin = is_shared_interference
 interference_of name.DpcpWindows = is_dpcp_interference
 interference_of name.FmlpPlusCloser = is_shared_interference
 interference_of name.SpinCloser = is_shared_interference
+interference_of name.DpcpCloser = is_dpcp_interference
+interference_of name.DflpCloser = is_dpcp_interference
 
 abbrev pub charges_of : ProtocolName → Trace → ℕ → ℕ → Option Charge
 charges_of (name.Base p) = charges_at p
@@ -64,6 +71,8 @@ charges_of name.Spin = spin_charge
 charges_of name.DpcpWindows = dpcp_charge
 charges_of name.FmlpPlusCloser = shared_charge
 charges_of name.SpinCloser = spin_charge
+charges_of name.DpcpCloser = dpcp_charge
+charges_of name.DflpCloser = dpcp_charge
 
 -- What gives the programs of a set under the protocol, with its interfering costs; and the programs of just this set.
 abbrev pub sources : ProtocolName → SetDef → SourceDef
@@ -73,6 +82,8 @@ sources name.Spin = spin_source
 sources name.DpcpWindows = windowed_source
 sources name.FmlpPlusCloser = fmlp_closer_source
 sources name.SpinCloser = spin_closer_source
+sources name.DpcpCloser = dpcp_closer_source
+sources name.DflpCloser = dflp_closer_source
 
 abbrev pub source_of : ProtocolName → SetDef → SourceDef
 source_of n set = source_at (sources n) set
@@ -85,6 +96,13 @@ plain_of name.Spin = None
 plain_of name.DpcpWindows = Some (name.Base protocol.Dpcp)
 plain_of name.FmlpPlusCloser = Some (name.Base protocol.FmlpPlus)
 plain_of name.SpinCloser = Some name.Spin
+plain_of name.DpcpCloser = Some name.DpcpWindows
+plain_of name.DflpCloser = Some name.Dflp
+
+-- Is the first a closer analysis of the second, or of a closer analysis of it?
+abbrev pub IsCloserThan : ProtocolName → ProtocolName → Type 0
+IsCloserThan closer plain = (plain_of closer ≡ Some plain) ⊎ ((between : ProtocolName) × (plain_of closer ≡ Some between)
+    × (plain_of between ≡ Some plain))
 
 -- Does every schedule that keeps the protocol's rules, of whatever lawful jobs of the set, keep these bounds and values?
 abbrev pub SoundUnder : ProtocolName → SetDef → List ℕ → List ℕ → Type 0

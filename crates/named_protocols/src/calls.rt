@@ -16,6 +16,7 @@ ghost use Rattle.figure_laws.specs.Audited.{IsAudited};
 ghost use Rattle.named_laws.specs.Named.{HasHomes, rules_of, choice_of, interference_of, charges_of, source_of, SoundUnder};
 
 use audit_figures::{AuditStop, TaskFigures, audit_rows_with};
+use closer_distributed::{CloserDflp, CloserDpcp};
 use closer_fmlp::CloserFmlpPlus;
 use closer_spin::CloserSpin;
 use dflp_protocol::Dflp;
@@ -54,6 +55,8 @@ pub fn analyse<R: Threads + Sync>(
         ProtocolName::DpcpWindows => analyse_with(rt, alloc, set, &DpcpWindows, allowance),
         ProtocolName::FmlpPlusCloser => analyse_with(rt, alloc, set, &CloserFmlpPlus, allowance),
         ProtocolName::SpinCloser => analyse_with(rt, alloc, set, &CloserSpin, allowance),
+        ProtocolName::DpcpCloser => analyse_with(rt, alloc, set, &CloserDpcp, allowance),
+        ProtocolName::DflpCloser => analyse_with(rt, alloc, set, &CloserDflp, allowance),
     }
 }
 
@@ -77,6 +80,8 @@ pub fn check(
         ProtocolName::DpcpWindows => check_with(alloc, &DpcpWindows, set, certificate),
         ProtocolName::FmlpPlusCloser => check_with(alloc, &CloserFmlpPlus, set, certificate),
         ProtocolName::SpinCloser => check_with(alloc, &CloserSpin, set, certificate),
+        ProtocolName::DpcpCloser => check_with(alloc, &CloserDpcp, set, certificate),
+        ProtocolName::DflpCloser => check_with(alloc, &CloserDflp, set, certificate),
     }
 }
 
@@ -100,6 +105,8 @@ pub fn conform_rows<R: RowReader>(
         ProtocolName::DpcpWindows => conform_rows_with(alloc, &DpcpWindows, jobs, rows),
         ProtocolName::FmlpPlusCloser => conform_rows_with(alloc, &CloserFmlpPlus, jobs, rows),
         ProtocolName::SpinCloser => conform_rows_with(alloc, &CloserSpin, jobs, rows),
+        ProtocolName::DpcpCloser => conform_rows_with(alloc, &CloserDpcp, jobs, rows),
+        ProtocolName::DflpCloser => conform_rows_with(alloc, &CloserDflp, jobs, rows),
     }
 }
 
@@ -124,6 +131,8 @@ pub fn simulate(
         ProtocolName::DpcpWindows => simulate_with(alloc, &DpcpWindows, jobs, ticks),
         ProtocolName::FmlpPlusCloser => simulate_with(alloc, &CloserFmlpPlus, jobs, ticks),
         ProtocolName::SpinCloser => simulate_with(alloc, &CloserSpin, jobs, ticks),
+        ProtocolName::DpcpCloser => simulate_with(alloc, &CloserDpcp, jobs, ticks),
+        ProtocolName::DflpCloser => simulate_with(alloc, &CloserDflp, jobs, ticks),
     }
 }
 
@@ -152,5 +161,7 @@ pub fn audit_rows<R: RowReader>(
             audit_rows_with(alloc, &CloserFmlpPlus, certificate, jobs, rows)
         }
         ProtocolName::SpinCloser => audit_rows_with(alloc, &CloserSpin, certificate, jobs, rows),
+        ProtocolName::DpcpCloser => audit_rows_with(alloc, &CloserDpcp, certificate, jobs, rows),
+        ProtocolName::DflpCloser => audit_rows_with(alloc, &CloserDflp, certificate, jobs, rows),
     }
 }

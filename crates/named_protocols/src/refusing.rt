@@ -9,6 +9,7 @@ ghost use Rattle.refusal_cert.specs.Steps.{refusal_of};
 ghost use Rattle.refusal_cert.specs.Answers.{Refutes, IsAnswerOf, FollowsAnalysis, IsRight};
 ghost use Rattle.named_laws.specs.Named.{HasHomes, source_of};
 
+use closer_distributed::{CloserDflp, CloserDpcp};
 use closer_fmlp::CloserFmlpPlus;
 use closer_spin::CloserSpin;
 use dflp_protocol::Dflp;
@@ -49,6 +50,8 @@ pub fn refute(
             allowance,
         ),
         ProtocolName::SpinCloser => refusal_cert::refute(alloc, set, &CloserSpin, allowance),
+        ProtocolName::DpcpCloser => refusal_cert::refute(alloc, set, &CloserDpcp, allowance),
+        ProtocolName::DflpCloser => refusal_cert::refute(alloc, set, &CloserDflp, allowance),
     }
 }
 
@@ -91,12 +94,8 @@ pub fn confirm<R: Threads + Sync>(
             &CloserFmlpPlus,
             refusal,
         ),
-        ProtocolName::SpinCloser => refusal_confirm::confirm(
-            rt,
-            alloc,
-            set,
-            &CloserSpin,
-            refusal,
-        ),
+        ProtocolName::SpinCloser => refusal_confirm::confirm(rt, alloc, set, &CloserSpin, refusal),
+        ProtocolName::DpcpCloser => refusal_confirm::confirm(rt, alloc, set, &CloserDpcp, refusal),
+        ProtocolName::DflpCloser => refusal_confirm::confirm(rt, alloc, set, &CloserDflp, refusal),
     }
 }

@@ -15,6 +15,8 @@ word_of name.Spin = codes "spin"
 word_of name.DpcpWindows = codes "dpcp-w"
 word_of name.FmlpPlusCloser = codes "fmlp+-c"
 word_of name.SpinCloser = codes "spin-c"
+word_of name.DpcpCloser = codes "dpcp-c"
+word_of name.DflpCloser = codes "dflp-c"
 
 -- Which protocol does this word name?
 abbrev pub name_of : List ℕ → Option ProtocolName
@@ -26,6 +28,8 @@ name_of word = if bytes_eq word (codes "mpcp") then Some (name.Base protocol.Mpc
     else if bytes_eq word (codes "dpcp-w") then Some name.DpcpWindows
     else if bytes_eq word (codes "fmlp+-c") then Some name.FmlpPlusCloser
     else if bytes_eq word (codes "spin-c") then Some name.SpinCloser
+    else if bytes_eq word (codes "dpcp-c") then Some name.DpcpCloser
+    else if bytes_eq word (codes "dflp-c") then Some name.DflpCloser
     else None
 
 -- The protocol which asks a set for the same homes.
@@ -36,3 +40,5 @@ homes_as name.Spin = protocol.Mpcp
 homes_as name.DpcpWindows = protocol.Dpcp
 homes_as name.FmlpPlusCloser = protocol.FmlpPlus
 homes_as name.SpinCloser = protocol.Mpcp
+homes_as name.DpcpCloser = protocol.Dpcp
+homes_as name.DflpCloser = protocol.Dpcp

@@ -21,6 +21,10 @@ pub enum ProtocolName {
     FmlpPlusCloser,
     /// FIFO spin locks, whose programs have the rows of the closer analysis.
     SpinCloser,
+    /// DPCP, whose programs have the windows of requests and the rows of the closer analysis.
+    DpcpCloser,
+    /// The distributed FIFO protocol, whose programs have the rows of the closer analysis too.
+    DflpCloser,
 }
 
 impl ProtocolName {
@@ -37,6 +41,8 @@ impl ProtocolName {
             ProtocolName::DpcpWindows => "dpcp-w",
             ProtocolName::FmlpPlusCloser => "fmlp+-c",
             ProtocolName::SpinCloser => "spin-c",
+            ProtocolName::DpcpCloser => "dpcp-c",
+            ProtocolName::DflpCloser => "dflp-c",
         }
     }
 
@@ -51,6 +57,8 @@ impl ProtocolName {
             ProtocolName::DpcpWindows => Protocol::Dpcp,
             ProtocolName::FmlpPlusCloser => Protocol::FmlpPlus,
             ProtocolName::SpinCloser => Protocol::Mpcp,
+            ProtocolName::DpcpCloser => Protocol::Dpcp,
+            ProtocolName::DflpCloser => Protocol::Dpcp,
         }
     }
 }
@@ -68,6 +76,8 @@ pub fn protocol_named(word: &str) -> Option<ProtocolName>
         "dpcp-w" => Some(ProtocolName::DpcpWindows),
         "fmlp+-c" => Some(ProtocolName::FmlpPlusCloser),
         "spin-c" => Some(ProtocolName::SpinCloser),
+        "dpcp-c" => Some(ProtocolName::DpcpCloser),
+        "dflp-c" => Some(ProtocolName::DflpCloser),
         _ => None,
     }
 }

@@ -54,7 +54,7 @@ returns g c =
         judged.0,
         lawful.rows,
         same_values (g.P.ChargedProtocol.charges p) (g.P.BlockingProtocol.interferes p) w (slice_index cert.bounds) (slice_index values)
-        (value_at f cert) n figures judged.1.each are,
+            (value_at f cert) n figures judged.1.each are,
       );
       within = lie_within (g.P.ChargedProtocol.charges p) (g.P.BlockingProtocol.interferes p) w cert.bounds values n figures kept are;
       adds_up = adds_up;

@@ -25,3 +25,9 @@ returns-in-FmlpPlusCloser g c = rw c.in-FmlpPlusCloser.is c.conform_rows_with-in
 
 pub returns-in-SpinCloser : goal.returns-in-SpinCloser
 returns-in-SpinCloser g c = rw c.in-SpinCloser.is c.conform_rows_with-in-SpinCloser.ensures
+
+pub returns-in-DpcpCloser : goal.returns-in-DpcpCloser
+returns-in-DpcpCloser g c = rw c.in-DpcpCloser.is c.conform_rows_with-in-DpcpCloser.ensures
+
+pub returns-in-DflpCloser : goal.returns-in-DflpCloser
+returns-in-DflpCloser g c = rw c.in-DflpCloser.is c.conform_rows_with-in-DflpCloser.ensures

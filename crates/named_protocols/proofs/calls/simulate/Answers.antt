@@ -25,3 +25,9 @@ returns-in-FmlpPlusCloser-clause-keeps c = rw c.in-FmlpPlusCloser.is c.simulate_
 
 pub returns-in-SpinCloser-clause-keeps : goal.returns-in-SpinCloser-clause-keeps
 returns-in-SpinCloser-clause-keeps c = rw c.in-SpinCloser.is c.simulate_with-in-SpinCloser.ensures.keeps
+
+pub returns-in-DpcpCloser-clause-keeps : goal.returns-in-DpcpCloser-clause-keeps
+returns-in-DpcpCloser-clause-keeps c = rw c.in-DpcpCloser.is c.simulate_with-in-DpcpCloser.ensures.keeps
+
+pub returns-in-DflpCloser-clause-keeps : goal.returns-in-DflpCloser-clause-keeps
+returns-in-DflpCloser-clause-keeps c = rw c.in-DflpCloser.is c.simulate_with-in-DflpCloser.ensures.keeps
