@@ -91,12 +91,6 @@ pub fn confirm<R: Threads + Sync>(
             &CloserFmlpPlus,
             refusal,
         ),
-        ProtocolName::SpinCloser => refusal_confirm::confirm(
-            rt,
-            alloc,
-            set,
-            &CloserSpin,
-            refusal,
-        ),
+        ProtocolName::SpinCloser => refusal_confirm::confirm(rt, alloc, set, &CloserSpin, refusal),
     }
 }
