@@ -11,6 +11,7 @@ pub mod FifoRows
 pub mod SpinRows
 pub mod WindowRows
 pub mod CloserRows
+pub mod CloserMpcpRows
 pub mod WorkedClock
 pub mod Spared
 pub mod Deadlines

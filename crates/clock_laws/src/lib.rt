@@ -34,6 +34,7 @@ ghost use Rattle.dflp_laws.specs.Rules.{dflp_rule};
 ghost use Rattle.dflp_laws.specs.Programs.{dflp_source};
 ghost use Rattle.window_laws.specs.WindowRows.{windowed_source};
 ghost use Rattle.closer_laws.specs.CloserRows.{fmlp_closer_source};
+ghost use Rattle.closer_mpcp_laws.specs.CloserMpcpRows.{mpcp_closer_source};
 ghost use Rattle.spin_rules.specs.SpinRules.{spin_rule};
 ghost use Rattle.spin_charging.specs.SpinPrograms.{spin_source};
 ghost use Rattle.clock_laws.specs.Cycles.{in_cycles, times_each, own_cycles};
@@ -44,7 +45,7 @@ ghost use Rattle.clock_laws.specs.Worked.{seven_rows_in_cycles, trace_on_clock};
 
 use schedule_model::BlockingProtocol;
 
-/// Of an accepted set, the bounds of a valid certificate and the values of its duals are sound on clocks, under each of the seven
+/// Of an accepted set, the bounds of a valid certificate and the values of its duals are sound on clocks, under each of the eight
 /// analyses. However many cycles a tick has: in every schedule whose rows are cycles, of lawful jobs of the set said in cycles, which
 /// keeps the protocol's rules and in which no job executes more cycles than it may, each job whose window lies within it ends within
 /// its bound in cycles. And no job is blocked in its window at more cycles than its dual's value in cycles and a part of a tick.
@@ -67,6 +68,9 @@ pub fn valid_certificates_are_sound_on_clocks()
     ensures fmlp_plus_closer { (set : SetDef) (c : CertificateDef) (values : List ℕ) → IsAccepted set → IsValid (fmlp_closer_source set) c
         → AreValues (fmlp_closer_source set) c values
         → SoundOnClocks (shared_rule fmlp_plus) is_shared_interference (is_whole (fmlp_closer_source set) c) set c.bounds values }
+    ensures mpcp_closer { (set : SetDef) (c : CertificateDef) (values : List ℕ) → IsAccepted set → IsValid (mpcp_closer_source set) c
+        → AreValues (mpcp_closer_source set) c values
+        → SoundOnClocks (shared_rule mpcp) is_shared_interference (is_whole (mpcp_closer_source set) c) set c.bounds values }
     ensures spin { (set : SetDef) (c : CertificateDef) (values : List ℕ) → IsAccepted set → IsValid (spin_source set) c
         → AreValues (spin_source set) c values
         → SoundOnClocks spin_rule is_shared_interference (is_whole (spin_source set) c) set c.bounds values }

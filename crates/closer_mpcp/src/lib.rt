@@ -1,6 +1,8 @@
 //! MPCP with the closer analysis: its programs have further rows behind those of MPCP.
 #![tactic(auto)]
 
+mod ceilings;
+mod holdings;
 mod laws;
 mod programs;
 mod protocol;
