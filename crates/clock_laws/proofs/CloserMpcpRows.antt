@@ -55,7 +55,7 @@ away_in k set = λ j x y. not (one_processor_in k set j y x)
 
 lower_away_in : (k : ℕ) (set : SetDef) → has_lower_away (in_cycles k set) ≡ has_lower_away set
 lower_away_in k set = λ j i x r. any_below (tasks_in k set j)
-    (λ y. nat_lt i y && (away_in k set j x y && (away_in k set j i y && users_in k set j r y)))
+    (λ y. nat_lt i y && ((away_in k set j x y && away_in k set j i y) && users_in k set j r y))
 
 away_holdings_in : (k : ℕ) (set : SetDef) (bounds : ℕ → ℕ) (i x r : ℕ) → 0 < k
     → away_holdings (in_cycles k set) (fine k bounds) i x r ≡ away_holdings set bounds i x r

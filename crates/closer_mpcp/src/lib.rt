@@ -4,6 +4,7 @@
 mod ceilings;
 mod holdings;
 mod laws;
+mod places;
 mod programs;
 mod protocol;
 mod rows;

@@ -1,6 +1,6 @@
 //! The closer rows.
 
-ghost use Rattle.std.specs.Prelude.{◌≡◌, ◌<◌, ◌+◌, ◌==◌, ◌&&◌, [], ◌∷◌, ◌++◌, map, length, slice_index, OnOk, if◌then◌else◌};
+ghost use Rattle.std.specs.Prelude.{◌≡◌, ◌<◌, ◌+◌, ◌==◌, ◌&&◌, not, [], ◌∷◌, ◌++◌, map, length, slice_index, OnOk, if◌then◌else◌};
 ghost use Rattle.std.proofs.Common.{ap};
 ghost use Rattle.number_laws.specs.Sums.{flag};
 ghost use Rattle.program_sources.specs.Bounds.{AreWithinDeadlines};
@@ -11,10 +11,10 @@ ghost use Rattle.fragments.specs.Constraints.{per, per_pair, per_where};
 ghost use Rattle.fragments.specs.Stretches.{AreInOrder};
 ghost use Rattle.fragments.specs.TaskPlaces.{ArePlaces};
 ghost use Rattle.closer_laws.specs.CloserRows.{is_shared_out, requests_where, local_preemption_row};
-ghost use Rattle.closer_mpcp_laws.specs.CloserMpcpRows.{shared_holding_row, resource_holding_row};
+ghost use Rattle.closer_mpcp_laws.specs.CloserMpcpRows.{shared_holding_row, resource_holding_row, away_row};
 ghost use Rattle.closer_mpcp_laws.specs.CloserMpcpRows.{shared_interval_row, lower_wait_row, further_rows};
 
-use crate::holdings::shared_holdings;
+use crate::holdings::{run_beside_away_holdings, shared_holdings};
 use fragments::{
     Constraint, EachRequest, EachTask, Fragment, PerTask, RequestRow, RowKind, RowTaker, TaskPlace,
     TaskRow, add_per_lower_task, add_per_request_at, add_per_task, add_row, add_row_limited,
@@ -74,6 +74,27 @@ impl RequestRow for ResourceHoldingRow {
         bounds: &[u64],
     ) -> u64 {
         shared_holdings(set, i, x, Some(q), bounds)
+    }
+}
+
+/// Of a task: while the analysed task waits for a request that is held on the task's processor, it runs at most one request, and one more for
+/// each time that it is held away from there before.
+#[derive(Drop)]
+struct AwayRow;
+
+impl TaskRow for AwayRow {
+    ghost row_of = { λ k. away_row };
+
+    ghost fits = { λ k set i bounds. Unit {0} };
+
+    ghost alone = { λ k set i x c other. ap (λ b. flag (b && not (is_class Preemption c.class))) other };
+
+    fn coefficient(&self, _set: &TaskSet, _i: TaskId, _x: TaskId, column: Fragment) -> u64 {
+        if column.class.is_preemption() { 0 } else { 1 }
+    }
+
+    fn limit(&self, set: &TaskSet, i: TaskId, x: TaskId, _jobs: u64, bounds: &[u64]) -> u64 {
+        run_beside_away_holdings(set, i, x, bounds)
     }
 }
 
@@ -271,6 +292,8 @@ pub(crate) fn add_further_rows<T: RowTaker>(
     let shared = shared_out(alloc, set, i)?;
     let intervals = 1 + requests_shared_out(set, i, &shared);
     add_holding_rows(alloc, taker, set, i, bounds, columns, places)?;
+    let aways = EachTask(AwayRow);
+    add_per_task(alloc, taker, &aways, set, i, bounds, columns, places)?;
     add_interval_rows(alloc, taker, set, i, bounds, columns, places, intervals)?;
     add_single_rows(alloc, taker, set, i, bounds, columns, intervals)?;
     Ok(())

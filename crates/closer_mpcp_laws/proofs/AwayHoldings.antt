@@ -5,16 +5,16 @@ use Rattle.std.proofs.Common.{zero, arith, inl, inr, Some, nat_lt, if◌then◌e
 use Rattle.std.specs.Option.{option_map_or}
 use Rattle.std.proofs.Math.Nat.{mul_comm, mul-add, mul-le-mul_left}
 use Rattle.std.proofs.lemmas.Bool.{cases_lt, cases_Bool, both_ways, and_parts, and_from, eqb-true, eq-eqb, ltb-true, ltb-false, not-true}
-use Rattle.std.proofs.lemmas.Bool.{ne_eqb, not_from_false}
+use Rattle.std.proofs.lemmas.Bool.{not_from_false}
 use Rattle.number_laws.specs.Sums.{sum_below, flag, only_if}
 use Rattle.number_laws.specs.Tests.{any_below}
 use Rattle.number_laws.proofs.SumLaws.{only_if-at_most, sum_below-agree, sum_below-plus, sum_below-zero}
 use Rattle.number_laws.proofs.TestLaws.{any_below-from, any_below-none, any_below-some}
 use Rattle.sporadic_model.specs.SetDef.{task_at}
-use Rattle.sporadic_model.specs.Users.{count_of, is_user, length_of}
+use Rattle.sporadic_model.specs.Users.{count_of, is_user}
 use Rattle.schedule_model.specs.declared.rule.Rule.TheVariants as rule
 use Rattle.schedule_model.specs.JobDef.{job_of}
-use Rattle.schedule_model.specs.LawfulJobs.{is_script, IsLawfulJob, AreLawfulJobs}
+use Rattle.schedule_model.specs.LawfulJobs.{IsLawfulJob, AreLawfulJobs}
 use Rattle.schedule_model.specs.RowDef.{Trace, jobs_of, holder_in}
 use Rattle.schedule_model.specs.Phase.{is_same_request, phase_of}
 use Rattle.schedule_model.specs.Phase.Phase.{Asking}
@@ -23,7 +23,7 @@ use Rattle.schedule_model.specs.SharedRules.{KeepsRun}
 use Rattle.schedule_model.specs.Ranks.{mpcp}
 use Rattle.schedule_model.specs.Protocols.{shared_rule}
 use Rattle.schedule_model.specs.Keeping.{KeepsBefore}
-use Rattle.schedule_laws.proofs.ActiveJobs.{Active, active_is, one_active, Requester, requester_from, requester_listed}
+use Rattle.schedule_laws.proofs.ActiveJobs.{Active, active_is, one_active, Requester, requester_from}
 use Rattle.schedule_laws.proofs.Holders.{open_active, shared_holder_stays}
 use Rattle.schedule_laws.proofs.RuleUses.{requested_held}
 use Rattle.schedule_laws.proofs.Segments.{open_listed, open_resource, open_user}
@@ -34,14 +34,13 @@ use Rattle.fragments.specs.declared.columns.Class.TheVariants.{Direct, Indirect,
 use Rattle.fragments.specs.ColumnDef.{ColumnDef, is_preemption}
 use Rattle.fragments.specs.Windows.{requests_by_higher}
 use Rattle.charge_laws.specs.Charges.{shared_charge}
-use Rattle.charge_laws.specs.Windows.{bound_end, window_end}
+use Rattle.charge_laws.specs.Windows.{window_end}
 use Rattle.charge_laws.proofs.SharedCharging.{WaitsFor, SharedReason, shared_reason}
 use Rattle.row_laws.specs.Meeting.{brings, TicksMeet}
 use Rattle.row_laws.proofs.Brings.{Window, Hit, hit, flag_times-at_most, flag_times-passes, only_if-parts}
-use Rattle.row_laws.proofs.HeldResources.{Waits, HigherAt, by_resource, by_higher}
+use Rattle.row_laws.proofs.HeldResources.{HigherAt, by_resource, by_higher}
 use Rattle.row_laws.proofs.HoldingParts.{Holding}
 use Rattle.row_laws.proofs.Holdings.{resource_of, own_resource, first_holder, no_local_beside}
-use Rattle.row_laws.proofs.Intervals.{LowerLocal}
 use Rattle.row_laws.proofs.JobRows.{HitJob, hit_job}
 use Rattle.row_laws.proofs.LowerHolders.{Asks, asks_between, held_since, holder_asks}
 use Rattle.row_laws.proofs.Numbers.{OwnRequest, paid_at, paid_by_each, sum_below-only}
@@ -400,12 +399,12 @@ low_where w bound n j x s share q c = elim (cases_Bool (has_lower_away w.set (ta
         let job : IsLawfulJob w.set (job_of w.jobs (off_holder w j x t)) = c.window.lawful.each (off_holder w j x t) listed in
         let elsewhere : not (processor_of w (off_holder w j x t) == processor_of w j) ≡ true =
         not_here t (omega arith) (ltb-true _ _ both.0) a in
-        absurd (both_ways (nat_lt (task_of w j) (task_of w z) && (is_away w.set x (task_of w z) && (is_away w.set (task_of w j) (task_of w z)
-        && is_user w.set q (task_of w z))))
+        absurd (both_ways (nat_lt (task_of w j) (task_of w z) && ((is_away w.set x (task_of w z) && is_away w.set (task_of w j) (task_of w z))
+        && is_user w.set q (task_of w z)))
         (any_below-none (length w.set.tasks)
-        (λ y. nat_lt (task_of w j) y && (is_away w.set x y && (is_away w.set (task_of w j) y && is_user w.set q y))) off (task_of w z) job.task)
-        (and_from _ _ both.0 (and_from _ _ a.off.away (and_from _ _ elsewhere
-        (open_user w.set w (off_tick w j x t) (off_holder w j x t) a.request.number q job a.request.phase)))))
+        (λ y. nat_lt (task_of w j) y && ((is_away w.set x y && is_away w.set (task_of w j) y) && is_user w.set q y)) off (task_of w z) job.task)
+        (and_from _ _ both.0 (and_from _ _ (and_from _ _ a.off.away elsewhere)
+        (open_user w.set w (off_tick w j x t) (off_holder w j x t) a.request.number q job a.request.phase))))
   ] where
     not_here : (t : ℕ) → t < n → task_of w j < task_of w (off_holder w j x t) → (a : AfterOff w j x share q t)
         → not (processor_of w (off_holder w j x t) == processor_of w j) ≡ true

@@ -58,7 +58,7 @@ is_away set x y = not (have_one_processor set y x)
 
 -- Does a lower task that is on another processor than x and i use r?
 abbrev pub has_lower_away : SetDef → ℕ → ℕ → ℕ → Bool
-has_lower_away set i x r = any_below (length set.tasks) (λ y. nat_lt i y && (is_away set x y && (is_away set i y && is_user set r y)))
+has_lower_away set i x r = any_below (length set.tasks) (λ y. nat_lt i y && ((is_away set x y && is_away set i y) && is_user set r y))
 
 -- How many requests of r can be held away from x's processor while i waits for r? Higher tasks each hold as many as they make while a job of
 -- i runs, and lower ones together one for each request of i.

@@ -23,6 +23,7 @@ named name.Dflp = refl
 named name.Spin = refl
 named name.DpcpWindows = refl
 named name.FmlpPlusCloser = refl
+named name.MpcpCloser = refl
 
 allowed_under : (make : ProtocolName → ℕ → Form) (p : ProtocolName) (o : Option ℕ)
     → option_map (λ a. make a.0 a.1) (both (Some p) o) ≡ option_map (make p) o
@@ -118,7 +119,8 @@ word_names word =
     (either (Names word) (bytes_eq word (codes "dflp")) (Some name.Dflp) _ (same word (codes "dflp"))
     (either (Names word) (bytes_eq word (codes "spin")) (Some name.Spin) _ (same word (codes "spin"))
     (either (Names word) (bytes_eq word (codes "dpcp-w")) (Some name.DpcpWindows) _ (same word (codes "dpcp-w"))
-    (either (Names word) (bytes_eq word (codes "fmlp+-c")) (Some name.FmlpPlusCloser) None (same word (codes "fmlp+-c")) tt))))))
+    (either (Names word) (bytes_eq word (codes "fmlp+-c")) (Some name.FmlpPlusCloser) _ (same word (codes "fmlp+-c"))
+    (either (Names word) (bytes_eq word (codes "mpcp-c")) (Some name.MpcpCloser) None (same word (codes "mpcp-c")) tt)))))))
 
 abbrev Spells : List (List ℕ) → Form → Type 0
 Spells words form = IsSpelled form words

@@ -39,6 +39,7 @@ choice_reads name.Dflp = dflp_choice_reads
 choice_reads name.Spin = spin_choice_reads
 choice_reads name.DpcpWindows = dpcp_choice_reads
 choice_reads name.FmlpPlusCloser = fmlp_plus_choice_reads
+choice_reads name.MpcpCloser = mpcp_choice_reads
 
 -- A chosen row keeps the rules.
 choice_keeps : (p : ProtocolName) (w : Trace) (t : ℕ) → choice_of p w t → KeepsRow (rules_of p) w t
@@ -49,6 +50,7 @@ choice_keeps name.Dflp w t c = c.keeps
 choice_keeps name.Spin w t c = c.keeps
 choice_keeps name.DpcpWindows w t c = c.keeps
 choice_keeps name.FmlpPlusCloser w t c = c.keeps
+choice_keeps name.MpcpCloser w t c = c.keeps
 
 next_chosen : (p : ProtocolName) (w : Trace) (t : ℕ) → IsAccepted w.set → HasHomes p w.set → AreLawfulJobs (jobs_of w)
     → ((u : ℕ) → u < t → choice_of p w u) → HasNext (choice_of p) w t
@@ -73,6 +75,8 @@ next_chosen name.DpcpWindows w t accepted homes lawful before =
     record { row = next.row; chosen = next.chosen }
 next_chosen name.FmlpPlusCloser w t accepted homes lawful before =
     let next : HasSharedChoice fmlp_plus w t = next_row_fmlp_plus w t accepted lawful in record { row = next.row; chosen = next.chosen }
+next_chosen name.MpcpCloser w t accepted homes lawful before =
+    let next : HasSharedChoice mpcp w t = next_row_mpcp w t accepted lawful in record { row = next.row; chosen = next.chosen }
 
 never_stuck : (p : ProtocolName) (jobs : JobsDef) → IsAccepted jobs.set → HasHomes p jobs.set → AreLawfulJobs jobs
     → NeverStuck (choice_of p) jobs

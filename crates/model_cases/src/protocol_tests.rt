@@ -4,6 +4,7 @@ ghost use Rattle.program_sources.specs.Bounds.{AreWithinDeadlines};
 use crate::protocol_rows::{CASES, Case, LOCAL, PATHS};
 use crate::threads::may_cross_threads;
 use closer_fmlp::CloserFmlpPlus;
+use closer_mpcp::CloserMpcp;
 use fragments::{Class, Fragment, TaskPlace, cnt, columns_stand_in_order, task_places};
 use program_form::{Coefficient, Program, RowBlock, SparseProgram};
 use protocol_programs::{ProgramSource, Written};
@@ -272,5 +273,6 @@ fn sources_may_cross_threads() {
     may_cross_threads(&Written(Protocol::Mpcp));
     may_cross_threads(&DpcpWindows);
     may_cross_threads(&CloserFmlpPlus);
+    may_cross_threads(&CloserMpcp);
     may_cross_threads(&(Class::Direct, TaskId(0)));
 }

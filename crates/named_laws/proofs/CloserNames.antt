@@ -6,6 +6,7 @@ use Rattle.sporadic_model.specs.declared.ids.Protocol.TheVariants as protocol
 use Rattle.program_sources.specs.Fitting.{AreFitting}
 use Rattle.window_laws.proofs.MoreRows.{fitting_with_windows}
 use Rattle.closer_laws.proofs.Sound.{fmlp_closer_fitting}
+use Rattle.closer_mpcp_laws.proofs.Sound.{mpcp_closer_fitting}
 use Rattle.protocol_names.specs.declared.ProtocolName.{ProtocolName}
 use Rattle.protocol_names.specs.declared.ProtocolName.TheVariants as name
 use Rattle.named_laws.specs.Named.{source_of, plain_of}
@@ -21,3 +22,4 @@ named_closer_fits name.Dflp plain set s is fits = absurd (none-some plain is)
 named_closer_fits name.Spin plain set s is fits = absurd (none-some plain is)
 named_closer_fits name.DpcpWindows plain set s is fits = fitting_with_windows set s (fits_as (name.Base protocol.Dpcp) plain set s is fits)
 named_closer_fits name.FmlpPlusCloser plain set s is fits = fmlp_closer_fitting set s (fits_as (name.Base protocol.FmlpPlus) plain set s is fits)
+named_closer_fits name.MpcpCloser plain set s is fits = mpcp_closer_fitting set s (fits_as (name.Base protocol.Mpcp) plain set s is fits)

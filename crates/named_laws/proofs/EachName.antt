@@ -29,9 +29,11 @@ use Rattle.window_laws.specs.WindowRows.{windowed_source}
 use Rattle.window_laws.proofs.Programs.{windowed_rises}
 use Rattle.closer_laws.proofs.Sound.{fmlp_closer_sound}
 use Rattle.closer_laws.proofs.Programs.{fmlp_closer_above}
+use Rattle.closer_mpcp_laws.proofs.Sound.{mpcp_closer_sound}
+use Rattle.closer_mpcp_laws.proofs.Programs.{mpcp_closer_above}
 use Rattle.clock_laws.specs.Whole.{is_whole}
 use Rattle.clock_laws.proofs.Instances.{mpcp_on_clocks, fmlp_on_clocks, dpcp_on_clocks, dflp_on_clocks, spin_on_clocks}
-use Rattle.clock_laws.proofs.Instances.{windows_on_clocks, fmlp_closer_on_clocks}
+use Rattle.clock_laws.proofs.Instances.{windows_on_clocks, fmlp_closer_on_clocks, mpcp_closer_on_clocks}
 use Rattle.named_laws.specs.Named.{source_of, SoundUnder, SoundOnClocksUnder}
 
 pub named_sound : (n : ProtocolName) (set : SetDef) (c : CertificateDef) (values : List ℕ) → IsAccepted set
@@ -43,6 +45,7 @@ named_sound name.Dflp set c values accepted valid are = dflp_sound set c values 
 named_sound name.Spin set c values accepted valid are = spin_sound set c values accepted valid are
 named_sound name.DpcpWindows set c values accepted valid are = windows_sound set c values accepted valid are
 named_sound name.FmlpPlusCloser set c values accepted valid are = fmlp_closer_sound set c values accepted valid are
+named_sound name.MpcpCloser set c values accepted valid are = mpcp_closer_sound set c values accepted valid are
 
 pub named_on_clocks : (n : ProtocolName) (set : SetDef) (c : CertificateDef) (values : List ℕ) → IsAccepted set
     → IsValid (source_of n set) c → AreValues (source_of n set) c values
@@ -54,6 +57,7 @@ named_on_clocks name.Dflp set c values accepted valid are = dflp_on_clocks set c
 named_on_clocks name.Spin set c values accepted valid are = spin_on_clocks set c values accepted valid are
 named_on_clocks name.DpcpWindows set c values accepted valid are = windows_on_clocks set c values accepted valid are
 named_on_clocks name.FmlpPlusCloser set c values accepted valid are = fmlp_closer_on_clocks set c values accepted valid are
+named_on_clocks name.MpcpCloser set c values accepted valid are = mpcp_closer_on_clocks set c values accepted valid are
 
 pub named_above : (n : ProtocolName) (set : SetDef) → ComesUpAbove (source_of n set)
 named_above (name.Base p) set = written_above p set
@@ -61,6 +65,7 @@ named_above name.Dflp set = comes_up_above (dflp_source set) (λ i r s here most
 named_above name.Spin set = comes_up_above (spin_source set) (λ i r s here most. spin_rises set i r s here most)
 named_above name.DpcpWindows set = comes_up_above (windowed_source set) (λ i r s here most. windowed_rises set i r s here most)
 named_above name.FmlpPlusCloser set = fmlp_closer_above set
+named_above name.MpcpCloser set = mpcp_closer_above set
 
 pub named_no_columns : (n : ProtocolName) (set : SetDef) → RequestsNothing set → HasNoColumns (source_of n set)
 named_no_columns (name.Base p) set nothing = no_columns p set nothing
@@ -70,6 +75,7 @@ named_no_columns name.Spin set nothing = λ i r here. none_where (is_spin_column
     (λ c passes. used_by (c.task == i) (is_user set c.resource c.task) (blocks_by_spinning set i c.task c.resource c.class) passes) nothing
 named_no_columns name.DpcpWindows set nothing = λ i r here. no_columns protocol.Dpcp set nothing i r here
 named_no_columns name.FmlpPlusCloser set nothing = λ i r here. no_columns protocol.FmlpPlus set nothing i r here
+named_no_columns name.MpcpCloser set nothing = λ i r here. no_columns protocol.Mpcp set nothing i r here
 
 pub named_word_is_text : (n : ProtocolName) → IsUtf8 (word_of n)
 named_word_is_text (name.Base protocol.Mpcp) = IsUtf8-are_ascii (codes "mpcp") refl
@@ -79,3 +85,4 @@ named_word_is_text name.Dflp = IsUtf8-are_ascii (codes "dflp") refl
 named_word_is_text name.Spin = IsUtf8-are_ascii (codes "spin") refl
 named_word_is_text name.DpcpWindows = IsUtf8-are_ascii (codes "dpcp-w") refl
 named_word_is_text name.FmlpPlusCloser = IsUtf8-are_ascii (codes "fmlp+-c") refl
+named_word_is_text name.MpcpCloser = IsUtf8-are_ascii (codes "mpcp-c") refl

@@ -40,6 +40,7 @@ named_charges_only name.Dflp w = dpcp_charge_blocked w
 named_charges_only name.Spin w = spin_charge_blocked w
 named_charges_only name.DpcpWindows w = dpcp_charge_blocked w
 named_charges_only name.FmlpPlusCloser w = shared_charge_blocked w
+named_charges_only name.MpcpCloser w = shared_charge_blocked w
 
 named_charged : (p : ProtocolName) (w : Trace) (n t j : ℕ) → AreLawfulJobs (jobs_of w) → KeepsBefore (rules_of p) w n → t < n
     → is_blocked (interference_of p) w t j ≡ true → (charge : Charge) × (charges_of p w t j ≡ Some charge)
@@ -57,6 +58,8 @@ named_charged name.DpcpWindows w n t j lawful keeps l blocked =
     let a = dpcp_is_charged w n t j lawful keeps l blocked in (a.charge, a.is_it)
 named_charged name.FmlpPlusCloser w n t j lawful keeps l blocked =
     let a = fmlp_is_charged w n t j lawful keeps l blocked in (a.charge, a.is_it)
+named_charged name.MpcpCloser w n t j lawful keeps l blocked =
+    let a = mpcp_is_charged w n t j lawful keeps l blocked in (a.charge, a.is_it)
 
 -- ---- so the figures are proved
 

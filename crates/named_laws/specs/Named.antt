@@ -18,11 +18,12 @@ use Rattle.dflp_laws.specs.Programs.{dflp_source}
 use Rattle.spin_rules.specs.SpinRules.{spin_rule, IsSpinChoice}
 use Rattle.spin_charging.specs.SpinCharges.{spin_charge}
 use Rattle.spin_charging.specs.SpinPrograms.{spin_source}
-use Rattle.schedule_model.specs.Ranks.{fmlp_plus}
+use Rattle.schedule_model.specs.Ranks.{mpcp, fmlp_plus}
 use Rattle.schedule_model.specs.Protocols.{shared_rule, dpcp_rule}
 use Rattle.schedule_model.specs.Chosen.{IsSharedChoice, IsDpcpChoice}
 use Rattle.window_laws.specs.WindowRows.{windowed_source}
 use Rattle.closer_laws.specs.CloserRows.{fmlp_closer_source}
+use Rattle.closer_mpcp_laws.specs.CloserMpcpRows.{mpcp_closer_source}
 use Rattle.clock_laws.specs.Clock.{SoundOnClocks}
 use Rattle.protocol_names.specs.Names.{homes_as}
 use Rattle.protocol_names.specs.declared.ProtocolName.{ProtocolName}
@@ -38,6 +39,7 @@ rules_of name.Dflp = dflp_rule
 rules_of name.Spin = spin_rule
 rules_of name.DpcpWindows = dpcp_rule
 rules_of name.FmlpPlusCloser = shared_rule fmlp_plus
+rules_of name.MpcpCloser = shared_rule mpcp
 
 abbrev pub choice_of : ProtocolName → Trace → ℕ → Type 0
 choice_of (name.Base p) = choice_at p
@@ -45,6 +47,7 @@ choice_of name.Dflp = IsDflpChoice
 choice_of name.Spin = IsSpinChoice
 choice_of name.DpcpWindows = IsDpcpChoice
 choice_of name.FmlpPlusCloser = IsSharedChoice fmlp_plus
+choice_of name.MpcpCloser = IsSharedChoice mpcp
 
 abbrev pub interference_of : ProtocolName → Trace → ℕ → ℕ → Bool
 interference_of (name.Base p) = interference_at p
@@ -52,6 +55,7 @@ interference_of name.Dflp = is_dpcp_interference
 interference_of name.Spin = is_shared_interference
 interference_of name.DpcpWindows = is_dpcp_interference
 interference_of name.FmlpPlusCloser = is_shared_interference
+interference_of name.MpcpCloser = is_shared_interference
 
 abbrev pub charges_of : ProtocolName → Trace → ℕ → ℕ → Option Charge
 charges_of (name.Base p) = charges_at p
@@ -59,6 +63,7 @@ charges_of name.Dflp = dpcp_charge
 charges_of name.Spin = spin_charge
 charges_of name.DpcpWindows = dpcp_charge
 charges_of name.FmlpPlusCloser = shared_charge
+charges_of name.MpcpCloser = shared_charge
 
 -- What gives the programs of a set under the protocol, with its interfering costs; and the programs of just this set.
 abbrev pub sources : ProtocolName → SetDef → SourceDef
@@ -67,6 +72,7 @@ sources name.Dflp = dflp_source
 sources name.Spin = spin_source
 sources name.DpcpWindows = windowed_source
 sources name.FmlpPlusCloser = fmlp_closer_source
+sources name.MpcpCloser = mpcp_closer_source
 
 abbrev pub source_of : ProtocolName → SetDef → SourceDef
 source_of n set = source_at (sources n) set
@@ -78,6 +84,7 @@ plain_of name.Dflp = None
 plain_of name.Spin = None
 plain_of name.DpcpWindows = Some (name.Base protocol.Dpcp)
 plain_of name.FmlpPlusCloser = Some (name.Base protocol.FmlpPlus)
+plain_of name.MpcpCloser = Some (name.Base protocol.Mpcp)
 
 -- Does every schedule that keeps the protocol's rules, of whatever lawful jobs of the set, keep these bounds and values?
 abbrev pub SoundUnder : ProtocolName → SetDef → List ℕ → List ℕ → Type 0

@@ -20,6 +20,7 @@ ghost use Rattle.named_laws.specs.Named.{HasHomes, rules_of, choice_of, interfer
 
 use audit_figures::{AuditStop, TaskFigures, audit_rows_with};
 use closer_fmlp::CloserFmlpPlus;
+use closer_mpcp::CloserMpcp;
 use dflp_protocol::Dflp;
 use dual_check::{Invalid, Valid, check_with};
 use program_form::Certificate;
@@ -55,6 +56,7 @@ pub fn analyse<R: Threads + Sync>(
         ProtocolName::Spin => analyse_with(rt, alloc, set, &Spin, allowance),
         ProtocolName::DpcpWindows => analyse_with(rt, alloc, set, &DpcpWindows, allowance),
         ProtocolName::FmlpPlusCloser => analyse_with(rt, alloc, set, &CloserFmlpPlus, allowance),
+        ProtocolName::MpcpCloser => analyse_with(rt, alloc, set, &CloserMpcp, allowance),
     }
 }
 
@@ -77,6 +79,7 @@ pub fn check(
         ProtocolName::Spin => check_with(alloc, &Spin, set, certificate),
         ProtocolName::DpcpWindows => check_with(alloc, &DpcpWindows, set, certificate),
         ProtocolName::FmlpPlusCloser => check_with(alloc, &CloserFmlpPlus, set, certificate),
+        ProtocolName::MpcpCloser => check_with(alloc, &CloserMpcp, set, certificate),
     }
 }
 
@@ -99,6 +102,7 @@ pub fn conform_rows<R: RowReader>(
         ProtocolName::Spin => conform_rows_with(alloc, &Spin, jobs, rows),
         ProtocolName::DpcpWindows => conform_rows_with(alloc, &DpcpWindows, jobs, rows),
         ProtocolName::FmlpPlusCloser => conform_rows_with(alloc, &CloserFmlpPlus, jobs, rows),
+        ProtocolName::MpcpCloser => conform_rows_with(alloc, &CloserMpcp, jobs, rows),
     }
 }
 
@@ -136,6 +140,7 @@ pub fn simulate(
         ProtocolName::Spin => simulate_with(alloc, &Spin, jobs, ticks),
         ProtocolName::DpcpWindows => simulate_with(alloc, &DpcpWindows, jobs, ticks),
         ProtocolName::FmlpPlusCloser => simulate_with(alloc, &CloserFmlpPlus, jobs, ticks),
+        ProtocolName::MpcpCloser => simulate_with(alloc, &CloserMpcp, jobs, ticks),
     }
 }
 
@@ -169,6 +174,7 @@ pub fn audit_rows<R: RowReader>(
         ProtocolName::FmlpPlusCloser => {
             audit_rows_with(alloc, &CloserFmlpPlus, certificate, jobs, rows)
         }
+        ProtocolName::MpcpCloser => audit_rows_with(alloc, &CloserMpcp, certificate, jobs, rows),
     }
 }
 

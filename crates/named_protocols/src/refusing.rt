@@ -10,6 +10,7 @@ ghost use Rattle.refusal_cert.specs.Answers.{Refutes, IsAnswerOf, FollowsAnalysi
 ghost use Rattle.named_laws.specs.Named.{HasHomes, source_of};
 
 use closer_fmlp::CloserFmlpPlus;
+use closer_mpcp::CloserMpcp;
 use dflp_protocol::Dflp;
 use protocol_names::ProtocolName;
 use protocol_programs::Written;
@@ -42,6 +43,7 @@ pub fn refute(
         ProtocolName::Spin => refusal_cert::refute(alloc, set, &Spin, allowance),
         ProtocolName::DpcpWindows => refusal_cert::refute(alloc, set, &DpcpWindows, allowance),
         ProtocolName::FmlpPlusCloser => refusal_cert::refute(alloc, set, &CloserFmlpPlus, allowance),
+        ProtocolName::MpcpCloser => refusal_cert::refute(alloc, set, &CloserMpcp, allowance),
     }
 }
 
@@ -82,6 +84,13 @@ pub fn confirm<R: Threads + Sync>(
             alloc,
             set,
             &CloserFmlpPlus,
+            refusal,
+        ),
+        ProtocolName::MpcpCloser => refusal_confirm::confirm(
+            rt,
+            alloc,
+            set,
+            &CloserMpcp,
             refusal,
         ),
     }

@@ -14,6 +14,7 @@ word_of name.Dflp = codes "dflp"
 word_of name.Spin = codes "spin"
 word_of name.DpcpWindows = codes "dpcp-w"
 word_of name.FmlpPlusCloser = codes "fmlp+-c"
+word_of name.MpcpCloser = codes "mpcp-c"
 
 -- Which protocol does this word name?
 abbrev pub name_of : List ℕ → Option ProtocolName
@@ -24,6 +25,7 @@ name_of word = if bytes_eq word (codes "mpcp") then Some (name.Base protocol.Mpc
     else if bytes_eq word (codes "spin") then Some name.Spin
     else if bytes_eq word (codes "dpcp-w") then Some name.DpcpWindows
     else if bytes_eq word (codes "fmlp+-c") then Some name.FmlpPlusCloser
+    else if bytes_eq word (codes "mpcp-c") then Some name.MpcpCloser
     else None
 
 -- The protocol which asks a set for the same homes.
@@ -33,3 +35,4 @@ homes_as name.Dflp = protocol.Dpcp
 homes_as name.Spin = protocol.Mpcp
 homes_as name.DpcpWindows = protocol.Dpcp
 homes_as name.FmlpPlusCloser = protocol.FmlpPlus
+homes_as name.MpcpCloser = protocol.Mpcp

@@ -19,6 +19,8 @@ pub enum ProtocolName {
     DpcpWindows,
     /// FMLP+, whose programs have the rows of the closer analysis too.
     FmlpPlusCloser,
+    /// MPCP, whose programs have the rows of the closer analysis too.
+    MpcpCloser,
 }
 
 impl ProtocolName {
@@ -34,6 +36,7 @@ impl ProtocolName {
             ProtocolName::Spin => "spin",
             ProtocolName::DpcpWindows => "dpcp-w",
             ProtocolName::FmlpPlusCloser => "fmlp+-c",
+            ProtocolName::MpcpCloser => "mpcp-c",
         }
     }
 
@@ -47,6 +50,7 @@ impl ProtocolName {
             ProtocolName::Spin => Protocol::Mpcp,
             ProtocolName::DpcpWindows => Protocol::Dpcp,
             ProtocolName::FmlpPlusCloser => Protocol::FmlpPlus,
+            ProtocolName::MpcpCloser => Protocol::Mpcp,
         }
     }
 }
@@ -63,6 +67,7 @@ pub fn protocol_named(word: &str) -> Option<ProtocolName>
         "spin" => Some(ProtocolName::Spin),
         "dpcp-w" => Some(ProtocolName::DpcpWindows),
         "fmlp+-c" => Some(ProtocolName::FmlpPlusCloser),
+        "mpcp-c" => Some(ProtocolName::MpcpCloser),
         _ => None,
     }
 }

@@ -36,3 +36,7 @@ returns-in-DpcpWindows-clause-never_wide g c nothing =
 pub returns-in-FmlpPlusCloser-clause-never_wide : goal.returns-in-FmlpPlusCloser-clause-never_wide
 returns-in-FmlpPlusCloser-clause-never_wide g c nothing =
     c.analyse_with-in-FmlpPlusCloser.ensures.never_wide (named_no_columns name.FmlpPlusCloser c.args.set.now nothing)
+
+pub returns-in-MpcpCloser-clause-never_wide : goal.returns-in-MpcpCloser-clause-never_wide
+returns-in-MpcpCloser-clause-never_wide g c nothing =
+    c.analyse_with-in-MpcpCloser.ensures.never_wide (named_no_columns name.MpcpCloser c.args.set.now nothing)

@@ -24,3 +24,6 @@ returns-in-DpcpWindows-clause-audits g c = rw c.in-DpcpWindows.is c.audit_rows_w
 
 pub returns-in-FmlpPlusCloser-clause-audits : goal.returns-in-FmlpPlusCloser-clause-audits
 returns-in-FmlpPlusCloser-clause-audits g c = rw c.in-FmlpPlusCloser.is c.audit_rows_with-in-FmlpPlusCloser.ensures.audits
+
+pub returns-in-MpcpCloser-clause-audits : goal.returns-in-MpcpCloser-clause-audits
+returns-in-MpcpCloser-clause-audits g c = rw c.in-MpcpCloser.is c.audit_rows_with-in-MpcpCloser.ensures.audits

@@ -22,3 +22,6 @@ returns-in-DpcpWindows g c = rw c.in-DpcpWindows.is c.conform_rows_with-in-DpcpW
 
 pub returns-in-FmlpPlusCloser : goal.returns-in-FmlpPlusCloser
 returns-in-FmlpPlusCloser g c = rw c.in-FmlpPlusCloser.is c.conform_rows_with-in-FmlpPlusCloser.ensures
+
+pub returns-in-MpcpCloser : goal.returns-in-MpcpCloser
+returns-in-MpcpCloser g c = rw c.in-MpcpCloser.is c.conform_rows_with-in-MpcpCloser.ensures

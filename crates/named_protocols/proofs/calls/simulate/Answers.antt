@@ -22,3 +22,6 @@ returns-in-DpcpWindows-clause-keeps c = rw c.in-DpcpWindows.is c.simulate_with-i
 
 pub returns-in-FmlpPlusCloser-clause-keeps : goal.returns-in-FmlpPlusCloser-clause-keeps
 returns-in-FmlpPlusCloser-clause-keeps c = rw c.in-FmlpPlusCloser.is c.simulate_with-in-FmlpPlusCloser.ensures.keeps
+
+pub returns-in-MpcpCloser-clause-keeps : goal.returns-in-MpcpCloser-clause-keeps
+returns-in-MpcpCloser-clause-keeps c = rw c.in-MpcpCloser.is c.simulate_with-in-MpcpCloser.ensures.keeps
