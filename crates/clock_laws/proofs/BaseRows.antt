@@ -67,7 +67,7 @@ turns_in k set bounds i some = each_pair k bounds (length set.tasks) (length (in
 pub beside_in : (k : ℕ) (set : SetDef) → is_beside (in_cycles k set) ≡ is_beside set
 beside_in k set = λ j x y. not (y == x) && one_processor_in k set j y x
 
-lower_holdings_in : (k : ℕ) (set : SetDef) (i x q : ℕ) → lower_holdings (in_cycles k set) i x q ≡ lower_holdings set i x q
+pub lower_holdings_in : (k : ℕ) (set : SetDef) (i x q : ℕ) → lower_holdings (in_cycles k set) i x q ≡ lower_holdings set i x q
 lower_holdings_in k set i x q = λ j. only_if
     (any_below (tasks_in k set j) (λ y. nat_lt i y && (beside_in k set j x y && users_in k set j q y))) (count_in k set i q j)
 

@@ -20,10 +20,10 @@ use Rattle.clock_laws.proofs.Rescaled.{AreRescaled, IsRescaledRow, counted_same,
 use Rattle.clock_laws.proofs.BaseRows.{rows_in, beside_in}
 use Rattle.clock_laws.proofs.Programs.{IsRescaled, programs_rescaled}
 
-shared_out_in : (k : ℕ) (set : SetDef) → is_shared_out (in_cycles k set) ≡ is_shared_out set
+pub shared_out_in : (k : ℕ) (set : SetDef) → is_shared_out (in_cycles k set) ≡ is_shared_out set
 shared_out_in k set = λ j x q. any_below (tasks_in k set j) (λ y. users_in k set j q y && not (one_processor_in k set j y x))
 
-held_there_in : (k : ℕ) (set : SetDef) → is_held_there (in_cycles k set) ≡ is_held_there set
+pub held_there_in : (k : ℕ) (set : SetDef) → is_held_there (in_cycles k set) ≡ is_held_there set
 held_there_in k set = λ j i x q. shared_out_in k set j i q
     && any_below (tasks_in k set j) (λ y. users_in k set j q y && (one_processor_in k set j y x && not (y == i)))
 
@@ -35,7 +35,7 @@ requests_in : (k : ℕ) (set : SetDef) (i : ℕ) (fine_test test : ℕ → Bool)
     → requests_where (in_cycles k set) i fine_test ≡ requests_where set i test
 requests_in k set i fine_test test same = λ j. sum_below (length set.resources) (λ q. only_if (same j q) (count_in k set i q j))
 
-shared_requests_in : (k : ℕ) (set : SetDef) (i : ℕ)
+pub shared_requests_in : (k : ℕ) (set : SetDef) (i : ℕ)
     → 1 + requests_where (in_cycles k set) i (is_shared_out (in_cycles k set) i) ≡ 1 + requests_where set i (is_shared_out set i)
 shared_requests_in k set i =
     λ j. 1 + requests_in k set i (is_shared_out (in_cycles k set) i) (is_shared_out set i) (λ l. shared_out_in k set l i) j
@@ -57,7 +57,7 @@ lower_row_in : (k : ℕ) (set : SetDef) (bounds : ℕ → ℕ) (i x : ℕ) → 0
     → IsRescaledRow k bounds (lower_row set i x) (lower_row (in_cycles k set) i x)
 lower_row_in k set bounds i x some = counted_same k bounds (λ c. c.task == x) (λ c. c.task == x) _ _ some refl (shared_requests_in k set i)
 
-local_preemption_in : (k : ℕ) (set : SetDef) (bounds : ℕ → ℕ) (i : ℕ) → 0 < k
+pub local_preemption_in : (k : ℕ) (set : SetDef) (bounds : ℕ → ℕ) (i : ℕ) → 0 < k
     → IsRescaledRow k bounds (local_preemption_row set i) (local_preemption_row (in_cycles k set) i)
 local_preemption_in k set bounds i some = counted_same k bounds (λ c. is_class Preemption c.class && not (is_shared_out set i c.resource))
     (λ c. is_class Preemption c.class && not (is_shared_out (in_cycles k set) i c.resource)) _ _ some

@@ -21,7 +21,7 @@ columns_same k set i fine coarse same = λ j. filter
     (λ c. (not (c.task == i) && users_in k set j c.resource c.task) && same c.task c.resource c.class j)
     (all_columns (tasks_in k set j) (length set.resources))
 
-run_before_in : (p : Protocol) (k : ℕ) (set : SetDef) → may_run_before p (in_cycles k set) ≡ may_run_before p set
+pub run_before_in : (p : Protocol) (k : ℕ) (set : SetDef) → may_run_before p (in_cycles k set) ≡ may_run_before p set
 run_before_in protocol.Mpcp k set = λ j m q r. nat_le (remote_rank_in k set j q m) (remote_rank_in k set j r m)
 run_before_in protocol.FmlpPlus k set = refl
 run_before_in protocol.Dpcp k set = refl

@@ -25,6 +25,8 @@ use Rattle.closer_distributed_laws.specs.CloserRows.{dpcp_closer_source, dflp_cl
 use Rattle.closer_distributed_laws.proofs.Sound.{dpcp_closer_analyses, dflp_closer_analyses}
 use Rattle.closer_spin_laws.specs.CloserSpinRows.{spin_closer_source}
 use Rattle.closer_spin_laws.proofs.Sound.{spin_closer_analyses}
+use Rattle.closer_mpcp_laws.specs.CloserMpcpRows.{mpcp_closer_source}
+use Rattle.closer_mpcp_laws.proofs.Sound.{mpcp_closer_analyses}
 use Rattle.spin_rules.specs.SpinRules.{spin_rule}
 use Rattle.spin_rules.proofs.SpinLaws.{spin_sound_row}
 use Rattle.spin_charging.specs.SpinPrograms.{spin_source}
@@ -39,6 +41,7 @@ use Rattle.clock_laws.proofs.WindowRows.{windowed_rescaled}
 use Rattle.clock_laws.proofs.CloserRows.{closer_rescaled}
 use Rattle.clock_laws.proofs.CloserHomeRows.{dpcp_closer_rescaled, dflp_closer_rescaled}
 use Rattle.clock_laws.proofs.CloserSpinRows.{spin_closer_rescaled}
+use Rattle.clock_laws.proofs.CloserMpcpRows.{closer_mpcp_rescaled}
 use Rattle.clock_laws.proofs.OnClocks.{sound_on_clocks}
 
 pub mpcp_on_clocks : (set : SetDef) (c : CertificateDef) (values : List ℕ) → IsAccepted set → IsValid (source_of protocol.Mpcp set) c
@@ -83,6 +86,13 @@ pub fmlp_closer_on_clocks : (set : SetDef) (c : CertificateDef) (values : List �
 fmlp_closer_on_clocks set c values accepted valid are = sound_on_clocks (shared_rule fmlp_plus) is_shared_interference fmlp_closer_source
     set c values shared_one_of_three (shared_sound_row fmlp_plus) fmlp_closer_analyses
     (record { programs = closer_rescaled; interfering = cost_in }) accepted valid are
+
+pub mpcp_closer_on_clocks : (set : SetDef) (c : CertificateDef) (values : List ℕ) → IsAccepted set → IsValid (mpcp_closer_source set) c
+    → AreValues (mpcp_closer_source set) c values
+    → SoundOnClocks (shared_rule mpcp) is_shared_interference (is_whole (mpcp_closer_source set) c) set c.bounds values
+mpcp_closer_on_clocks set c values accepted valid are = sound_on_clocks (shared_rule mpcp) is_shared_interference mpcp_closer_source
+    set c values shared_one_of_three (shared_sound_row mpcp) mpcp_closer_analyses
+    (record { programs = closer_mpcp_rescaled; interfering = cost_in }) accepted valid are
 
 pub spin_on_clocks : (set : SetDef) (c : CertificateDef) (values : List ℕ) → IsAccepted set → IsValid (spin_source set) c
     → AreValues (spin_source set) c values

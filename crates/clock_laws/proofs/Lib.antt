@@ -13,6 +13,7 @@ pub mod CloserSpinRows
 pub mod WindowRows
 pub mod CloserRows
 pub mod CloserHomeRows
+pub mod CloserMpcpRows
 pub mod WorkedClock
 pub mod Spared
 pub mod Deadlines

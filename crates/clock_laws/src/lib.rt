@@ -36,6 +36,7 @@ ghost use Rattle.window_laws.specs.WindowRows.{windowed_source};
 ghost use Rattle.closer_laws.specs.CloserRows.{fmlp_closer_source};
 ghost use Rattle.closer_distributed_laws.specs.CloserRows.{dpcp_closer_source, dflp_closer_source};
 ghost use Rattle.closer_spin_laws.specs.CloserSpinRows.{spin_closer_source};
+ghost use Rattle.closer_mpcp_laws.specs.CloserMpcpRows.{mpcp_closer_source};
 ghost use Rattle.spin_rules.specs.SpinRules.{spin_rule};
 ghost use Rattle.spin_charging.specs.SpinPrograms.{spin_source};
 ghost use Rattle.clock_laws.specs.Cycles.{in_cycles, times_each, own_cycles};
@@ -69,6 +70,9 @@ pub fn valid_certificates_are_sound_on_clocks()
     ensures fmlp_plus_closer { (set : SetDef) (c : CertificateDef) (values : List ℕ) → IsAccepted set → IsValid (fmlp_closer_source set) c
         → AreValues (fmlp_closer_source set) c values
         → SoundOnClocks (shared_rule fmlp_plus) is_shared_interference (is_whole (fmlp_closer_source set) c) set c.bounds values }
+    ensures mpcp_closer { (set : SetDef) (c : CertificateDef) (values : List ℕ) → IsAccepted set → IsValid (mpcp_closer_source set) c
+        → AreValues (mpcp_closer_source set) c values
+        → SoundOnClocks (shared_rule mpcp) is_shared_interference (is_whole (mpcp_closer_source set) c) set c.bounds values }
     ensures spin { (set : SetDef) (c : CertificateDef) (values : List ℕ) → IsAccepted set → IsValid (spin_source set) c
         → AreValues (spin_source set) c values
         → SoundOnClocks spin_rule is_shared_interference (is_whole (spin_source set) c) set c.bounds values }

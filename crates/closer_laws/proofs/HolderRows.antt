@@ -7,6 +7,7 @@ use Rattle.schedule_model.specs.JobDef.{job_of}
 use Rattle.schedule_model.specs.LawfulJobs.{IsLawfulJob, AreLawfulJobs}
 use Rattle.schedule_model.specs.RowDef.{Trace, jobs_of}
 use Rattle.schedule_model.specs.Activity.{task_of, processor_of}
+use Rattle.schedule_model.specs.SharedRules.{Ranks}
 use Rattle.schedule_model.specs.Ranks.{fmlp_plus}
 use Rattle.schedule_model.specs.Protocols.{shared_rule}
 use Rattle.schedule_model.specs.Keeping.{KeepsBefore}
@@ -32,13 +33,13 @@ differs : (a b : ℕ) → ((a ≡ b) → ⊥) → not (a == b) ≡ true
 differs a b h = not_from_false (a == b) (ne_eqb a b h)
 
 -- What a job waits for may be held on its holder's processor.
-held_there : (w : Trace) (n t j z y : ℕ) → KeepsBefore (shared_rule fmlp_plus) w n → AreLawfulJobs (jobs_of w) → t < n
+pub held_there : (o : Ranks) (w : Trace) (n t j z y : ℕ) → KeepsBefore (shared_rule o) w n → AreLawfulJobs (jobs_of w) → t < n
     → (a : WaitsFor w t j z) → processor_of w z ≡ processor_of w y
     → is_held_there w.set (task_of w j) (task_of w y) a.resource ≡ true
-held_there w n t j z y keeps lawful l a place =
+held_there o w n t j z y keeps lawful l a place =
     let holder : ReadyHolder w t z = ready_holder_is w t z a.holds in
     let job : IsLawfulJob w.set (job_of w.jobs z) = lawful.each z (active_listed w t z holder.active) in
-    and_from _ _ (waits_shared fmlp_plus w n t j z keeps lawful l a)
+    and_from _ _ (waits_shared o w n t j z keeps lawful l a)
     (any_below-from (length w.set.tasks)
     (λ k. is_user w.set a.resource k && (have_one_processor w.set k (task_of w y) && not (k == task_of w j))) (task_of w z) job.task
     (and_from _ _ (open_user w.set w t z a.holding a.resource job a.held)
@@ -63,7 +64,7 @@ holder_row_met w bound n j x window keeps s share fair =
           (shared_reason fmlp_plus w t j c.charge (keeps t l) c.is_it) in
           let passes : is_held_there w.set (task_of w j) x a.waits.resource ≡ true =
           ap (λ k. is_held_there w.set (task_of w j) k a.waits.resource) (sym task)
-          ∙ held_there w n t j a.holder c.charge.job keeps window.lawful l a.waits a.place in
+          ∙ held_there fmlp_plus w n t j a.holder c.charge.job keeps window.lawful l a.waits a.place in
           (task, held_in_turn w n t j c.charge.job (is_held_there w.set (task_of w j) x) window.lawful keeps l a passes)
 
 -- What another task than the runner holds on its processor.

@@ -1,7 +1,10 @@
 //! MPCP with the closer analysis: its programs have further rows behind those of MPCP.
 #![tactic(auto)]
 
+mod ceilings;
+mod holdings;
 mod laws;
+mod places;
 mod programs;
 mod protocol;
 mod rows;

@@ -33,7 +33,7 @@ use schedule_model::{BlockingProtocol, JobId, Row, Rule};
 use sporadic_model::{Protocol, TaskId, TaskSet};
 use std::alloc::{AllocError, Global};
 
-/// The FIFO multiprocessor locking protocol in its partitioned form, with the closer analysis.
+/// The multiprocessor priority ceiling protocol, with the closer analysis.
 #[derive(Clone, Copy, Debug, PartialEq, Eq)]
 pub struct CloserMpcp;
 

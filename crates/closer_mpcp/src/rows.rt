@@ -1,25 +1,102 @@
 //! The closer rows.
 
-ghost use Rattle.std.specs.Prelude.{◌≡◌, ◌<◌, ◌+◌, ◌==◌, ◌&&◌, [], ◌∷◌, ◌++◌, map, length, slice_index, OnOk, if◌then◌else◌};
+ghost use Rattle.std.specs.Prelude.{◌≡◌, ◌<◌, ◌+◌, ◌==◌, ◌&&◌, not, [], ◌∷◌, ◌++◌, map, length, slice_index, OnOk, if◌then◌else◌};
 ghost use Rattle.std.proofs.Common.{ap};
 ghost use Rattle.number_laws.specs.Sums.{flag};
 ghost use Rattle.program_sources.specs.Bounds.{AreWithinDeadlines};
-ghost use Rattle.blocking_columns.specs.declared.columns.Class.TheVariants.{Preemption};
+ghost use Rattle.blocking_columns.specs.declared.columns.Class.TheVariants.{Indirect, Preemption};
 ghost use Rattle.blocking_columns.specs.ColumnDef.{column_seen, is_class, AreKnown};
 ghost use Rattle.blocking_columns.specs.Columns.{is_lower_local};
-ghost use Rattle.fragments.specs.Constraints.{per_where};
+ghost use Rattle.fragments.specs.Constraints.{per, per_pair, per_where};
 ghost use Rattle.blocking_columns.specs.Stretches.{AreInOrder};
 ghost use Rattle.blocking_columns.specs.TaskPlaces.{ArePlaces};
 ghost use Rattle.closer_laws.specs.CloserRows.{is_shared_out, requests_where, local_preemption_row};
+ghost use Rattle.closer_mpcp_laws.specs.CloserMpcpRows.{shared_holding_row, resource_holding_row, away_row};
 ghost use Rattle.closer_mpcp_laws.specs.CloserMpcpRows.{shared_interval_row, lower_wait_row, further_rows};
 
+use crate::holdings::{run_beside_away_holdings, shared_holdings};
 use fragments::{
-    Constraint, Fragment, PerTask, RowKind, RowTaker, TaskPlace, TaskRow, add_per_lower_task,
-    add_row, add_row_limited, add_row_of_task, lower_local,
+    Constraint, EachRequest, EachTask, Fragment, PerTask, RequestRow, RowKind, RowTaker, TaskPlace,
+    TaskRow, add_per_lower_task, add_per_request_at, add_per_task, add_row, add_row_limited,
+    add_row_of_task, lower_local,
 };
 use shared_requests::{LocalPreemptionRow, requests_shared_out, shared_out};
-use sporadic_model::{TaskId, TaskSet};
+use sporadic_model::{ResourceId, TaskId, TaskSet};
 use std::alloc::{AllocError, Global};
+
+/// Of a task: in each holding of another task on its processor that is shared out, before which it may run a request, it runs at most one.
+#[derive(Drop)]
+struct SharedHoldingRow;
+
+impl TaskRow for SharedHoldingRow {
+    ghost row_of = { λ k. shared_holding_row };
+
+    ghost fits = { λ k set i bounds. Unit {0} };
+
+    ghost alone = { λ k set i x c other. ap (λ b. flag (b && is_class Indirect c.class)) other };
+
+    fn coefficient(&self, _set: &TaskSet, _i: TaskId, _x: TaskId, column: Fragment) -> u64 {
+        if column.class.is_indirect() { 1 } else { 0 }
+    }
+
+    fn limit(&self, set: &TaskSet, i: TaskId, x: TaskId, _jobs: u64, bounds: &[u64]) -> u64 {
+        shared_holdings(set, i, x, None, bounds)
+    }
+}
+
+/// Of a task and a resource: in each such holding, before which it may run its request of the resource, it runs at most one of these.
+#[derive(Drop)]
+struct ResourceHoldingRow;
+
+impl RequestRow for ResourceHoldingRow {
+    ghost row_of = { λ k. resource_holding_row };
+
+    ghost alone = { λ k set i x q c other. ap (λ b. flag (b && is_class Indirect c.class)) other };
+
+    fn coefficient(
+        &self,
+        _set: &TaskSet,
+        _i: TaskId,
+        _x: TaskId,
+        _q: ResourceId,
+        column: Fragment,
+    ) -> u64 {
+        if column.class.is_indirect() { 1 } else { 0 }
+    }
+
+    fn limit(
+        &self,
+        set: &TaskSet,
+        i: TaskId,
+        x: TaskId,
+        q: ResourceId,
+        _jobs: u64,
+        bounds: &[u64],
+    ) -> u64 {
+        shared_holdings(set, i, x, Some(q), bounds)
+    }
+}
+
+/// Of a task: while the analysed task waits for a request that is held on the task's processor, it runs at most one request, and one more for
+/// each time that it is held away from there before.
+#[derive(Drop)]
+struct AwayRow;
+
+impl TaskRow for AwayRow {
+    ghost row_of = { λ k. away_row };
+
+    ghost fits = { λ k set i bounds. Unit {0} };
+
+    ghost alone = { λ k set i x c other. ap (λ b. flag (b && not (is_class Preemption c.class))) other };
+
+    fn coefficient(&self, _set: &TaskSet, _i: TaskId, _x: TaskId, column: Fragment) -> u64 {
+        if column.class.is_preemption() { 0 } else { 1 }
+    }
+
+    fn limit(&self, set: &TaskSet, i: TaskId, x: TaskId, _jobs: u64, bounds: &[u64]) -> u64 {
+        run_beside_away_holdings(set, i, x, bounds)
+    }
+}
 
 /// Of a task: from its release on, and behind each of its requests that is shared out, a job of the analysed task is preempted by at most
 /// one of the task's requests.
@@ -101,6 +178,43 @@ impl Constraint for LowerWaitRow {
     }
 }
 
+// Adds the rows of shared holdings, of each task and of each task and resource.
+fn add_holding_rows<T: RowTaker>(
+    alloc: Global,
+    taker: &mut T,
+    set: &TaskSet,
+    i: TaskId,
+    bounds: &[u64],
+    columns: &[Fragment],
+    places: &[TaskPlace],
+) -> Result<(), AllocError>
+    requires task { i.0 < length set.now.tasks }
+    requires within { AreWithinDeadlines set.now bounds.now }
+    requires known { AreKnown (length set.now.tasks) (length set.now.resources) columns.now }
+    requires order { AreInOrder columns.now }
+    requires places { ArePlaces set.now (slice_index bounds.now) i.0 (length set.now.tasks) columns.now places.now }
+    ensures { OnOk result (T.takes taker.old (map column_seen columns.now)
+        (per (length set.now.tasks) (shared_holding_row set.now i.0)
+        ++ per_pair (length set.now.tasks) (length set.now.resources) (resource_holding_row set.now i.0)) bounds.now taker.new) }
+{
+    let of_tasks = EachTask(SharedHoldingRow);
+    add_per_task(alloc, taker, &of_tasks, set, i, bounds, columns, places)?;
+    let of_requests = EachRequest(ResourceHoldingRow);
+    let tasks = set.tasks();
+    add_per_request_at(
+        alloc,
+        taker,
+        &of_requests,
+        set,
+        tasks,
+        i,
+        bounds,
+        columns,
+        places,
+    )?;
+    Ok(())
+}
+
 // Adds the row of shared intervals of each lower task of the analysed task's processor.
 fn add_interval_rows<T: RowTaker>(
     alloc: Global,
@@ -177,6 +291,9 @@ pub(crate) fn add_further_rows<T: RowTaker>(
 {
     let shared = shared_out(alloc, set, i)?;
     let intervals = 1 + requests_shared_out(set, i, &shared);
+    add_holding_rows(alloc, taker, set, i, bounds, columns, places)?;
+    let aways = EachTask(AwayRow);
+    add_per_task(alloc, taker, &aways, set, i, bounds, columns, places)?;
     add_interval_rows(alloc, taker, set, i, bounds, columns, places, intervals)?;
     add_single_rows(alloc, taker, set, i, bounds, columns, intervals)?;
     Ok(())

@@ -31,10 +31,10 @@ use Rattle.closer_laws.proofs.LocalResources.{Issued, issued, no_holder_beside}
 use Rattle.closer_laws.proofs.Waits.{never_met}
 use Rattle.closer_mpcp_laws.specs.CloserMpcpRows.{lower_wait_row}
 
--- A job never waits for a lower task of its processor.
-pub waits_not_lower : (w : Trace) (n t j y : ℕ) → KeepsBefore (shared_rule mpcp) w n → AreLawfulJobs (jobs_of w) → t < n
-    → WaitsFor w t j y → LowerLocal w (task_of w j) (task_of w y) → ⊥
-waits_not_lower w n t j y keeps lawful l waits low = elim (cases_Bool (is_job y (holder_in (w.row v) q))) [
+-- What a job requests no lower task of its processor holds.
+pub not_held_lower : (w : Trace) (n t j y k q : ℕ) → KeepsBefore (shared_rule mpcp) w n → AreLawfulJobs (jobs_of w) → t < n
+    → phase_of w t j ≡ Asking k q → holder_in (w.row t) q ≡ Some y → LowerLocal w (task_of w j) (task_of w y) → ⊥
+not_held_lower w n t j y k q keeps lawful l request holder low = elim (cases_Bool (is_job y (holder_in (w.row v) q))) [
   | inr new ↦
       let most : task_of w y ≤ task_of w j =
       mpcp_new w (suc v) q y j (keeps (suc v) (omega (arith, early)) rule.Grant) held new (asks.asks (suc v) (omega arith) early) in
@@ -45,14 +45,11 @@ waits_not_lower w n t j y keeps lawful l waits low = elim (cases_Bool (is_job y 
       no_holder_beside mpcp w v j y (keeps v (omega (arith, early)) rule.Run) (keeps v (omega (arith, early)) rule.Priority) a.local a.runs
       low.processor (ready_holder_from w v y was.number q was.active was.phase (job_named y (holder_in (w.row v) q) old))
 ] where
-  q : ℕ
-  q = waits.resource
-
   script : is_script (job_of w.jobs j).script ≡ true
-  script = (lawful.each j (open_listed w t j waits.number q waits.request)).script
+  script = (lawful.each j (open_listed w t j k q request)).script
 
   a : Issued w t j
-  a = issued w t j waits.number q script waits.request
+  a = issued w t j k q script request
 
   v : ℕ
   v = a.before
@@ -60,17 +57,23 @@ waits_not_lower w n t j y keeps lawful l waits low = elim (cases_Bool (is_job y 
   early : suc v ≤ t
   early = omega (arith, issue_at_most w t j, a.issue)
 
-  at : phase_of w (suc v) j ≡ Asking waits.number q
-  at = ap (λ k. phase_of w k j) (sym a.issue) ∙ open_at_issue w t j waits.number q waits.request
+  at : phase_of w (suc v) j ≡ Asking k q
+  at = ap (λ s. phase_of w s j) (sym a.issue) ∙ open_at_issue w t j k q request
 
   active : is_active w (suc v) j ≡ true
-  active = open_active w n (suc v) j waits.number q (shared_runs_active mpcp w n keeps) (omega (arith, early)) script at
+  active = open_active w n (suc v) j k q (shared_runs_active mpcp w n keeps) (omega (arith, early)) script at
 
   asks : Asks w (suc v) t q j
-  asks = asks_between w (suc v) t waits.number q q j early active at waits.request
+  asks = asks_between w (suc v) t k q q j early active at request
 
   held : holder_in (w.row (suc v)) q ≡ Some y
-  held = held_since w n (suc v) t q y j keeps l asks low.lower waits.holder (suc v) (omega arith) early
+  held = held_since w n (suc v) t q y j keeps l asks low.lower holder (suc v) (omega arith) early
+
+-- So a job never waits for one.
+pub waits_not_lower : (w : Trace) (n t j y : ℕ) → KeepsBefore (shared_rule mpcp) w n → AreLawfulJobs (jobs_of w) → t < n
+    → WaitsFor w t j y → LowerLocal w (task_of w j) (task_of w y) → ⊥
+waits_not_lower w n t j y keeps lawful l waits low =
+    not_held_lower w n t j y waits.number waits.resource keeps lawful l waits.request waits.holder low
 
 -- The row of lower waits.
 pub lower_wait_row_met : (w : Trace) (bound : ℕ → ℕ) (n j : ℕ) → Window shared_charge w bound n j → KeepsBefore (shared_rule mpcp) w n

@@ -22,6 +22,7 @@ use Rattle.closer_mpcp_laws.specs.CloserMpcpRows.{mpcp_closer_rows}
 use Rattle.closer_laws.proofs.LowerRows.{local_preemption_row_met}
 use Rattle.closer_mpcp_laws.proofs.LowerWaits.{lower_wait_row_met}
 use Rattle.closer_mpcp_laws.proofs.SharedHoldings.{shared_holding_row_met, resource_holding_row_met}
+use Rattle.closer_mpcp_laws.proofs.AwayHoldings.{away_row_met}
 use Rattle.closer_mpcp_laws.proofs.SharedIntervals.{shared_interval_row_met}
 use Rattle.closer_mpcp_laws.proofs.Programs.{EachFurther, mpcp_closer_each}
 
@@ -31,6 +32,7 @@ pub further_rows_met : (w : Trace) (bound : ℕ → ℕ) (n j : ℕ) → Window 
 further_rows_met w bound n j window keeps = record {
   holding = λ x a. shared_holding_row_met w bound n j x window keeps;
   resource = λ x q a b. resource_holding_row_met w bound n j x q window keeps;
+  away = λ x a. away_row_met w bound n j x window keeps;
   interval = λ x a lower. shared_interval_row_met w bound n j x window keeps;
   preemption = local_preemption_row_met mpcp w bound n j window keeps;
   wait = lower_wait_row_met w bound n j window keeps;

@@ -2,9 +2,8 @@
 -- job's own processor no lower task holds what it waits for.
 use Rattle.std.proofs.Common.{◌≡◌, ℕ, ◌*◌, ◌<◌, ◌≤◌, ◌==◌, ◌&&◌, not, Bool, true, false, length, refl, sym, ap, ◌∙◌, arith, inl, inr}
 use Rattle.std.specs.Option.{option_map_or}
-use Rattle.std.proofs.lemmas.Bool.{cases_Bool, and_parts, and_from, eqb-true, eq-eqb, ne_eqb, not_from_false}
+use Rattle.std.proofs.lemmas.Bool.{cases_Bool, and_parts, and_from, eqb-true, ne_eqb, not_from_false}
 use Rattle.number_laws.specs.Sums.{sum_below, flag, only_if}
-use Rattle.number_laws.proofs.SumLaws.{only_if-at_most}
 use Rattle.number_laws.proofs.TestLaws.{any_below-from}
 use Rattle.sporadic_model.specs.SetDef.{task_at}
 use Rattle.sporadic_model.specs.Users.{is_user, length_of}
@@ -28,14 +27,12 @@ use Rattle.charge_laws.proofs.SharedCharging.{IndirectBy, shared_reason}
 use Rattle.row_laws.specs.Meeting.{brings, TicksMeet}
 use Rattle.row_laws.proofs.Brings.{Window, Hit, flag_times-at_most, flag_times-passes, only_if-parts}
 use Rattle.row_laws.proofs.Holdings.{holding_share, resource_of, own_resource, first_holder}
-use Rattle.row_laws.proofs.HoldingParts.{Holding, amount}
 use Rattle.row_laws.proofs.HoldingRow.{HeldWhere, holdings_paid}
-use Rattle.row_laws.proofs.Intervals.{LowerLocal}
 use Rattle.row_laws.proofs.Requests.{indirect_is, indirect_by}
 use Rattle.row_laws.proofs.SharedPlacement.{mpcp_runs}
 use Rattle.closer_laws.specs.CloserRows.{is_shared_out}
 use Rattle.closer_laws.proofs.Waits.{waits_shared, other_resource}
-use Rattle.closer_mpcp_laws.specs.CloserMpcpRows.{goes_first, goes_before, shared_holdings, shared_holding_row, resource_holding_row}
+use Rattle.closer_mpcp_laws.specs.CloserMpcpRows.{goes_first, goes_before, shared_holding_row, resource_holding_row}
 use Rattle.closer_mpcp_laws.proofs.LowerWaits.{waits_not_lower}
 
 -- Why a tick that the row counts is charged.

@@ -1,10 +1,10 @@
 -- The rows that the closer analysis of MPCP has beside those of MPCP, and its programs. In each, i is the analysed task.
-use Rattle.std.specs.Prelude.{ℕ, ◌+◌, ◌==◌, ◌&&◌, not, Bool, List, [], ◌∷◌, ◌++◌, length}
+use Rattle.std.specs.Prelude.{ℕ, ◌+◌, ◌==◌, ◌&&◌, not, nat_lt, Bool, List, [], ◌∷◌, ◌++◌, length}
 use Rattle.number_laws.specs.Sums.{sum_below, only_if}
 use Rattle.number_laws.specs.Tests.{any_below}
 use Rattle.program_form.specs.Program.{ProgramDef}
 use Rattle.sporadic_model.specs.SetDef.{SetDef, task_at}
-use Rattle.sporadic_model.specs.Users.{is_user}
+use Rattle.sporadic_model.specs.Users.{count_of, is_user}
 use Rattle.sporadic_model.specs.declared.ids.Protocol.TheVariants as protocol
 use Rattle.program_sources.specs.Recurrence.{SourceDef}
 use Rattle.blocking_columns.specs.declared.columns.Class.TheVariants.{Direct, Indirect, Preemption}
@@ -14,7 +14,7 @@ use Rattle.blocking_columns.specs.Windows.{requests_by_higher}
 use Rattle.fragments.specs.Constraints.{ConstraintDef, counting, per, per_where, per_pair}
 use Rattle.indirect_constraints.specs.Rows.{is_beside, lower_holdings}
 use Rattle.program_laws.specs.Programs.{program_with, source_with, rows_of, interfering_cost}
-use Rattle.closer_laws.specs.CloserRows.{is_shared_out, requests_where, local_preemption_row}
+use Rattle.closer_laws.specs.CloserRows.{is_shared_out, is_held_there, requests_where, local_preemption_row}
 
 -- Lower waits: a job never waits for a lower task of its processor.
 abbrev pub lower_wait_row : SetDef → ℕ → ConstraintDef
@@ -52,12 +52,34 @@ abbrev pub resource_holding_row : SetDef → ℕ → ℕ → ℕ → ConstraintD
 resource_holding_row set i x q = counting (λ c. ((c.task == x) && (c.resource == q)) && is_class Indirect c.class)
     (λ bounds. shared_holdings set bounds i x (goes_first set x q))
 
+-- Is y on another processor than x?
+abbrev pub is_away : SetDef → ℕ → ℕ → Bool
+is_away set x y = not (have_one_processor set y x)
+
+-- Does a lower task that is on another processor than x and i use r?
+abbrev pub has_lower_away : SetDef → ℕ → ℕ → ℕ → Bool
+has_lower_away set i x r = any_below (length set.tasks) (λ y. nat_lt i y && ((is_away set x y && is_away set i y) && is_user set r y))
+
+-- How many requests of r can be held away from x's processor while i waits for r? Higher tasks each hold as many as they make while a job of
+-- i runs, and lower ones together one for each request of i.
+abbrev pub away_holdings : SetDef → (ℕ → ℕ) → ℕ → ℕ → ℕ → ℕ
+away_holdings set bounds i x r =
+    requests_by_higher set bounds i (is_away set x) r + only_if (has_lower_away set i x r) (count_of set i r)
+
+-- Away holdings: while i waits for a request that is held on x's processor, x runs at most one request, and one more for each time that it is
+-- held away from there before.
+abbrev pub away_row : SetDef → ℕ → ℕ → ConstraintDef
+away_row set i x = counting (λ c. (c.task == x) && not (is_class Preemption c.class))
+    (λ bounds. sum_below (length set.resources)
+    (λ r. only_if (is_user set r i && is_held_there set i x r) (count_of set i r + away_holdings set bounds i x r)))
+
 -- All of these in their order, with the row of local preemption among them.
 abbrev pub further_rows : SetDef → ℕ → List ConstraintDef
 further_rows set i = per (length set.tasks) (shared_holding_row set i)
     ++ (per_pair (length set.tasks) (length set.resources) (resource_holding_row set i)
+    ++ (per (length set.tasks) (away_row set i)
     ++ (per_where (is_lower_local set i) (length set.tasks) (shared_interval_row set i)
-    ++ (local_preemption_row set i ∷ lower_wait_row set i ∷ [])))
+    ++ (local_preemption_row set i ∷ lower_wait_row set i ∷ []))))
 
 -- The rows of a program: those of MPCP, then these.
 abbrev pub mpcp_closer_rows : SetDef → ℕ → List ConstraintDef

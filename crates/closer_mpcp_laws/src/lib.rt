@@ -1,8 +1,9 @@
 //! The closer analysis of MPCP: further rows that hold in every lawful schedule, and what is true of the programs that have them beside
 //! those of MPCP.
 //!
-//! They rest on two facts. A job never waits for a lower task of its processor. And between two grants of requests that are shared out,
-//! what a lower task preempts with was open all the while.
+//! They rest on three facts. A job never waits for a lower task of its processor. Between two grants of requests that are shared out, what
+//! a lower task preempts with was open all the while. And between two requests of one task that are charged in one wait, what is waited for
+//! is held on another processor.
 //!
 //! Each function here does nothing: its contract is a law, and the lemmas that prove it stand in `proofs/`.
 #![tactic(auto)]
@@ -46,10 +47,10 @@ pub fn closer_programs_are_accepted()
         → (mpcp_closer_program set i r).limits ≡ (mpcp_closer_program set i s).limits }
 {}
 
-/// Such a program has at most 1085 rows: the 701 of MPCP, of holdings by resource one for each of 256 request entries, of shared holdings
-/// and of shared intervals one for each of 63 other tasks, and two more.
+/// Such a program has at most 1148 rows: the 701 of MPCP, of holdings by resource one for each of 256 request entries, of shared holdings,
+/// away holdings and shared intervals one for each of 63 other tasks, and two more.
 pub fn closer_rows_are_few()
-    ensures { (set : SetDef) (i : ℕ) (r : List ℕ) → IsAccepted set → i < length set.tasks → height (mpcp_closer_program set i r) ≤ 1085 }
+    ensures { (set : SetDef) (i : ℕ) (r : List ℕ) → IsAccepted set → i < length set.tasks → height (mpcp_closer_program set i r) ≤ 1148 }
 {}
 
 /// In a lawful schedule of an accepted set, under MPCP, take a job, and let each job whose release plus bound is less than that job's, and

@@ -26,6 +26,7 @@ named name.FmlpPlusCloser = refl
 named name.SpinCloser = refl
 named name.DpcpCloser = refl
 named name.DflpCloser = refl
+named name.MpcpCloser = refl
 
 allowed_under : (make : ProtocolName → ℕ → Form) (p : ProtocolName) (o : Option ℕ)
     → option_map (λ a. make a.0 a.1) (both (Some p) o) ≡ option_map (make p) o
@@ -124,7 +125,8 @@ word_names word =
     (either (Names word) (bytes_eq word (codes "fmlp+-c")) (Some name.FmlpPlusCloser) _ (same word (codes "fmlp+-c"))
     (either (Names word) (bytes_eq word (codes "spin-c")) (Some name.SpinCloser) _ (same word (codes "spin-c"))
     (either (Names word) (bytes_eq word (codes "dpcp-c")) (Some name.DpcpCloser) _ (same word (codes "dpcp-c"))
-    (either (Names word) (bytes_eq word (codes "dflp-c")) (Some name.DflpCloser) None (same word (codes "dflp-c")) tt)))))))))
+    (either (Names word) (bytes_eq word (codes "dflp-c")) (Some name.DflpCloser) _ (same word (codes "dflp-c"))
+    (either (Names word) (bytes_eq word (codes "mpcp-c")) (Some name.MpcpCloser) None (same word (codes "mpcp-c")) tt))))))))))
 
 abbrev Spells : List (List ℕ) → Form → Type 0
 Spells words form = IsSpelled form words

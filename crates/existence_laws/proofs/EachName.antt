@@ -42,6 +42,7 @@ choice_reads name.FmlpPlusCloser = fmlp_plus_choice_reads
 choice_reads name.SpinCloser = spin_choice_reads
 choice_reads name.DpcpCloser = dpcp_choice_reads
 choice_reads name.DflpCloser = dflp_choice_reads
+choice_reads name.MpcpCloser = mpcp_choice_reads
 
 -- A chosen row keeps the rules.
 choice_keeps : (p : ProtocolName) (w : Trace) (t : ℕ) → choice_of p w t → KeepsRow (rules_of p) w t
@@ -55,6 +56,7 @@ choice_keeps name.FmlpPlusCloser w t c = c.keeps
 choice_keeps name.SpinCloser w t c = c.keeps
 choice_keeps name.DpcpCloser w t c = c.keeps
 choice_keeps name.DflpCloser w t c = c.keeps
+choice_keeps name.MpcpCloser w t c = c.keeps
 
 next_chosen : (p : ProtocolName) (w : Trace) (t : ℕ) → IsAccepted w.set → HasHomes p w.set → AreLawfulJobs (jobs_of w)
     → ((u : ℕ) → u < t → choice_of p w u) → HasNext (choice_of p) w t
@@ -90,6 +92,9 @@ next_chosen name.DflpCloser w t accepted homes lawful before =
     let next : HasDflpChoice w t =
     next_dflp_row w t accepted homes lawful (λ u l. (before u l).sized) (λ u l. (before u l).keeps) in
     record { row = next.row; chosen = next.chosen }
+    record { row = next.row; chosen = next.chosen }
+next_chosen name.MpcpCloser w t accepted homes lawful before =
+    let next : HasSharedChoice mpcp w t = next_row_mpcp w t accepted lawful in record { row = next.row; chosen = next.chosen }
 
 never_stuck : (p : ProtocolName) (jobs : JobsDef) → IsAccepted jobs.set → HasHomes p jobs.set → AreLawfulJobs jobs
     → NeverStuck (choice_of p) jobs

@@ -5,6 +5,7 @@ use crate::protocol_rows::{CASES, Case, LOCAL, PATHS};
 use crate::threads::may_cross_threads;
 use blocking_columns::{Class, Fragment, TaskPlace, cnt, columns_stand_in_order, task_places};
 use closer_fmlp::CloserFmlpPlus;
+use closer_mpcp::CloserMpcp;
 use closer_spin::CloserSpin;
 use program_form::{Coefficient, Program, RowBlock, SparseProgram};
 use protocol_programs::{ProgramSource, Written};
@@ -273,5 +274,6 @@ fn sources_may_cross_threads() {
     may_cross_threads(&DpcpWindows);
     may_cross_threads(&CloserFmlpPlus);
     may_cross_threads(&CloserSpin);
+    may_cross_threads(&CloserMpcp);
     may_cross_threads(&(Class::Direct, TaskId(0)));
 }

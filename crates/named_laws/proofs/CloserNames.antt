@@ -8,6 +8,7 @@ use Rattle.window_laws.proofs.MoreRows.{fitting_with_windows}
 use Rattle.closer_laws.proofs.Sound.{fmlp_closer_fitting}
 use Rattle.closer_spin_laws.proofs.Sound.{spin_closer_fitting}
 use Rattle.closer_distributed_laws.proofs.Sound.{dpcp_closer_fitting, dflp_closer_fitting}
+use Rattle.closer_mpcp_laws.proofs.Sound.{mpcp_closer_fitting}
 use Rattle.protocol_names.specs.declared.ProtocolName.{ProtocolName}
 use Rattle.protocol_names.specs.declared.ProtocolName.TheVariants as name
 use Rattle.named_laws.specs.Named.{source_of, plain_of, IsCloserThan}
@@ -26,6 +27,7 @@ step_fits name.FmlpPlusCloser plain set s is fits = fmlp_closer_fitting set s (f
 step_fits name.DpcpCloser plain set s is fits = dpcp_closer_fitting set s (fits_as name.DpcpWindows plain set s is fits)
 step_fits name.DflpCloser plain set s is fits = dflp_closer_fitting set s (fits_as name.Dflp plain set s is fits)
 step_fits name.SpinCloser plain set s is fits = spin_closer_fitting set s (fits_as name.Spin plain set s is fits)
+step_fits name.MpcpCloser plain set s is fits = mpcp_closer_fitting set s (fits_as (name.Base protocol.Mpcp) plain set s is fits)
 
 pub named_closer_fits : (closer plain : ProtocolName) (set : SetDef) (s : List ℕ) → IsCloserThan closer plain
     → AreFitting (source_of plain set) s → AreFitting (source_of closer set) s

@@ -37,6 +37,9 @@ use Rattle.clock_laws.proofs.Instances.{windows_on_clocks, fmlp_closer_on_clocks
 use Rattle.closer_distributed_laws.proofs.Sound.{dpcp_closer_sound, dflp_closer_sound}
 use Rattle.closer_distributed_laws.proofs.Programs.{dpcp_closer_above, dflp_closer_above}
 use Rattle.clock_laws.proofs.Instances.{dpcp_closer_on_clocks, dflp_closer_on_clocks}
+use Rattle.closer_mpcp_laws.proofs.Sound.{mpcp_closer_sound}
+use Rattle.closer_mpcp_laws.proofs.Programs.{mpcp_closer_above}
+use Rattle.clock_laws.proofs.Instances.{mpcp_closer_on_clocks}
 use Rattle.named_laws.specs.Named.{source_of, SoundUnder, SoundOnClocksUnder}
 
 pub named_sound : (n : ProtocolName) (set : SetDef) (c : CertificateDef) (values : List ℕ) → IsAccepted set
@@ -51,6 +54,7 @@ named_sound name.FmlpPlusCloser set c values accepted valid are = fmlp_closer_so
 named_sound name.SpinCloser set c values accepted valid are = spin_closer_sound set c values accepted valid are
 named_sound name.DpcpCloser set c values accepted valid are = dpcp_closer_sound set c values accepted valid are
 named_sound name.DflpCloser set c values accepted valid are = dflp_closer_sound set c values accepted valid are
+named_sound name.MpcpCloser set c values accepted valid are = mpcp_closer_sound set c values accepted valid are
 
 pub named_on_clocks : (n : ProtocolName) (set : SetDef) (c : CertificateDef) (values : List ℕ) → IsAccepted set
     → IsValid (source_of n set) c → AreValues (source_of n set) c values
@@ -65,6 +69,7 @@ named_on_clocks name.FmlpPlusCloser set c values accepted valid are = fmlp_close
 named_on_clocks name.SpinCloser set c values accepted valid are = spin_closer_on_clocks set c values accepted valid are
 named_on_clocks name.DpcpCloser set c values accepted valid are = dpcp_closer_on_clocks set c values accepted valid are
 named_on_clocks name.DflpCloser set c values accepted valid are = dflp_closer_on_clocks set c values accepted valid are
+named_on_clocks name.MpcpCloser set c values accepted valid are = mpcp_closer_on_clocks set c values accepted valid are
 
 pub named_above : (n : ProtocolName) (set : SetDef) → ComesUpAbove (source_of n set)
 named_above (name.Base p) set = written_above p set
@@ -75,6 +80,7 @@ named_above name.FmlpPlusCloser set = fmlp_closer_above set
 named_above name.SpinCloser set = spin_closer_above set
 named_above name.DpcpCloser set = dpcp_closer_above set
 named_above name.DflpCloser set = dflp_closer_above set
+named_above name.MpcpCloser set = mpcp_closer_above set
 
 pub named_no_columns : (n : ProtocolName) (set : SetDef) → RequestsNothing set → HasNoColumns (source_of n set)
 named_no_columns (name.Base p) set nothing = no_columns p set nothing
@@ -89,6 +95,7 @@ named_no_columns name.SpinCloser set nothing = λ i r here. none_where (is_spin_
 named_no_columns name.DpcpCloser set nothing = λ i r here. no_columns protocol.Dpcp set nothing i r here
 named_no_columns name.DflpCloser set nothing = λ i r here. none_where (is_dflp_column set i) set
     (λ c passes. used_by (c.task == i) (is_user set c.resource c.task) (blocks_at_home set i c.resource c.class) passes) nothing
+named_no_columns name.MpcpCloser set nothing = λ i r here. no_columns protocol.Mpcp set nothing i r here
 
 pub named_word_is_text : (n : ProtocolName) → IsUtf8 (word_of n)
 named_word_is_text (name.Base protocol.Mpcp) = IsUtf8-are_ascii (codes "mpcp") refl
@@ -101,3 +108,4 @@ named_word_is_text name.FmlpPlusCloser = IsUtf8-are_ascii (codes "fmlp+-c") refl
 named_word_is_text name.SpinCloser = IsUtf8-are_ascii (codes "spin-c") refl
 named_word_is_text name.DpcpCloser = IsUtf8-are_ascii (codes "dpcp-c") refl
 named_word_is_text name.DflpCloser = IsUtf8-are_ascii (codes "dflp-c") refl
+named_word_is_text name.MpcpCloser = IsUtf8-are_ascii (codes "mpcp-c") refl

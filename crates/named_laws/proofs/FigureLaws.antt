@@ -43,6 +43,7 @@ named_charges_only name.FmlpPlusCloser w = shared_charge_blocked w
 named_charges_only name.SpinCloser w = spin_charge_blocked w
 named_charges_only name.DpcpCloser w = dpcp_charge_blocked w
 named_charges_only name.DflpCloser w = dpcp_charge_blocked w
+named_charges_only name.MpcpCloser w = shared_charge_blocked w
 
 named_charged : (p : ProtocolName) (w : Trace) (n t j : ℕ) → AreLawfulJobs (jobs_of w) → KeepsBefore (rules_of p) w n → t < n
     → is_blocked (interference_of p) w t j ≡ true → (charge : Charge) × (charges_of p w t j ≡ Some charge)
@@ -66,6 +67,8 @@ named_charged name.DpcpCloser w n t j lawful keeps l blocked =
     let a = dpcp_is_charged w n t j lawful keeps l blocked in (a.charge, a.is_it)
 named_charged name.DflpCloser w n t j lawful keeps l blocked =
     let a = dflp_is_charged w n t j lawful keeps l blocked in (a.charge, a.is_it)
+named_charged name.MpcpCloser w n t j lawful keeps l blocked =
+    let a = mpcp_is_charged w n t j lawful keeps l blocked in (a.charge, a.is_it)
 
 -- ---- so the figures are proved
 

@@ -18,13 +18,14 @@ use Rattle.dflp_laws.specs.Programs.{dflp_source}
 use Rattle.spin_rules.specs.SpinRules.{spin_rule, IsSpinChoice}
 use Rattle.spin_charging.specs.SpinCharges.{spin_charge}
 use Rattle.spin_charging.specs.SpinPrograms.{spin_source}
-use Rattle.schedule_model.specs.Ranks.{fmlp_plus}
+use Rattle.schedule_model.specs.Ranks.{mpcp, fmlp_plus}
 use Rattle.schedule_model.specs.Protocols.{shared_rule, dpcp_rule}
 use Rattle.schedule_model.specs.Chosen.{IsSharedChoice, IsDpcpChoice}
 use Rattle.window_laws.specs.WindowRows.{windowed_source}
 use Rattle.closer_laws.specs.CloserRows.{fmlp_closer_source}
 use Rattle.closer_spin_laws.specs.CloserSpinRows.{spin_closer_source}
 use Rattle.closer_distributed_laws.specs.CloserRows.{dpcp_closer_source, dflp_closer_source}
+use Rattle.closer_mpcp_laws.specs.CloserMpcpRows.{mpcp_closer_source}
 use Rattle.clock_laws.specs.Clock.{SoundOnClocks}
 use Rattle.protocol_names.specs.Names.{homes_as}
 use Rattle.protocol_names.specs.declared.ProtocolName.{ProtocolName}
@@ -43,6 +44,7 @@ rules_of name.FmlpPlusCloser = shared_rule fmlp_plus
 rules_of name.SpinCloser = spin_rule
 rules_of name.DpcpCloser = dpcp_rule
 rules_of name.DflpCloser = dflp_rule
+rules_of name.MpcpCloser = shared_rule mpcp
 
 abbrev pub choice_of : ProtocolName → Trace → ℕ → Type 0
 choice_of (name.Base p) = choice_at p
@@ -53,6 +55,7 @@ choice_of name.FmlpPlusCloser = IsSharedChoice fmlp_plus
 choice_of name.SpinCloser = IsSpinChoice
 choice_of name.DpcpCloser = IsDpcpChoice
 choice_of name.DflpCloser = IsDflpChoice
+choice_of name.MpcpCloser = IsSharedChoice mpcp
 
 abbrev pub interference_of : ProtocolName → Trace → ℕ → ℕ → Bool
 interference_of (name.Base p) = interference_at p
@@ -63,6 +66,7 @@ interference_of name.FmlpPlusCloser = is_shared_interference
 interference_of name.SpinCloser = is_shared_interference
 interference_of name.DpcpCloser = is_dpcp_interference
 interference_of name.DflpCloser = is_dpcp_interference
+interference_of name.MpcpCloser = is_shared_interference
 
 abbrev pub charges_of : ProtocolName → Trace → ℕ → ℕ → Option Charge
 charges_of (name.Base p) = charges_at p
@@ -73,6 +77,7 @@ charges_of name.FmlpPlusCloser = shared_charge
 charges_of name.SpinCloser = spin_charge
 charges_of name.DpcpCloser = dpcp_charge
 charges_of name.DflpCloser = dpcp_charge
+charges_of name.MpcpCloser = shared_charge
 
 -- What gives the programs of a set under the protocol, with its interfering costs; and the programs of just this set.
 abbrev pub sources : ProtocolName → SetDef → SourceDef
@@ -84,6 +89,7 @@ sources name.FmlpPlusCloser = fmlp_closer_source
 sources name.SpinCloser = spin_closer_source
 sources name.DpcpCloser = dpcp_closer_source
 sources name.DflpCloser = dflp_closer_source
+sources name.MpcpCloser = mpcp_closer_source
 
 abbrev pub source_of : ProtocolName → SetDef → SourceDef
 source_of n set = source_at (sources n) set
@@ -103,6 +109,7 @@ plain_of name.DflpCloser = Some name.Dflp
 abbrev pub IsCloserThan : ProtocolName → ProtocolName → Type 0
 IsCloserThan closer plain = (plain_of closer ≡ Some plain) ⊎ ((between : ProtocolName) × (plain_of closer ≡ Some between)
     × (plain_of between ≡ Some plain))
+plain_of name.MpcpCloser = Some (name.Base protocol.Mpcp)
 
 -- Does every schedule that keeps the protocol's rules, of whatever lawful jobs of the set, keep these bounds and values?
 abbrev pub SoundUnder : ProtocolName → SetDef → List ℕ → List ℕ → Type 0

@@ -18,6 +18,7 @@ ghost use Rattle.named_laws.specs.Named.{HasHomes, rules_of, choice_of, interfer
 use audit_figures::{AuditStop, TaskFigures, audit_rows_with};
 use closer_distributed::{CloserDflp, CloserDpcp};
 use closer_fmlp::CloserFmlpPlus;
+use closer_mpcp::CloserMpcp;
 use closer_spin::CloserSpin;
 use dflp_protocol::Dflp;
 use dual_check::{Invalid, Valid, check_with};
@@ -57,6 +58,7 @@ pub fn analyse<R: Threads + Sync>(
         ProtocolName::SpinCloser => analyse_with(rt, alloc, set, &CloserSpin, allowance),
         ProtocolName::DpcpCloser => analyse_with(rt, alloc, set, &CloserDpcp, allowance),
         ProtocolName::DflpCloser => analyse_with(rt, alloc, set, &CloserDflp, allowance),
+        ProtocolName::MpcpCloser => analyse_with(rt, alloc, set, &CloserMpcp, allowance),
     }
 }
 
@@ -82,6 +84,7 @@ pub fn check(
         ProtocolName::SpinCloser => check_with(alloc, &CloserSpin, set, certificate),
         ProtocolName::DpcpCloser => check_with(alloc, &CloserDpcp, set, certificate),
         ProtocolName::DflpCloser => check_with(alloc, &CloserDflp, set, certificate),
+        ProtocolName::MpcpCloser => check_with(alloc, &CloserMpcp, set, certificate),
     }
 }
 
@@ -107,6 +110,7 @@ pub fn conform_rows<R: RowReader>(
         ProtocolName::SpinCloser => conform_rows_with(alloc, &CloserSpin, jobs, rows),
         ProtocolName::DpcpCloser => conform_rows_with(alloc, &CloserDpcp, jobs, rows),
         ProtocolName::DflpCloser => conform_rows_with(alloc, &CloserDflp, jobs, rows),
+        ProtocolName::MpcpCloser => conform_rows_with(alloc, &CloserMpcp, jobs, rows),
     }
 }
 
@@ -133,6 +137,7 @@ pub fn simulate(
         ProtocolName::SpinCloser => simulate_with(alloc, &CloserSpin, jobs, ticks),
         ProtocolName::DpcpCloser => simulate_with(alloc, &CloserDpcp, jobs, ticks),
         ProtocolName::DflpCloser => simulate_with(alloc, &CloserDflp, jobs, ticks),
+        ProtocolName::MpcpCloser => simulate_with(alloc, &CloserMpcp, jobs, ticks),
     }
 }
 
@@ -163,5 +168,6 @@ pub fn audit_rows<R: RowReader>(
         ProtocolName::SpinCloser => audit_rows_with(alloc, &CloserSpin, certificate, jobs, rows),
         ProtocolName::DpcpCloser => audit_rows_with(alloc, &CloserDpcp, certificate, jobs, rows),
         ProtocolName::DflpCloser => audit_rows_with(alloc, &CloserDflp, certificate, jobs, rows),
+        ProtocolName::MpcpCloser => audit_rows_with(alloc, &CloserMpcp, certificate, jobs, rows),
     }
 }

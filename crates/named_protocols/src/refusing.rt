@@ -11,6 +11,7 @@ ghost use Rattle.named_laws.specs.Named.{HasHomes, source_of};
 
 use closer_distributed::{CloserDflp, CloserDpcp};
 use closer_fmlp::CloserFmlpPlus;
+use closer_mpcp::CloserMpcp;
 use closer_spin::CloserSpin;
 use dflp_protocol::Dflp;
 use protocol_names::ProtocolName;
@@ -52,6 +53,7 @@ pub fn refute(
         ProtocolName::SpinCloser => refusal_cert::refute(alloc, set, &CloserSpin, allowance),
         ProtocolName::DpcpCloser => refusal_cert::refute(alloc, set, &CloserDpcp, allowance),
         ProtocolName::DflpCloser => refusal_cert::refute(alloc, set, &CloserDflp, allowance),
+        ProtocolName::MpcpCloser => refusal_cert::refute(alloc, set, &CloserMpcp, allowance),
     }
 }
 
@@ -97,5 +99,6 @@ pub fn confirm<R: Threads + Sync>(
         ProtocolName::SpinCloser => refusal_confirm::confirm(rt, alloc, set, &CloserSpin, refusal),
         ProtocolName::DpcpCloser => refusal_confirm::confirm(rt, alloc, set, &CloserDpcp, refusal),
         ProtocolName::DflpCloser => refusal_confirm::confirm(rt, alloc, set, &CloserDflp, refusal),
+        ProtocolName::MpcpCloser => refusal_confirm::confirm(rt, alloc, set, &CloserMpcp, refusal),
     }
 }

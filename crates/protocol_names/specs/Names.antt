@@ -17,6 +17,7 @@ word_of name.FmlpPlusCloser = codes "fmlp+-c"
 word_of name.SpinCloser = codes "spin-c"
 word_of name.DpcpCloser = codes "dpcp-c"
 word_of name.DflpCloser = codes "dflp-c"
+word_of name.MpcpCloser = codes "mpcp-c"
 
 -- Which protocol does this word name?
 abbrev pub name_of : List ℕ → Option ProtocolName
@@ -30,6 +31,7 @@ name_of word = if bytes_eq word (codes "mpcp") then Some (name.Base protocol.Mpc
     else if bytes_eq word (codes "spin-c") then Some name.SpinCloser
     else if bytes_eq word (codes "dpcp-c") then Some name.DpcpCloser
     else if bytes_eq word (codes "dflp-c") then Some name.DflpCloser
+    else if bytes_eq word (codes "mpcp-c") then Some name.MpcpCloser
     else None
 
 -- The protocol which asks a set for the same homes.
@@ -42,3 +44,4 @@ homes_as name.FmlpPlusCloser = protocol.FmlpPlus
 homes_as name.SpinCloser = protocol.Mpcp
 homes_as name.DpcpCloser = protocol.Dpcp
 homes_as name.DflpCloser = protocol.Dpcp
+homes_as name.MpcpCloser = protocol.Mpcp

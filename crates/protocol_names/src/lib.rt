@@ -25,6 +25,8 @@ pub enum ProtocolName {
     DpcpCloser,
     /// The distributed FIFO protocol, whose programs have the rows of the closer analysis too.
     DflpCloser,
+    /// MPCP, whose programs have the rows of the closer analysis too.
+    MpcpCloser,
 }
 
 impl ProtocolName {
@@ -43,6 +45,7 @@ impl ProtocolName {
             ProtocolName::SpinCloser => "spin-c",
             ProtocolName::DpcpCloser => "dpcp-c",
             ProtocolName::DflpCloser => "dflp-c",
+            ProtocolName::MpcpCloser => "mpcp-c",
         }
     }
 
@@ -59,6 +62,7 @@ impl ProtocolName {
             ProtocolName::SpinCloser => Protocol::Mpcp,
             ProtocolName::DpcpCloser => Protocol::Dpcp,
             ProtocolName::DflpCloser => Protocol::Dpcp,
+            ProtocolName::MpcpCloser => Protocol::Mpcp,
         }
     }
 }
@@ -78,6 +82,7 @@ pub fn protocol_named(word: &str) -> Option<ProtocolName>
         "spin-c" => Some(ProtocolName::SpinCloser),
         "dpcp-c" => Some(ProtocolName::DpcpCloser),
         "dflp-c" => Some(ProtocolName::DflpCloser),
+        "mpcp-c" => Some(ProtocolName::MpcpCloser),
         _ => None,
     }
 }

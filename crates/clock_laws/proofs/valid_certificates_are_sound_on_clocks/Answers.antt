@@ -1,6 +1,7 @@
 use Rattle.clock_laws.proofs.Instances.{mpcp_on_clocks, fmlp_on_clocks, dpcp_on_clocks, dflp_on_clocks, windows_on_clocks, spin_on_clocks}
 use Rattle.clock_laws.proofs.Instances.{fmlp_closer_on_clocks, spin_closer_on_clocks}
 use Rattle.clock_laws.proofs.Instances.{dpcp_closer_on_clocks, dflp_closer_on_clocks}
+use Rattle.clock_laws.proofs.Instances.{mpcp_closer_on_clocks}
 use Rattle.clock_laws.proofs.valid_certificates_are_sound_on_clocks.Goals as goal
 
 pub returns-clause-mpcp : goal.returns-clause-mpcp
@@ -20,6 +21,9 @@ returns-clause-dpcp_windows c = windows_on_clocks
 
 pub returns-clause-fmlp_plus_closer : goal.returns-clause-fmlp_plus_closer
 returns-clause-fmlp_plus_closer c = fmlp_closer_on_clocks
+
+pub returns-clause-mpcp_closer : goal.returns-clause-mpcp_closer
+returns-clause-mpcp_closer c = mpcp_closer_on_clocks
 
 pub returns-clause-spin : goal.returns-clause-spin
 returns-clause-spin c = spin_on_clocks

@@ -48,3 +48,7 @@ returns-in-DpcpCloser-clause-never_wide g c nothing =
 pub returns-in-DflpCloser-clause-never_wide : goal.returns-in-DflpCloser-clause-never_wide
 returns-in-DflpCloser-clause-never_wide g c nothing =
     c.analyse_with-in-DflpCloser.ensures.never_wide (named_no_columns name.DflpCloser c.args.set.now nothing)
+
+pub returns-in-MpcpCloser-clause-never_wide : goal.returns-in-MpcpCloser-clause-never_wide
+returns-in-MpcpCloser-clause-never_wide g c nothing =
+    c.analyse_with-in-MpcpCloser.ensures.never_wide (named_no_columns name.MpcpCloser c.args.set.now nothing)

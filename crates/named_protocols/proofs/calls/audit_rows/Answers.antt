@@ -33,3 +33,6 @@ returns-in-DpcpCloser g c = rw c.in-DpcpCloser.is c.audit_rows_with-in-DpcpClose
 
 pub returns-in-DflpCloser : goal.returns-in-DflpCloser
 returns-in-DflpCloser g c = rw c.in-DflpCloser.is c.audit_rows_with-in-DflpCloser.ensures
+
+pub returns-in-MpcpCloser : goal.returns-in-MpcpCloser
+returns-in-MpcpCloser g c = rw c.in-MpcpCloser.is c.audit_rows_with-in-MpcpCloser.ensures

@@ -31,3 +31,6 @@ returns-in-DpcpCloser g c = rw c.in-DpcpCloser.is c.conform_rows_with-in-DpcpClo
 
 pub returns-in-DflpCloser : goal.returns-in-DflpCloser
 returns-in-DflpCloser g c = rw c.in-DflpCloser.is c.conform_rows_with-in-DflpCloser.ensures
+
+pub returns-in-MpcpCloser : goal.returns-in-MpcpCloser
+returns-in-MpcpCloser g c = rw c.in-MpcpCloser.is c.conform_rows_with-in-MpcpCloser.ensures

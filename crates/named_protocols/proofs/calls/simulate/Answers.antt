@@ -31,3 +31,6 @@ returns-in-DpcpCloser-clause-keeps c = rw c.in-DpcpCloser.is c.simulate_with-in-
 
 pub returns-in-DflpCloser-clause-keeps : goal.returns-in-DflpCloser-clause-keeps
 returns-in-DflpCloser-clause-keeps c = rw c.in-DflpCloser.is c.simulate_with-in-DflpCloser.ensures.keeps
+
+pub returns-in-MpcpCloser-clause-keeps : goal.returns-in-MpcpCloser-clause-keeps
+returns-in-MpcpCloser-clause-keeps c = rw c.in-MpcpCloser.is c.simulate_with-in-MpcpCloser.ensures.keeps

@@ -54,3 +54,9 @@ returns-in-DflpCloser-clause-only c =
     subst (λ (n : ProtocolName). (e : Ending) (ends : EndsIn (refuting (source_of n c.args.set.now)) c.args.allowance e)
     → IsAnswerOf c.refute-in-DflpCloser.result e (refusal_of (refuting (source_of n c.args.set.now)) c.args.allowance e ends))
     (sym c.in-DflpCloser.is) c.refute-in-DflpCloser.ensures.only
+
+pub returns-in-MpcpCloser-clause-only : goal.returns-in-MpcpCloser-clause-only
+returns-in-MpcpCloser-clause-only c =
+    subst (λ (n : ProtocolName). (e : Ending) (ends : EndsIn (refuting (source_of n c.args.set.now)) c.args.allowance e)
+    → IsAnswerOf c.refute-in-MpcpCloser.result e (refusal_of (refuting (source_of n c.args.set.now)) c.args.allowance e ends))
+    (sym c.in-MpcpCloser.is) c.refute-in-MpcpCloser.ensures.only

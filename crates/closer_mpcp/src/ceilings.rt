@@ -1,0 +1,58 @@
+//! Which requests may run on a processor before the one of a ready holder.
+
+ghost use Rattle.std.specs.Prelude.{◌≡◌, ◌<◌, length, IfSome};
+ghost use Rattle.blocking_columns.specs.Ceilings.{remote_ceiling_rank};
+ghost use Rattle.closer_mpcp_laws.specs.CloserMpcpRows.{goes_first, goes_before};
+ghost use Rattle.closer_mpcp.specs.Holdings.{passes};
+
+use sporadic_model::{ResourceId, TaskId, TaskSet};
+
+// The position of the resource's ceiling as processor `k` sees it; the number of tasks where it has no user.
+fn ceiling_seen(set: &TaskSet, q: ResourceId, k: u32) -> u32
+    requires { q.0 < length set.now.resources }
+    ensures { result ≡ remote_ceiling_rank set.now q.0 k }
+{
+    match set.boost(q, k) {
+        Some(highest) => highest.0,
+        None => set.tasks(),
+    }
+}
+
+// May `x` run a request of `q` on its processor while another task is ready there that holds `r`?
+fn goes_first(set: &TaskSet, x: TaskId, q: ResourceId, r: ResourceId) -> bool
+    requires task { x.0 < length set.now.tasks }
+    requires first { q.0 < length set.now.resources }
+    requires second { r.0 < length set.now.resources }
+    ensures { result ≡ goes_first set.now x.0 q.0 r.0 }
+{
+    let processor = set.processor(x);
+    q != r && ceiling_seen(set, q, processor) <= ceiling_seen(set, r, processor)
+}
+
+// May it run one of its own so?
+fn goes_before(set: &TaskSet, x: TaskId, r: ResourceId) -> bool
+    requires task { x.0 < length set.now.tasks }
+    requires resource { r.0 < length set.now.resources }
+    ensures { result ≡ goes_before set.now x.0 r.0 }
+{
+    let used = set.used_by(x);
+    for q in used {
+        if goes_first(set, x, *q, r) {
+            return true;
+        }
+    }
+    false
+}
+
+/// May it run its requests of this resource so, or any of its own where none is named?
+pub(crate) fn passes(set: &TaskSet, x: TaskId, q: Option<ResourceId>, r: ResourceId) -> bool
+    requires task { x.0 < length set.now.tasks }
+    requires first { IfSome q (λ a. a.0 < length set.now.resources) }
+    requires second { r.0 < length set.now.resources }
+    ensures { result ≡ passes set.now x.0 q r.0 }
+{
+    match q {
+        Some(q) => goes_first(set, x, q, r),
+        None => goes_before(set, x, r),
+    }
+}

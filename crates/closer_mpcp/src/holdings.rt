@@ -1,0 +1,256 @@
+//! How many requests that the analysed task waits for can be held beside another task, and away from it.
+
+ghost use Rattle.std.specs.Prelude.{◌≡◌, ℕ, ◌<◌, ◌≤◌, ◌&&◌, nat_lt, length, slice_index, IfSome};
+ghost use Rattle.number_laws.specs.Sums.{only_if};
+ghost use Rattle.program_sources.specs.Bounds.{AreWithinDeadlines};
+ghost use Rattle.blocking_columns.specs.Windows.{requests_in, requests_by_higher};
+ghost use Rattle.indirect_constraints.specs.Rows.{is_beside};
+ghost use Rattle.closer_laws.specs.CloserRows.{is_held_there};
+ghost use Rattle.closer_mpcp_laws.specs.CloserMpcpRows.{shared_holdings, away_holdings, away_row};
+ghost use Rattle.closer_mpcp.specs.Holdings.{passes, is_at, is_lower_at, has_lower, lower_held, held_beside, counts};
+ghost use Rattle.closer_mpcp.specs.Holdings.{waits_there, runs_there};
+
+use crate::ceilings::passes;
+use crate::places::Place;
+use fragments::{cnt, share_processor, uses};
+use shared_requests::{Holders, has_holder, is_shared_out};
+use sporadic_model::{ResourceId, TaskId, TaskSet};
+
+// Is a higher task `y` at this place of `x`?
+fn is_at(set: &TaskSet, place: Place, x: TaskId, y: TaskId) -> bool
+    requires task { x.0 < length set.now.tasks }
+    requires other { y.0 < length set.now.tasks }
+    ensures { result ≡ is_at place set.now x.0 y.0 }
+{
+    let there = share_processor(set, y, x);
+    match place {
+        Place::Beside => y != x && there,
+        Place::Away => !there,
+    }
+}
+
+// The requests of `r` by `y` within the bound of a job of `i`, where it is at this place of `x`.
+fn requests_at(
+    set: &TaskSet,
+    place: Place,
+    i: TaskId,
+    x: TaskId,
+    y: TaskId,
+    r: ResourceId,
+    bounds: &[u64],
+) -> u64
+    requires task { i.0 < length set.now.tasks }
+    requires runner { x.0 < length set.now.tasks }
+    requires holder { y.0 < length set.now.tasks }
+    requires resource { r.0 < length set.now.resources }
+    requires within { AreWithinDeadlines set.now bounds.now }
+    ensures value { result ≡ only_if (is_at place set.now x.0 y.0) (requests_in set.now (slice_index bounds.now) i.0 y.0 r.0) }
+    ensures most { result ≤ 2000000000000 }
+{
+    if is_at(set, place, x, y) {
+        cnt(set, i, y, r, bounds)
+    } else {
+        0
+    }
+}
+
+// How many requests of `r` can higher tasks than `i` at this place of `x` make within the bound of a job of `i`?
+fn higher_requests(
+    set: &TaskSet,
+    place: Place,
+    i: TaskId,
+    x: TaskId,
+    r: ResourceId,
+    bounds: &[u64],
+) -> u64
+    requires task { i.0 < length set.now.tasks }
+    requires runner { x.0 < length set.now.tasks }
+    requires resource { r.0 < length set.now.resources }
+    requires within { AreWithinDeadlines set.now bounds.now }
+    ensures value { result ≡ requests_by_higher set.now (slice_index bounds.now) i.0 (is_at place set.now x.0) r.0 }
+    ensures most { result ≤ 128000000000000 }
+{
+    // a set has at most 64 tasks, so the sum fits
+    let _tasks = set.tasks();
+    let mut total = 0;
+    for y in 0..i.0 {
+        total += requests_at(set, place, i, x, TaskId(y), r, bounds);
+    }
+    total
+}
+
+// Is `y` a lower task than `i` at this place of `x`?
+fn is_lower_at(set: &TaskSet, place: Place, i: TaskId, x: TaskId, y: TaskId) -> bool
+    requires task { i.0 < length set.now.tasks }
+    requires runner { x.0 < length set.now.tasks }
+    requires other { y.0 < length set.now.tasks }
+    ensures { result ≡ (nat_lt i.0 y.0 && is_lower_at place set.now i.0 x.0 y.0) }
+{
+    let lower = i < y;
+    match place {
+        Place::Beside => lower && is_at(set, Place::Beside, x, y),
+        Place::Away => { lower && is_at(set, Place::Away, x, y) && is_at(set, Place::Away, i, y) }
+    }
+}
+
+// Is there one that uses `r`?
+fn has_lower(set: &TaskSet, place: Place, i: TaskId, x: TaskId, r: ResourceId) -> bool
+    requires task { i.0 < length set.now.tasks }
+    requires runner { x.0 < length set.now.tasks }
+    requires resource { r.0 < length set.now.resources }
+    ensures { result ≡ has_lower place set.now i.0 x.0 r.0 }
+{
+    let users = set.users(r);
+    for y in users {
+        if is_lower_at(set, place, i, x, *y) {
+            return true;
+        }
+    }
+    false
+}
+
+// How many requests of `r` can they hold while a job of `i` waits for them?
+fn lower_held(set: &TaskSet, place: Place, i: TaskId, x: TaskId, r: ResourceId) -> u64
+    requires task { i.0 < length set.now.tasks }
+    requires runner { x.0 < length set.now.tasks }
+    requires resource { r.0 < length set.now.resources }
+    ensures value { result ≡ lower_held place set.now i.0 x.0 r.0 }
+    ensures most { result ≤ 1000 }
+{
+    if has_lower(set, place, i, x, r) {
+        set.count(i, r)
+    } else {
+        0
+    }
+}
+
+// How many requests of `r` can be held beside `x` while a job of `i` waits for them? Where `x` is on `i`'s processor no lower task holds one.
+fn held_beside(set: &TaskSet, i: TaskId, x: TaskId, r: ResourceId, bounds: &[u64]) -> u64
+    requires task { i.0 < length set.now.tasks }
+    requires runner { x.0 < length set.now.tasks }
+    requires resource { r.0 < length set.now.resources }
+    requires within { AreWithinDeadlines set.now bounds.now }
+    ensures value { result ≡ held_beside set.now (slice_index bounds.now) i.0 x.0 r.0 }
+    ensures most { result ≤ 128000000001000 }
+{
+    let higher = higher_requests(set, Place::Beside, i, x, r, bounds);
+    if share_processor(set, x, i) {
+        higher
+    } else {
+        higher + lower_held(set, Place::Beside, i, x, r)
+    }
+}
+
+// Do they count: does `i` use `r`, which is shared out, and may `x` run requests meanwhile?
+fn counts(set: &TaskSet, i: TaskId, x: TaskId, q: Option<ResourceId>, r: ResourceId) -> bool
+    requires task { i.0 < length set.now.tasks }
+    requires runner { x.0 < length set.now.tasks }
+    requires first { IfSome q (λ a. a.0 < length set.now.resources) }
+    requires resource { r.0 < length set.now.resources }
+    ensures { result ≡ counts set.now i.0 x.0 q r.0 }
+{
+    // most resources are none of `i`'s
+    uses(set, i, r) && is_shared_out(set, i, r) && passes(set, x, q, r)
+}
+
+// Those of `r` that count.
+fn counted_of(
+    set: &TaskSet,
+    i: TaskId,
+    x: TaskId,
+    q: Option<ResourceId>,
+    r: ResourceId,
+    bounds: &[u64],
+) -> u64
+    requires task { i.0 < length set.now.tasks }
+    requires runner { x.0 < length set.now.tasks }
+    requires first { IfSome q (λ a. a.0 < length set.now.resources) }
+    requires resource { r.0 < length set.now.resources }
+    requires within { AreWithinDeadlines set.now bounds.now }
+    ensures value { result ≡ only_if (counts set.now i.0 x.0 q r.0) (held_beside set.now (slice_index bounds.now) i.0 x.0 r.0) }
+    ensures most { result ≤ 128000000001000 }
+{
+    if counts(set, i, x, q, r) {
+        held_beside(set, i, x, r, bounds)
+    } else {
+        0
+    }
+}
+
+/// How many requests that a job of `i` waits for, and that are shared out, can other tasks hold on `x`'s processor, where `x` may run its
+/// requests of this resource meanwhile, or any of its own where none is named?
+pub(crate) fn shared_holdings(
+    set: &TaskSet,
+    i: TaskId,
+    x: TaskId,
+    q: Option<ResourceId>,
+    bounds: &[u64],
+) -> u64
+    requires task { i.0 < length set.now.tasks }
+    requires runner { x.0 < length set.now.tasks }
+    requires first { IfSome q (λ a. a.0 < length set.now.resources) }
+    requires within { AreWithinDeadlines set.now bounds.now }
+    ensures value { result ≡ shared_holdings set.now (slice_index bounds.now) i.0 x.0 (passes set.now x.0 q) }
+    ensures most { result ≤ 4096000000032000 }
+{
+    let mut total = 0;
+    for r in 0..set.resources() {
+        total += counted_of(set, i, x, q, ResourceId(r), bounds);
+    }
+    total
+}
+
+// May `i` wait for `r` while a task of `x`'s processor holds it?
+fn waits_there(set: &TaskSet, i: TaskId, x: TaskId, r: ResourceId) -> bool
+    requires task { i.0 < length set.now.tasks }
+    requires runner { x.0 < length set.now.tasks }
+    requires resource { r.0 < length set.now.resources }
+    ensures { result ≡ waits_there set.now i.0 x.0 r.0 }
+{
+    // most resources are none of `i`'s
+    uses(set, i, r) && is_shared_out(set, i, r) && has_holder(set, Holders::There, i, x, r)
+}
+
+// How many requests of `x` can then run while `i` waits for `r`?
+fn runs_there(set: &TaskSet, i: TaskId, x: TaskId, r: ResourceId, bounds: &[u64]) -> u64
+    requires task { i.0 < length set.now.tasks }
+    requires runner { x.0 < length set.now.tasks }
+    requires resource { r.0 < length set.now.resources }
+    requires within { AreWithinDeadlines set.now bounds.now }
+    ensures value { result ≡ runs_there set.now (slice_index bounds.now) i.0 x.0 r.0 }
+    ensures most { result ≤ 128000000002000 }
+{
+    let higher = higher_requests(set, Place::Away, i, x, r, bounds);
+    set.count(i, r) + (higher + lower_held(set, Place::Away, i, x, r))
+}
+
+// Those of `r`, where `i` may wait so.
+fn run_of(set: &TaskSet, i: TaskId, x: TaskId, r: ResourceId, bounds: &[u64]) -> u64
+    requires task { i.0 < length set.now.tasks }
+    requires runner { x.0 < length set.now.tasks }
+    requires resource { r.0 < length set.now.resources }
+    requires within { AreWithinDeadlines set.now bounds.now }
+    ensures value { result ≡ only_if (waits_there set.now i.0 x.0 r.0) (runs_there set.now (slice_index bounds.now) i.0 x.0 r.0) }
+    ensures most { result ≤ 128000000002000 }
+{
+    if waits_there(set, i, x, r) {
+        runs_there(set, i, x, r, bounds)
+    } else {
+        0
+    }
+}
+
+/// How many requests of `x` can run while a job of `i` waits for what a task of `x`'s processor holds? One for each request of `i`, and one
+/// more for each time that what it requests is held away from there.
+pub(crate) fn run_beside_away_holdings(set: &TaskSet, i: TaskId, x: TaskId, bounds: &[u64]) -> u64
+    requires task { i.0 < length set.now.tasks }
+    requires runner { x.0 < length set.now.tasks }
+    requires within { AreWithinDeadlines set.now bounds.now }
+    ensures { result ≡ (away_row set.now i.0 x.0).limit (slice_index bounds.now) }
+{
+    let mut total = 0;
+    for r in 0..set.resources() {
+        total += run_of(set, i, x, ResourceId(r), bounds);
+    }
+    total
+}
