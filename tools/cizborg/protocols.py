@@ -28,6 +28,7 @@ PROTOCOLS = {
         Protocol("dpcp-w", "DPCP with windows of requests", True, "dpcp"),
         Protocol("spin", "spin locks", False, "spin"),
         Protocol("fmlp+-c", "FMLP+ with the closer analysis", False, "fmlp+"),
+        Protocol("mpcp-c", "MPCP with the closer analysis", False, "mpcp"),
     )
 }
 WORDS = tuple(PROTOCOLS)
