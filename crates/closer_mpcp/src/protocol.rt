@@ -23,8 +23,8 @@ ghost use Rattle.closer_mpcp_laws.proofs.Points.{mpcp_closer_point};
 ghost use Rattle.closer_mpcp_laws.proofs.Programs.{mpcp_closer_covered, mpcp_closer_rises, mpcp_closer_is_program};
 
 use charged_protocols::ChargedProtocol;
-use mpcp_rules::Mpcp;
 use fragments::Class;
+use mpcp_rules::Mpcp;
 use phase_machine::{Judge, Machine};
 use program_form::{Program, SparseProgram};
 use program_sources::ProgramSource;

@@ -411,7 +411,7 @@ low_where w bound n j x s share q c = elim (cases_Bool (has_lower_away w.set (ta
     not_here t l low a = elim (cases_Bool (processor_of w (off_holder w j x t) == processor_of w j)) [
       | inr off ↦ not_from_false _ off
       | inl here ↦ absurd (not_held_lower w n (off_tick w j x t) j (off_holder w j x t) a.for.facts.number q c.keeps c.window.lawful
-      (omega (arith, a.last.within)) a.off.asks a.holds (record { lower = low; processor = eqb-true _ _ here }))
+          (omega (arith, a.last.within)) a.off.asks a.holds (record { lower = low; processor = eqb-true _ _ here }))
     ]
 
 -- After a job z of a higher task held q there is one for each request of q by z.

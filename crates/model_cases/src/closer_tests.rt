@@ -63,7 +63,8 @@ fn bounds_fall_with_the_closer_analysis(rt: HostRuntime) -> Result<(), Fail> {
         return Err("not shown under FMLP+".into());
     };
     assert!(rt; bounds_are(&plain, &[9, 13]));
-    let Ok(Verdict::Schedulable(found)) = analyse_with(&rt, alloc, &set, &CloserFmlpPlus, MOST) else {
+    let Ok(Verdict::Schedulable(found)) = analyse_with(&rt, alloc, &set, &CloserFmlpPlus, MOST)
+    else {
         return Err("not shown by the closer analysis".into());
     };
     assert!(rt; bounds_are(&found, &[6, 13]));

@@ -42,7 +42,12 @@ pub fn refute(
         ProtocolName::Dflp => refusal_cert::refute(alloc, set, &Dflp, allowance),
         ProtocolName::Spin => refusal_cert::refute(alloc, set, &Spin, allowance),
         ProtocolName::DpcpWindows => refusal_cert::refute(alloc, set, &DpcpWindows, allowance),
-        ProtocolName::FmlpPlusCloser => refusal_cert::refute(alloc, set, &CloserFmlpPlus, allowance),
+        ProtocolName::FmlpPlusCloser => refusal_cert::refute(
+            alloc,
+            set,
+            &CloserFmlpPlus,
+            allowance,
+        ),
         ProtocolName::MpcpCloser => refusal_cert::refute(alloc, set, &CloserMpcp, allowance),
     }
 }
@@ -86,12 +91,6 @@ pub fn confirm<R: Threads + Sync>(
             &CloserFmlpPlus,
             refusal,
         ),
-        ProtocolName::MpcpCloser => refusal_confirm::confirm(
-            rt,
-            alloc,
-            set,
-            &CloserMpcp,
-            refusal,
-        ),
+        ProtocolName::MpcpCloser => refusal_confirm::confirm(rt, alloc, set, &CloserMpcp, refusal),
     }
 }
